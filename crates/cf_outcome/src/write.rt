@@ -1,0 +1,61 @@
+//! Writing a text to a writer, whole or up to where the writer failed.
+ghost use Rattle.std.specs.Prelude.{◌≡◌, OnOk, OnErr, IfSome};
+ghost use Rattle.std.specs.Fmt.InlineText.{inline_text};
+ghost use Rattle.std.specs.Io.KnownBytes.{Appends};
+ghost use Rattle.cf_outcome.specs.Output.{AppendsFront};
+ghost use Rattle.cf_outcome.specs.Texts.{outcome_text};
+
+use crate::outcome::Outcome;
+use std::fmt::{InlineText, Write as _};
+use std::io::Write;
+use thiserror::Error;
+
+/// The writer failed, or took no byte of some that it was given. A front of the text, which may be empty or the
+/// whole, has then gone out.
+#[derive(Clone, Copy, PartialEq, Eq, Debug, Error)]
+#[error("WriteFault")]
+pub struct WriteFault;
+
+/// Writes the whole text by a loop over `write`, and then flushes. Every error of the writer is a `WriteFault`,
+/// `Interrupted` too, and so is a write that takes no byte.
+pub fn write_text<W: Write>(w: &mut W, text: &[u8]) -> Result<(), WriteFault>
+    ensures whole { OnOk result (Appends (W.contents w.old) (W.contents w.new) text.now) }
+    ensures front { OnErr result (AppendsFront (W.contents w.old) (W.contents w.new) text.now) }
+{
+    let mut rest = text;
+    'rest: while !rest.is_empty() {
+        match w.write(rest) {
+            Ok(0) => return Err(WriteFault),
+            Ok(n) => rest = &rest[n..],
+            Err(_) => return Err(WriteFault),
+        }
+    }
+    match w.flush() {
+        Ok(()) => Ok(()),
+        Err(_) => Err(WriteFault),
+    }
+}
+
+/// The text of an outcome, of which the longest, `fault thrown 4294967295 wrapped`, has 31 bytes.
+#[tactic(auto, using(crate::proofs::Inline::inline_written))]
+fn text_of(o: Outcome) -> Option<InlineText<32>>
+    ensures { IfSome result (λ text. inline_text text ≡ outcome_text o) }
+{
+    let mut text = InlineText::<32>::new();
+    if write!(text, "{o}").is_err() {
+        return None;
+    }
+    Some(text)
+}
+
+/// Writes the text of an outcome, as `value 3`, `value nil` or `fault thrown 7 wrapped`. It takes no memory.
+pub fn write_outcome<W: Write>(w: &mut W, o: Outcome) -> Result<(), WriteFault>
+    ensures whole { OnOk result (Appends (W.contents w.old) (W.contents w.new) (outcome_text o)) }
+    ensures front { OnErr result
+        (AppendsFront (W.contents w.old) (W.contents w.new) (outcome_text o)) }
+{
+    let Some(text) = text_of(o) else {
+        return Err(WriteFault);
+    };
+    write_text(w, text.as_str().as_bytes())
+}
