@@ -1,0 +1,30 @@
+//! Each call once, over the borders of words and at the greatest length.
+use crate::set::BitSet;
+use std::test::Fail;
+
+#[test]
+fn finds_the_least_number(rt: HostRuntime) -> Result<(), Fail> {
+    let numbers = [4095, 64, 63, 0];
+    let mut set = BitSet::new(rt.alloc(), 4096)?;
+    assert_eq!(rt; set.lowest(), None);
+    for i in numbers {
+        assert!(rt; i < set.bound());
+        set.insert(i);
+        assert_eq!(rt; set.lowest(), Some(i));
+    }
+    assert!(rt; set.bound() == 4096);
+    assert!(rt; set.contains(63));
+    assert!(rt; set.bound() == 4096);
+    assert!(rt; !set.contains(65));
+    for (i, next) in [
+        (0, Some(63)),
+        (63, Some(64)),
+        (64, Some(4095)),
+        (4095, None),
+    ] {
+        assert!(rt; i < set.bound());
+        set.remove(i);
+        assert_eq!(rt; set.lowest(), next);
+    }
+    Ok(())
+}
