@@ -1,0 +1,6 @@
+pub mod PlanLemmas
+pub mod LimitLemmas
+pub mod RowLemmas
+pub mod DependentLemmas
+pub mod Filling
+pub mod FillingRows

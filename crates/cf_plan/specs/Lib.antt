@@ -1,0 +1,4 @@
+pub mod Forms
+pub mod Laws
+pub mod Plans
+pub mod Rows

@@ -1,0 +1,134 @@
+-- Plans: the stages in order, each with its form, its sources and its function's number, and the limits.
+use Rattle.std.specs.Prelude.{◌≡◌, ℕ, ◌+◌, ◌<◌, ◌≤◌, ◌==◌, if◌then◌else◌, count_by, replicate, Bool, true, false, not, ◌||◌, Option, Some, None, is_some, is_none, List, [], ◌∷◌, ◌++◌, length, nat_lt, nat_le, slice_get, All}
+use Rattle.std.specs.List.{list_all, sum_by}
+use Rattle.std.specs.Option.{option_map_or}
+use Rattle.cf_plan.specs.declared.forms.Form.{Form}
+use Rattle.cf_plan.specs.declared.forms.Form.TheVariants.{Source, Supply, RunAsync, Combine, AcceptBoth, RunBoth, ApplyEither, AcceptEither, RunEither, AllOf, AnyOf}
+use Rattle.cf_plan.specs.declared.faults.PlanFault.{PlanFault}
+use Rattle.cf_plan.specs.declared.faults.PlanFault.TheVariants.{TooManyStages, SourceNotLower, WrongSourceCount, FunctionMissing, FunctionUnwanted, TooManyEdges, NoSuchStage, TooManyLimits}
+use Rattle.cf_plan.specs.declared.limits.Limit.{Limit}
+
+-- a stage as it was planned
+pub record PlannedStage : Type 0 where
+  pub form : Form
+  pub sources : List ℕ
+  pub function : Option ℕ
+
+-- a plan
+pub record Planned : Type 0 where
+  pub stages : List PlannedStage
+  pub limits : List Limit
+
+-- the form, the sources and the function of stage i
+abbrev pub form_at : List PlannedStage → ℕ → Form
+form_at stages i = option_map_or (λ (s : PlannedStage). s.form) (slice_get stages i) Source
+
+abbrev pub sources_at : List PlannedStage → ℕ → List ℕ
+sources_at stages i = option_map_or (λ (s : PlannedStage). s.sources) (slice_get stages i) []
+
+abbrev pub function_at : List PlannedStage → ℕ → Option ℕ
+function_at stages i = option_map_or (λ (s : PlannedStage). s.function) (slice_get stages i) None
+
+-- how often a stage is named as a source
+abbrev pub edges_of : List PlannedStage → ℕ
+edges_of stages = sum_by (λ s. length s.sources) stages
+
+-- each source is below the stage that names it, the first stage here being stage i
+abbrev pub HasLowerSources : ℕ → List PlannedStage → Type 0
+HasLowerSources i [] = Unit {0}
+HasLowerSources i (s ∷ stages) = All (λ j. j < i) s.sources × HasLowerSources (i + 1) stages
+
+-- whether a form takes this many sources
+abbrev pub fits_count : Form → ℕ → Bool
+fits_count Source n = n == 0
+fits_count Supply n = n == 0
+fits_count RunAsync n = n == 0
+fits_count Combine n = n == 2
+fits_count AcceptBoth n = n == 2
+fits_count RunBoth n = n == 2
+fits_count ApplyEither n = n == 2
+fits_count AcceptEither n = n == 2
+fits_count RunEither n = n == 2
+fits_count AllOf n = true
+fits_count AnyOf n = true
+fits_count form n = n == 1
+
+-- whether a stage of the form has a function
+abbrev pub calls_function : Form → Bool
+calls_function Source = false
+calls_function AllOf = false
+calls_function AnyOf = false
+calls_function form = true
+
+-- the fault where the test fails, and else what comes next
+abbrev pub unless : Bool → PlanFault → Option PlanFault → Option PlanFault
+unless true fault next = next
+unless false fault next = Some fault
+
+-- a function that is missing or not wanted, or else too many edges
+abbrev pub function_fault : ℕ → PlannedStage → Option PlanFault
+function_fault edges new =
+    unless (is_some new.function || not (calls_function new.form)) FunctionMissing
+    (unless (is_none new.function || calls_function new.form) FunctionUnwanted
+    (unless (nat_le (edges + length new.sources) 16384) TooManyEdges None))
+
+-- the first reason why such a stage can't be added after so many stages with so many edges, if there is one
+abbrev pub stage_fault : ℕ → ℕ → PlannedStage → Option PlanFault
+stage_fault stages edges new =
+    unless (nat_lt stages 4096) TooManyStages
+    (unless (fits_count new.form (length new.sources)) WrongSourceCount
+    (unless (list_all (λ j. nat_lt j stages) new.sources) SourceNotLower
+    (function_fault edges new)))
+
+-- the plan with one more stage
+abbrev pub with_stage : Planned → PlannedStage → Planned
+with_stage plan new = record { stages = plan.stages ++ new ∷ []; limits = plan.limits }
+
+-- how often these sources name stage i
+abbrev pub mentions : ℕ → List ℕ → ℕ
+mentions i sources = count_by (λ j. j == i) sources
+
+-- the stages that name stage i as a source, in rising order, each once for each mention, the first stage here being stage k
+abbrev pub dependents_from : ℕ → List PlannedStage → ℕ → List ℕ
+dependents_from k [] i = []
+dependents_from k (s ∷ stages) i = replicate (mentions i s.sources) k ++ dependents_from (k + 1) stages i
+
+abbrev pub dependents_of : List PlannedStage → ℕ → List ℕ
+dependents_of stages i = dependents_from 0 stages i
+
+-- no number is above one behind it
+abbrev pub IsRising : List ℕ → Type 0
+IsRising [] = Unit {0}
+IsRising (x ∷ xs) = All (λ later. x ≤ later) xs × IsRising xs
+
+-- the first reason why a limit of this stage can't be added, if there is one
+abbrev pub limit_fault : Planned → ℕ → Option PlanFault
+limit_fault plan stage =
+    unless (nat_lt stage (length plan.stages)) NoSuchStage
+    (unless (nat_lt (length plan.limits) 4096) TooManyLimits None)
+
+-- limits in firing order, and one more: it stands behind all whose moment isn't later
+abbrev pub with_limit_in_order : List Limit → Limit → List Limit
+with_limit_in_order [] new = new ∷ []
+with_limit_in_order (limit ∷ limits) new =
+    if nat_le limit.at new.at then limit ∷ with_limit_in_order limits new else new ∷ limit ∷ limits
+
+-- the plan with one more limit
+abbrev pub with_limit : Planned → Limit → Planned
+with_limit plan new = record { stages = plan.stages; limits = with_limit_in_order plan.limits new }
+
+-- no moment is later than that of a limit behind it
+abbrev pub IsInFiringOrder : List Limit → Type 0
+IsInFiringOrder [] = Unit {0}
+IsInFiringOrder (limit ∷ limits) = All (λ (later : Limit). limit.at ≤ later.at) limits × IsInFiringOrder limits
+
+-- what is true of every plan that was built
+pub record IsBuilt (plan : Planned) : Type 0 where
+  pub few_stages : length plan.stages ≤ 4096
+  pub few_edges : edges_of plan.stages ≤ 16384
+  pub few_limits : length plan.limits ≤ 4096
+  pub lower : HasLowerSources 0 plan.stages
+  pub fitting : All (λ (s : PlannedStage). fits_count s.form (length s.sources) ≡ true) plan.stages
+  pub called : All (λ (s : PlannedStage). is_some s.function ≡ calls_function s.form) plan.stages
+  pub named : All (λ (limit : Limit). limit.stage < length plan.stages) plan.limits
+  pub in_order : IsInFiringOrder plan.limits

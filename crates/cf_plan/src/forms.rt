@@ -1,0 +1,88 @@
+//! Forms of stages, and what their functions take and answer.
+use cf_outcome::{Outcome, Value};
+
+/// How a stage depends on its sources, named for the methods of Java SE 17's `CompletionStage` and
+/// `CompletableFuture`. Each form but `Source`, `AllOf` and `AnyOf` has a function.
+#[derive(Clone, Copy, Debug, PartialEq, Eq)]
+pub enum Form {
+    /// No source and no function: a new `CompletableFuture`, settled only by its callers.
+    Source,
+    /// No source: `supplyAsync`.
+    Supply,
+    /// No source: `runAsync`.
+    RunAsync,
+    /// One source: `thenApply`.
+    Apply,
+    /// One source: `thenAccept`.
+    Accept,
+    /// One source: `thenRun`.
+    ThenRun,
+    /// Two sources, both of which it waits for: `thenCombine`.
+    Combine,
+    /// Two sources, both of which it waits for: `thenAcceptBoth`.
+    AcceptBoth,
+    /// Two sources, both of which it waits for: `runAfterBoth`.
+    RunBoth,
+    /// Two sources, of which the first to settle decides: `applyToEither`.
+    ApplyEither,
+    /// Two sources, of which the first to settle decides: `acceptEither`.
+    AcceptEither,
+    /// Two sources, of which the first to settle decides: `runAfterEither`.
+    RunEither,
+    /// One source; its function names the stage that it takes its outcome from: `thenCompose`.
+    Compose,
+    /// One source, whose fault its function is told, too: `handle`.
+    Handle,
+    /// One source, whose outcome it keeps: `whenComplete`.
+    WhenComplete,
+    /// One source, whose fault alone its function is told: `exceptionally`.
+    Exceptionally,
+    /// Any number of sources, all of which it waits for: `allOf`.
+    AllOf,
+    /// Any number of sources, of which the first to settle decides: `anyOf`.
+    AnyOf,
+}
+
+/// What a stage's function is called with.
+#[derive(Clone, Copy, Debug, PartialEq, Eq)]
+pub enum Args {
+    /// Nothing, as a `Supplier` or a `Runnable`.
+    None,
+    /// The value of the source.
+    One(Value),
+    /// The values of both sources, in their order.
+    Two(Value, Value),
+    /// The outcome of the source, as it is stored.
+    Got(Outcome),
+}
+
+/// What a stage's function answers.
+#[derive(Clone, Copy, Debug, PartialEq, Eq)]
+pub enum Answer {
+    /// It returns this value.
+    Give(Value),
+    /// It throws, with this code.
+    Throw(u32),
+    /// It returns the stage of this number, as the function of `thenCompose` does.
+    Link(u16),
+}
+
+/// What a stage does by its sources.
+#[derive(Clone, Copy, Debug, PartialEq, Eq)]
+pub enum Due {
+    /// It waits for a source.
+    Waits,
+    /// It settles with this outcome, and its function isn't called.
+    Settles(Outcome),
+    /// Its function is to be called with these arguments.
+    Needs(Args),
+}
+
+/// Where a stage's answer lands.
+#[derive(Clone, Copy, Debug, PartialEq, Eq)]
+pub enum Landing {
+    /// The stage settles with this outcome.
+    Settles(Outcome),
+    /// The stage takes the outcome of this one, which is lower, once that is settled.
+    Links(u16),
+}

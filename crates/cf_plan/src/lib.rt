@@ -1,0 +1,30 @@
+//! Plans of stages: which stages there are, what each takes from its sources, and where a finish lands.
+//!
+//! A plan is built by a `PlanBuilder`, call by call, and is then the list of the calls that were accepted: each stage
+//! with its form, its sources, which are lower, and the number of its function, and the limits in firing order. The
+//! sources of all stages stand in one block, and so do their dependents, so that both are looked up as slices. The
+//! forms are those of Java SE 17's `CompletionStage` and `CompletableFuture`; what a stage of a form does when its
+//! sources settle, and what becomes of its function's answer, is said by three tables: `due_one`, `due_two` and
+//! `landing`. What a stage's function does is a `StageFn`, whose answers depend on its arguments alone.
+#![tactic(auto)]
+
+mod builder;
+mod dependents;
+mod faults;
+mod forms;
+mod functions;
+pub mod laws;
+mod limits;
+mod plan;
+mod rows;
+mod tables;
+#[cfg(test)]
+mod tests;
+
+pub use builder::{MAX_EDGES, MAX_LIMITS, MAX_STAGES, PlanBuilder};
+pub use faults::PlanFault;
+pub use forms::{Answer, Args, Due, Form, Landing};
+pub use functions::StageFn;
+pub use limits::{Limit, LimitKind};
+pub use plan::Plan;
+pub use tables::{due_one, due_two, landing};

@@ -1,0 +1,133 @@
+//! Plans, and what is asked of them.
+ghost use Rattle.std.specs.Prelude.{◌≡◌, ℕ, ◌<◌, ◌≤◌, All, IfOk, IsOkUnless, length};
+ghost use Rattle.cf_plan.specs.Plans.{IsBuilt, IsRising, dependents_of, edges_of, form_at, function_at, mentions, sources_at};
+ghost use Rattle.cf_plan.specs.Rows.{ArePlanned, planned_of};
+
+use crate::dependents::Dependents;
+use crate::faults::PlanFault;
+use crate::forms::Form;
+use crate::limits::Limit;
+use crate::rows::Row;
+use std::marker::Model;
+
+/// A plan, which no longer changes: its stages in order, and its limits in firing order.
+#[derive(Drop)]
+pub struct Plan {
+    rows: Vec<Row>,
+    sources: Vec<u16>,
+    limits: Vec<Limit>,
+    dependents: Dependents,
+}
+
+impl Model for Plan {
+    ghost use Rattle.cf_plan.specs.Plans.{Planned};
+
+    ghost Value = { Planned };
+
+    ghost use Rattle.cf_plan.specs.Rows.{AreDependents, ArePlanned, planned_of, stages_of};
+
+    ghost view = { λ p. planned_of p.rows.items p.sources.items p.limits.items };
+
+    ghost invariant = { λ p.
+        ArePlanned p.rows.items p.sources.items p.limits.items
+        × AreDependents p.dependents.starts.items p.dependents.block.items (stages_of p.sources.items p.rows.items) };
+}
+
+impl Plan {
+    /// The plan of these rows, whose dependents are computed.
+    pub(crate) fn of_rows(
+        rows: Vec<Row>,
+        sources: Vec<u16>,
+        limits: Vec<Limit>,
+    ) -> Result<Plan, PlanFault>
+        requires { ArePlanned rows.items sources.items limits.items }
+        ensures built { IfOk result (λ plan. plan ≡ planned_of rows.items sources.items limits.items) }
+        ensures refused { IsOkUnless result PlanFault.NoMemory }
+    {
+        let alloc = *rows.allocator();
+        let dependents = Dependents::new(alloc, &rows, &sources)?;
+        Ok(Plan {
+            rows,
+            sources,
+            limits,
+            dependents,
+        })
+    }
+
+    /// How many stages it has, at most `MAX_STAGES`. They are numbered from 0 on.
+    pub fn stages(&self) -> u16
+        ensures count { result ≡ length self.now.stages }
+        ensures few { result ≤ 4096 }
+        ensures built { IsBuilt self.now }
+    {
+        self.rows.len() as u16
+    }
+
+    /// The form of stage i.
+    pub fn form(&self, i: u16) -> Form
+        requires { i < length self.now.stages }
+        ensures { result ≡ form_at self.now.stages i }
+    {
+        self.rows[i as usize].form
+    }
+
+    /// The sources of stage i, in the order of its arguments: each is below it, and one may stand twice.
+    pub fn sources(&self, i: u16) -> &[u16]
+        requires { i < length self.now.stages }
+        ensures sources { result.now ≡ sources_at self.now.stages i }
+        ensures lower { All (λ j. j < i) result.now }
+    {
+        let row = self.rows[i as usize];
+        &self.sources[row.first as usize..row.end as usize]
+    }
+
+    /// The dependents of stage i: in rising order each stage that names it as a source, once for each mention. They are
+    /// the converse of `sources`: stage k stands there as often as its sources name stage i.
+    pub fn dependents(&self, i: u16) -> &[u16]
+        requires { i < length self.now.stages }
+        ensures dependents { result.now ≡ dependents_of self.now.stages i }
+        ensures above { All (λ k. i < k) result.now }
+        ensures below { All (λ k. k < length self.now.stages) result.now }
+        ensures rising { IsRising result.now }
+        ensures converse { (k : ℕ) → mentions k result.now ≡ mentions i (sources_at self.now.stages k) }
+    {
+        self.dependents.of(i)
+    }
+
+    /// The number of stage i's function, if its form has one.
+    pub fn function(&self, i: u16) -> Option<u16>
+        requires { i < length self.now.stages }
+        ensures { result ≡ function_at self.now.stages i }
+    {
+        self.rows[i as usize].function
+    }
+
+    /// The limits in firing order: by rising moment, and then as they were given. There are at most `MAX_LIMITS`.
+    pub fn limits(&self) -> &[Limit]
+        ensures { result.now ≡ self.now.limits }
+    {
+        self.limits.as_slice()
+    }
+
+    /// How many edges it has, at most `MAX_EDGES`: each mention of a source is one.
+    pub fn edges(&self) -> u32
+        ensures count { result ≡ edges_of self.now.stages }
+        ensures few { result ≤ 16384 }
+    {
+        self.sources.len() as u32
+    }
+
+    /// The same plan again, in time stages plus edges. Where its memory is refused, this one stays.
+    pub fn copy(&self) -> Result<Plan, PlanFault>
+        ensures same { IfOk result (λ plan. plan ≡ self.now) }
+        ensures refused { IsOkUnless result PlanFault.NoMemory }
+    {
+        let alloc = *self.rows.allocator();
+        Ok(Plan {
+            rows: Vec::from_slice(alloc, &self.rows)?,
+            sources: Vec::from_slice(alloc, &self.sources)?,
+            limits: Vec::from_slice(alloc, &self.limits)?,
+            dependents: self.dependents.copy(alloc)?,
+        })
+    }
+}

@@ -1,0 +1,93 @@
+//! The tables of the forms: what a stage takes from its sources, and where its function's answer lands.
+//!
+//! They are those of Java SE 17's `CompletionStage`: a stage that doesn't handle a fault passes it on inside a
+//! completion exception, which `wrap` says, and one that handles it is told the outcome as it is stored.
+ghost use Rattle.std.specs.Prelude.{◌≡◌, ℕ};
+ghost use Rattle.cf_plan.specs.Forms.{due_one, due_two, kept_value, landing};
+
+use crate::forms::{Answer, Args, Due, Form, Landing};
+use cf_outcome::{Cause, Outcome, Value, is_exceptional, wrap};
+
+/// What a stage takes from its one source, or from the source that decides an either form or an anyOf. The form is one
+/// of those.
+pub fn due_one(form: Form, o: Outcome) -> Due
+    ensures { result ≡ due_one form o }
+{
+    match (form, o) {
+        (Form::Handle | Form::WhenComplete, _) => Due::Needs(Args::Got(o)),
+        (Form::Exceptionally, Outcome::Value(_)) => Due::Settles(o),
+        (Form::Exceptionally, Outcome::Fault { .. }) => Due::Needs(Args::Got(o)),
+        (Form::AnyOf, _) => Due::Settles(wrap(o)),
+        (Form::ThenRun | Form::RunEither, Outcome::Value(_)) => Due::Needs(Args::None),
+        (_, Outcome::Value(v)) => Due::Needs(Args::One(v)),
+        (_, Outcome::Fault { .. }) => Due::Settles(wrap(o)),
+    }
+}
+
+/// What a stage takes from two sources that have both settled: a fault of the first goes before one of the second.
+/// The form is `Combine`, `AcceptBoth` or `RunBoth`.
+pub fn due_two(form: Form, a: Outcome, b: Outcome) -> Due
+    ensures { result ≡ due_two form a b }
+{
+    match (a, b) {
+        (Outcome::Fault { .. }, _) => Due::Settles(wrap(a)),
+        (_, Outcome::Fault { .. }) => Due::Settles(wrap(b)),
+        (Outcome::Value(v), Outcome::Value(w)) => {
+            if form == Form::RunBoth {
+                Due::Needs(Args::None)
+            } else {
+                Due::Needs(Args::Two(v, w))
+            }
+        }
+    }
+}
+
+/// Where the answer of stage `stage`'s function lands. The form has a function; for `WhenComplete` `source` is its
+/// source's outcome, and for the others it isn't looked at. An answer that the form has no use for is the fault
+/// `BadAnswer`: a link by any form but `Compose`, or to a stage that isn't lower, and a value by `Compose`.
+pub fn landing(form: Form, stage: u16, source: Option<Outcome>, answer: Answer) -> Landing
+    ensures { result ≡ landing form stage source answer }
+{
+    let bad = Outcome::Fault {
+        cause: Cause::BadAnswer,
+        wrapped: true,
+    };
+    if let (Form::WhenComplete, Some(o)) = (form, source) {
+        if is_exceptional(o) {
+            return Landing::Settles(wrap(o));
+        }
+    }
+    match answer {
+        Answer::Throw(code) => Landing::Settles(Outcome::Fault {
+            cause: Cause::Thrown(code),
+            wrapped: true,
+        }),
+        Answer::Link(j) => {
+            if form == Form::Compose && j < stage {
+                Landing::Links(j)
+            } else {
+                Landing::Settles(bad)
+            }
+        }
+        Answer::Give(v) => match (form, source) {
+            (Form::Compose, _) => Landing::Settles(bad),
+            (Form::WhenComplete, Some(o)) => Landing::Settles(o),
+            _ => Landing::Settles(Outcome::Value(kept(form, v))),
+        },
+    }
+}
+
+/// The value that a stage keeps of the one that its function gave.
+fn kept(form: Form, v: Value) -> Value
+    ensures { result ≡ kept_value form v }
+{
+    match form {
+        Form::Supply
+        | Form::Apply
+        | Form::Combine
+        | Form::ApplyEither
+        | Form::Handle
+        | Form::Exceptionally => v,
+        _ => Value::Nil,
+    }
+}
