@@ -1,0 +1,121 @@
+-- What stays the same of a state, whatever events come.
+use Rattle.std.proofs.Common.{◌≡◌, ◌==◌, ℕ, ◌+◌, ◌∷◌, ◌++◌, [], List, Bool, true, false, cond, suc, Option, Some, None, length, length-set, ap, ◌∙◌, refl, set}
+use Rattle.std.specs.Prelude.{nat_lt}
+use Rattle.std.specs.Option.{option_map_or}
+use Rattle.cf_outcome.specs.declared.outcome.Outcome.{Outcome}
+use Rattle.cf_outcome.specs.declared.outcome.Outcome.TheVariants.{Value as Gives, Fault}
+use Rattle.cf_outcome.specs.declared.outcome.Cause.TheVariants.{Thrown}
+use Rattle.cf_plan.specs.declared.forms.Answer.{Answer}
+use Rattle.cf_plan.specs.declared.forms.Landing.{Landing}
+use Rattle.cf_plan.specs.declared.forms.Landing.TheVariants.{Settles as Lands, Links}
+use Rattle.cf_plan.specs.declared.limits.Limit.{Limit}
+use Rattle.cf_plan.specs.Forms.{landing}
+use Rattle.cf_plan.specs.Plans.{PlannedStage, form_at}
+use Rattle.cf_core.specs.declared.stage.Stage.{Stage}
+use Rattle.cf_core.specs.declared.stage.Stage.TheVariants.{Pending, Ready, Claimed, Linked, Settled}
+use Rattle.cf_core.specs.declared.replies.Finished.TheVariants.{NotYours}
+use Rattle.cf_core.specs.declared.replies.Ticked.TheVariants.{Fired, Past}
+use Rattle.cf_core.specs.declared.events.Event.{Event}
+use Rattle.cf_core.specs.declared.events.Event.TheVariants.{Complete as Completes, Fail as Fails, Cancel as Cancels, Claim as Claims, Finish as Finishes, Tick as Ticks}
+use Rattle.cf_core.specs.States.{State, outcome_at, stage_at, claim_at, next_of, new_states}
+use Rattle.cf_core.specs.Events.{answered, settled_by, settling, cancelled_by, claimed_by, finished_by, landed, linked_to, firing, due_limits, limit_outcome, source_outcome}
+use Rattle.cf_core.specs.Laws.{KeepsShape, SameShape}
+use Rattle.cf_core.proofs.Moves.{IsKept, answered-kept}
+
+pub length-new_states : (below : List Stage) (plan : List PlannedStage) (xs : List Stage) → length (new_states below plan xs) ≡ length xs
+length-new_states below [] xs = refl
+length-new_states below (p ∷ plan) [] = refl
+length-new_states below (p ∷ plan) (x ∷ xs) = ap suc (length-new_states (below ++ next_of below p.form p.sources x ∷ []) plan xs)
+
+SameLength : List Stage → List Stage → Type 0
+SameLength xs ys = length ys ≡ length xs
+
+same_length-kept : IsKept SameLength
+unfolding SameLength
+same_length-kept = record {
+  same = λ xs. refl;
+  then = λ xs ys zs f g. g ∙ f;
+  settles = λ plan xs d o unsettled. length-new_states [] plan (set xs d (Settled o)) ∙ length-set xs d (Settled o);
+  claims = λ xs i args ready. length-set xs i Claimed;
+  links = λ xs i j unsettled. length-set xs i (Linked j);
+}
+
+pub answered-stages : (s : State) (e : Event) → length ((answered s e).1.stages) ≡ length s.stages
+unfolding SameLength
+answered-stages s e = answered-kept SameLength same_length-kept e s
+
+-- the plan, and how many claims there are
+pub record SameFrame (s r : State) : Type 0 where
+  pub plan : r.plan ≡ s.plan
+  pub all_claims : length r.claims ≡ length s.claims
+
+same : (s : State) → SameFrame s s
+same s = record { plan = refl; all_claims = refl }
+
+settled_by-frame : (x : Option Outcome) (s : State) (i : ℕ) (o : Outcome) → SameFrame s ((settled_by x s i o).1)
+settled_by-frame (Some old) s i o = same s
+settled_by-frame None s i o = record { plan = refl; all_claims = refl }
+
+cancelled_by-frame : (x : Option Outcome) (s : State) (i : ℕ) → SameFrame s ((cancelled_by x s i).1)
+cancelled_by-frame (Some old) s i = same s
+cancelled_by-frame None s i = record { plan = refl; all_claims = refl }
+
+claimed_by-frame : (x : Stage) (s : State) (who i : ℕ) → SameFrame s ((claimed_by x s who i).1)
+claimed_by-frame (Ready args) s who i = record { plan = refl; all_claims = length-set s.claims i (Some who) }
+claimed_by-frame (Settled o) s who i = same s
+claimed_by-frame Claimed s who i = same s
+claimed_by-frame (Linked j) s who i = same s
+claimed_by-frame Pending s who i = same s
+
+linked_to-frame : (x : Option Outcome) (s : State) (i j : ℕ) → SameFrame s (linked_to x s i j)
+linked_to-frame (Some o) s i j = record { plan = refl; all_claims = refl }
+linked_to-frame None s i j = record { plan = refl; all_claims = refl }
+
+landed-frame : (at : Landing) (s : State) (i : ℕ) → SameFrame s (landed s i at)
+landed-frame (Lands o) s i = record { plan = refl; all_claims = refl }
+landed-frame (Links j) s i = linked_to-frame (outcome_at s j) s i j
+
+finished_by-frame : (x : Option Outcome) (s : State) (i : ℕ) (answer : Answer) → SameFrame s ((finished_by x s i answer).1)
+finished_by-frame (Some old) s i answer = same s
+finished_by-frame None s i answer = landed-frame (landing (form_at s.plan.stages i) i (source_outcome s i) answer) s i
+
+firing-frame : (limits : List Limit) (count : ℕ) (s : State) → SameFrame s ((firing count s limits).1)
+firing-frame [] count s = same s
+firing-frame (l ∷ limits) count s =
+    let done = settling s l.stage (limit_outcome l.kind) in
+    let first = settled_by-frame (outcome_at s l.stage) s l.stage (limit_outcome l.kind) in
+    let rest = firing-frame limits (cond done.0 (count + 1) count) done.1 in
+    record { plan = rest.plan ∙ first.plan; all_claims = rest.all_claims ∙ first.all_claims }
+
+chosen-frame : {X : Type 0} (s : State) (b : Bool) (p q : X × State) → SameFrame s p.1 → SameFrame s q.1 → SameFrame s ((cond b p q).1)
+chosen-frame s true p q hp hq = hp
+chosen-frame s false p q hp hq = hq
+
+pub answered-frame : (s : State) (e : Event) → SameFrame s ((answered s e).1)
+answered-frame s (Completes who i v) = settled_by-frame (outcome_at s i) s i (Gives v)
+answered-frame s (Fails who i code) = settled_by-frame (outcome_at s i) s i (Fault (Thrown code) false)
+answered-frame s (Cancels who i) = cancelled_by-frame (outcome_at s i) s i
+answered-frame s (Claims who i) = claimed_by-frame (stage_at s i) s who i
+answered-frame s (Finishes who i answer) =
+    let closed : State = record s { claims = set s.claims i None } in
+    let done = finished_by-frame (outcome_at s i) closed i answer in
+    chosen-frame s (option_map_or (λ w. w == who) (claim_at s i) false) (finished_by (outcome_at s i) closed i answer) (NotYours, s)
+    (record { plan = done.plan; all_claims = done.all_claims ∙ length-set s.claims i None }) (same s)
+answered-frame s (Ticks who now) =
+    let fired = firing 0 s (due_limits s now) in
+    let done = firing-frame (due_limits s now) 0 s in
+    chosen-frame s (nat_lt now s.moment) (Past, s) (Fired fired.0, record fired.1 { moment = now; used = s.used + length (due_limits s now) })
+    (same s) (record { plan = done.plan; all_claims = done.all_claims })
+
+-- one event, and all
+pub answered-shape : (s : State) (e : Event) → SameShape s ((answered s e).1)
+answered-shape s e =
+    let frame = answered-frame s e in
+    record { plan = frame.plan; all_stages = answered-stages s e; all_claims = frame.all_claims }
+
+pub state_after-shape : KeepsShape
+state_after-shape s [] = record { plan = refl; all_stages = refl; all_claims = refl }
+state_after-shape s (e ∷ events) =
+    let first = answered-shape s e in
+    let rest = state_after-shape ((answered s e).1) events in
+    record { plan = rest.plan ∙ first.plan; all_stages = rest.all_stages ∙ first.all_stages; all_claims = rest.all_claims ∙ first.all_claims }

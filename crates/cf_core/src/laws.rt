@@ -1,0 +1,33 @@
+//! Laws of whole runs of events.
+ghost use Rattle.cf_core.specs.Laws.{GrantsLeaveFewer, GrantsOnce, KeepsOutcomes, KeepsShape, NeverMoreClaimable, NeverReadyAgain};
+
+/// A settled stage keeps its outcome, whatever events come.
+pub fn settled_stages_keep_their_outcomes()
+    ensures { KeepsOutcomes }
+{}
+
+/// Of all claims of one stage at most one is granted, whatever events come.
+pub fn claims_are_granted_once()
+    ensures { GrantsOnce }
+{}
+
+/// A stage that has been claimed, linked or settled is never ready again, whatever events come.
+pub fn claimed_stages_are_never_ready_again()
+    ensures { NeverReadyAgain }
+{}
+
+/// No event makes more stages claimable, now or later.
+pub fn no_event_makes_more_claimable()
+    ensures { NeverMoreClaimable }
+{}
+
+/// Each granted claim leaves fewer stages that may be claimed, now or later. So to claim and finish the lowest ready stage
+/// until none is ready comes to an end.
+pub fn granted_claims_leave_fewer_claimable()
+    ensures { GrantsLeaveFewer }
+{}
+
+/// The plan, and how many stages and claims there are, stay the same, whatever events come.
+pub fn events_keep_the_shape()
+    ensures { KeepsShape }
+{}

@@ -1,0 +1,165 @@
+//! Worked examples, each call once, and a graph of the greatest size.
+use crate::graph::Graph;
+use crate::replies::{Claimed, Finished, Ticked};
+use cf_outcome::{Cause, Now, Outcome, Value};
+use cf_plan::{Answer, Args, Form, LimitKind, PlanBuilder};
+use std::process::Abort;
+use std::test::Fail;
+
+const GIVES_3: Outcome = Outcome::Value(Value::Int(3));
+
+fn fault(cause: Cause, wrapped: bool) -> Outcome {
+    Outcome::Fault { cause, wrapped }
+}
+
+/// What the graph answers to caller 0.
+fn complete(rt: &impl Abort, graph: &mut Graph, i: u16, v: i32) -> bool {
+    assert!(rt; graph.has(i));
+    graph.complete(i, Value::Int(v))
+}
+
+fn claim(rt: &impl Abort, graph: &mut Graph, i: u16) -> Claimed {
+    assert!(rt; graph.has(i));
+    graph.claim(0, i)
+}
+
+fn finish(rt: &impl Abort, graph: &mut Graph, i: u16, answer: Answer) -> Finished {
+    assert!(rt; graph.has(i));
+    graph.finish(0, i, answer)
+}
+
+fn cancel(rt: &impl Abort, graph: &mut Graph, i: u16) -> bool {
+    assert!(rt; graph.has(i));
+    graph.cancel(i)
+}
+
+fn outcome(rt: &impl Abort, graph: &mut Graph, i: u16) -> Option<Outcome> {
+    assert!(rt; graph.has(i));
+    graph.outcome(i)
+}
+
+fn now(rt: &impl Abort, graph: &mut Graph, i: u16) -> Now {
+    assert!(rt; graph.has(i));
+    graph.now(i, Value::Int(-1))
+}
+
+#[test]
+fn applies_over_a_source(rt: HostRuntime) -> Result<(), Fail> {
+    let mut builder = PlanBuilder::new(rt.alloc());
+    builder.stage(Form::Source, &[], None)?;
+    builder.stage(Form::Apply, &[0], Some(0))?;
+    let mut graph = Graph::new(rt.alloc(), builder.build()?)?;
+    assert_eq!(rt; graph.plan().stages(), 2);
+    assert_eq!(rt; graph.lowest_ready(), None);
+    assert_eq!(rt; claim(&rt, &mut graph, 1), Claimed::NotReady);
+    assert!(rt; complete(&rt, &mut graph, 0, 3));
+    assert!(rt; !complete(&rt, &mut graph, 0, 4), "it is settled");
+    assert_eq!(rt; graph.lowest_ready(), Some(1));
+    assert_eq!(rt;
+        now(&rt, &mut graph, 1),
+        Now::Absent(Value::Int(-1)),
+        "ready is not settled"
+    );
+    assert_eq!(rt;
+        claim(&rt, &mut graph, 1),
+        Claimed::Granted(Args::One(Value::Int(3)))
+    );
+    assert_eq!(rt; claim(&rt, &mut graph, 1), Claimed::Taken);
+    assert_eq!(rt;
+        finish(&rt, &mut graph, 1, Answer::Give(Value::Int(8))),
+        Finished::Won
+    );
+    assert_eq!(rt;
+        finish(&rt, &mut graph, 1, Answer::Throw(2)),
+        Finished::NotYours
+    );
+    assert_eq!(rt; outcome(&rt, &mut graph, 0), Some(GIVES_3));
+    assert_eq!(rt; now(&rt, &mut graph, 1), Now::Got(Value::Int(8)));
+    assert_eq!(rt; claim(&rt, &mut graph, 1), Claimed::Settled);
+    assert_eq!(rt; graph.nudge(4), 0);
+    assert_eq!(rt; graph.turns(), 0);
+    Ok(())
+}
+
+#[test]
+fn cancels_through_a_link(rt: HostRuntime) -> Result<(), Fail> {
+    let mut builder = PlanBuilder::new(rt.alloc());
+    builder.stage(Form::Source, &[], None)?;
+    builder.stage(Form::Source, &[], None)?;
+    builder.stage(Form::Compose, &[0], Some(0))?;
+    let mut graph = Graph::new(rt.alloc(), builder.build()?)?;
+    assert!(rt; complete(&rt, &mut graph, 0, 1));
+    assert_eq!(rt;
+        claim(&rt, &mut graph, 2),
+        Claimed::Granted(Args::One(Value::Int(1)))
+    );
+    assert_eq!(rt; finish(&rt, &mut graph, 2, Answer::Link(1)), Finished::Won);
+    assert_eq!(rt; outcome(&rt, &mut graph, 2), None);
+    assert!(rt; cancel(&rt, &mut graph, 1));
+    assert!(rt; cancel(&rt, &mut graph, 1), "it is cancelled still");
+    assert_eq!(rt;
+        outcome(&rt, &mut graph, 1),
+        Some(fault(Cause::Cancelled, false))
+    );
+    assert_eq!(rt;
+        outcome(&rt, &mut graph, 2),
+        Some(fault(Cause::Cancelled, true))
+    );
+    assert!(rt;
+        !cancel(&rt, &mut graph, 2),
+        "it took the cancellation over"
+    );
+    Ok(())
+}
+
+#[test]
+fn finishes_late(rt: HostRuntime) -> Result<(), Fail> {
+    let mut builder = PlanBuilder::new(rt.alloc());
+    builder.stage(Form::Supply, &[], Some(0))?;
+    let mut graph = Graph::new(rt.alloc(), builder.build()?)?;
+    assert_eq!(rt; claim(&rt, &mut graph, 0), Claimed::Granted(Args::None));
+    assert!(rt; graph.has(0));
+    assert!(rt; graph.fail(0, 7));
+    assert_eq!(rt;
+        finish(&rt, &mut graph, 0, Answer::Give(Value::Nil)),
+        Finished::Late
+    );
+    assert_eq!(rt;
+        outcome(&rt, &mut graph, 0),
+        Some(fault(Cause::Thrown(7), false))
+    );
+    Ok(())
+}
+
+#[test]
+fn fires_limits_in_order(rt: HostRuntime) -> Result<(), Fail> {
+    let mut builder = PlanBuilder::new(rt.alloc());
+    builder.stage(Form::Source, &[], None)?;
+    builder.limit(0, 5, LimitKind::Give(Value::Int(1)))?;
+    builder.limit(0, 5, LimitKind::Timeout)?;
+    let mut graph = Graph::new(rt.alloc(), builder.build()?)?;
+    assert_eq!(rt; graph.tick(4), Ticked::Fired(0));
+    assert_eq!(rt; graph.tick(5), Ticked::Fired(1));
+    assert_eq!(rt; graph.tick(5), Ticked::Fired(0));
+    assert_eq!(rt; graph.tick(4), Ticked::Past);
+    assert_eq!(rt;
+        outcome(&rt, &mut graph, 0),
+        Some(Outcome::Value(Value::Int(1)))
+    );
+    Ok(())
+}
+
+#[test]
+fn serves_the_greatest_graph(rt: HostRuntime) -> Result<(), Fail> {
+    let mut builder = PlanBuilder::new(rt.alloc());
+    for _ in 0..4096 {
+        builder.stage(Form::Supply, &[], Some(0))?;
+    }
+    let mut graph = Graph::new(rt.alloc(), builder.build()?)?;
+    for i in 0..4096 {
+        assert_eq!(rt; graph.lowest_ready(), Some(i));
+        assert_eq!(rt; claim(&rt, &mut graph, i), Claimed::Granted(Args::None));
+    }
+    assert_eq!(rt; graph.lowest_ready(), None);
+    Ok(())
+}
