@@ -1,0 +1,112 @@
+//! The plain graph: how it begins, and what it tells without a change.
+mod changes;
+mod limits;
+
+ghost use Rattle.std.specs.Prelude.{◌≡◌, ◌<◌, ◌≤◌, ◌↔◌, IfOk, IsTrue, None, length, position, replicate};
+ghost use Rattle.cf_plan.specs.Plans.{IsBuilt};
+ghost use Rattle.cf_core.specs.declared.stage.Stage.TheVariants.{Pending};
+ghost use Rattle.cf_core.specs.States.{is_ready, lowest_ready_of, outcome_at, start};
+
+use crate::stages::{new_stages, outcome};
+use cf_core::Stage;
+use cf_outcome::Outcome;
+use cf_plan::Plan;
+use std::alloc::{AllocError, Global};
+use std::marker::Model;
+
+/// The plain graph of a plan. A contract sees it as its `State`, as it does the graph.
+#[derive(Drop)]
+pub struct Plain {
+    plan: Plan,
+    stages: Vec<Stage>,
+    claims: Vec<Option<u8>>,
+    moment: u32,
+    used: usize,
+}
+
+impl Model for Plain {
+    ghost use Rattle.cf_core.specs.States.{State};
+
+    ghost Value = { State };
+
+    ghost use Rattle.cf_plain.specs.Plains.{IsInStep};
+
+    ghost view = { λ g. record { plan = g.plan; stages = g.stages.items; claims = g.claims.items; moment = g.moment; used = g.used } };
+
+    ghost invariant = { λ g. IsInStep g.plan g.stages.items g.claims.items g.used };
+}
+
+impl Plain {
+    /// The plain graph of a plan, at its start. It fails only where there is no memory.
+    pub fn start(alloc: Global, plan: Plan) -> Result<Plain, AllocError>
+        ensures { IfOk result (λ plain. plain ≡ start plan) }
+    {
+        let count = plan.stages() as usize;
+        let pending = pending(alloc, count)?;
+        let stages = new_stages(alloc, &plan, &pending)?;
+        let claims = no_claims(alloc, count)?;
+        Ok(Plain {
+            plan,
+            stages,
+            claims,
+            moment: 0,
+            used: 0,
+        })
+    }
+
+    /// Whether the plan has such a stage.
+    pub fn has(&self, i: u16) -> bool
+        ensures { IsTrue result ↔ (i < length self.now.plan.stages) }
+    {
+        i < self.plan.stages()
+    }
+
+    /// The outcome of a stage, if it is settled.
+    pub fn outcome(&self, i: u16) -> Option<Outcome>
+        requires { i < length self.now.plan.stages }
+        ensures { result ≡ outcome_at self.now i }
+    {
+        outcome(self.stages[i as usize])
+    }
+
+    /// The lowest ready stage, or none where no stage is ready.
+    pub fn lowest_ready(&self) -> Option<u16>
+        ensures { result ≡ lowest_ready_of self.now }
+    {
+        first_ready(&self.stages)
+    }
+}
+
+/// So many stages that are pending.
+fn pending(alloc: Global, count: usize) -> Result<Vec<Stage>, AllocError>
+    ensures { IfOk result (λ stages. stages.items ≡ replicate count Pending) }
+{
+    vec![in alloc; Stage::Pending; count]
+}
+
+/// So many stages without a claim.
+fn no_claims(alloc: Global, count: usize) -> Result<Vec<Option<u8>>, AllocError>
+    ensures { IfOk result (λ claims. claims.items ≡ replicate count None) }
+{
+    vec![in alloc; None; count]
+}
+
+/// The lowest ready stage.
+fn first_ready(stages: &[Stage]) -> Option<u16>
+    requires { length stages.now ≤ 4096 }
+    ensures { result ≡ position is_ready stages.now }
+{
+    for (i, stage) in stages.iter().enumerate() {
+        if ready(*stage) {
+            return Some(i as u16);
+        }
+    }
+    None
+}
+
+/// Whether a stage is ready.
+fn ready(stage: Stage) -> bool
+    ensures { result ≡ is_ready stage }
+{
+    matches!(stage, Stage::Ready(_))
+}
