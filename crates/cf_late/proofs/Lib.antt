@@ -1,0 +1,17 @@
+pub mod Dues
+pub mod Turns
+pub mod Settling
+pub mod Writes
+pub mod Marks
+pub mod LinkLemmas
+pub mod Marking
+pub mod Sums
+pub mod Waiting
+pub mod StartLemmas
+pub mod Soundness
+pub mod Moves
+pub mod MarkLemmas
+pub mod Places
+pub mod Lowest
+pub mod StartSound
+pub mod GraphLemmas

@@ -1,0 +1,12 @@
+use Rattle.std.proofs.Common.{◌≡◌, ◌+◌, ◌-◌, ◌≤◌, drop, take}
+use Rattle.cf_core.specs.Events.{firing}
+use Rattle.cf_late.proofs.graph.Graph.fire_next.Given as goal
+
+-- the limits that are left do what all do from the start; the plan and the number of used limits stay
+abbrev pub invariant-loop-k : goal.invariant-loop-k
+invariant-loop-k l = record {
+  rest : firing l.fired l.self (take (l.count - l.k) (drop (l.initial.self.used + l.k) l.initial.self.plan.limits)) ≡ firing 0 l.initial.self (take l.count (drop l.initial.self.used l.initial.self.plan.limits));
+  plan : l.self.plan ≡ l.initial.self.plan;
+  used : l.self.used ≡ l.initial.self.used;
+  few : l.fired ≤ l.k;
+}

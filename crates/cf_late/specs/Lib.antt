@@ -1,0 +1,9 @@
+pub mod Late
+pub mod Starts
+pub mod Writes
+pub mod Marks
+pub mod Links
+pub mod Sound
+pub mod SoundStages
+pub mod Landings
+pub mod Graphs

@@ -1,0 +1,136 @@
+//! The graph: what it keeps, how it begins, and what it tells.
+mod claims;
+mod limits;
+mod settling;
+
+ghost use Rattle.std.specs.Prelude.{◌≡◌, ◌+◌, ◌<◌, ◌≤◌, ◌↔◌, IfOk, IsTrue, None, length, nat_lt, replicate};
+ghost use Rattle.cf_outcome.specs.Outcomes.{now_of};
+ghost use Rattle.cf_plan.specs.Plans.{edges_of};
+ghost use Rattle.cf_core.specs.States.{lowest_ready_of, outcome_at, start};
+
+use crate::stages::Stages;
+use cf_core::GraphFault;
+use cf_outcome::{Now, Outcome, Value, now_of};
+use cf_plan::Plan;
+use std::alloc::{AllocError, Global};
+use std::marker::Model;
+
+/// A graph of stages, of which each is pending, ready, claimed, linked or settled.
+///
+/// A contract sees it as its `State`, in which all consequences have come to pass, whether they were worked out yet or
+/// not.
+#[derive(Drop)]
+pub struct Graph {
+    plan: Plan,
+    stages: Stages,
+    claims: Vec<Option<u8>>,
+    moment: u32,
+    used: usize,
+}
+
+impl Model for Graph {
+    ghost use Rattle.cf_core.specs.States.{State};
+
+    ghost Value = { State };
+
+    ghost use Rattle.cf_late.specs.SoundStages.{outlook_of};
+    ghost use Rattle.cf_late.specs.Graphs.{IsInStep};
+
+    ghost view = { λ g. record { plan = g.plan; stages = outlook_of g.plan.stages g.stages; claims = g.claims.items; moment = g.moment; used = g.used } };
+
+    ghost invariant = { λ g. IsInStep g.plan g.stages g.claims.items g.used };
+}
+
+impl Graph {
+    /// The graph of a plan, at its start. It takes all the memory that the graph will ever need, and fails only where there
+    /// is none.
+    pub fn new(alloc: Global, plan: Plan) -> Result<Graph, GraphFault>
+        ensures { IfOk result (λ graph. graph ≡ start plan) }
+    {
+        match graph_of(alloc, plan) {
+            Ok(graph) => Ok(graph),
+            Err(_) => Err(GraphFault::NoMemory),
+        }
+    }
+
+    /// The plan that it was made of.
+    pub fn plan(&self) -> &Plan
+        ensures plan { result.now ≡ self.now.plan }
+        ensures all_stages { length self.now.stages ≡ length self.now.plan.stages }
+        ensures all_claims { length self.now.claims ≡ length self.now.plan.stages }
+    {
+        &self.plan
+    }
+
+    /// Whether the plan has such a stage.
+    pub fn has(&self, i: u16) -> bool
+        ensures told { result ≡ nat_lt i (length self.now.plan.stages) }
+        ensures has { IsTrue result ↔ (i < length self.now.plan.stages) }
+    {
+        i < self.plan.stages()
+    }
+
+    /// What a caller that asks for the present state of a stage is told (`CompletableFuture.getNow`).
+    pub fn now(&mut self, i: u16, absent: Value) -> Now
+        requires { i < length self.old.plan.stages }
+        ensures told { result ≡ now_of (outcome_at self.old i) absent }
+        ensures unchanged { self.new ≡ self.old }
+    {
+        now_of(self.outcome(i), absent)
+    }
+
+    /// The outcome of a stage, if it is settled.
+    pub fn outcome(&mut self, i: u16) -> Option<Outcome>
+        requires { i < length self.old.plan.stages }
+        ensures told { result ≡ outcome_at self.old i }
+        ensures unchanged { self.new ≡ self.old }
+    {
+        self.stages.treat_up_to(&self.plan, i);
+        self.stages.outcome(i)
+    }
+
+    /// The lowest ready stage, or none where no stage is ready.
+    pub fn lowest_ready(&mut self) -> Option<u16>
+        ensures told { result ≡ lowest_ready_of self.old }
+        ensures unchanged { self.new ≡ self.old }
+    {
+        self.stages.lowest_ready(&self.plan)
+    }
+
+    /// Does at most `k` turns of work that is left over, and says how many. It changes no answer but that of `turns`.
+    pub fn nudge(&mut self, k: u32) -> u32
+        ensures few { result ≤ k }
+        ensures unchanged { self.new ≡ self.old }
+    {
+        self.stages.nudge(&self.plan, k)
+    }
+
+    /// How many turns were taken so far, over the graph's whole life.
+    pub fn turns(&self) -> u64
+        ensures { result ≤ edges_of self.now.plan.stages + length self.now.plan.stages }
+    {
+        self.stages.turns()
+    }
+}
+
+/// The graph of a plan.
+fn graph_of(alloc: Global, plan: Plan) -> Result<Graph, AllocError>
+    ensures { IfOk result (λ graph. graph ≡ start plan) }
+{
+    let stages = Stages::new(alloc, &plan)?;
+    let claims = no_claims(alloc, plan.stages())?;
+    Ok(Graph {
+        plan,
+        stages,
+        claims,
+        moment: 0,
+        used: 0,
+    })
+}
+
+/// So many stages that nobody has a claim of.
+fn no_claims(alloc: Global, count: u16) -> Result<Vec<Option<u8>>, AllocError>
+    ensures { IfOk result (λ claims. claims.items ≡ replicate count None) }
+{
+    vec![in alloc; None; count as usize]
+}

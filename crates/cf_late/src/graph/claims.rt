@@ -1,0 +1,58 @@
+//! The calls by which a caller takes a stage's function and hands in its answer.
+ghost use Rattle.std.specs.Prelude.{◌≡◌, ◌<◌, ◌==◌, None, false, length, slice_get, unwrap_or};
+ghost use Rattle.std.specs.Option.{option_map_or};
+ghost use Rattle.cf_core.specs.Events.{claiming, finishing};
+
+use crate::graph::Graph;
+use cf_core::{Claimed, Finished, Stage};
+use cf_plan::{Answer, landing};
+
+impl Graph {
+    /// Hands a ready stage's arguments to a caller, whose claim is open from then until its first finish of the stage, also
+    /// if the stage settles in between.
+    pub fn claim(&mut self, who: u8, i: u16) -> Claimed
+        requires { i < length self.old.plan.stages }
+        ensures { (result, self.new) ≡ claiming self.old who i }
+    {
+        self.stages.treat_up_to(&self.plan, i);
+        match self.stages.stage(i) {
+            Stage::Ready(args) => {
+                self.stages.claim(&self.plan, i);
+                self.claims[i as usize] = Some(who);
+                Claimed::Granted(args)
+            }
+            Stage::Settled(_) => Claimed::Settled,
+            Stage::Claimed | Stage::Linked(_) => Claimed::Taken,
+            Stage::Pending => Claimed::NotReady,
+        }
+    }
+
+    /// Closes a caller's claim, and settles or links the stage by its function's answer, unless it is settled.
+    pub fn finish(&mut self, who: u8, i: u16, answer: Answer) -> Finished
+        requires { i < length self.old.plan.stages }
+        ensures { (result, self.new) ≡ finishing self.old who i answer }
+    {
+        self.stages.treat_up_to(&self.plan, i);
+        if !has_claim(&self.claims, who, i) {
+            return Finished::NotYours;
+        }
+        self.claims[i as usize] = None;
+        match self.stages.outcome(i) {
+            Some(_) => Finished::Late,
+            None => {
+                let source = self.stages.source(&self.plan, i);
+                let at = landing(self.plan.form(i), i, source, answer);
+                self.stages.land(&self.plan, i, at);
+                Finished::Won
+            }
+        }
+    }
+}
+
+/// Whether a caller's claim of a stage is open.
+fn has_claim(claims: &[Option<u8>], who: u8, i: u16) -> bool
+    requires { i < length claims.now }
+    ensures { result ≡ option_map_or (λ w. w == who) (unwrap_or (slice_get claims.now i) None) false }
+{
+    claims[i as usize] == Some(who)
+}

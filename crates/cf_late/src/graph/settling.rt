@@ -1,0 +1,67 @@
+//! The calls that settle a stage directly.
+ghost use Rattle.std.specs.Prelude.{◌≡◌, ◌<◌, false, length};
+ghost use Rattle.cf_outcome.specs.declared.outcome.Outcome.TheVariants.{Value as Gives, Fault};
+ghost use Rattle.cf_outcome.specs.declared.outcome.Cause.TheVariants.{Thrown};
+ghost use Rattle.cf_core.specs.Events.{cancelling, settling};
+
+use crate::graph::Graph;
+use cf_outcome::{Cause, Outcome, Value, is_cancelled};
+
+impl Graph {
+    /// Settles a stage of any form with a value, unless it is settled, and says whether it did
+    /// (`CompletableFuture.complete`).
+    pub fn complete(&mut self, i: u16, v: Value) -> bool
+        requires { i < length self.old.plan.stages }
+        ensures { (result, self.new) ≡ settling self.old i (Gives v) }
+    {
+        self.settle(i, Outcome::Value(v))
+    }
+
+    /// Settles a stage of any form with a thrown code, raw, unless it is settled, and says whether it did
+    /// (`CompletableFuture.completeExceptionally`).
+    pub fn fail(&mut self, i: u16, code: u32) -> bool
+        requires { i < length self.old.plan.stages }
+        ensures { (result, self.new) ≡ settling self.old i (Fault (Thrown code) false) }
+    {
+        self.settle(
+            i,
+            Outcome::Fault {
+                cause: Cause::Thrown(code),
+                wrapped: false,
+            },
+        )
+    }
+
+    /// Cancels a stage of any form, unless it is settled, and says whether it is cancelled then
+    /// (`CompletableFuture.cancel`). One that took a cancellation over from another stage isn't cancelled itself.
+    pub fn cancel(&mut self, i: u16) -> bool
+        requires { i < length self.old.plan.stages }
+        ensures { (result, self.new) ≡ cancelling self.old i }
+    {
+        match self.outcome(i) {
+            Some(old) => is_cancelled(old),
+            None => self.settle(
+                i,
+                Outcome::Fault {
+                    cause: Cause::Cancelled,
+                    wrapped: false,
+                },
+            ),
+        }
+    }
+
+    /// Settles a stage, unless it is settled, and says whether it did.
+    pub(super) fn settle(&mut self, i: u16, o: Outcome) -> bool
+        requires { i < length self.old.plan.stages }
+        ensures { (result, self.new) ≡ settling self.old i o }
+    {
+        self.stages.treat_up_to(&self.plan, i);
+        match self.stages.outcome(i) {
+            Some(_) => false,
+            None => {
+                self.stages.settle(&self.plan, i, o);
+                true
+            }
+        }
+    }
+}
