@@ -1,0 +1,356 @@
+-- Plain histories, event by event, and the law.
+use Rattle.std.proofs.Common.{◌≡◌, ◌≢◌, ℕ, ◌+◌, ◌<◌, ◌==◌, ◌∷◌, [], List, Bool, true, false, cond, Option, Some, None, All, length, suc, zero, arith, ap, sym, ◌∙◌, subst, refl, map, drop, set, replicate, get_or}
+use Rattle.std.specs.Prelude.{slice_get, option_and_then, unwrap_or, nat_lt, nat_le, take_while}
+use Rattle.std.specs.Option.{option_map, option_map_or, option_or}
+use Rattle.std.proofs.lemmas.Bool.Decides.{nat_tests}
+use Rattle.std.proofs.lemmas.List.Elements.{All-head, All-tail}
+use Rattle.std.proofs.lemmas.Option.{slice_get_within, get_or_from_slice_get, slice_get-get_or}
+use Rattle.cf_outcome.specs.declared.outcome.Outcome.{Outcome}
+use Rattle.cf_outcome.specs.declared.outcome.Outcome.TheVariants.{Value as Gives, Fault}
+use Rattle.cf_outcome.specs.declared.outcome.Cause.TheVariants.{Thrown, Cancelled}
+use Rattle.cf_outcome.specs.Outcomes.{wrap}
+use Rattle.cf_plan.specs.declared.forms.Form.TheVariants.{Source}
+use Rattle.cf_plan.specs.declared.forms.Args.{Args}
+use Rattle.cf_plan.specs.declared.forms.Answer.{Answer}
+use Rattle.cf_plan.specs.declared.forms.Due.TheVariants.{Waits, Needs}
+use Rattle.cf_plan.specs.declared.forms.Landing.{Landing}
+use Rattle.cf_plan.specs.declared.forms.Landing.TheVariants.{Settles as Lands, Links}
+use Rattle.cf_plan.specs.declared.limits.Limit.{Limit}
+use Rattle.cf_plan.specs.Forms.{follows, landing}
+use Rattle.cf_plan.specs.Plans.{Planned, PlannedStage, form_at, sources_at, function_at, fits_count}
+use Rattle.cf_core.specs.declared.stage.Stage.{Stage}
+use Rattle.cf_core.specs.declared.stage.Stage.TheVariants.{Pending, Ready, Claimed, Linked, Settled}
+use Rattle.cf_core.specs.declared.replies.Finished.TheVariants.{Won, NotYours}
+use Rattle.cf_core.specs.declared.replies.Ticked.{Ticked}
+use Rattle.cf_core.specs.declared.replies.Ticked.TheVariants.{Fired, Past}
+use Rattle.cf_core.specs.States.{State, outcome_of, outcome_in, outcome_at, stage_at, claim_at, start}
+use Rattle.cf_core.specs.declared.events.Event.{Event}
+use Rattle.cf_core.specs.declared.events.Event.TheVariants.{Complete as Completes, Fail as Fails, Cancel as Cancels, Claim as Claims, Finish as Finishes, Tick as Ticks}
+use Rattle.cf_core.specs.declared.events.Reply.TheVariants.{Claim as ToldClaim}
+use Rattle.cf_core.specs.Events.{answered, state_after, settled_by, cancelled_by, claimed_by, finished_by, landed, linked_to, firing, due_limits, source_outcome, settling, limit_outcome}
+use Rattle.cf_core.proofs.Moves.{new_states-settled, keeps_outcomes}
+use Rattle.cf_plan.specs.Plans.{IsBuilt}
+use Rattle.cf_laws.specs.Expressions.{Meanings, named_for, first_named, landing_expr, due_expr, is_source, expr}
+use Rattle.cf_laws.specs.Histories.{Grants, is_plain_form, IsPlainPlan, granted_with, IsPlainEvent, IsPlain, nothing_granted, is_at_rest, IsQuiet}
+use Rattle.cf_laws.specs.Laws.{QuietIsExpression}
+use Rattle.cf_laws.proofs.Forms.{first_same, links_lower}
+use Rattle.cf_laws.proofs.Exprs.{expr_by_stage}
+use Rattle.cf_laws.proofs.Settles.{IsSet, Owes, Waiting, sound_settled, below_there, all_sound, expr_due, more_same, sources_lower}
+use Rattle.cf_laws.proofs.Writes.{Stands, settled_by_stands, closed_stands, landed_stands, claim_stands, claim_closed}
+
+-- what stands before the events that are left: of a source that isn't settled, the first outcome that they name is the one of the whole history
+pub record Good (meanings : Meanings) (named exprs : ℕ → Option Outcome) (granted : Grants) (s : State) (events : List Event) : Type 0 where
+  pub stands : Stands meanings named exprs granted s
+  pub left : (i : ℕ) (p : PlannedStage) → slice_get s.plan.stages i ≡ Some p → is_source p.form ≡ true → outcome_at s i ≡ None → first_named events i ≡ named i
+
+-- ---- a claimed stage
+
+-- a stage whose claim is open and that isn't settled was granted what follows
+was_granted : (exprs outs : ℕ → Option Outcome) (g : ℕ → Option Args) (who : ℕ) (c : Option ℕ) (i : ℕ) (p : PlannedStage) (x : Stage) → Owes exprs outs g c i p x → c ≡ Some who → outcome_of x ≡ None →
+    (args : Args) × (g who ≡ Some args) × (follows p.form (map outs p.sources) ≡ Needs args)
+was_granted exprs outs g who c i p Pending h held e = cc
+was_granted exprs outs g who c i p (Ready args) h held e = let k = h.0 in cc
+was_granted exprs outs g who c i p Claimed h held e = (h.0, h.1 who held, h.2)
+was_granted exprs outs g who c i p (Linked j) h held e = let k = h.0 in cc
+was_granted exprs outs g who c i p (Settled o) h held e = cc
+
+-- a claim that someone has open
+is_open : (c : Option ℕ) (who : ℕ) → option_map_or (λ w. w == who) c false ≡ true → c ≡ Some who
+is_open None who e = cc
+is_open (Some w) who e = let same : w ≡ who = grind (arith, nat_tests) in ap (λ n. Some n) same
+
+-- where the answer that is meant lands
+landing_is : (meanings : Meanings) (plan : List PlannedStage) (i : ℕ) (p : PlannedStage) (outs : ℕ → Option Outcome) (args : Args) (answer : Answer) → slice_get plan i ≡ Some p →
+    answer ≡ meanings (unwrap_or (function_at plan i) 0) args →
+    landing (form_at plan i) i (option_and_then outs (slice_get (sources_at plan i) 0)) answer
+    ≡ landing p.form i (option_and_then outs (slice_get p.sources 0)) (meanings (unwrap_or p.function 0) args)
+landing_is meanings plan i p outs args answer e said = rw (said, e) refl
+
+-- a ready stage is there
+there : (x : Option Stage) {args : Args} → unwrap_or x Pending ≡ Ready args → x ≡ Some (Ready args)
+there None e = cc
+there (Some x) e = ap (λ z. Some z) e
+
+-- ---- outcomes that are named
+
+same_number : (i : ℕ) → (i == i) ≡ true
+same_number i = grind (arith, nat_tests)
+
+set_there : (xs : List Stage) (i : ℕ) (x : Stage) (o : Outcome) → slice_get xs i ≡ Some x → outcome_in (set xs i (Settled o)) i ≡ Some o
+set_there [] i x o e = cc
+set_there (y ∷ xs) zero x o e = refl
+set_there (y ∷ xs) (suc i) x o e = set_there xs i x o e
+
+settled_by_settles : (y : Option Outcome) (s : State) (i : ℕ) (x : Stage) (o : Outcome) → outcome_at s i ≡ y → slice_get s.stages i ≡ Some x → outcome_at ((settled_by y s i o).1) i ≢ None
+settled_by_settles (Some old) s i x o e there = λ h. cc
+settled_by_settles None s i x o e there = λ h. let k = new_states-settled [] s.plan.stages (set s.stages i (Settled o)) i o (set_there s.stages i x o there) in cc
+
+-- a test of numbers
+named_unless : (b : Bool) (i j : ℕ) (o : Outcome) → (i == j) ≡ b → (i ≢ j) → cond b (Some o) None ≡ None
+named_unless true i j o e ne = absurd (ne (grind (arith, nat_tests)))
+named_unless false i j o e ne = refl
+
+by_settling : (s : State) (i j : ℕ) (x : Stage) (o : Outcome) → slice_get s.stages i ≡ Some x → outcome_at ((settled_by (outcome_at s j) s j o).1) i ≡ None → cond (i == j) (Some o) None ≡ None
+by_settling s i j x o there unsettled =
+    named_unless (i == j) i j o refl (λ e. settled_by_settles (outcome_at s j) s j x o refl (ap (slice_get s.stages) (sym e) ∙ there)
+    (ap (outcome_at ((settled_by (outcome_at s j) s j o).1)) (sym e) ∙ unsettled))
+
+-- cancelling leaves the state that settling leaves
+cancelled_same : (y : Option Outcome) (s : State) (i : ℕ) → (cancelled_by y s i).1 ≡ (settled_by y s i (Fault Cancelled false)).1
+cancelled_same (Some old) s i = refl
+cancelled_same None s i = refl
+
+-- what an event names for a stage settles it
+not_named : (e : Event) (s : State) (i : ℕ) (x : Stage) → slice_get s.stages i ≡ Some x → outcome_at ((answered s e).1) i ≡ None → named_for i e ≡ None
+not_named (Completes who j v) s i x there unsettled = by_settling s i j x (Gives v) there unsettled
+not_named (Fails who j code) s i x there unsettled = by_settling s i j x (Fault (Thrown code) false) there unsettled
+not_named (Cancels who j) s i x there unsettled =
+    by_settling s i j x (Fault Cancelled false) there (ap (λ r. outcome_at r i) (sym (cancelled_same (outcome_at s j) s j)) ∙ unsettled)
+not_named (Claims who j) s i x there unsettled = refl
+not_named (Finishes who j answer) s i x there unsettled = refl
+not_named (Ticks who now) s i x there unsettled = refl
+
+was_unsettled : (y : Option Outcome) (s : State) (e : Event) (i : ℕ) → outcome_at s i ≡ y → outcome_at ((answered s e).1) i ≡ None → outcome_at s i ≡ None
+was_unsettled None s e i h unsettled = h
+was_unsettled (Some o) s e i h unsettled = let k = keeps_outcomes s (e ∷ []) i o h in cc
+
+-- ---- the plan stays
+
+settled_by_plan : (y : Option Outcome) (s : State) (i : ℕ) (o : Outcome) → (settled_by y s i o).1.plan ≡ s.plan
+settled_by_plan (Some old) s i o = refl
+settled_by_plan None s i o = refl
+
+cancelled_by_plan : (y : Option Outcome) (s : State) (i : ℕ) → (cancelled_by y s i).1.plan ≡ s.plan
+cancelled_by_plan (Some old) s i = refl
+cancelled_by_plan None s i = refl
+
+claimed_by_plan : (x : Stage) (s : State) (who i : ℕ) → (claimed_by x s who i).1.plan ≡ s.plan
+claimed_by_plan (Ready args) s who i = refl
+claimed_by_plan (Settled o) s who i = refl
+claimed_by_plan Claimed s who i = refl
+claimed_by_plan (Linked j) s who i = refl
+claimed_by_plan Pending s who i = refl
+
+linked_to_plan : (y : Option Outcome) (s : State) (i j : ℕ) → (linked_to y s i j).plan ≡ s.plan
+linked_to_plan (Some o) s i j = refl
+linked_to_plan None s i j = refl
+
+landed_plan : (at : Landing) (s : State) (i : ℕ) → (landed s i at).plan ≡ s.plan
+landed_plan (Lands o) s i = refl
+landed_plan (Links j) s i = linked_to_plan (outcome_at s j) s i j
+
+finished_by_plan : (y : Option Outcome) (s : State) (i : ℕ) (answer : Answer) → (finished_by y s i answer).1.plan ≡ s.plan
+finished_by_plan (Some old) s i answer = refl
+finished_by_plan None s i answer = landed_plan (landing (form_at s.plan.stages i) i (source_outcome s i) answer) s i
+
+finishing_plan : (b : Bool) (s : State) (i : ℕ) (answer : Answer) →
+    (cond b (finished_by (outcome_at s i) (record s { claims = set s.claims i None }) i answer) (NotYours, s)).1.plan ≡ s.plan
+finishing_plan true s i answer = finished_by_plan (outcome_at s i) (record s { claims = set s.claims i None }) i answer
+finishing_plan false s i answer = refl
+
+firing_plan : (limits : List Limit) (count : ℕ) (s : State) → (firing count s limits).1.plan ≡ s.plan
+firing_plan [] count s = refl
+firing_plan (l ∷ limits) count s =
+    let done = settling s l.stage (limit_outcome l.kind) in
+    firing_plan limits (cond done.0 (count + 1) count) done.1 ∙ settled_by_plan (outcome_at s l.stage) s l.stage (limit_outcome l.kind)
+
+-- a tick, by whether it is past
+abbrev ticked : Bool → State → ℕ → Ticked × State
+ticked b s now =
+    let fired = firing 0 s (due_limits s now) in
+    cond b (Past, s) (Fired fired.0, record fired.1 { moment = now; used = s.used + length (due_limits s now) })
+
+ticking_plan : (b : Bool) (s : State) (now : ℕ) →
+    (ticked b s now).1.plan ≡ s.plan
+ticking_plan true s now = refl
+ticking_plan false s now = firing_plan (due_limits s now) 0 s
+
+answered_plan : (e : Event) (s : State) → (answered s e).1.plan ≡ s.plan
+answered_plan (Completes who i v) s = settled_by_plan (outcome_at s i) s i (Gives v)
+answered_plan (Fails who i code) s = settled_by_plan (outcome_at s i) s i (Fault (Thrown code) false)
+answered_plan (Cancels who i) s = cancelled_by_plan (outcome_at s i) s i
+answered_plan (Claims who i) s = claimed_by_plan (stage_at s i) s who i
+answered_plan (Finishes who i answer) s = finishing_plan (option_map_or (λ w. w == who) (claim_at s i) false) s i answer
+answered_plan (Ticks who now) s = ticking_plan (nat_lt now s.moment) s now
+
+-- ---- no limit comes due
+
+no_limits : (limits : List Limit) (n now : ℕ) → All (λ (l : Limit). now < l.at) limits → take_while (λ (l : Limit). nat_le l.at now) (drop n limits) ≡ []
+no_limits [] zero now h = refl
+no_limits [] (suc n) now h = refl
+no_limits (l ∷ limits) zero now h =
+    let above = All-head (λ (l : Limit). now < l.at) l limits h in
+    let not : nat_le l.at now ≡ false = grind (arith, nat_tests) in rw not refl
+no_limits (l ∷ limits) (suc n) now h = no_limits limits n now (All-tail (λ (l : Limit). now < l.at) l limits h)
+
+-- what holds of each element
+all_at : {X : Type 0} (P : X → Type 0) (xs : List X) (i : ℕ) (x : X) → All P xs → slice_get xs i ≡ Some x → P x
+all_at P xs i x h e = subst P (get_or_from_slice_get xs i x x e) (h i x (slice_get_within xs i x e))
+
+-- outcomes of lower sources
+map_below : (f g : ℕ → Option Outcome) (i : ℕ) (sources : List ℕ) → All (λ j. j < i) sources → ((j : ℕ) → j < i → f j ≡ g j) → map f sources ≡ map g sources
+map_below f g i [] lower h = refl
+map_below f g i (j ∷ sources) lower h =
+    let here = h j (All-head (λ k. k < i) j sources lower) in
+    let rest = map_below f g i sources (All-tail (λ k. k < i) j sources lower) h in cc
+
+module _ (meanings : Meanings) (named exprs : ℕ → Option Outcome) where
+  -- ---- sources are settled with the first outcome that is named
+  source_named : (granted : Grants) (s : State) (e : Event) (events : List Event) (i : ℕ) (o : Outcome) → Good meanings named exprs granted s (e ∷ events) →
+      form_at s.plan.stages i ≡ Source → named_for i e ≡ Some o → outcome_at s i ≡ None → (p : PlannedStage) → slice_get s.plan.stages i ≡ Some p → exprs i ≡ Some o
+  source_named granted s e events i o good source is unsettled p there =
+      let form : p.form ≡ Source = ap (λ x. option_map_or (λ (q : PlannedStage). q.form) x Source) (sym there) ∙ source in
+      let test : is_source p.form ≡ true = ap is_source form in
+      let first : first_named (e ∷ events) i ≡ Some o = ap (λ x. option_or x (first_named events i)) is in
+      let whole = good.left i p there test unsettled in
+      good.stands.known.by_stage i p there ∙ ap (λ b. cond b (named i) (due_expr meanings exprs i p (follows p.form (map exprs p.sources)))) test ∙ sym whole ∙ first
+
+  by_naming : (granted : Grants) (s : State) (e : Event) (events : List Event) (i : ℕ) (o : Outcome) → Good meanings named exprs granted s (e ∷ events) →
+      form_at s.plan.stages i ≡ Source → named_for i e ≡ Some o → Stands meanings named exprs granted ((settled_by (outcome_at s i) s i o).1)
+  by_naming granted s e events i o good source is =
+      settled_by_stands meanings named exprs granted (outcome_at s i) s i o refl good.stands (source_named granted s e events i o good source is)
+
+  -- ---- claims
+  claimed_stands : (granted : Grants) (x : Stage) (s : State) (who i : ℕ) → stage_at s i ≡ x → Stands meanings named exprs granted s →
+      Stands meanings named exprs (granted_with granted (Claims who i) (ToldClaim ((claimed_by x s who i).0))) ((claimed_by x s who i).1)
+  claimed_stands granted (Ready args) s who i e h = claim_stands meanings named exprs granted s who i args h (there (slice_get s.stages i) e)
+  claimed_stands granted (Settled o) s who i e h = h
+  claimed_stands granted Claimed s who i e h = h
+  claimed_stands granted (Linked j) s who i e h = h
+  claimed_stands granted Pending s who i e h = h
+
+  -- ---- finishes
+  lands_meant : (granted : Grants) (s : State) (who i : ℕ) (answer : Answer) → Stands meanings named exprs granted s → outcome_at s i ≡ None → claim_at s i ≡ Some who →
+      ((args : Args) → granted who i ≡ Some args → answer ≡ meanings (unwrap_or (function_at s.plan.stages i) 0) args) →
+      (p : PlannedStage) → slice_get s.plan.stages i ≡ Some p → exprs i ≡ landing_expr exprs (landing (form_at s.plan.stages i) i (source_outcome s i) answer)
+  lands_meant granted s who i answer h unsettled held meant p there =
+      let f = h.sound i p there in
+      let was = was_granted exprs (outcome_in s.stages) (λ w. granted w i) who (claim_at s i) i p f.stage f.owes held (ap (option_and_then outcome_of) (sym f.there) ∙ unsettled) in
+      let right : (j : ℕ) (o : Outcome) → j < i → outcome_in s.stages j ≡ Some o → exprs j ≡ Some o = λ j o l e.
+      (let q = below_there s.plan.stages i j p there l in sound_settled exprs (λ w. granted w j) (claim_at s j) s.stages j q.0 o (h.sound j q.0 q.1) e) in
+      let due = expr_due meanings named exprs s.plan.stages h.known (outcome_in s.stages) i p (Needs was.0) there was.2 (λ w. cc) right in
+      let ne : follows p.form (map (outcome_in s.stages) p.sources) ≢ Waits = λ w. (let k = was.2 in cc) in
+      let same = first_same (outcome_in s.stages) exprs p.sources (more_same meanings named exprs s.plan.stages h.known (outcome_in s.stages) exprs i p there ne right) in
+      let said = meant was.0 was.1 in
+      due ∙ ap (landing_expr exprs)
+      (ap (λ x. landing p.form i x (meanings (unwrap_or p.function 0) was.0)) same ∙ sym (landing_is meanings s.plan.stages i p (outcome_in s.stages) was.0 answer there said))
+
+  finished_by_stands : (granted : Grants) (y : Option Outcome) (s : State) (who i : ℕ) (answer : Answer) → outcome_at s i ≡ y → Stands meanings named exprs granted s → claim_at s i ≡ Some who →
+      ((finished_by y (record s { claims = set s.claims i None }) i answer).0 ≡ Won → (args : Args) → granted who i ≡ Some args → answer ≡ meanings (unwrap_or (function_at s.plan.stages i) 0) args) →
+      Stands meanings named exprs granted ((finished_by y (record s { claims = set s.claims i None }) i answer).1)
+  finished_by_stands granted (Some old) s who i answer e h held meant = closed_stands meanings named exprs granted s i h
+  finished_by_stands granted None s who i answer e h held meant =
+      landed_stands meanings named exprs granted (landing (form_at s.plan.stages i) i (source_outcome s i) answer) (record s { claims = set s.claims i None }) i
+      (closed_stands meanings named exprs granted s i h) e (claim_closed s.claims i)
+      (λ j l. links_lower (form_at s.plan.stages i) i (source_outcome s i) answer j l)
+      (lands_meant granted s who i answer h e held (meant refl))
+
+  finishing_stands : (granted : Grants) (b : Bool) (s : State) (who i : ℕ) (answer : Answer) → option_map_or (λ w. w == who) (claim_at s i) false ≡ b → Stands meanings named exprs granted s →
+      ((cond b (finished_by (outcome_at s i) (record s { claims = set s.claims i None }) i answer) (NotYours, s)).0 ≡ Won → (args : Args) → granted who i ≡ Some args →
+      answer ≡ meanings (unwrap_or (function_at s.plan.stages i) 0) args) →
+      Stands meanings named exprs granted ((cond b (finished_by (outcome_at s i) (record s { claims = set s.claims i None }) i answer) (NotYours, s)).1)
+  finishing_stands granted true s who i answer e h meant = finished_by_stands granted (outcome_at s i) s who i answer refl h (is_open (claim_at s i) who e) meant
+  finishing_stands granted false s who i answer e h meant = h
+
+  ticking_stands : (granted : Grants) (b : Bool) (s : State) (now : ℕ) → due_limits s now ≡ [] → Stands meanings named exprs granted s →
+      Stands meanings named exprs granted ((ticked b s now).1)
+  ticking_stands granted true s now none h = h
+  ticking_stands granted false s now none h = rw none (record { known = h.known; sound = h.sound })
+
+  -- a pending stage of the last state has no expression
+  pending_none : (s : State) (granted : Grants) (i : ℕ) (p : PlannedStage) (b : Bool) → is_source p.form ≡ b → Good meanings named exprs granted s [] → slice_get s.plan.stages i ≡ Some p →
+      outcome_at s i ≡ None → follows p.form (map (outcome_at s) p.sources) ≡ Waits → ((j : ℕ) → j < i → outcome_at s j ≡ exprs j) → exprs i ≡ None
+  pending_none s granted i p true test good e unsettled waits below =
+      good.stands.known.by_stage i p e ∙ rw test (sym (good.left i p e test unsettled))
+  pending_none s granted i p false test good e unsettled waits below =
+      let same = map_below (outcome_at s) exprs i p.sources (sources_lower meanings named exprs s.plan.stages good.stands.known i p e) below in
+      good.stands.known.by_stage i p e ∙ rw (test, ← same, waits) refl
+
+  -- ---- every event
+  event_stands : (granted : Grants) (e : Event) (s : State) (events : List Event) → Good meanings named exprs granted s (e ∷ events) → IsPlainEvent meanings granted s e →
+      Stands meanings named exprs (granted_with granted e ((answered s e).0)) ((answered s e).1)
+  event_stands granted (Completes who i v) s events good plain =
+      by_naming granted s (Completes who i v) events i (Gives v) good plain (ap (λ b. cond b (Some (Gives v)) None) (same_number i))
+  event_stands granted (Fails who i code) s events good plain =
+      by_naming granted s (Fails who i code) events i (Fault (Thrown code) false) good plain (ap (λ b. cond b (Some (Fault (Thrown code) false)) None) (same_number i))
+  event_stands granted (Cancels who i) s events good plain =
+      subst (Stands meanings named exprs granted) (sym (cancelled_same (outcome_at s i) s i))
+      (by_naming granted s (Cancels who i) events i (Fault Cancelled false) good plain (ap (λ b. cond b (Some (Fault Cancelled false)) None) (same_number i)))
+  event_stands granted (Claims who i) s events good plain = claimed_stands granted (stage_at s i) s who i refl good.stands
+  event_stands granted (Finishes who i answer) s events good plain =
+      finishing_stands granted (option_map_or (λ w. w == who) (claim_at s i) false) s who i answer refl good.stands plain
+  event_stands granted (Ticks who now) s events good plain =
+      ticking_stands granted (nat_lt now s.moment) s now (no_limits s.plan.limits s.used now plain) good.stands
+
+  event_good : (granted : Grants) (e : Event) (s : State) (events : List Event) → Good meanings named exprs granted s (e ∷ events) → IsPlainEvent meanings granted s e →
+      Good meanings named exprs (granted_with granted e ((answered s e).0)) ((answered s e).1) events
+  event_good granted e s events good plain = record {
+    stands = event_stands granted e s events good plain;
+    left = λ i p is source unsettled.
+        (let here : slice_get s.plan.stages i ≡ Some p = ap (λ (q : Planned). slice_get q.stages i) (sym (answered_plan e s)) ∙ is in
+        let f = good.stands.sound i p here in
+        let before = good.left i p here source (was_unsettled (outcome_at s i) s e i refl unsettled) in
+        ap (λ x. option_or x (first_named events i)) (sym (not_named e s i f.stage f.there unsettled)) ∙ before);
+  }
+
+  -- ---- the last state
+  rest_is : (s : State) (granted : Grants) (i : ℕ) (p : PlannedStage) (x : Stage) → Good meanings named exprs granted s [] → slice_get s.plan.stages i ≡ Some p → slice_get s.stages i ≡ Some x →
+      Owes exprs (outcome_at s) (λ w. granted w i) (claim_at s i) i p x → Waiting (outcome_at s) p x → is_at_rest x ≡ true → ((j : ℕ) → j < i → outcome_at s j ≡ exprs j) → outcome_of x ≡ exprs i
+  rest_is s granted i p Pending good e there owes waits rest below = sym (pending_none s granted i p (is_source p.form) refl good e (ap (option_and_then outcome_of) there) waits below)
+  rest_is s granted i p (Ready args) good e there owes waits rest below = cc
+  rest_is s granted i p Claimed good e there owes waits rest below = cc
+  rest_is s granted i p (Linked j) good e there owes waits rest below = sym (owes.2 ∙ ap (option_map wrap) (sym (below j owes.1) ∙ waits))
+  rest_is s granted i p (Settled o) good e there owes waits rest below = sym owes
+
+  rest_below : (s : State) (granted : Grants) → Good meanings named exprs granted s [] → IsQuiet s → (n i : ℕ) (p : PlannedStage) → i < n → slice_get s.plan.stages i ≡ Some p → outcome_at s i ≡ exprs i
+  rest_below s granted good quiet zero i p l e = absurd (omega arith)
+  rest_below s granted good quiet (suc n) i p l e =
+      let f = good.stands.sound i p e in
+      ap (option_and_then outcome_of) f.there
+      ∙ rest_is s granted i p f.stage good e f.there f.owes f.waits (all_at (λ x. is_at_rest x ≡ true) s.stages i f.stage quiet f.there)
+      (λ j m. let q = below_there s.plan.stages i j p e m in rest_below s granted good quiet n j q.0 (omega arith) q.1)
+
+  pub run_is : (events : List Event) (s : State) (granted : Grants) (i : ℕ) (p : PlannedStage) → Good meanings named exprs granted s events → IsPlain meanings granted s events →
+      IsQuiet (state_after s events) → slice_get s.plan.stages i ≡ Some p → outcome_at (state_after s events) i ≡ exprs i
+  run_is [] s granted i p good plain quiet e = rest_below s granted good quiet (suc i) i p (omega arith) e
+  run_is (event ∷ events) s granted i p good plain quiet e =
+      run_is events ((answered s event).1) (granted_with granted event ((answered s event).0)) i p (event_good granted event s events good plain.0) plain.1 quiet
+      (ap (λ (q : Planned). slice_get q.stages i) (answered_plan event s) ∙ e)
+
+-- ---- the start
+
+replicate_at : (n i : ℕ) → i < n → slice_get (replicate n Pending) i ≡ Some Pending
+replicate_at zero i l = absurd (omega arith)
+replicate_at (suc n) zero l = refl
+replicate_at (suc n) (suc i) l = replicate_at n i (omega arith)
+
+no_claim : (n i : ℕ) → unwrap_or {T = Option ℕ} (slice_get (replicate n None) i) None ≡ None
+no_claim zero i = refl
+no_claim (suc n) zero = refl
+no_claim (suc n) (suc i) = no_claim n i
+
+start_good : (meanings : Meanings) (plan : Planned) (events : List Event) → IsBuilt plan → IsPlainPlan plan →
+    Good meanings (first_named events) (expr plan events meanings) nothing_granted (start plan) events
+start_good meanings plan events built plain =
+    let n = length plan.stages in
+    let known : IsSet meanings (first_named events) (expr plan events meanings) plan.stages = record {
+      lower = built.lower;
+      counted = λ i p e. all_at (λ (q : PlannedStage). fits_count q.form (length q.sources) ≡ true) plan.stages i p built.fitting e;
+      plain = λ i p e. all_at (λ (q : PlannedStage). is_plain_form q.form ≡ true) plan.stages i p plain e;
+      by_stage = expr_by_stage meanings (first_named events) plan.stages built.lower;
+    } in
+    record {
+      stands = record {
+        known = known;
+        sound = all_sound meanings (first_named events) (expr plan events meanings) plan.stages known (λ j. None) nothing_granted (claim_at (start plan)) (replicate n Pending)
+            (λ i p e. record { stage = Pending; there = replicate_at n i (slice_get_within plan.stages i p e); owes = no_claim n i })
+            (λ j o h. cc);
+      };
+      left = λ i p e source unsettled. refl;
+    }
+
+pub quiet_is_expression : QuietIsExpression
+quiet_is_expression plan events meanings i built plain history quiet l =
+    let d : PlannedStage = record { form = Source; sources = []; function = None } in
+    run_is meanings (first_named events) (expr plan events meanings) events (start plan) nothing_granted i (get_or plan.stages i d) (start_good meanings plan events built plain) history quiet
+    (slice_get-get_or plan.stages i d l)

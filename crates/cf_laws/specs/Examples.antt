@@ -1,0 +1,61 @@
+-- A plain history that ends quiet, and histories that aren't plain, whose outcomes the expressions don't tell.
+use Rattle.std.specs.Prelude.{◌≡◌, ◌≢◌, ◌==◌, true, Some, None, List, [], ◌∷◌, if◌then◌else◌}
+use Rattle.cf_outcome.specs.declared.outcome.Value.TheVariants.{Nil}
+use Rattle.cf_outcome.specs.declared.outcome.Outcome.TheVariants.{Fault}
+use Rattle.cf_outcome.specs.declared.outcome.Cause.TheVariants.{Thrown}
+use Rattle.cf_plan.specs.declared.forms.Form.TheVariants.{Source, Apply, Compose, RunEither}
+use Rattle.cf_plan.specs.declared.forms.Answer.TheVariants.{Throw, Link}
+use Rattle.cf_plan.specs.Plans.{Planned, IsBuilt}
+use Rattle.cf_core.specs.declared.events.Event.{Event}
+use Rattle.cf_core.specs.declared.events.Event.TheVariants.{Complete as Completes, Fail as Fails, Claim as Claims, Finish as Finishes}
+use Rattle.cf_core.specs.States.{start, outcome_at}
+use Rattle.cf_core.specs.Events.{state_after}
+use Rattle.cf_laws.specs.Expressions.{Meanings, expr}
+use Rattle.cf_laws.specs.Histories.{IsPlain, IsPlainPlan, IsQuiet, nothing_granted}
+
+-- a source, a compose over it, and an apply over the compose
+abbrev pub chain : Planned
+chain = record {
+  stages = record { form = Source; sources = []; function = None } ∷ record { form = Compose; sources = 0 ∷ []; function = Some 0 } ∷ record { form = Apply; sources = 1 ∷ []; function = Some 1 } ∷ [];
+  limits = [];
+}
+
+-- the compose links to the source, and the apply throws
+abbrev pub meant : Meanings
+meant n args = if n == 0 then Link 0 else Throw 7
+
+-- two callers do the work, and the source is failed too late
+abbrev pub worked : List Event
+worked = Completes 0 0 Nil ∷ Claims 3 1 ∷ Finishes 3 1 (Link 0) ∷ Claims 2 2 ∷ Finishes 2 2 (Throw 7) ∷ Fails 0 0 9 ∷ []
+
+-- the apply's function answers what it doesn't mean
+abbrev pub answered_wrongly : List Event
+answered_wrongly = Completes 0 0 Nil ∷ Claims 3 1 ∷ Finishes 3 1 (Link 0) ∷ Claims 2 2 ∷ Finishes 2 2 (Throw 8) ∷ []
+
+-- two sources and an either form over them
+abbrev pub forked : Planned
+forked = record {
+  stages = record { form = Source; sources = []; function = None } ∷ record { form = Source; sources = []; function = None } ∷ record { form = RunEither; sources = 0 ∷ 1 ∷ []; function = Some 1 } ∷ [];
+  limits = [];
+}
+
+-- the second source fails first
+abbrev pub second_first : List Event
+second_first = Fails 0 1 4 ∷ Completes 0 0 Nil ∷ []
+
+-- The premises of the law of expressions can be met, by a history in which stages settle.
+pub record PremisesAreMet : Type 0 where
+  pub built : IsBuilt chain
+  pub plain_plan : IsPlainPlan chain
+  pub plain : IsPlain meant nothing_granted (start chain) worked
+  pub quiet : IsQuiet (state_after (start chain) worked)
+  pub settled : outcome_at (state_after (start chain) worked) 2 ≡ Some (Fault (Thrown 7) true)
+  pub expressed : expr chain worked meant 2 ≡ Some (Fault (Thrown 7) true)
+
+-- Without plain answers, or with an either form, the law would be false.
+pub record PremisesAreNeeded : Type 0 where
+  pub wrong_answer_quiet : IsQuiet (state_after (start chain) answered_wrongly)
+  pub wrong_answer : outcome_at (state_after (start chain) answered_wrongly) 2 ≢ expr chain answered_wrongly meant 2
+  pub either_plain : IsPlain meant nothing_granted (start forked) second_first
+  pub either_quiet : IsQuiet (state_after (start forked) second_first)
+  pub either : outcome_at (state_after (start forked) second_first) 2 ≢ expr forked second_first meant 2

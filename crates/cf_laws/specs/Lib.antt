@@ -1,0 +1,5 @@
+pub mod Expressions
+pub mod Histories
+pub mod Stagewise
+pub mod Laws
+pub mod Examples
