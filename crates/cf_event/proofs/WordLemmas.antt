@@ -1,0 +1,136 @@
+-- Words and their fields.
+use Rattle.std.proofs.Common.{◌≡◌, ℕ, zero, suc, List, [], ◌∷◌, ◌++◌, map, replicate, All, ◌/◌, ◌%◌, ◌^◌, ◌<◌, Bool, true, false, Option, Some, None, refl, ap, ◌∙◌, arith, rules}
+use Rattle.std.specs.Prelude.{nat_lt, ◌==◌, ◌&&◌, if◌then◌else◌}
+use Rattle.std.specs.Option.{option_map}
+use Rattle.std.specs.Int.{w32}
+use Rattle.std.proofs.lemmas.Int.{to_z-of_z}
+use Rattle.std.proofs.lemmas.Grind.{common_steps}
+use Rattle.std.proofs.lemmas.List.Elements.{All-head, All-tail}
+use Rattle.std.proofs.lemmas.Bool.Decides.{nat_tests}
+use Rattle.cf_outcome.specs.declared.outcome.Value.{Value}
+use Rattle.cf_outcome.specs.declared.outcome.Value.TheVariants.{Nil, Int}
+use Rattle.cf_plan.specs.declared.forms.Answer.{Answer}
+use Rattle.cf_plan.specs.declared.forms.Answer.TheVariants.{Give, Throw, Link}
+use Rattle.cf_core.specs.declared.events.Event.{Event}
+use Rattle.cf_core.specs.declared.events.Event.TheVariants.{Complete as Completes, Fail as Fails, Cancel as Cancels, Claim as Claims, Finish as Finishes, Tick as Ticks}
+use Rattle.cf_event.specs.Words.{IsAnswer, IsEvent, IsValue, answer_low, answer_tag, value_low, value_tag, word_of, word_with}
+use Rattle.cf_event.specs.Decoding.{answer_with, decoded, decoded_with, event_of, event_with, value_with}
+
+-- a word's fields
+kind_in : (kind who i tag low : ℕ) → who < 256 → i < 4096 → tag < 16 → low < 2 ^ 32 → word_with kind who i tag low / 2 ^ 56 ≡ kind
+kind_in kind who i tag low w s t l = omega arith
+
+who_in : (kind who i tag low : ℕ) → who < 256 → i < 4096 → tag < 16 → low < 2 ^ 32 → word_with kind who i tag low / 2 ^ 48 % 2 ^ 8 ≡ who
+who_in kind who i tag low w s t l = omega arith
+
+stage_in : (kind who i tag low : ℕ) → who < 256 → i < 4096 → tag < 16 → low < 2 ^ 32 → word_with kind who i tag low / 2 ^ 36 % 2 ^ 12 ≡ i
+stage_in kind who i tag low w s t l = omega arith
+
+tag_in : (kind who i tag low : ℕ) → who < 256 → i < 4096 → tag < 16 → low < 2 ^ 32 → word_with kind who i tag low / 2 ^ 32 % 2 ^ 4 ≡ tag
+tag_in kind who i tag low w s t l = omega arith
+
+low_in : (kind who i tag low : ℕ) → who < 256 → i < 4096 → tag < 16 → low < 2 ^ 32 → word_with kind who i tag low % 2 ^ 32 ≡ low
+low_in kind who i tag low w s t l = omega arith
+
+-- a word is that of its fields
+pub word_of_fields : (w : ℕ) → word_with (w / 2 ^ 56) (w / 2 ^ 48 % 2 ^ 8) (w / 2 ^ 36 % 2 ^ 12) (w / 2 ^ 32 % 2 ^ 4) (w % 2 ^ 32) ≡ w
+word_of_fields w = omega arith
+
+-- the event of the word of these fields
+pub event_of_fields : (kind who i tag low : ℕ) → who < 256 → i < 4096 → tag < 16 → low < 2 ^ 32 → event_of (word_with kind who i tag low) ≡ event_with kind who i tag low
+unfolding event_of
+event_of_fields kind who i tag low w s t l =
+    rw (kind_in kind who i tag low w s t l, who_in kind who i tag low w s t l, stage_in kind who i tag low w s t l, tag_in kind who i tag low w s t l, low_in kind who i tag low w s t l)
+
+-- a value, and an answer, come back
+value_with-back : (v : Value) → IsValue v → value_with (value_tag v) (value_low v) ≡ Some v
+value_with-back Nil h = refl
+value_with-back (Int z) h = ap (λ y. Some (Int y)) (to_z-of_z w32 z h)
+
+answer_with-back : (a : Answer) → IsAnswer a → answer_with (answer_tag a) (answer_low a) ≡ Some a
+answer_with-back (Give Nil) h = refl
+answer_with-back (Give (Int z)) h = ap (λ y. Some (Give (Int y))) (to_z-of_z w32 z h)
+answer_with-back (Throw code) h = refl
+answer_with-back (Link j) h = grind (arith, common_steps)
+
+-- their fields are small
+value_small : (v : Value) → IsValue v → (value_tag v < 16) × (value_low v < 2 ^ 32)
+value_small Nil h = (omega arith, omega arith)
+value_small (Int z) h = (omega arith, search rules)
+
+answer_small : (a : Answer) → IsAnswer a → (answer_tag a < 16) × (answer_low a < 2 ^ 32)
+answer_small (Give v) h = value_small v h
+answer_small (Throw code) h = (omega arith, h)
+answer_small (Link j) h = (omega arith, omega arith)
+
+-- the event of an event's word is that event
+pub event_of_own_word : (e : Event) → IsEvent e → event_of (word_of e) ≡ Some e
+event_of_own_word (Completes who i v) h =
+    let small = value_small v h.2 in
+    let back = value_with-back v h.2 in
+    event_of_fields 1 who i (value_tag v) (value_low v) (omega (arith, h.0)) (omega (arith, h.1)) small.0 small.1 ∙ grind (arith, common_steps)
+event_of_own_word (Fails who i code) h =
+    event_of_fields 2 who i 0 code (omega (arith, h.0)) (omega (arith, h.1)) (omega arith) h.2 ∙ grind (arith, common_steps)
+event_of_own_word (Cancels who i) h =
+    event_of_fields 3 who i 0 0 (omega (arith, h.0)) (omega (arith, h.1)) (omega arith) (omega arith) ∙ grind (arith, common_steps)
+event_of_own_word (Claims who i) h =
+    event_of_fields 4 who i 0 0 (omega (arith, h.0)) (omega (arith, h.1)) (omega arith) (omega arith) ∙ grind (arith, common_steps)
+event_of_own_word (Finishes who i a) h =
+    let small = answer_small a h.2 in
+    let back = answer_with-back a h.2 in
+    event_of_fields 5 who i (answer_tag a) (answer_low a) (omega (arith, h.0)) (omega (arith, h.1)) small.0 small.1 ∙ grind (arith, common_steps)
+event_of_own_word (Ticks who now) h =
+    event_of_fields 6 who 0 0 now (omega (arith, h.0)) (omega arith) (omega arith) h.1 ∙ grind (arith, common_steps)
+
+-- what a value, and an answer, with these fields is
+value_with_is : (tag low : ℕ) (v : Value) → low < 2 ^ 32 → value_with tag low ≡ Some v → IsValue v × (value_tag v ≡ tag) × (value_low v ≡ low)
+value_with_is tag low v l h = grind (arith, common_steps, nat_tests)
+
+answer_with_is : (tag low : ℕ) (a : Answer) → low < 2 ^ 32 → answer_with tag low ≡ Some a → IsAnswer a × (answer_tag a ≡ tag) × (answer_low a ≡ low)
+answer_with_is tag low a l h = grind (arith, common_steps, nat_tests, value_with_is)
+
+-- what is found by one of two ways
+chosen : {A P : Type 0} (b : Bool) (x y : Option A) (z : A) → (b ≡ true → x ≡ Some z → P) → (b ≡ false → y ≡ Some z → P) → (if b then x else y) ≡ Some z → P
+chosen true x y z f g h = f refl h
+chosen false x y z f g h = g refl h
+
+-- what the event with these fields is
+event_with_is : (kind who i tag low : ℕ) (e : Event) → i < 4096 → low < 2 ^ 32 → event_with kind who i tag low ≡ Some e → IsEvent e × (word_of e ≡ word_with kind who i tag low)
+event_with_is kind who i tag low e s l h =
+    chosen (nat_lt 63 who) None _ e (λ t n. absurd cc) (λ w.
+    chosen (kind == 1) (option_map (Completes who i) (value_with tag low)) _ e
+    (λ k n. grind (arith, common_steps, nat_tests, value_with_is)) (λ k1.
+    chosen (kind == 2 && tag == 0) (Some (Fails who i low)) _ e (λ k n. grind (arith, common_steps, nat_tests)) (λ k2.
+    chosen (kind == 3 && tag == 0 && low == 0) (Some (Cancels who i)) _ e (λ k n. grind (arith, common_steps, nat_tests)) (λ k3.
+    chosen (kind == 4 && tag == 0 && low == 0) (Some (Claims who i)) _ e (λ k n. grind (arith, common_steps, nat_tests)) (λ k4.
+    chosen (kind == 5) (option_map (Finishes who i) (answer_with tag low)) _ e
+    (λ k n. grind (arith, common_steps, nat_tests, answer_with_is)) (λ k5.
+    chosen (kind == 6 && tag == 0 && i == 0) (Some (Ticks who low)) None e (λ k n. grind (arith, common_steps, nat_tests)) (λ k6 n. absurd cc))))))) h
+
+-- the event of a word is one, and that is its word
+pub event_of_is : (w : ℕ) (e : Event) → event_of w ≡ Some e → IsEvent e × (word_of e ≡ w)
+unfolding event_of
+event_of_is w e h =
+    let found = event_with_is (w / 2 ^ 56) (w / 2 ^ 48 % 2 ^ 8) (w / 2 ^ 36 % 2 ^ 12) (w / 2 ^ 32 % 2 ^ 4) (w % 2 ^ 32) e (omega arith) (omega arith) h in
+    (found.0, found.1 ∙ word_of_fields w)
+
+-- no word of an event is 0, which is no event's
+pub word_of_filled : (e : Event) → 0 < word_of e
+word_of_filled (Completes who i v) = omega arith
+word_of_filled (Fails who i code) = omega arith
+word_of_filled (Cancels who i) = omega arith
+word_of_filled (Claims who i) = omega arith
+word_of_filled (Finishes who i answer) = omega arith
+word_of_filled (Ticks who now) = omega arith
+
+pub event_of_zero : event_of 0 ≡ None
+unfolding event_of
+event_of_zero = refl
+
+-- events' words decode to the events, also with zeros behind them
+pub decoded_words : (events : List Event) (free : ℕ) → All IsEvent events → decoded (map word_of events ++ replicate free 0) ≡ events
+decoded_words [] zero h = refl
+decoded_words [] (suc free) h = ap (λ o. decoded_with o (decoded (replicate free 0))) event_of_zero
+decoded_words (e ∷ events) free h =
+    ap (λ o. decoded_with o (decoded (map word_of events ++ replicate free 0))) (event_of_own_word e (All-head IsEvent e events h))
+    ∙ ap (λ l. e ∷ l) (decoded_words events free (All-tail IsEvent e events h))

@@ -1,0 +1,50 @@
+-- Words as events.
+use Rattle.std.specs.Prelude.{ℕ, ◌^◌, ◌/◌, ◌%◌, ◌==◌, ◌&&◌, nat_lt, Option, Some, None, List, [], ◌∷◌, if◌then◌else◌}
+use Rattle.std.specs.Int.{w32, cast_signed}
+use Rattle.std.specs.Option.{option_map}
+use Rattle.cf_outcome.specs.declared.outcome.Value.{Value}
+use Rattle.cf_outcome.specs.declared.outcome.Value.TheVariants.{Nil, Int}
+use Rattle.cf_plan.specs.declared.forms.Answer.{Answer}
+use Rattle.cf_plan.specs.declared.forms.Answer.TheVariants.{Give, Throw, Link}
+use Rattle.cf_core.specs.declared.events.Event.{Event}
+use Rattle.cf_core.specs.declared.events.Event.TheVariants.{Complete as Completes, Fail as Fails, Cancel as Cancels, Claim as Claims, Finish as Finishes, Tick as Ticks}
+
+-- the value with this tag and low half, if there is one
+abbrev pub value_with : ℕ → ℕ → Option Value
+value_with tag low =
+    if tag == 0 && low == 0 then Some Nil
+    else (if tag == 1 then Some (Int (cast_signed w32 low))
+    else None)
+
+-- the answer with this tag and low half, if there is one
+abbrev pub answer_with : ℕ → ℕ → Option Answer
+answer_with tag low =
+    if tag == 2 then Some (Throw low)
+    else (if tag == 3 then (if nat_lt low (2 ^ 16) then Some (Link low) else None)
+    else option_map Give (value_with tag low))
+
+-- the event with these fields, if there is one
+abbrev pub event_with : ℕ → ℕ → ℕ → ℕ → ℕ → Option Event
+event_with kind who i tag low =
+    if nat_lt 63 who then None
+    else (if kind == 1 then option_map (Completes who i) (value_with tag low)
+    else (if kind == 2 && tag == 0 then Some (Fails who i low)
+    else (if kind == 3 && tag == 0 && low == 0 then Some (Cancels who i)
+    else (if kind == 4 && tag == 0 && low == 0 then Some (Claims who i)
+    else (if kind == 5 then option_map (Finishes who i) (answer_with tag low)
+    else (if kind == 6 && tag == 0 && i == 0 then Some (Ticks who low)
+    else None))))))
+
+-- the event of a word, if it is the word of one
+unfoldable pub event_of : ℕ → Option Event
+event_of w = event_with (w / 2 ^ 56) (w / 2 ^ 48 % 2 ^ 8) (w / 2 ^ 36 % 2 ^ 12) (w / 2 ^ 32 % 2 ^ 4) (w % 2 ^ 32)
+
+-- the event of a word, and those of the words behind it: none where the word is no event's
+abbrev pub decoded_with : Option Event → List Event → List Event
+decoded_with None events = []
+decoded_with (Some e) events = e ∷ events
+
+-- the events of these words, up to the first that is no event's
+abbrev pub decoded : List ℕ → List Event
+decoded [] = []
+decoded (w ∷ words) = decoded_with (event_of w) (decoded words)

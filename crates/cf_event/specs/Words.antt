@@ -1,0 +1,70 @@
+-- Events as words: `kind * 2^56 + who * 2^48 + stage * 2^36 + tag * 2^32 + low`.
+use Rattle.std.specs.Prelude.{ℕ, ◌+◌, ◌*◌, ◌^◌, ◌<◌, ◌≤◌, FitsSigned, ⊤}
+use Rattle.std.specs.Int.{w32, cast_unsigned}
+use Rattle.cf_outcome.specs.declared.outcome.Value.{Value}
+use Rattle.cf_outcome.specs.declared.outcome.Value.TheVariants.{Nil, Int}
+use Rattle.cf_plan.specs.declared.forms.Answer.{Answer}
+use Rattle.cf_plan.specs.declared.forms.Answer.TheVariants.{Give, Throw, Link}
+use Rattle.cf_core.specs.declared.events.Event.{Event}
+use Rattle.cf_core.specs.declared.events.Event.TheVariants.{Complete as Completes, Fail as Fails, Cancel as Cancels, Claim as Claims, Finish as Finishes, Tick as Ticks}
+
+-- the word of these fields
+abbrev pub word_with : ℕ → ℕ → ℕ → ℕ → ℕ → ℕ
+word_with kind who stage tag low = kind * 2 ^ 56 + who * 2 ^ 48 + stage * 2 ^ 36 + tag * 2 ^ 32 + low
+
+-- the tag and the low half of a value: an integer stands there in two's complement
+abbrev pub value_tag : Value → ℕ
+value_tag Nil = 0
+value_tag (Int z) = 1
+
+abbrev pub value_low : Value → ℕ
+value_low Nil = 0
+value_low (Int z) = cast_unsigned w32 z
+
+-- the tag and the low half of a function's answer
+abbrev pub answer_tag : Answer → ℕ
+answer_tag (Give v) = value_tag v
+answer_tag (Throw code) = 2
+answer_tag (Link j) = 3
+
+abbrev pub answer_low : Answer → ℕ
+answer_low (Give v) = value_low v
+answer_low (Throw code) = code
+answer_low (Link j) = j
+
+-- the word of an event
+abbrev pub word_of : Event → ℕ
+word_of (Completes who i v) = word_with 1 who i (value_tag v) (value_low v)
+word_of (Fails who i code) = word_with 2 who i 0 code
+word_of (Cancels who i) = word_with 3 who i 0 0
+word_of (Claims who i) = word_with 4 who i 0 0
+word_of (Finishes who i answer) = word_with 5 who i (answer_tag answer) (answer_low answer)
+word_of (Ticks who now) = word_with 6 who 0 0 now
+
+-- a value, and an answer, whose numbers lie in their types' ranges
+abbrev pub IsValue : Value → Type 0
+IsValue Nil = ⊤
+IsValue (Int z) = FitsSigned w32 z
+
+abbrev pub IsAnswer : Answer → Type 0
+IsAnswer (Give v) = IsValue v
+IsAnswer (Throw code) = code < 2 ^ 32
+IsAnswer (Link j) = j < 2 ^ 16
+
+-- an event that has a word: its caller is at most 63, its stage at most 4,095, and each number lies in its type's range
+abbrev pub IsEvent : Event → Type 0
+IsEvent (Completes who i v) = (who ≤ 63) × (i ≤ 4095) × IsValue v
+IsEvent (Fails who i code) = (who ≤ 63) × (i ≤ 4095) × (code < 2 ^ 32)
+IsEvent (Cancels who i) = (who ≤ 63) × (i ≤ 4095)
+IsEvent (Claims who i) = (who ≤ 63) × (i ≤ 4095)
+IsEvent (Finishes who i answer) = (who ≤ 63) × (i ≤ 4095) × IsAnswer answer
+IsEvent (Ticks who now) = (who ≤ 63) × (now < 2 ^ 32)
+
+-- the caller of an event
+abbrev pub who_of : Event → ℕ
+who_of (Completes who i v) = who
+who_of (Fails who i code) = who
+who_of (Cancels who i) = who
+who_of (Claims who i) = who
+who_of (Finishes who i answer) = who
+who_of (Ticks who now) = who

@@ -1,0 +1,15 @@
+//! Events as 64-bit words. A word is `kind * 2^56 + who * 2^48 + stage * 2^36 + tag * 2^32 + low`; each event has one
+//! word, no two events share one, no word is 0, and a word that is no event's decodes to nothing.
+#![tactic(auto)]
+
+mod applying;
+pub mod laws;
+mod words;
+
+pub use applying::{apply, replay};
+pub use cf_core::{Event, Reply};
+
+#[cfg(test)]
+mod tests;
+
+pub use words::{decode, encode, is_event};

@@ -1,0 +1,128 @@
+use crate::{Event, Reply, apply, decode, encode, is_event, replay};
+use cf_core::{Claimed, Ticked};
+use cf_late::Graph;
+use cf_outcome::Value;
+use cf_plan::{Answer, Args, Form, PlanBuilder};
+use std::test::Fail;
+
+/// Events with their words.
+const ROWS: [(Event, u64); 9] = [
+    (
+        Event::Complete {
+            who: 0,
+            stage: 0,
+            value: Value::Nil,
+        },
+        0x0100000000000000,
+    ),
+    (
+        Event::Complete {
+            who: 63,
+            stage: 4095,
+            value: Value::Int(-2147483648),
+        },
+        0x013ffff180000000,
+    ),
+    (
+        Event::Fail {
+            who: 1,
+            stage: 2,
+            code: 4294967295,
+        },
+        0x02010020ffffffff,
+    ),
+    (Event::Cancel { who: 1, stage: 0 }, 0x0301000000000000),
+    (Event::Claim { who: 0, stage: 1 }, 0x0400001000000000),
+    (
+        Event::Finish {
+            who: 2,
+            stage: 5,
+            answer: Answer::Give(Value::Int(-1)),
+        },
+        0x05020051ffffffff,
+    ),
+    (
+        Event::Finish {
+            who: 0,
+            stage: 1,
+            answer: Answer::Throw(7),
+        },
+        0x0500001200000007,
+    ),
+    (
+        Event::Finish {
+            who: 0,
+            stage: 3,
+            answer: Answer::Link(1),
+        },
+        0x0500003300000001,
+    ),
+    (Event::Tick { who: 0, now: 20 }, 0x0600000000000014),
+];
+
+/// Words of no event.
+const REFUSED: [u64; 7] = [
+    0x0000000000000000,
+    0x0100000000000001,
+    0x0100000200000000,
+    0x0140000000000000,
+    0x0500000300010000,
+    0x0600001000000000,
+    0x0700000000000000,
+];
+
+#[test]
+fn each_event_has_its_word(rt: HostRuntime) {
+    for (event, word) in ROWS {
+        assert!(rt; is_event(&event));
+        assert_eq!(rt; encode(&event), word);
+        assert_eq!(rt; decode(word), Some(event));
+    }
+    for word in REFUSED {
+        assert_eq!(rt; decode(word), None, "{word}");
+    }
+    assert!(rt; !is_event(&Event::Cancel { who: 64, stage: 0 }));
+    assert!(rt;
+        !is_event(&Event::Claim {
+            who: 0,
+            stage: 4096
+        })
+    );
+}
+
+/// A word that differs from a good one in one bit is the word of its event, or of none.
+#[test]
+fn one_bit_off_is_another_event_or_none(rt: HostRuntime) {
+    let mut good: u32 = 0;
+    for (_, word) in ROWS {
+        for bit in 0..64u32 {
+            let near = word ^ (1 << bit);
+            if let Some(event) = decode(near) {
+                good = good.saturating_add(1);
+                assert!(rt; is_event(&event));
+                assert_eq!(rt; encode(&event), near);
+            }
+        }
+    }
+    assert_eq!(rt; good, 338);
+}
+
+#[test]
+fn events_are_done_to_a_graph(rt: HostRuntime) -> Result<(), Fail> {
+    let mut builder = PlanBuilder::new(rt.alloc());
+    builder
+        .stage(Form::Supply, &[], Some(0))
+        .map_err(|_| "a stage was refused")?;
+    let plan = builder.build().map_err(|_| "the plan was refused")?;
+    assert!(rt; plan.stages() > 0);
+    let mut graph = Graph::new(rt.alloc(), plan).map_err(|_| "the graph was refused")?;
+    let claim = Event::Claim { who: 1, stage: 0 };
+    assert_eq!(rt;
+        apply(&mut graph, &claim),
+        Reply::Claim(Claimed::Granted(Args::None))
+    );
+    replay(&mut graph, &[Event::Tick { who: 0, now: 5 }], &[2, 3]);
+    let earlier = Event::Tick { who: 1, now: 4 };
+    assert_eq!(rt; apply(&mut graph, &earlier), Reply::Tick(Ticked::Past));
+    Ok(())
+}
