@@ -1,0 +1,286 @@
+-- What the last seat shows, where it stands for every pass.
+use Rattle.cf_plan.specs.Plans.{Planned}
+use Rattle.std.proofs.Common.{◌≡◌, ℕ, zero, suc, ◌+◌, ◌-◌, ◌<◌, ◌≤◌, ◌≢◌, ◌⊎◌, Bool, true, false, eqb, leb, ⊎_elim, length-append, eq-eqb, ne_eqb, Option, Some, None, List, [], ◌∷◌, ◌++◌, map, length, replicate, All, sym, refl, drop, ap, ◌∙◌, subst, append-nil, arith}
+use Rattle.std.proofs.lemmas.List.Elements.{All-nil, All-cons, All-head, All-tail, filter-append}
+use mathlib.Core.Logic.{dite}
+use native.Mathlib.Decide.{ℕ_discrete}
+use mathlib.Core.Option.{some, some-injective, some-ne-none}
+use Rattle.std.proofs.lemmas.List.{length-replicate, length-map}
+use Rattle.atomic_table.proofs.Lists.{drop_at}
+use lib.ListN.{get_elem?}
+use Rattle.atomic_table.specs.Table.{State, Final, Seen, Me}
+use Rattle.atomic_table.specs.Seated.{TableId}
+use mathlib.Core.List.{map-append}
+use Rattle.cf_desk.specs.declared.calls.Rec.{Rec}
+use Rattle.cf_core.specs.declared.events.Event.{Event}
+use Rattle.cf_desk.specs.declared.row.Setting.{Setting}
+use Rattle.cf_desk.specs.declared.row.Terms.{Terms}
+use Rattle.cf_desk.specs.declared.row.Known.{Known}
+use Rattle.cf_core.specs.States.{State as Copy, start}
+use Rattle.cf_event.specs.Words.{IsEvent, who_of}
+use Rattle.cf_event.specs.Decoding.{decoded, decoded_with, event_of}
+use Rattle.cf_event.proofs.WordLemmas.{decoded_words}
+use Rattle.cf_desk.specs.Log.{own, IsEventOf, Catches, state_from}
+use Rattle.cf_desk.specs.Records.{Fits}
+use Rattle.cf_desk.specs.Rule.{Stands, AllStand, weight, count_in, count_all, IsRow, Kept, holds, longer_if, longest, with_seen, level, AllCatch, AllShort, blank, fresh, first, head_of, rest_of}
+use Rattle.cf_desk.specs.Views.{Holder, knowns, Closes, IsOneOf, IsLatest, new_pass, known_of}
+use Rattle.cf_desk.specs.Keepings.{IsFit, IsKeptFit, AllFit, pass_did}
+use Rattle.std.specs.List.{Contains}
+use Rattle.cf_desk.specs.Desks.{Agrees}
+use Rattle.cf_desk.proofs.Recs.{fits_more, fits_new}
+use Rattle.cf_desk.proofs.Keeps.{count_at}
+use Rattle.cf_desk.proofs.Meets.{stand_levelled, longest_begins}
+
+-- the passes of the callers below n
+below : ℕ → List Known → ℕ
+below zero v = 0
+below (suc n) v = count_in n v + below n v
+
+hits : ℕ → ℕ → ℕ
+hits zero c = 0
+hits (suc n) c = weight (eqb c n) + hits n c
+
+hits_none : (n c : ℕ) → n ≤ c → hits n c ≡ 0
+unfolding hits
+hits_none zero c h = refl
+hits_none (suc n) c h = let ne : c ≢ n = omega arith in let w : weight (eqb c n) ≡ 0 = ap weight (ne_eqb c n ne) in let r = hits_none n c (omega arith) in omega arith
+
+hits_one : (n c : ℕ) → c < n → hits n c ≡ 1
+unfolding hits
+hits_one zero c h = absurd (omega arith)
+hits_one (suc n) c h = dite (ℕ_discrete c n)
+    (λ (same : c ≡ n). let w : weight (eqb c n) ≡ 1 = ap weight (eq-eqb c n same) in let r = hits_none n c (let e : c ≡ n = same in omega arith) in omega arith)
+    (λ (ne : c ≢ n). let w : weight (eqb c n) ≡ 0 = ap weight (ne_eqb c n ne) in let r = hits_one n c (let m : c ≢ n = ne in omega arith) in omega arith)
+
+below_none : (n : ℕ) → below n [] ≡ 0
+unfolding below
+below_none zero = refl
+below_none (suc n) = let r = below_none n in omega arith
+
+below_cons : (n : ℕ) (k : Known) (ks : List Known) → below n (k ∷ ks) ≡ hits n k.caller + below n ks
+unfolding below hits
+below_cons zero k ks = refl
+below_cons (suc n) k ks = let r = below_cons n k ks in omega arith
+
+below_all : (t : Setting) (log : List Event) (v : List Known) → AllStand t log v → below t.callers v ≡ length v
+below_all t log [] h = below_none t.callers
+below_all t log (k ∷ ks) h = let a = below_cons t.callers k ks in let o = hits_one t.callers k.caller h.0.caller in let r = below_all t log ks h.1 in omega arith
+
+below_le : (n : ℕ) (v : List Known) → ((c : ℕ) → count_in c v ≤ 1) → below n v ≤ n
+unfolding below
+below_le zero v once = omega arith
+below_le (suc n) v once = let o = once n in let r = below_le n v once in omega arith
+
+-- n passes of callers below n, no two of one caller: each has one
+all_there : (n : ℕ) (v : List Known) → ((c : ℕ) → count_in c v ≤ 1) → below n v ≡ n → (c : ℕ) → c < n → count_in c v ≡ 1
+unfolding below
+all_there zero v once full c h = absurd (omega arith)
+all_there (suc n) v once full c h = let o = once n in let le = below_le n v once in dite (ℕ_discrete c n)
+    (λ (same : c ≡ n). let one : count_in n v ≡ 1 = omega arith in subst (λ x. count_in x v ≡ 1) (sym same) one)
+    (λ (ne : c ≢ n). all_there n v once (omega arith) c (let m : c ≢ n = ne in omega arith))
+
+none_of : (callers : Setting) (now rest : List Event) (v : List Known) → AllStand callers (now ++ rest) (map (with_seen now) v) → (c : ℕ) → count_in c v ≡ 1 → own c rest ≡ []
+none_of callers now rest [] h c one = absurd (omega arith)
+none_of callers now rest (k ∷ ks) h c one = dite (ℕ_discrete k.caller c)
+    (λ (same : k.caller ≡ c). subst (λ x. own x rest ≡ []) same (subst (λ l. own k.caller l ≡ []) (same_rest now h.0.rest rest (sym h.0.split)) h.0.none))
+    (λ (ne : k.caller ≢ c). none_of callers now rest ks h.1 c (let w : weight (eqb k.caller c) ≡ 0 = ap weight (ne_eqb k.caller c ne) in omega arith))
+  where
+    same_rest : (xs r q : List Event) → xs ++ r ≡ xs ++ q → r ≡ q
+    same_rest [] r q e = e
+    same_rest (x ∷ xs) r q e = same_rest xs r q cc
+
+nobodys : (callers : Setting) (rest : List Event) → All (IsEventOf callers) rest → ((c : ℕ) → c < callers.callers → own c rest ≡ []) → rest ≡ []
+nobodys callers [] events none = refl
+nobodys callers (w ∷ ws) events none =
+    let e = All-head (IsEventOf callers) w ws events in
+    let is : w ∷ own (who_of w) ws ≡ [] = subst (λ b. Rattle.std.proofs.Common.cond b (w ∷ own (who_of w) ws) (own (who_of w) ws) ≡ []) (eq-eqb (who_of w) (who_of w) refl) (none (who_of w) e.caller) in
+    cc
+
+all_after : (P : Event → Type 0) (xs ys : List Event) → All P (xs ++ ys) → All P ys
+all_after P [] ys h = h
+all_after P (x ∷ xs) ys h = all_after P xs ys (All-tail P x (xs ++ ys) h)
+
+-- a seat that stands for as many passes as there are callers has seen the whole log
+pub whole : (t : Terms) (words : List ℕ) (views : List (List Known)) (h : Kept t words views) (id : ℕ) (v : List Known) → get_elem? views id ≡ some v → length v ≡ t.setting.callers
+    → IsRow t (longest v) words × AllCatch (longest v) v
+whole t words views h id v at all =
+    let stand = h.known id v at in
+    let begins = longest_begins t.setting h.log v stand in
+    let p = stand_levelled t.setting h.log v stand in
+    let once : (c : ℕ) → count_in c v ≤ 1 = λ c. let a = h.apart c in let b = count_at c views id v at in omega arith in
+    let full : below t.setting.callers v ≡ t.setting.callers = below_all t.setting h.log v stand ∙ all in
+    let none : begins.0 ≡ [] = nobodys t.setting begins.0 (all_after (IsEventOf t.setting) (longest v) begins.0 (subst (All (IsEventOf t.setting)) begins.1 h.row.events))
+    (λ c lt. none_of t.setting (longest v) begins.0 v (subst (λ l. AllStand t.setting l (level v)) begins.1 p.1) c (all_there t.setting.callers v once full c lt)) in
+    let is : h.log ≡ longest v = begins.1 ∙ ap (λ l. longest v ++ l) none ∙ append-nil (longest v) in
+    (subst (λ l. IsRow t l words) is h.row, p.0)
+
+pub each_there : (t : Terms) (words : List ℕ) (views : List (List Known)) (h : Kept t words views) (id : ℕ) (v : List Known) → get_elem? views id ≡ some v → length v ≡ t.setting.callers → (c : ℕ) → c < t.setting.callers → count_in c v ≡ 1
+each_there t words views h id v at all c lt =
+    let once : (c : ℕ) → count_in c v ≤ 1 = λ c. let a = h.apart c in let b = count_at c views id v at in omega arith in
+    all_there t.setting.callers v once (below_all t.setting h.log v (h.known id v at) ∙ all) c lt
+
+-- a new row keeps the rule
+fresh_none : (n : Setting) (c m x : ℕ) → x < c → count_in x (fresh n c m) ≡ 0
+fresh_none n c zero x h = refl
+fresh_none n c (suc m) x h = let ne : c ≢ x = omega arith in let w : weight (eqb c x) ≡ 0 = ap weight (ne_eqb c x ne) in let r = fresh_none n (suc c) m x (omega arith) in omega arith
+
+fresh_once : (n : Setting) (c m x : ℕ) → count_in x (fresh n c m) ≤ 1
+fresh_once n c zero x = omega arith
+fresh_once n c (suc m) x = dite (ℕ_discrete c x)
+    (λ (same : c ≡ x). let w : weight (eqb c x) ≡ 1 = ap weight (eq-eqb c x same) in let r = fresh_none n (suc c) m x (let e : c ≡ x = same in omega arith) in omega arith)
+    (λ (ne : c ≢ x). let w : weight (eqb c x) ≡ 0 = ap weight (ne_eqb c x ne) in let r = fresh_once n (suc c) m x in omega arith)
+
+fresh_stand : (n : Setting) (c m : ℕ) → c + m ≤ n.callers → AllStand n [] (fresh n c m)
+fresh_stand n c zero h = tt
+fresh_stand n c (suc m) h = (record { terms = refl; caller = omega arith; rest = []; split = refl; none = refl }, fresh_stand n (suc c) m (omega arith))
+
+pub begins : (t : Terms) (words : List ℕ) → words ≡ replicate t.words 0 → Kept t words (first t ∷ [])
+begins t words zeros = record {
+  log = [];
+  row = record { free = t.words; words_are = zeros; room = ap length zeros ∙ length-replicate {A = ℕ} t.words 0; events = All-nil (IsEventOf t.setting) };
+  known = λ id v at. only id v at;
+  apart = λ c. let o = fresh_once t.setting 0 t.setting.callers c in omega arith;
+}
+  where
+    only : (id : ℕ) (v : List Known) → get_elem? (first t ∷ []) id ≡ some v → AllStand t.setting [] v
+    only zero v at = subst (AllStand t.setting []) (some-injective (first t) v at) (fresh_stand t.setting 0 t.setting.callers (omega arith))
+    only (suc id) v at = absurd (some-ne-none v (sym at))
+
+pub fresh_snoc : (n : Setting) (c m : ℕ) → fresh n c (suc m) ≡ fresh n c m ++ blank n (c + m) ∷ []
+fresh_snoc n c zero = ap (λ (x : ℕ). blank n x ∷ []) (let e : c ≡ c + 0 = omega arith in e)
+fresh_snoc n c (suc m) = ap (λ l. blank n c ∷ l) (fresh_snoc n (suc c) m ∙ ap (λ (x : ℕ). fresh n (suc c) m ++ blank n x ∷ []) (let e : suc c + m ≡ c + suc m = omega arith in e))
+
+pub fresh_head : (n : Setting) (c m k : ℕ) → m ≡ suc k → (head_of (fresh n c m) ≡ blank n c ∷ []) × (rest_of (fresh n c m) ≡ fresh n (c + 1) k)
+fresh_head n c m k e = subst (λ (x : ℕ). (head_of (fresh n c x) ≡ blank n c ∷ []) × (rest_of (fresh n c x) ≡ fresh n (c + 1) k)) (sym e) (refl, ap (λ (x : ℕ). fresh n x k) (let p : suc c ≡ c + 1 = omega arith in p))
+
+-- the decoded words of a row are those of its log's events
+logged_events : (t : Setting) (log : List Event) → All (IsEventOf t) log → All IsEvent log
+logged_events t [] h = All-nil IsEvent
+logged_events t (e ∷ es) h = All-cons IsEvent e es (All-head (IsEventOf t) e es h).event (logged_events t es (All-tail (IsEventOf t) e es h))
+
+pub decoded_log : (t : Terms) (log : List Event) (words : List ℕ) → IsRow t log words → decoded words ≡ log
+decoded_log t log words r = ap decoded r.words_are ∙ decoded_words log r.free (logged_events t.setting log r.events)
+
+pub decoded_stop : (ws : List ℕ) (i w : ℕ) → get_elem? ws i ≡ some w → event_of w ≡ None → decoded (drop i ws) ≡ []
+decoded_stop ws i w at none = ap decoded (drop_at ws i w at) ∙ ap (λ (o : Option Event). decoded_with o (decoded (drop (suc i) ws))) none
+
+pub decoded_more : (ws : List ℕ) (i w : ℕ) (e : Event) → get_elem? ws i ≡ some w → event_of w ≡ Some e → decoded (drop i ws) ≡ e ∷ decoded (drop (i + 1) ws)
+decoded_more ws i w e at is = ap decoded (drop_at ws i w at) ∙ ap (λ (o : Option Event). decoded_with o (decoded (drop (suc i) ws))) is ∙ ap (λ (x : ℕ). e ∷ decoded (drop x ws)) (let p : suc i ≡ i + 1 = omega arith in p)
+
+-- what the last seat shows of the passes
+begins_all : (history : List Event) (ps : List Holder) → AllCatch history (knowns ps) → All (λ (p : Holder). Catches p.known.caller p.known.seen history) ps
+begins_all history [] h = All-nil (λ (p : Holder). Catches p.known.caller p.known.seen history)
+begins_all history (p ∷ ps) h = All-cons (λ (p : Holder). Catches p.known.caller p.known.seen history) p ps h.0 (begins_all history ps h.1)
+
+fits_all : (t : Setting) (log history : List Event) (ps : List Holder) → AllStand t log (knowns ps) → AllCatch history (knowns ps) → All IsFit ps → All (IsKeptFit t.plan history) (map pass_did ps)
+fits_all t log history [] s h d = All-nil (IsKeptFit t.plan history)
+fits_all t log history (p ∷ ps) s h d = All-cons (IsKeptFit t.plan history) (pass_did p) (map pass_did ps)
+    (subst (λ (x : Setting). Fits x.plan p.known.caller history p.records) s.0.terms (fits_more p.known.setting.plan p.known.caller p.known.seen history p.records h.0 (All-head IsFit p ps d)))
+    (fits_all t log history ps s.1 h.1 (All-tail IsFit p ps d))
+
+-- a caller of which there is a pass is one of those of the passes
+there : (c : ℕ) (ps : List Holder) → count_in c (knowns ps) ≡ 1 → Contains (map (λ (k : ℕ × List Rec). k.0) (map pass_did ps)) c
+there c [] e = absurd (omega arith)
+there c (p ∷ ps) e = dite (ℕ_discrete p.known.caller c)
+    (λ (same : p.known.caller ≡ c). (0, omega arith, same))
+    (λ (ne : p.known.caller ≢ c). let w : weight (eqb p.known.caller c) ≡ 0 = ap weight (ne_eqb p.known.caller c ne) in let r = there c ps (omega arith) in (suc r.0, (let l = r.1 in omega arith), r.2))
+
+owned_all : (t : Setting) (ps : List Holder) → ((c : ℕ) → c < t.callers → count_in c (knowns ps) ≡ 1) → (ws : List Event) → All (IsEventOf t) ws → All (λ w. Contains (map (λ (k : ℕ × List Rec). k.0) (map pass_did ps)) (who_of w)) ws
+owned_all t ps each [] h = All-nil (λ w. Contains (map (λ (k : ℕ × List Rec). k.0) (map pass_did ps)) (who_of w))
+owned_all t ps each (w ∷ ws) h = All-cons (λ w. Contains (map (λ (k : ℕ × List Rec). k.0) (map pass_did ps)) (who_of w)) w ws
+    (there (who_of w) ps (each (who_of w) (All-head (IsEventOf t) w ws h).caller)) (owned_all t ps each ws (All-tail (IsEventOf t) w ws h))
+
+-- the longest list of those that begin the history, which is one of them, is the history
+longest_short : (n : ℕ) (v : List Known) → AllShort n v → length (longest v) ≤ n
+longest_short n [] h = omega arith
+longest_short n (k ∷ ks) h = longer_le (leb (length k.seen) (length (longest ks))) (longest_short n ks h.1)
+  where
+    longer_le : (b : Bool) → length (longest ks) ≤ n → length (longer_if b k.seen (longest ks)) ≤ n
+    longer_le true le = le
+    longer_le false le = h.0
+
+one_begins : (t : Setting) (log history : List Event) (plan : Planned) (seen : List Event) (v : List Known) → AllStand t log v → AllCatch history v → IsOneOf t.plan plan seen v → (plan ≡ t.plan) × ((rest : List Event) × (history ≡ seen ++ rest))
+one_begins t log history plan seen [] s h o = (o.0, (history, ap (λ l. l ++ history) (sym o.1)))
+one_begins t log history plan seen (k ∷ ks) s h o = ⊎_elim
+    (λ (p : (plan ≡ k.setting.plan) × (seen ≡ k.seen)). (p.0 ∙ ap (λ (x : Setting). x.plan) s.0.terms, (h.0.others, h.0.joined ∙ ap (λ l. l ++ h.0.others) (sym p.1))))
+    (λ (r : IsOneOf t.plan plan seen ks). one_begins t log history plan seen ks s.1 h.1 r)
+    o
+
+no_rest : (seen rest : List Event) → length (seen ++ rest) ≤ length seen → rest ≡ []
+no_rest seen [] le = refl
+no_rest seen (x ∷ xs) le = absurd (omega (arith, length-append seen (x ∷ xs)))
+
+latest_whole : (t : Setting) (log : List Event) (most : ℕ) (s : Copy) (v : List Known) → AllStand t log v → AllCatch (longest v) v → IsLatest t.plan most s v → s ≡ state_from t.plan (longest v)
+latest_whole t log most s v stand catch l =
+    let b = one_begins t log (longest v) l.plan l.seen v stand catch l.one in
+    let none : b.1.0 ≡ [] = no_rest l.seen b.1.0 (let e = ap length b.1.1 in let m = longest_short most v l.short in let n = l.count in omega arith) in
+    let is : l.seen ≡ longest v = sym (b.1.1 ∙ ap (λ x. l.seen ++ x) none ∙ append-nil l.seen) in
+    l.state ∙ (λ i. state_from (b.0 i) (is i))
+
+-- what the last seat shows
+pub record Shown (t : Setting) (ps : List Holder) (most : ℕ) (copy : Copy) (history : List Event) : Type 0 where
+  pub closes : Closes t ps history
+  pub fit : AllFit t.plan history (map pass_did ps)
+  pub latest : copy ≡ state_from t.plan history
+
+pub shows : {S : Type 0} (t : Terms) (words : List ℕ) (slots : List S) (id : ℕ) (ps : List Holder) (most : ℕ) (copy : Copy) → length ps ≡ t.setting.callers → All IsFit ps → IsLatest t.setting.plan most copy (knowns ps)
+    → Final (Seen (holds {S = S} t) id (knowns ps)) words slots → Shown t.setting ps most copy (decoded words)
+shows t words slots id ps most copy all fit latest f =
+    let s = f.0 in
+    let h = f.1.0 in
+    let at = f.1.1 in
+    let v = knowns ps in
+    let stand = h.known id v at in
+    let len : length v ≡ t.setting.callers = length-map ps (λ (p : Holder). p.known) ∙ all in
+    let w = whole t s.words s.views h id v at len in
+    let each = each_there t s.words s.views h id v at len in
+    let is : decoded words ≡ longest v = ap decoded (sym f.2) ∙ decoded_log t (longest v) s.words w.0 in
+    subst (Shown t.setting ps most copy) (sym is) (record {
+      closes = record { longest = refl; begins = begins_all (longest v) ps w.1; events = w.0.events; each = each };
+      fit = record { each = fits_all t.setting h.log (longest v) ps stand w.1 fit; owned = owned_all t.setting ps each (longest v) w.0.events };
+      latest = latest_whole t.setting h.log most copy v stand w.1 latest;
+    })
+
+pub shown_as : (t : Terms) (words : List ℕ) (slots : List ℕ) (id : ℕ) (v : List Known) (ps : List Holder) (setting : Setting) (first : Planned) (most : ℕ) (copy : Copy) (history : List Event) → t.setting ≡ setting → first ≡ setting.plan → v ≡ knowns ps → length ps ≡ setting.callers → All IsFit ps
+    → IsLatest first most copy (knowns ps) → history ≡ decoded words → Final (Seen (holds {S = ℕ} t) id v) words slots → Shown setting ps most copy history
+shown_as t words slots id v ps setting first most copy history key plan is all fit latest read f =
+    subst (Shown setting ps most copy) (sym read) (subst (λ (x : Setting). Shown x ps most copy (decoded words)) key
+    (shows {S = ℕ} t words slots id ps most copy (all ∙ ap (λ (x : Setting). x.callers) (sym key)) fit
+    (subst (λ (x : Planned). IsLatest x most copy (knowns ps)) (plan ∙ ap (λ (x : Setting). x.plan) (sym key)) latest)
+    (subst (λ (u : List Known). Final (Seen (holds {S = ℕ} t) id u) words slots) is f)))
+
+pub new_one : (n : Setting) (c : ℕ) (seat mine : Me ℕ (List Known)) → c < n.callers → seat ≡ (fresh n c (n.callers - c), []) → mine ≡ (head_of seat.0, []) → mine ≡ (blank n c ∷ [], [])
+new_one n c seat mine lt s m = m ∙ (λ i. (head_of (s i).0, [])) ∙ (λ i. ((fresh_head n c (n.callers - c) (n.callers - (c + 1)) (omega arith)).0 i, []))
+
+pub agrees_new : (n : Setting) (c : ℕ) (mine : Me ℕ (List Known)) (copy : Copy) (records : List Rec) → c < n.callers → n.callers ≤ 64 → mine ≡ (blank n c ∷ [], []) → copy ≡ start n.plan → records ≡ [] → Agrees (known_of mine.0) c 0 copy records
+agrees_new n c mine copy records lt few me opening none = subst (λ (m : Me ℕ (List Known)). Agrees (known_of m.0) c 0 copy records) (sym me) (record { caller = refl; one_of = lt; few = few; count = refl; state = opening; fits = subst (Fits n.plan c []) (sym none) (fits_new n.plan c) })
+
+-- one pass more is split off
+pub split_next : (z : TableId) (n : Setting) (c calls : ℕ) (seat new mine : Me ℕ (List Known)) (passes now : List Holder) (pass : Holder) → c < n.callers → seat ≡ (fresh n c (n.callers - c), []) → new ≡ (rest_of seat.0, seat.1) → mine ≡ (head_of seat.0, [])
+    → passes ≡ map (new_pass z calls) (fresh n 0 c) → now ≡ passes ++ pass ∷ [] → pass ≡ new_pass z calls (known_of mine.0)
+    → (new ≡ (fresh n (c + 1) (n.callers - (c + 1)), [])) × (mine ≡ (blank n c ∷ [], [])) × (now ≡ map (new_pass z calls) (fresh n 0 (c + 1)))
+split_next z n c calls seat new mine passes now pass lt s e m p w is =
+    let h = fresh_head n c (n.callers - c) (n.callers - (c + 1)) (omega arith) in
+    let head : head_of seat.0 ≡ blank n c ∷ [] = (λ i. head_of (s i).0) ∙ h.0 in
+    let me : mine ≡ (blank n c ∷ [], []) = m ∙ (λ i. (head i, [])) in (
+      e ∙ (λ i. (rest_of (s i).0, (s i).1)) ∙ (λ i. (h.1 i, [])),
+      me,
+      w ∙ (λ i. p i ++ is i ∷ []) ∙ (λ i. map (new_pass z calls) (fresh n 0 c) ++ new_pass z calls (known_of (me i).0) ∷ [])
+          ∙ sym (map-append (new_pass z calls) (fresh n 0 c) (blank n c ∷ [])) ∙ ap (map (new_pass z calls)) (ap (λ (x : ℕ). fresh n 0 c ++ blank n x ∷ []) (let o : c ≡ 0 + c = omega arith in o) ∙ sym (fresh_snoc n 0 c) ∙ ap (λ (x : ℕ). fresh n 0 x) (let o : suc c ≡ c + 1 = omega arith in o)),
+    )
+
+-- the passes of a new desk are of its table, one for each caller
+pub opened_there : (z : TableId) (calls : ℕ) (ks : List Known) → All (λ (p : Holder). p.table ≡ z) (map (new_pass z calls) ks)
+opened_there z calls [] = All-nil (λ (p : Holder). p.table ≡ z)
+opened_there z calls (k ∷ ks) = All-cons (λ (p : Holder). p.table ≡ z) (new_pass z calls k) (map (new_pass z calls) ks) refl (opened_there z calls ks)
+
+length_fresh : (n : Setting) (c m : ℕ) → length (fresh n c m) ≡ m
+length_fresh n c zero = refl
+length_fresh n c (suc m) = let r = length_fresh n (suc c) m in omega arith
+
+pub opened_count : (z : TableId) (n : Setting) (calls : ℕ) → length (map (new_pass z calls) (fresh n 0 n.callers)) ≡ n.callers
+opened_count z n calls = length-map (fresh n 0 n.callers) (new_pass z calls) ∙ length_fresh n 0 n.callers
+
+pub opened_all : (z : TableId) (n : Setting) (calls callers : ℕ) (items : List Holder) → items ≡ map (new_pass z calls) (fresh n 0 n.callers) → n.callers ≡ callers → All (λ (p : Holder). p.table ≡ z) items × (length items ≡ callers)
+opened_all z n calls callers items is count =
+    (subst (All (λ (p : Holder). p.table ≡ z)) (sym is) (opened_there z calls (fresh n 0 n.callers)), ap length is ∙ opened_count z n calls ∙ count)

@@ -1,0 +1,73 @@
+-- Passes that are taken one after another.
+use Rattle.cf_plan.specs.Plans.{Planned}
+use Rattle.std.proofs.Common.{◌≡◌, ℕ, Bool, true, false, leb, leb-true, leb-false, max, ◌<◌, ◌≤◌, ◌⊎◌, inl, inr, ⊎_elim, length, arith, List, [], ◌∷◌, ◌++◌, map, All, sym, refl, ap, ◌∙◌, subst}
+use mathlib.Core.List.{map-append}
+use Rattle.std.proofs.lemmas.List.Elements.{All-head, All-tail}
+use Rattle.atomic_table.specs.Table.{Me}
+use Rattle.cf_core.specs.declared.events.Event.{Event}
+use Rattle.cf_desk.specs.declared.row.Known.{Known}
+use Rattle.cf_desk.specs.declared.calls.Kept.{Kept}
+use Rattle.cf_core.specs.States.{State, start}
+use Rattle.cf_desk.specs.Rule.{AllShort}
+use Rattle.cf_desk.specs.Views.{Holder, knowns, state_of, IsOneOf, IsLatest}
+use Rattle.cf_desk.proofs.Meets.{short_more}
+use Rattle.cf_desk.specs.Keepings.{AreKept, pass_kept, pass_did}
+
+pub all_at : {A : Type 0} (P : A → Type 0) (xs : List A) (x : A) (ys : List A) → All P (xs ++ x ∷ ys) → P x
+all_at P [] x ys h = All-head P x ys h
+all_at P (y ∷ xs) x ys h = all_at P xs x ys (All-tail P y (xs ++ x ∷ ys) h)
+
+pub joined_one : (done : List Holder) (p : Holder) (k : Known) (seat other new : Me ℕ (List Known)) → seat ≡ (knowns done, []) → other ≡ (k ∷ [], []) → k ≡ p.known → new ≡ (seat.0 ++ other.0, seat.1) → new ≡ (knowns (done ++ p ∷ []), [])
+joined_one done p k seat other new s o is n =
+    n ∙ (λ i. ((s i).0 ++ (o i).0, (s i).1)) ∙ (λ i. (knowns done ++ is i ∷ [], [])) ∙ (λ i. (sym (map-append (λ (h : Holder). h.known) done (p ∷ [])) i, []))
+
+pub kept_one : (kept now : List Kept) (done : List Holder) (k : Kept) (p : Holder) → AreKept kept done → now ≡ kept ++ k ∷ [] → pass_kept k ≡ pass_did p → AreKept now (done ++ p ∷ [])
+kept_one kept now done k p h n e =
+    ap (map pass_kept) n ∙ map-append pass_kept kept (k ∷ []) ∙ (λ i. h i ++ e i ∷ []) ∙ sym (map-append pass_did done (p ∷ []))
+
+-- the copy that has seen most, with one pass more
+one_before : (first plan : Planned) (seen : List Event) (ks : List Known) (k : Known) → (plan ≡ k.setting.plan) × (seen ≡ k.seen) → IsOneOf first plan seen (ks ++ k ∷ [])
+one_before first plan seen [] k h = inl h
+one_before first plan seen (l ∷ ks) k h = inr (one_before first plan seen ks k h)
+
+one_still : (first plan : Planned) (seen : List Event) (ks : List Known) (k : Known) → IsOneOf first plan seen ks → IsOneOf first plan seen (ks ++ k ∷ [])
+one_still first plan seen [] k h = inr h
+one_still first plan seen (l ∷ ks) k h = ⊎_elim inl (λ r. inr (one_still first plan seen ks k r)) h
+
+short_push : (n : ℕ) (ks : List Known) (k : Known) → AllShort n ks → length k.seen ≤ n → AllShort n (ks ++ k ∷ [])
+short_push n [] k h le = (le, tt)
+short_push n (l ∷ ks) k h le = (h.0, short_push n ks k h.1 le)
+
+knowns_push : (ps : List Holder) (p : Holder) → knowns (ps ++ p ∷ []) ≡ knowns ps ++ p.known ∷ []
+knowns_push ps p = map-append (λ (h : Holder). h.known) ps (p ∷ [])
+
+pub latest_new : (first : Planned) (most : ℕ) (s : State) (ps : List Holder) (p : Holder) (count : ℕ) (copy : State) → most < count → count ≡ length p.known.seen → copy ≡ state_of p.known → IsLatest first most s (knowns ps) → IsLatest first count copy (knowns (ps ++ p ∷ []))
+latest_new first most s ps p count copy more is state h = subst (IsLatest first count copy) (sym (knowns_push ps p)) (record {
+  plan = p.known.setting.plan;
+  seen = p.known.seen;
+  state = state;
+  count = is;
+  one = one_before first p.known.setting.plan p.known.seen (knowns ps) p.known (refl, refl);
+  short = short_push count (knowns ps) p.known (short_more most count (omega arith) (knowns ps) h.short) (omega arith);
+})
+
+pub latest_still : (first : Planned) (most now : ℕ) (s copy : State) (ps : List Holder) (p : Holder) (count : ℕ) → now ≡ most → copy ≡ s → count ≤ most → count ≡ length p.known.seen → IsLatest first most s (knowns ps) → IsLatest first now copy (knowns (ps ++ p ∷ []))
+latest_still first most now s copy ps p count same kept less is h = subst (IsLatest first now copy) (sym (knowns_push ps p)) (record {
+  plan = h.plan;
+  seen = h.seen;
+  state = kept ∙ h.state;
+  count = same ∙ h.count;
+  one = one_still first h.plan h.seen (knowns ps) p.known h.one;
+  short = short_push now (knowns ps) p.known (subst (λ (n : ℕ). AllShort n (knowns ps)) (sym same) h.short) (omega arith);
+})
+
+pub latest_none : (first : Planned) (s : State) → s ≡ start first → IsLatest first 0 s (knowns [])
+latest_none first s is = record { plan = first; seen = []; state = is; count = refl; one = (refl, refl); short = tt }
+
+pub latest_next : (first : Planned) (most now : ℕ) (s mine copy : State) (ps : List Holder) (p : Holder) (count : ℕ) → now ≡ max most count → (most < count → copy ≡ mine) → (count ≤ most → copy ≡ s) → count ≡ length p.known.seen → mine ≡ state_of p.known
+    → IsLatest first most s (knowns ps) → IsLatest first now copy (knowns (ps ++ p ∷ []))
+latest_next first most now s mine copy ps p count n newer older is state h = go (leb count most) refl
+  where
+    go : (b : Bool) → leb count most ≡ b → IsLatest first now copy (knowns (ps ++ p ∷ []))
+    go true e = let le : count ≤ most = leb-true count most e in latest_still first most now s copy ps p count (omega arith) (older le) le is h
+    go false e = let lt : most < count = leb-false count most e in latest_new first most s ps p now copy (omega arith) (let m : now ≡ count = omega arith in m ∙ is) (newer lt ∙ state) h

@@ -1,0 +1,286 @@
+-- What a step does to a pass.
+use Rattle.cf_plan.specs.Plans.{Planned}
+use Rattle.std.proofs.Common.{◌≡◌, ℕ, zero, suc, ◌+◌, ◌<◌, ◌≤◌, ◌≢◌, ◌⊎◌, inl, inr, ⊎_elim, eqb, leb, leb-true, leb-false, max, Bool, true, false, Option, Some, None, List, [], ◌∷◌, ◌++◌, length, sym, refl, ap, ◌∙◌, subst, append-nil, append_assoc, length-append, take, slice_get, arith}
+use Rattle.std.proofs.lemmas.Option.{none-some}
+use Rattle.std.proofs.lemmas.List.Elements.{filter-append}
+use mathlib.Core.Option.{none}
+use prog.Atomic.{either}
+use Rattle.atomic_table.specs.Table.{Step, Me, step, Allows}
+use Rattle.atomic_table.specs.Seated.{TableId}
+use Rattle.cf_core.specs.declared.events.Event.{Event}
+use Rattle.cf_desk.specs.declared.row.Terms.{Terms}
+use Rattle.cf_desk.specs.declared.row.Known.{Known}
+use Rattle.cf_core.specs.declared.asks.Ask.{Ask}
+use Rattle.cf_core.specs.declared.asks.Told.{Told}
+use Rattle.cf_core.specs.declared.events.Reply.{Reply}
+use Rattle.cf_core.specs.declared.asks.Ask.TheVariants.{Outcome as AsksOutcome}
+use Rattle.cf_core.specs.declared.asks.Told.TheVariants.{Outcome as ToldOutcome}
+use Rattle.cf_outcome.specs.declared.outcome.Outcome.{Outcome}
+use Rattle.cf_desk.specs.declared.calls.Call.{Call}
+use Rattle.cf_desk.specs.declared.calls.Joined.{Joined}
+use Rattle.cf_desk.specs.declared.calls.Rec.{Rec}
+use Rattle.cf_desk.specs.declared.calls.Rec.TheVariants.{Did, Saw}
+use Rattle.cf_core.specs.States.{State, outcome_at, start}
+use Rattle.cf_core.specs.Events.{answered, told}
+use Rattle.cf_core.specs.Ranges.{AskFits, EventFits}
+use Rattle.cf_event.specs.Words.{who_of, word_of}
+use Rattle.cf_desk.specs.Log.{own, IsEventOf, state_from, Catches}
+use Rattle.cf_desk.specs.Calls.{event_by, joined}
+use Rattle.cf_desk.specs.Records.{Fits}
+use Rattle.cf_desk.specs.Rule.{holds, saw, looked, LooksNext, AddsNext, looks_next, adds_next, finds, FindsSeen, longer, longer_if, longest, with_seen, level, AllCatch, head_of, rest_of}
+use Rattle.cf_desk.specs.Views.{known_of, Holder, IsSamePass, state_of, AddedByOther, AddedOwn, Follows, Acts, Reads, Joins, HasLooked, Place, IsOne, Levelled, Meets, longer_of}
+use Rattle.cf_desk.specs.Desks.{Agrees}
+use Rattle.cf_desk.proofs.Recs.{own_call, state_snoc, plan_stays, fits_more, fits_did, fits_saw}
+use Rattle.cf_desk.proofs.Keeps.{looks, adds, same_some}
+use Rattle.cf_desk.proofs.Meets.{found_there}
+
+pub looks_at : (t : Terms) (slots id : ℕ) (me : Me ℕ (List Known)) (k : Known) (i : ℕ) → me ≡ (k ∷ [], []) → i ≡ length k.seen → Allows (holds {S = ℕ} t) slots id me i (λ n. n) (looks_next (step slots i 0 0 none) me)
+looks_at t slots id me k i one at = subst (λ (m : Me ℕ (List Known)). Allows (holds {S = ℕ} t) slots id m i (λ n. n) (looks_next (step slots i 0 0 none) m)) (sym one)
+    (subst (λ (n : ℕ). Allows (holds {S = ℕ} t) slots id (k ∷ [], []) n (λ n. n) (looks_next (step slots n 0 0 none) (k ∷ [], []))) (sym at) (looks {S = ℕ} t slots id k []))
+
+pub adds_at : (t : Terms) (slots id : ℕ) (me : Me ℕ (List Known)) (k : Known) (i word : ℕ) (e : Event) → me ≡ (k ∷ [], []) → i ≡ length k.seen → i < t.words → word ≡ word_of e → IsEventOf k.setting e → who_of e ≡ k.caller
+    → Allows (holds {S = ℕ} t) slots id me i (λ n. either (eqb n 0) word n) (adds_next (step slots i 0 word none) me)
+adds_at t slots id me k i word e one at room is event mine = subst (λ (m : Me ℕ (List Known)). Allows (holds {S = ℕ} t) slots id m i (λ n. either (eqb n 0) word n) (adds_next (step slots i 0 word none) m)) (sym one)
+    (subst (λ (n : ℕ). Allows (holds {S = ℕ} t) slots id (k ∷ [], []) n (λ n. either (eqb n 0) word n) (adds_next (step slots n 0 word none) (k ∷ [], []))) (sym at)
+    (subst (λ (w : ℕ). Allows (holds {S = ℕ} t) slots id (k ∷ [], []) (length k.seen) (λ n. either (eqb n 0) w n) (adds_next (step slots (length k.seen) 0 w none) (k ∷ [], []))) (sym is)
+    (adds {S = ℕ} t slots id k [] e (subst (λ n. n < t.words) at room) event mine)))
+
+pub finds_at : (t : Terms) (slots id : ℕ) (me : Me ℕ (List Known)) (k : Known) (i : ℕ) → me ≡ (k ∷ [], []) → i < length k.seen → Allows (holds {S = ℕ} t) slots id me i (λ n. n) (finds (step slots i 0 0 none) me)
+finds_at t slots id me k i one inside = subst (λ (m : Me ℕ (List Known)). Allows (holds {S = ℕ} t) slots id m i (λ n. n) (finds (step slots i 0 0 none) m)) (sym one) (found_there {S = ℕ} t slots id k [] i inside)
+
+pub one_known : (me : Me ℕ (List Known)) (k : Known) → me.0 ≡ k ∷ [] → me.1 ≡ [] → me ≡ (known_of me.0 ∷ [], [])
+one_known me k e f = let is : me.0 ≡ known_of me.0 ∷ [] = e ∙ ap (λ (x : Known). x ∷ []) (sym (ap known_of e)) in λ i. (is i, f i)
+
+pub agrees_looked : (k k' : Known) (caller count : ℕ) (copy : State) (records : List Rec) → k' ≡ looked k → Agrees k caller count copy records → Agrees k' caller count copy records
+agrees_looked k k' caller count copy records is a = subst (λ (x : Known). Agrees x caller count copy records) (sym is) (record { caller = a.caller; one_of = a.one_of; few = a.few; count = a.count; state = a.state; fits = a.fits })
+
+pub agrees_other : (k k' : Known) (caller count : ℕ) (copy copy' : State) (records : List Rec) (found : Event) → k' ≡ saw k found → own k.caller (found ∷ []) ≡ [] → copy' ≡ (answered copy found).1 → Agrees k caller count copy records
+    → Agrees k' caller (count + 1) copy' records
+agrees_other k k' caller count copy copy' records found is other now a = subst (λ (x : Known). Agrees x caller (count + 1) copy' records) (sym is) (record {
+  caller = a.caller;
+  one_of = a.one_of;
+  few = a.few;
+  count = (let c = a.count in omega (arith, length-append k.seen (found ∷ [])));
+  state = now ∙ ap (λ s. (answered s found).1) a.state ∙ sym (state_snoc (start k.setting.plan) k.seen found);
+  fits = fits_more k.setting.plan k.caller k.seen (k.seen ++ found ∷ []) records (record { others = found ∷ []; joined = refl; none = other }) a.fits;
+})
+
+pub agrees_own : (k k' : Known) (caller count : ℕ) (copy copy' : State) (records records' : List Rec) (call : Call) (reply : Reply) → k' ≡ saw k (event_by k.caller call) → (reply, copy') ≡ answered copy (event_by k.caller call)
+    → records' ≡ records ++ Did (count + 1) call reply ∷ [] → Agrees k caller count copy records → Agrees k' caller (count + 1) copy' records'
+agrees_own k k' caller count copy copy' records records' call reply is now more a =
+    let e : Event = event_by k.caller call in
+    subst (λ (x : Known). Agrees x caller (count + 1) copy' records') (sym is) (record {
+      caller = a.caller;
+      one_of = a.one_of;
+      few = a.few;
+      count = (let c = a.count in omega (arith, length-append k.seen (e ∷ [])));
+      state = ap (λ (x : Reply × State). x.1) now ∙ ap (λ s. (answered s e).1) a.state ∙ sym (state_snoc (start k.setting.plan) k.seen e);
+      fits = subst (Fits k.setting.plan k.caller (k.seen ++ e ∷ [])) (ap (λ (n : ℕ). records ++ Did (n + 1) call reply ∷ []) (sym a.count) ∙ sym more)
+          (fits_did k.setting.plan k.caller k.seen records call reply (own_call k.caller call) (ap (λ (x : Reply × State). x.0) now ∙ ap (λ s. (answered s e).0) a.state) a.fits);
+    })
+
+pub agrees_told : (k : Known) (caller count : ℕ) (copy copy' : State) (records records' : List Rec) (ask : Ask) (answer : Told) → copy' ≡ copy → answer ≡ told copy ask
+    → records' ≡ records ++ Saw count ask answer ∷ [] → Agrees k caller count copy records → Agrees k caller count copy' records'
+agrees_told k caller count copy copy' records records' ask answer same is more a = record {
+  caller = a.caller;
+  one_of = a.one_of;
+  few = a.few;
+  count = a.count;
+  state = same ∙ a.state;
+  fits = subst (Fits k.setting.plan k.caller k.seen) (ap (λ (n : ℕ). records ++ Saw n ask answer ∷ []) (sym a.count) ∙ sym more)
+      (fits_saw k.setting.plan k.caller k.seen records ask answer (is ∙ ap (λ (s : State). told s ask) a.state) a.fits);
+}
+
+-- the copy of a pass has the desk's plan
+pub plan_of : (k : Known) (copy : State) → copy ≡ state_of k → copy.plan ≡ k.setting.plan
+plan_of k copy is = ap (λ (s : State). s.plan) is ∙ plan_stays (start k.setting.plan) k.seen
+
+-- an event of the desk is one that the copy takes
+pub on_plan : (k : Known) (copy : State) (e : Event) → copy ≡ state_of k → IsEventOf k.setting e → EventFits (length copy.plan.stages) e
+on_plan k copy e is h = subst (λ (n : Planned). EventFits (length n.stages) e) (sym (plan_of k copy is)) h.stage
+
+-- a question on the desk's plan is one that the copy takes
+pub asked_there : (k : Known) (copy : State) (ask : Ask) → copy ≡ state_of k → AskFits (length k.setting.plan.stages) ask → AskFits (length copy.plan.stages) ask
+asked_there k copy ask is h = subst (λ (n : Planned). AskFits (length n.stages) ask) (sym (plan_of k copy is)) h
+
+pub on_plan_at : (k : Known) (copy : State) (i : ℕ) (e : Event) → copy ≡ state_from k.setting.plan (take i k.seen) → IsEventOf k.setting e → EventFits (length copy.plan.stages) e
+on_plan_at k copy i e is h = subst (λ (n : Planned). EventFits (length n.stages) e) (sym (ap (λ (s : State). s.plan) is ∙ plan_stays (start k.setting.plan) (take i k.seen))) h.stage
+
+pub none_new : (c : ℕ) (now : List Event) → Catches c now now
+none_new c now = record { others = []; joined = sym (append-nil now); none = refl }
+
+one_new : (c : ℕ) (before now : List Event) (e : Event) → Catches c before now → own c (e ∷ []) ≡ [] → Catches c before (now ++ e ∷ [])
+one_new c before now e h other = record {
+  others = h.others ++ e ∷ [];
+  joined = ap (λ l. l ++ e ∷ []) h.joined ∙ append_assoc before h.others (e ∷ []);
+  none = filter-append (λ x. eqb (who_of x) c) h.others (e ∷ []) ∙ (rw (h.none, other) refl);
+}
+
+pub follows_itself : (p : Holder) → Follows p p
+follows_itself p = record { now = p.known.seen; looks = p.known.looks; is = refl; caught = none_new p.known.caller p.known.seen }
+
+pub follows_more : (p q r : Holder) → Follows p q → AddedByOther q r → Follows p r
+follows_more p q r f a =
+    let k : q.known ≡ record p.known { seen = f.now; looks = f.looks } = ap (λ (h : Holder). h.known) f.is in record {
+      now = f.now ++ a.found ∷ [];
+      looks = f.looks;
+      is = a.is ∙ ap (λ (h : Holder). record h { known = saw h.known a.found }) f.is;
+      caught = one_new p.known.caller p.known.seen f.now a.found f.caught (ap (λ (x : Known). own x.caller (a.found ∷ [])) (sym k) ∙ a.other);
+    }
+
+pub looks_same : (q r : Holder) → AddedByOther q r → r.known.looks ≡ q.known.looks
+looks_same q r a = ap (λ (h : Holder). h.known.looks) a.is
+
+pub follows_looked : (p q r : Holder) → Follows p q → r ≡ record q { known = looked q.known } → Follows p r
+follows_looked p q r f e = record {
+  now = f.now;
+  looks = f.looks + 1;
+  is = e ∙ ap (λ (h : Holder). record h { known = looked h.known }) f.is;
+  caught = f.caught;
+}
+
+pub follows_then : (p q r : Holder) → Follows p q → Follows q r → Follows p r
+follows_then p q r f g =
+    let k : q.known ≡ record p.known { seen = f.now; looks = f.looks } = ap (λ (h : Holder). h.known) f.is in
+    let caught : Catches p.known.caller f.now g.now = subst (λ (x : Known). Catches x.caller x.seen g.now) k g.caught in record {
+      now = g.now;
+      looks = g.looks;
+      is = g.is ∙ ap (λ (h : Holder). record h { known = record h.known { seen = g.now; looks = g.looks } }) f.is;
+      caught = record {
+        others = f.caught.others ++ caught.others;
+        joined = caught.joined ∙ ap (λ l. l ++ caught.others) f.caught.joined ∙ append_assoc p.known.seen f.caught.others caught.others;
+        none = filter-append (λ x. eqb (who_of x) p.known.caller) f.caught.others caught.others ∙ (rw (f.caught.none, caught.none) refl);
+      };
+    }
+
+pub acts_then : (p q r : Holder) (call : Call) (reply : Reply) → Follows p q → q.known.looks ≡ p.known.looks → AddedOwn q call reply r → Acts p call reply r
+acts_then p q r call reply f same a =
+    let k : q.known ≡ record p.known { seen = f.now; looks = f.looks } = ap (λ (h : Holder). h.known) f.is in
+    let l : f.looks ≡ p.known.looks = ap (λ (x : Known). x.looks) (sym k) ∙ same in record {
+      before = f.now;
+      caught = f.caught;
+      is = a.is ∙ ap (λ (h : Holder). record h { known = saw h.known (event_by h.known.caller call); records = h.records ++ Did (length h.known.seen + 1) call reply ∷ [] }) f.is
+          ∙ ap (λ (n : ℕ). record p { known = record p.known { seen = f.now ++ event_by p.known.caller call ∷ []; looks = n }; records = p.records ++ Did (length f.now + 1) call reply ∷ [] }) l;
+      replied = a.replied ∙ ap (λ (x : Known). (answered (state_of x) (event_by x.caller call)).0) k;
+    }
+
+pub reads_then : (p q r : Holder) (ask : Ask) (answer : Told) → Follows p q → Reads q ask answer r → r.known ≡ q.known → Reads p ask answer r
+reads_then p q r ask answer f a same =
+    let k : q.known ≡ record p.known { seen = f.now; looks = f.looks } = ap (λ (h : Holder). h.known) f.is in
+    let seen : a.now ≡ f.now = ap (λ (h : Holder). h.known.seen) (sym a.is) ∙ ap (λ (x : Known). x.seen) (same ∙ k) in
+    let looks : a.looks ≡ f.looks = ap (λ (h : Holder). h.known.looks) (sym a.is) ∙ ap (λ (x : Known). x.looks) (same ∙ k) in record {
+      now = f.now;
+      looks = f.looks;
+      caught = f.caught;
+      is = a.is ∙ (λ i. record (f.is i) { known = record (f.is i).known { seen = seen i; looks = looks i }; records = (f.is i).records ++ Saw (length (seen i)) ask answer ∷ [] });
+      told_is = a.told_is ∙ (λ i. told (state_from (k i).setting.plan (seen i)) ask);
+    }
+
+-- what a read of an outcome is told is the outcome
+pub outcome_told : (p q : Holder) (stage : ℕ) (answer : Told) (outcome : Option Outcome) → Reads p (AsksOutcome stage) answer q → q.known ≡ p.known → outcome ≡ outcome_at (state_of p.known) stage → Reads p (AsksOutcome stage) (ToldOutcome outcome) q
+outcome_told p q stage answer outcome r same is =
+    let seen : r.now ≡ p.known.seen = ap (λ (h : Holder). h.known.seen) (sym r.is) ∙ ap (λ (x : Known). x.seen) same in
+    let told_so : answer ≡ ToldOutcome outcome = r.told_is ∙ ap (λ (l : List Event). ToldOutcome (outcome_at (state_from p.known.setting.plan l) stage)) seen ∙ ap ToldOutcome (sym is) in
+    subst (λ (x : Told). Reads p (AsksOutcome stage) x q) told_so r
+
+-- what a join tells
+pub joins_told : (p q r : Holder) (stage : ℕ) (outcome : Option Outcome) (answer : Told) (told_as : Joined) → outcome ≡ outcome_at (state_of p.known) stage → q ≡ p → Reads q (AsksOutcome stage) answer r → r.known ≡ q.known → told_as ≡ joined outcome
+    → Joins p stage told_as r × (r.known ≡ p.known)
+joins_told p q r stage outcome answer told_as is same read known as_told =
+    let k : r.known ≡ p.known = known ∙ ap (λ (h : Holder). h.known) same in
+    let from : Reads p (AsksOutcome stage) answer r = subst (λ (h : Holder). Reads h (AsksOutcome stage) answer r) same read in
+    (record { outcome = outcome; read = outcome_told p r stage answer outcome from k is; answered_so = as_told }, k)
+
+pub joins_then : (p q r : Holder) (stage : ℕ) (answer : Joined) → Follows p q → Joins q stage answer r → r.known ≡ q.known → Joins p stage answer r
+joins_then p q r stage answer f j same = record { outcome = j.outcome; read = reads_then p q r (AsksOutcome stage) (ToldOutcome j.outcome) f j.read same; answered_so = j.answered_so }
+
+-- looks add up
+pub follows_longer : (p q : Holder) → Follows p q → length p.known.seen ≤ length q.known.seen
+follows_longer p q f =
+    let now : q.known.seen ≡ p.known.seen ++ f.caught.others = ap (λ (h : Holder). h.known.seen) f.is ∙ f.caught.joined in
+    let len = ap length now in
+    omega (arith, length-append p.known.seen f.caught.others)
+
+pub looked_more : (n m : ℕ) (p q r : Holder) (d : Place) → Follows q r → HasLooked n p q d → HasLooked m q r d → HasLooked (n + m) p r d
+looked_more n m p q r d f (inl a) (inl b) = inl (omega arith)
+looked_more n m p q r d f (inl a) (inr b) = inr b
+looked_more n m p q r d f (inr a) b = inr (let longer = follows_longer q r f in omega arith)
+
+pub looked_less : (n m : ℕ) (p q : Holder) (d : Place) → m ≤ n → HasLooked n p q d → HasLooked m p q d
+looked_less n m p q d le (inl a) = inl (omega arith)
+looked_less n m p q d le (inr a) = inr a
+
+pub short_same : (z z' : TableId) (n : ℕ) → z' ≡ z → n ≤ z.words → n ≤ z'.words
+short_same z z' n e h = subst (λ (x : TableId). n ≤ x.words) (sym e) h
+
+pub short_more : (z z' : TableId) (n : ℕ) → z' ≡ z → n < z.words → n + 1 ≤ z'.words
+short_more z z' n e h = subst (λ (x : TableId). n + 1 ≤ x.words) (sym e) (let g : n < z.words = h in omega arith)
+
+pub state_more : (plan : Planned) (seen : List Event) (i : ℕ) (state : State) (e : Event) (state' : State) → state' ≡ (answered state e).1 → state ≡ state_from plan (take i seen) → slice_get seen i ≡ Some e → state' ≡ state_from plan (take (i + 1) seen)
+state_more plan seen i state e state' now was is =
+    now ∙ ap (λ s. (answered s e).1) was ∙ sym (state_snoc (start plan) (take i seen) e) ∙ ap (state_from plan) (take_next seen i e is ∙ ap (λ (n : ℕ). take n seen) (let p : suc i ≡ i + 1 = omega arith in p))
+  where
+    take_next : (xs : List Event) (n : ℕ) (x : Event) → slice_get xs n ≡ Some x → take n xs ++ x ∷ [] ≡ take (suc n) xs
+    take_next [] n x h = absurd (none-some x h)
+    take_next (y ∷ ys) zero x h = ap (λ (z : Event). z ∷ []) (sym (same_some y x h))
+    take_next (y ∷ ys) (suc n) x h = ap (λ l. y ∷ l) (take_next ys n x h)
+
+pub levelled_from : (a b o j m x y : Me ℕ (List Known)) → IsOne a → IsOne b → o ≡ b → j ≡ (a.0 ++ o.0, a.1) → m.1 ≡ j.1 → m.0 ≡ level j.0 → AllCatch (longest j.0) j.0 → x ≡ (head_of m.0, m.1) → y ≡ (rest_of m.0, []) → Levelled a b x y
+levelled_from a b o j m x y one two is both held level_is told left right =
+    let k = known_of a.0 in
+    let l = known_of b.0 in
+    let j0 : j.0 ≡ k ∷ l ∷ [] = ap (λ (z : Me ℕ (List Known)). z.0) both ∙ (λ i. (one i).0 ++ (is i).0) ∙ (λ i. (k ∷ []) ++ (two i).0) in
+    let j1 : j.1 ≡ [] = ap (λ (z : Me ℕ (List Known)). z.1) both ∙ ap (λ (z : Me ℕ (List Known)). z.1) one in
+    let m0 : m.0 ≡ level (k ∷ l ∷ []) = level_is ∙ ap level j0 in
+    let m1 : m.1 ≡ [] = held ∙ j1 in
+    let catch : AllCatch (longest (k ∷ l ∷ [])) (k ∷ l ∷ []) = subst (λ (v : List Known). AllCatch (longest v) v) j0 told in record {
+      left = left ∙ (λ i. (head_of (m0 i), m1 i));
+      right = right ∙ (λ i. (rest_of (m0 i), []));
+      begins_left = catch.0;
+      begins_right = catch.1.0;
+    }
+
+longer_one : (xs ys : List Event) (b : Bool) → (longer_if b xs ys ≡ xs) ⊎ (longer_if b xs ys ≡ ys)
+longer_one xs ys true = inr refl
+longer_one xs ys false = inl refl
+
+longer_none : (xs : List Event) (b : Bool) → leb (length xs) 0 ≡ b → longer_if b xs [] ≡ xs
+longer_none xs false e = refl
+longer_none [] true e = refl
+longer_none (x ∷ xs) true e = absurd (let h : length (x ∷ xs) ≤ 0 = leb-true (length (x ∷ xs)) 0 e in omega arith)
+
+pub longer_either : (k l : Known) → (longer_of k l ≡ k.seen) ⊎ (longer_of k l ≡ l.seen)
+longer_either k l = ⊎_elim inl (λ e. inr (e ∙ longer_none l.seen (leb (length l.seen) 0) refl)) (longer_one k.seen (longest (l ∷ [])) (leb (length k.seen) (length (longest (l ∷ [])))))
+
+longer_max : (xs ys : List Event) (b : Bool) → leb (length xs) (length ys) ≡ b → length (longer_if b xs ys) ≡ max (length xs) (length ys)
+longer_max xs ys true e = let h : length xs ≤ length ys = leb-true (length xs) (length ys) e in omega arith
+longer_max xs ys false e = let h : length ys < length xs = leb-false (length xs) (length ys) e in omega arith
+
+pub longest_count : (k l : Known) (n m to : ℕ) → n ≡ length k.seen → m ≡ length l.seen → to ≡ max n m → to ≡ length (longer_of k l)
+longest_count k l n m to a b e =
+    let one : longest (l ∷ []) ≡ l.seen = longer_none l.seen (leb (length l.seen) 0) refl in
+    let both = longer_max k.seen (longest (l ∷ [])) (leb (length k.seen) (length (longest (l ∷ [])))) refl in
+    let same = ap length one in
+    e ∙ (λ i. max (a i) (b i)) ∙ ap (max (length k.seen)) (sym same) ∙ sym both
+
+pub agrees_levelled : (k : Known) (all : List Event) (old new : Me ℕ (List Known)) (caller count to : ℕ) (copy copy' : State) (records : List Rec) → old ≡ (with_seen all k ∷ [], []) → new ≡ old → Catches k.caller k.seen all → to ≡ length all
+    → copy' ≡ state_of (known_of old.0) → Agrees k caller count copy records → Agrees (known_of new.0) caller to copy' records
+agrees_levelled k all old new caller count to copy copy' records is same catch len now a =
+    let known : known_of new.0 ≡ with_seen all k = (λ i. known_of (same i).0) ∙ (λ i. known_of (is i).0) in
+    subst (λ (x : Known). Agrees x caller to copy' records) (sym known) (record {
+      caller = a.caller;
+      one_of = a.one_of;
+      few = a.few;
+      count = len;
+      state = now ∙ (λ i. state_of (known_of (is i).0));
+      fits = fits_more k.setting.plan k.caller k.seen all records catch a.fits;
+    })
+
+pub same_follows : (p q : Holder) → Follows p q → IsSamePass p q
+same_follows p q f = (ap (λ (h : Holder). h.table) f.is, ap (λ (h : Holder). h.known.setting) f.is, ap (λ (h : Holder). h.known.caller) f.is, ap (λ (h : Holder). h.calls) f.is)
+
+pub same_reads : (p q : Holder) (ask : Ask) (answer : Told) → Reads p ask answer q → IsSamePass p q
+same_reads p q ask answer f = (ap (λ (h : Holder). h.table) f.is, ap (λ (h : Holder). h.known.setting) f.is, ap (λ (h : Holder). h.known.caller) f.is, ap (λ (h : Holder). h.calls) f.is)
+
+pub same_acts : (p q : Holder) (call : Call) (reply : Reply) → Acts p call reply q → IsSamePass p q
+same_acts p q call reply f = (ap (λ (h : Holder). h.table) f.is, ap (λ (h : Holder). h.known.setting) f.is, ap (λ (h : Holder). h.known.caller) f.is, ap (λ (h : Holder). h.calls) f.is)

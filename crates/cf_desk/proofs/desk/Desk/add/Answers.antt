@@ -1,0 +1,136 @@
+use Rattle.std.proofs.Common.{◌≡◌, ℕ, ◌<◌, ◌+◌, ◌++◌, ◌∷◌, [], length, length-append, is_ok, not, true, None, Some, sym, ap, ◌∙◌, subst, arith, rules}
+use Rattle.atomic_table.specs.Seated.{TableId}
+use Rattle.cf_core.specs.declared.events.Event.{Event}
+use Rattle.cf_core.specs.declared.events.Reply.{Reply}
+use Rattle.cf_core.specs.States.{State}
+use Rattle.cf_core.specs.Events.{answered}
+use Rattle.cf_event.specs.Words.{who_of}
+use Rattle.cf_desk.specs.declared.row.Known.{Known}
+use Rattle.cf_desk.specs.Calls.{event_by}
+use Rattle.cf_desk.specs.Log.{IsEventOf}
+use Rattle.cf_desk.specs.Rule.{saw, AddsNext}
+use Rattle.cf_desk.specs.declared.calls.Rec.TheVariants.{Did}
+use Rattle.cf_desk.specs.Views.{Holder, Place, AddedByOther, state_of, known_of}
+use Rattle.cf_desk.proofs.Recs.{own_call}
+use Rattle.cf_desk.proofs.Passes.{adds_at, one_known, short_same, short_more, agrees_own, agrees_other, on_plan}
+use Rattle.cf_desk.proofs.desk.Desk.add.Goals as goal
+use Rattle.cf_desk.proofs.desk.Desk.add.Goals.{After-event_by-event, After-compare_exchange-found, Else-is_err}
+
+-- the event is that of the pass's caller
+event_is : (c : After-event_by-event) → c.event_by-event.result ≡ event_by (known_of c.p.inside.seat.me.0).caller c.args.call
+event_is c = c.event_by-event.ensures ∙ ap (λ (n : ℕ). event_by n c.args.call) c.p.invariant.agrees.caller
+
+of_desk : (c : After-event_by-event) → IsEventOf (known_of c.p.inside.seat.me.0).setting c.event_by-event.result
+of_desk c =
+    let known = ap (λ (h : Holder). h.known) c.p.view_is in
+    subst (IsEventOf (known_of c.p.inside.seat.me.0).setting) (sym (event_is c))
+    (subst (λ (x : Known). IsEventOf x.setting (event_by x.caller c.args.call)) (sym known) c.requires.event)
+
+pub encode-word-requires : goal.encode-word-requires
+encode-word-requires c = (of_desk (goal.at.encode-word-requires c).After-event_by-event).event
+
+pub compare_exchange-found-requires : goal.compare_exchange-found-requires
+compare_exchange-found-requires c =
+    let at = (goal.at.compare_exchange-found-requires c).After-event_by-event in
+    let p = c.p.inside in
+    let k = known_of p.seat.me.0 in
+    let a = c.p.invariant.agrees in
+    let seen = ap (λ (h : Holder). length h.known.seen) c.p.view_is in
+    let words = ap (λ (h : Place). h.words) c.self.view_is in
+    let room : p.count < c.self.inside.table.shared.key.words = rw c.self.invariant.key (omega arith) in (
+      ap (λ (h : Holder). h.table) c.p.view_is ∙ c.requires.table ∙ sym (ap (λ (h : Place). h.table) c.self.view_is),
+      (omega arith),
+      adds_at _ _ _ _ k p.count c.encode-word.result c.event_by-event.result c.p.invariant.one a.count room c.encode-word.ensures.word (of_desk at) (ap who_of (event_is at) ∙ own_call k.caller c.args.call),
+    )
+
+told : (c : After-compare_exchange-found) → AddsNext (known_of c.p.inside.seat.me.0) c.encode-word.result c.compare_exchange-found.result c.compare_exchange-found.new.seat.me.0
+told c = c.compare_exchange-found.ensures.2.1 (known_of c.p.inside.seat.me.0) (ap (λ m. m.0) c.p.invariant.one)
+
+left_over : (c : After-compare_exchange-found) → c.p.inside.count < c.p.inside.seat.table_id.words
+left_over c =
+    let seen = ap (λ (h : Holder). length h.known.seen) c.p.view_is in
+    let words = ap (λ (h : Place). h.words) c.self.view_is in
+    let a = c.p.invariant.agrees in
+    let same : c.p.inside.seat.table_id.words ≡ c.self.inside.table.shared.table_id.words = ap (λ (z : TableId). z.words) (ap (λ (h : Holder). h.table) c.p.view_is ∙ c.requires.table ∙ sym (ap (λ (h : Place). h.table) c.self.view_is)) in
+    omega arith
+
+none_held : (c : After-compare_exchange-found) → c.compare_exchange-found.new.seat.me.1 ≡ []
+none_held c = c.compare_exchange-found.ensures.2.0 ∙ ap (λ m. m.1) c.p.invariant.one
+
+pub overflow_add-p : goal.overflow_add-p
+overflow_add-p c =
+    let seen = ap (λ (h : Holder). length h.known.seen) c.p.view_is in
+    let words = ap (λ (h : Place). h.words) c.self.view_is in
+    omega arith
+
+more : (c : Else-is_err) → c.push.new.self.items ≡ c.p.inside.records.items ++ Did (c.p.inside.count + 1) c.args.call c.apply-reply.result ∷ []
+more c = let ok : is_ok c.push.result ≡ true = c.is_err.ensures.negation ∙ ap not c.if-is_err.false in rw ok at c.push.ensures.items
+
+pub apply-reply-requires : goal.apply-reply-requires
+apply-reply-requires c =
+    on_plan (known_of c.p.inside.seat.me.0) _ _ c.p.invariant.agrees.state (of_desk (goal.at.apply-reply-requires c).After-event_by-event)
+
+pub apply-requires : goal.apply-requires
+apply-requires c =
+    let t = (told (goal.at.apply-requires c).After-compare_exchange-found).lost c.in-Some.theirs (sym c.in-Some.ensures.value) in
+    on_plan (known_of c.p.inside.seat.me.0) _ _ c.p.invariant.agrees.state t.1
+
+-- a won exchange makes the pass's event the next that it has seen
+won : (c : Else-is_err) → c.compare_exchange-found.new.seat.me.0 ≡ saw (known_of c.p.inside.seat.me.0) (event_by (known_of c.p.inside.seat.me.0).caller c.args.call) ∷ []
+won c =
+    (told (goal.at.Else-is_err c).After-compare_exchange-found).won c.event_by-event.result c.encode-word.ensures.back (sym c.in-None.ensures.value)
+    ∙ ap (λ (e : Event). saw (known_of c.p.inside.seat.me.0) e ∷ []) (event_is (goal.at.Else-is_err c).After-event_by-event)
+
+now : (c : Else-is_err) → (c.apply-reply.result, c.apply-reply.new.g) ≡ answered c.p.inside.copy (event_by (known_of c.p.inside.seat.me.0).caller c.args.call)
+now c = c.apply-reply.ensures ∙ ap (answered c.p.inside.copy) (event_is (goal.at.Else-is_err c).After-event_by-event)
+
+pub invariant_of-p : goal.invariant_of-p
+invariant_of-p c =
+    let at = (goal.at.invariant_of-p c).After-compare_exchange-found in
+    let won_at = (goal.at.invariant_of-p c).Else-is_err in
+    let i = c.p.invariant in
+    let is = won won_at in
+    let calls = ap (λ (h : Holder). h.calls) c.p.view_is in
+    let did = ap (λ (h : Holder). length h.records) c.p.view_is in
+    let longer = ap length (more won_at) in record {
+      one = one_known _ _ is (none_held at);
+      agrees = agrees_own _ _ _ _ _ _ _ _ c.args.call c.apply-reply.result (ap known_of is) (now won_at) (more won_at) i.agrees;
+      room = (let r = i.room in omega (arith, c.push.ensures.capacity));
+      within = omega (arith, length-append c.p.inside.records.items (Did (c.p.inside.count + 1) c.args.call c.apply-reply.result ∷ []));
+      short = short_more _ _ _ c.compare_exchange-found.ensures.0 (left_over at);
+    }
+
+pub returns-else-is_err : goal.returns-else-is_err
+returns-else-is_err c =
+    let won_at = (goal.at.returns-else-is_err c).Else-is_err in
+    let k = known_of c.p.inside.seat.me.0 in
+    let is = won won_at in
+    let a = c.p.invariant.agrees in
+    rw (← c.p.view_is) (record {
+      is = (λ i. record { table = c.compare_exchange-found.ensures.0 i; known = known_of (is i); records = more won_at i; calls = c.p.inside.calls })
+          ∙ ap (λ (n : ℕ). record { table = c.p.inside.seat.table_id; known = saw k (event_by k.caller c.args.call); records = c.p.inside.records.items ++ Did (n + 1) c.args.call c.apply-reply.result ∷ []; calls = c.p.inside.calls }) a.count;
+      replied = ap (λ (x : Reply × State). x.0) (now won_at) ∙ ap (λ (s : State). (answered s (event_by k.caller c.args.call)).0) a.state;
+    })
+
+pub invariant_of-p-in-Some : goal.invariant_of-p-in-Some
+invariant_of-p-in-Some c =
+    let at = (goal.at.invariant_of-p-in-Some c).After-compare_exchange-found in
+    let i = c.p.invariant in
+    let t = (told at).lost c.in-Some.theirs (sym c.in-Some.ensures.value) in record {
+      one = one_known _ _ t.0 (none_held at);
+      agrees = agrees_other _ _ _ _ _ _ _ c.in-Some.theirs (ap known_of t.0) t.2 (ap (λ (x : Reply × State). x.1) c.apply.ensures) i.agrees;
+      room = i.room;
+      within = i.within;
+      short = short_more _ _ _ c.compare_exchange-found.ensures.0 (left_over at);
+    }
+
+pub returns-in-Some : goal.returns-in-Some
+returns-in-Some c =
+    let at = (goal.at.returns-in-Some c).After-compare_exchange-found in
+    let t = (told at).lost c.in-Some.theirs (sym c.in-Some.ensures.value) in
+    rw (← c.p.view_is) (record {
+      found = c.in-Some.theirs;
+      is = λ i. record { table = c.compare_exchange-found.ensures.0 i; known = known_of (t.0 i); records = c.p.inside.records.items; calls = c.p.inside.calls };
+      event = t.1;
+      other = t.2;
+    })

@@ -1,0 +1,75 @@
+use Rattle.std.proofs.Common.{List, map, append-nil, ◌≡◌, ◌<◌, ◌≤◌, ◌+◌, ◌++◌, ◌∷◌, [], length, is_ok, not, true, refl, sym, ap, ◌∙◌, subst, append_assoc, arith}
+use Rattle.std.proofs.lemmas.List.Elements.{All-nil, All-push}
+use Rattle.std.specs.List.{All}
+use Rattle.std.specs.Vec.Iter.{into_iter_items}
+use Rattle.atomic_table.specs.Seated.{TableId}
+use Rattle.cf_desk.specs.declared.row.Known.{Known}
+use Rattle.cf_desk.specs.Views.{Holder, known_of, knowns, state_of, IsLatest}
+use Rattle.cf_desk.specs.Keepings.{IsFit, pass_kept}
+use Rattle.cf_desk.proofs.Meets.{sits_down, joins}
+use Rattle.cf_desk.proofs.Gathers.{all_at, joined_one, kept_one, latest_next, latest_none}
+use Rattle.cf_desk.proofs.desk.closing.gather.Goals as goal
+use Rattle.cf_desk.proofs.desk.closing.gather.Goals.{In-Some, After-drop-rest}
+
+pub load_new_seat-requires : goal.load_new_seat-requires
+load_new_seat-requires c = (c.requires.table.0, sits_down _ _ _)
+
+parts : (c : In-Some) → c.args.passes.items ≡ c.next.invariant.done ++ c.in-Some.pass ∷ into_iter_items c.next-in-next.new.self
+parts c = c.next.invariant.parts ∙ ap (λ l. c.next.invariant.done ++ l) c.in-Some.ensures.cases.0
+
+pub join_seat-requires : goal.join_seat-requires
+join_seat-requires c =
+    let i = c.next.invariant in
+    let there = all_at (λ (p : Holder). p.table ≡ c.args.row.now.shared.table_id) i.done c.in-Some.pass (into_iter_items c.next-in-next.new.self)
+    (subst (All (λ (p : Holder). p.table ≡ c.args.row.now.shared.table_id)) (parts (goal.at.join_seat-requires c).In-Some) c.requires.table.1) in
+    (i.table, ap (λ (h : Holder). h.table) c.pass.view_is ∙ there, ap (λ m. m.1) c.pass.invariant.one, c.requires.table.0, joins _ _ _ _ _)
+
+pub next-preserved : goal.next-preserved
+next-preserved c =
+    let i = c.next.invariant in
+    let at = (goal.at.next-preserved c).In-Some in
+    let ok : is_ok c.push.result ≡ true = c.is_err.ensures.negation ∙ ap not c.if-is_err.false in
+    let items = rw ok at c.push.ensures.items in
+    let len = rw ok at c.push.ensures.len in
+    let v = c.pass.view_is in
+    let a = c.pass.invariant.agrees in record {
+      done = i.done ++ c.in-Some.pass ∷ [];
+      parts = parts at ∙ sym (append_assoc i.done (c.in-Some.pass ∷ []) (into_iter_items c.next-in-next.new.self));
+      left = (let l = i.left in let r = c.in-Some.ensures.cases.1 in omega (arith, c.push.ensures.capacity));
+      table = c.join_seat.ensures.0 ∙ i.table;
+      seat = joined_one i.done c.in-Some.pass (known_of c.pass.inside.seat.me.0) _ _ _ i.seat c.pass.invariant.one (ap (λ (h : Holder). h.known) v) c.join_seat.ensures.2;
+      kept = kept_one _ _ _ _ _ i.kept items (λ j. ((a.caller ∙ ap (λ (h : Holder). h.known.caller) v) j, ap (λ (h : Holder). h.records) v j));
+      copy = latest_next _ _ _ _ _ _ i.done c.in-Some.pass _ c.max-most.ensures c.later-copy.ensures.newer c.later-copy.ensures.older (a.count ∙ ap (λ (h : Holder). length h.known.seen) v) (a.state ∙ ap (λ (h : Holder). state_of h.known) v) i.copy;
+      fit = All-push IsFit i.done c.in-Some.pass i.fit (subst IsFit v a.fits);
+    }
+
+pub next-init : goal.next-init
+next-init c = record {
+  done = [];
+  parts = sym c.into_iter-rest.ensures.rest;
+  left = (let l = c.into_iter-rest.ensures.len in let r = c.requires.kept.1 in let e = ap length c.requires.kept.0 in let o = c.args.kept.ok.0 in omega arith);
+  table = c.load_new_seat.ensures.0;
+  seat = c.load_new_seat.ensures.2;
+  kept = ap (map pass_kept) c.requires.kept.0;
+  copy = latest_none _ _ c.requires.opening;
+  fit = All-nil IsFit;
+}
+
+none_left : (xs : List Holder) → length xs ≡ 0 → xs ≡ []
+none_left [] e = refl
+none_left (x ∷ xs) e = absurd (omega arith)
+
+-- at the end all are done
+all_done : (c : After-drop-rest) → c.next.invariant.done ≡ c.args.passes.items
+all_done c =
+    let i = c.next.invariant in
+    let none = c.in_default.ensures.cases.0 in
+    let ok = c.next.rest.rest.ok.0 in
+    let empty : into_iter_items c.next.rest ≡ [] = none_left (into_iter_items c.next.rest) (omega arith) in
+    sym (i.parts ∙ ap (λ l. i.done ++ l) empty ∙ append-nil i.done)
+
+pub returns-clause-copy : goal.returns-clause-copy
+returns-clause-copy c = (c.next.most, subst (λ (l : List Holder). IsLatest c.args.opening.plan c.next.most c.next.copy (knowns l)) (all_done (goal.at.returns-clause-copy c).After-drop-rest) c.next.invariant.copy)
+
+pub returns-clause-fit : goal.returns-clause-fit
+returns-clause-fit c = subst (All IsFit) (all_done (goal.at.returns-clause-fit c).After-drop-rest) c.next.invariant.fit

@@ -1,0 +1,28 @@
+-- The calls of a caller as events, and what a join tells.
+use Rattle.std.specs.Prelude.{ℕ, Option, Some, None, true, false}
+use Rattle.cf_outcome.specs.declared.outcome.Outcome.{Outcome}
+use Rattle.cf_outcome.specs.declared.outcome.Outcome.TheVariants.{Value as Gives, Fault}
+use Rattle.cf_outcome.specs.declared.outcome.Cause.{Cause}
+use Rattle.cf_outcome.specs.declared.outcome.Cause.TheVariants.{Cancelled}
+use Rattle.cf_core.specs.declared.events.Event.{Event}
+use Rattle.cf_core.specs.declared.events.Event.TheVariants.{Complete as Completes, Fail as Fails, Cancel as Cancels, Claim as Claims, Finish as Finishes, Tick as Ticks}
+use Rattle.cf_desk.specs.declared.calls.Call.{Call}
+use Rattle.cf_desk.specs.declared.calls.Call.TheVariants.{Complete, Fail, Cancel, Claim, Finish, Tick}
+use Rattle.cf_desk.specs.declared.calls.Joined.{Joined}
+use Rattle.cf_desk.specs.declared.calls.Joined.TheVariants.{Value, Completion, Cancellation, NotYet}
+
+-- the event of a caller's call
+abbrev pub event_by : ℕ → Call → Event
+event_by who (Complete i v) = Completes who i v
+event_by who (Fail i code) = Fails who i code
+event_by who (Cancel i) = Cancels who i
+event_by who (Claim i) = Claims who i
+event_by who (Finish i answer) = Finishes who i answer
+event_by who (Tick now) = Ticks who now
+
+-- what a join of a stage with this outcome, or none, is answered
+abbrev pub joined : Option Outcome → Joined
+joined None = NotYet
+joined (Some (Gives v)) = Value v
+joined (Some (Fault Cancelled false)) = Cancellation
+joined (Some (Fault cause wrapped)) = Completion cause

@@ -1,0 +1,10 @@
+pub mod Calls
+pub mod Log
+pub mod Records
+pub mod Rule
+pub mod Views
+pub mod Desks
+pub mod Faults
+pub mod Keepings
+pub mod Laws
+pub mod Rows

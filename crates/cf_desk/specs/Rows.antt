@@ -1,0 +1,38 @@
+-- What the rule of the row says of its words and seats.
+use Rattle.std.specs.Prelude.{◌≡◌, ◌≢◌, ℕ, ◌<◌, ◌≤◌, Some, List, [], ◌++◌, length, map, slice_get}
+use Rattle.std.specs.List.{All, Contains}
+use mathlib.Core.Option.{some}
+use lib.ListN.{get_elem?}
+use Rattle.cf_core.specs.declared.events.Event.{Event}
+use Rattle.cf_event.specs.Words.{who_of}
+use Rattle.cf_desk.specs.declared.row.Terms.{Terms}
+use Rattle.cf_desk.specs.declared.row.Known.{Known}
+use Rattle.cf_desk.specs.Log.{own}
+use Rattle.cf_desk.specs.Rule.{IsRow, Kept, longest}
+
+-- the callers for which a seat stands
+abbrev pub callers_of : List Known → List ℕ
+callers_of v = map (λ (k : Known). k.caller) v
+
+-- one list begins another
+abbrev pub Begins : List Event → List Event → Type 0
+Begins xs log = (rest : List Event) × (log ≡ xs ++ rest)
+
+-- the second seat's list is the first's and then events of callers that aren't the first's
+abbrev pub GoesOn : List Known → List Known → Type 0
+GoesOn v w = (more : List Event) × (longest w ≡ longest v ++ more) × All (λ c. own c more ≡ []) (callers_of v)
+
+-- The filled words are a front of the row, each the word of an event of one of the callers, on a stage of the plan. What a seat
+-- has seen begins them. No two seats share a caller. A filled place with an event of a seat's caller is one that this seat has
+-- seen. Of two parts of one seat the list of the one that has seen less begins the other's, which goes on with events of others.
+pub record RowHolds (t : Terms) (words : List ℕ) (views : List (List Known)) : Type 0 where
+  pub log : List Event
+  pub filled : IsRow t log words
+  pub seen : (id : ℕ) (v : List Known) → get_elem? views id ≡ some v → Begins (longest v) log
+  pub apart : (i j : ℕ) (v w : List Known) (c : ℕ) → i ≢ j → get_elem? views i ≡ some v → get_elem? views j ≡ some w → Contains (callers_of v) c → ¬ Contains (callers_of w) c
+  pub own_seen : (id : ℕ) (v : List Known) (p : ℕ) (e : Event) → get_elem? views id ≡ some v → slice_get log p ≡ Some e → Contains (callers_of v) (who_of e) → p < length (longest v)
+  pub parts : (id : ℕ) (v w : List Known) → get_elem? views id ≡ some (v ++ w) → (length (longest v) ≤ length (longest w) → GoesOn v w) × (length (longest w) ≤ length (longest v) → GoesOn w v)
+
+-- whatever the rule holds of holds this
+abbrev pub RowsHold : Type 0
+RowsHold = (t : Terms) (words : List ℕ) (views : List (List Known)) → Kept t words views → RowHolds t words views

@@ -1,0 +1,159 @@
+-- What contracts see of a pass and of a desk.
+use Rattle.cf_plan.specs.Plans.{Planned}
+use Rattle.std.specs.Prelude.{◌≡◌, ◌<◌, ◌≤◌, ◌+◌, Option, ◌⊎◌, length, map, ℕ, List, [], ◌∷◌, ◌++◌}
+use Rattle.atomic_table.specs.Seated.{TableId}
+use Rattle.cf_outcome.specs.declared.outcome.Outcome.{Outcome}
+use Rattle.cf_core.specs.declared.asks.Ask.{Ask}
+use Rattle.cf_core.specs.declared.asks.Ask.TheVariants.{Outcome as AsksOutcome}
+use Rattle.cf_core.specs.declared.asks.Told.{Told}
+use Rattle.cf_core.specs.declared.asks.Told.TheVariants.{Outcome as ToldOutcome}
+use Rattle.cf_core.specs.declared.events.Event.{Event}
+use Rattle.cf_core.specs.declared.events.Reply.{Reply}
+use Rattle.cf_core.specs.States.{State}
+use Rattle.cf_core.specs.Events.{answered, told}
+use Rattle.cf_desk.specs.declared.calls.Call.{Call}
+use Rattle.cf_desk.specs.declared.calls.Joined.{Joined}
+use Rattle.cf_desk.specs.declared.calls.Joined.TheVariants.{NotYet}
+use Rattle.cf_desk.specs.declared.calls.Rec.{Rec}
+use Rattle.cf_desk.specs.declared.calls.Rec.TheVariants.{Did, Saw}
+use Rattle.cf_desk.specs.declared.row.Known.{Known}
+use Rattle.cf_desk.specs.declared.row.Setting.{Setting}
+use Rattle.cf_desk.specs.Calls.{event_by, joined}
+use Rattle.cf_desk.specs.Log.{own, IsEventOf, Catches, state_from}
+use Rattle.cf_desk.specs.Records.{dids, Fits}
+use Rattle.cf_desk.specs.Rule.{saw, longest, with_seen, fresh, count_in, AllShort}
+use Rattle.std.specs.List.{All}
+use Rattle.atomic_table.specs.Table.{Me}
+
+-- a pass: its desk, what it knows, its records, and how many it may hold
+pub record Holder : Type 0 where
+  pub table : TableId
+  pub known : Known
+  pub records : List Rec
+  pub calls : ℕ
+
+pub record Place : Type 0 where
+  pub table : TableId
+  pub setting : Setting
+  pub words : ℕ
+
+abbrev pub no_one : Known
+no_one = record { setting = record { plan = record { stages = []; limits = [] }; callers = 0 }; caller = 0; seen = []; looks = 0 }
+
+abbrev pub known_of : List Known → Known
+known_of [] = no_one
+known_of (k ∷ ks) = k
+
+-- the next word was that of another caller's event
+pub record AddedByOther (p q : Holder) : Type 0 where
+  pub found : Event
+  pub is : q ≡ record p { known = saw p.known found }
+  pub event : IsEventOf p.known.setting found
+  pub other : own p.known.caller (found ∷ []) ≡ []
+
+-- the pass has seen more events, of other callers alone
+pub record Follows (p q : Holder) : Type 0 where
+  pub now : List Event
+  pub looks : ℕ
+  pub is : q ≡ record p { known = record p.known { seen = now; looks = looks } }
+  pub caught : Catches p.known.caller p.known.seen now
+
+-- the state of what a pass has seen
+abbrev pub state_of : Known → State
+state_of k = state_from k.setting.plan k.seen
+
+-- the next event is the pass's own call, which it recorded with its reply
+pub record AddedOwn (p : Holder) (call : Call) (reply : Reply) (q : Holder) : Type 0 where
+  pub is : q ≡ record p { known = saw p.known (event_by p.known.caller call); records = p.records ++ Did (length p.known.seen + 1) call reply ∷ [] }
+  pub replied : reply ≡ (answered (state_of p.known) (event_by p.known.caller call)).0
+
+-- the pass has seen more events of other callers and then its own new one, and recorded its reply from the state before it
+pub record Acts (p : Holder) (call : Call) (reply : Reply) (q : Holder) : Type 0 where
+  pub before : List Event
+  pub caught : Catches p.known.caller p.known.seen before
+  pub is : q ≡ record p { known = record p.known { seen = before ++ event_by p.known.caller call ∷ [] }; records = p.records ++ Did (length before + 1) call reply ∷ [] }
+  pub replied : reply ≡ (answered (state_from p.known.setting.plan before) (event_by p.known.caller call)).0
+
+-- the pass has seen more events of other callers, and recorded what it was told of the state after them
+pub record Reads (p : Holder) (ask : Ask) (answer : Told) (q : Holder) : Type 0 where
+  pub now : List Event
+  pub looks : ℕ
+  pub caught : Catches p.known.caller p.known.seen now
+  pub is : q ≡ record p { known = record p.known { seen = now; looks = looks }; records = p.records ++ Saw (length now) ask answer ∷ [] }
+  pub told_is : answer ≡ told (state_from p.known.setting.plan now) ask
+
+-- the same of a join, which asks for the stage's outcome
+pub record Joins (p : Holder) (stage : ℕ) (answer : Joined) (q : Holder) : Type 0 where
+  pub outcome : Option Outcome
+  pub read : Reads p (AsksOutcome stage) (ToldOutcome outcome) q
+  pub answered_so : answer ≡ joined outcome
+
+-- a seat that stands for one pass and holds no slot
+abbrev pub IsOne : Me ℕ (List Known) → Type 0
+IsOne me = me ≡ (known_of me.0 ∷ [], [])
+
+-- the longer of what two passes have seen
+abbrev pub longer_of : Known → Known → List Event
+longer_of k l = longest (k ∷ l ∷ [])
+
+-- two seats know the longer list of the two, which goes on behind each with events of other callers
+pub record Levelled (a b : Me ℕ (List Known)) (a' b' : Me ℕ (List Known)) : Type 0 where
+  pub left : a' ≡ (with_seen (longer_of (known_of a.0) (known_of b.0)) (known_of a.0) ∷ [], [])
+  pub right : b' ≡ (with_seen (longer_of (known_of a.0) (known_of b.0)) (known_of b.0) ∷ [], [])
+  pub begins_left : Catches (known_of a.0).caller (known_of a.0).seen (longer_of (known_of a.0) (known_of b.0))
+  pub begins_right : Catches (known_of b.0).caller (known_of b.0).seen (longer_of (known_of a.0) (known_of b.0))
+
+-- two passes have seen the longer of their two lists, which their records fit
+pub record Meets (p q p' q' : Holder) : Type 0 where
+  pub all : List Event
+  pub either : (all ≡ p.known.seen) ⊎ (all ≡ q.known.seen)
+  pub left : p' ≡ record p { known = with_seen all p.known }
+  pub right : q' ≡ record q { known = with_seen all q.known }
+  pub begins_left : Catches p.known.caller p.known.seen all
+  pub begins_right : Catches q.known.caller q.known.seen all
+  pub fits_left : Fits p.known.setting.plan p.known.caller all p.records
+  pub fits_right : Fits q.known.setting.plan q.known.caller all q.records
+
+-- passes that have seen and recorded nothing
+abbrev pub new_pass : TableId → ℕ → Known → Holder
+new_pass z calls k = record { table = z; known = k; records = []; calls = calls }
+
+abbrev pub opened : TableId → Setting → ℕ → List Holder
+opened z setting calls = map (new_pass z calls) (fresh setting 0 setting.callers)
+
+abbrev pub knowns : List Holder → List Known
+knowns ps = map (λ (p : Holder). p.known) ps
+
+-- the history is the longest list that one of these passes has seen, each other list begins it, and each caller has one of them
+pub record Closes (setting : Setting) (passes : List Holder) (history : List Event) : Type 0 where
+  pub longest : history ≡ longest (knowns passes)
+  pub begins : All (λ (p : Holder). Catches p.known.caller p.known.seen history) passes
+  pub events : All (IsEventOf setting) history
+  pub each : (c : ℕ) → c < setting.callers → count_in c (knowns passes) ≡ 1
+
+-- the same pass, of the same desk
+abbrev pub IsSamePass : Holder → Holder → Type 0
+IsSamePass p q = (q.table ≡ p.table) × (q.known.setting ≡ p.known.setting) × (q.known.caller ≡ p.known.caller) × (q.calls ≡ p.calls)
+
+-- a plan and a list are the first ones, or those of one of these
+abbrev pub IsOneOf : Planned → Planned → List Event → List Known → Type 0
+IsOneOf first plan seen [] = (plan ≡ first) × (seen ≡ [])
+IsOneOf first plan seen (k ∷ ks) = ((plan ≡ k.setting.plan) × (seen ≡ k.seen)) ⊎ IsOneOf first plan seen ks
+
+-- the state after the longest list that one of these has seen
+pub record IsLatest (first : Planned) (most : ℕ) (s : State) (ks : List Known) : Type 0 where
+  pub plan : Planned
+  pub seen : List Event
+  pub state : s ≡ state_from plan seen
+  pub count : most ≡ length seen
+  pub one : IsOneOf first plan seen ks
+  pub short : AllShort most ks
+
+-- of the pass, as many looks more met an empty next word, or what it has seen fills the log
+abbrev pub HasLooked : ℕ → Holder → Holder → Place → Type 0
+HasLooked n p q d = (p.known.looks + n ≤ q.known.looks) ⊎ (d.words ≤ length q.known.seen)
+
+-- a join made all its looks where it found the stage unsettled, and one at least
+abbrev pub LookedFor : Joined → ℕ → Holder → Holder → Place → Type 0
+LookedFor NotYet looks p q d = HasLooked looks p q d
+LookedFor answer looks p q d = HasLooked 1 p q d

@@ -1,0 +1,102 @@
+//! What callers ask of a desk, and what they are answered.
+ghost use Rattle.std.specs.Prelude.{◌≡◌};
+ghost use Rattle.cf_desk.specs.Calls.{event_by, joined};
+
+use cf_core::{Ask, Event, Reply, Told};
+use cf_late::Graph;
+use cf_outcome::{Cause, Outcome, Value};
+use cf_plan::Answer;
+
+/// One changing call of a caller.
+#[derive(Clone, Copy, Debug, Drop, PartialEq, Eq)]
+pub enum Call {
+    /// Completes a stage with a value.
+    Complete(u16, Value),
+    /// Fails a stage with a thrown code.
+    Fail(u16, u32),
+    /// Cancels a stage.
+    Cancel(u16),
+    /// Claims a ready stage, so that the caller runs its function.
+    Claim(u16),
+    /// Finishes a stage that the caller has claimed, with what its function answered.
+    Finish(u16, Answer),
+    /// Lets it be this moment, in milliseconds.
+    Tick(u32),
+}
+
+/// What a join of a stage is answered (`CompletableFuture.join`).
+#[derive(Clone, Copy, Debug, Drop, PartialEq, Eq)]
+pub enum Joined {
+    /// The stage's value.
+    Value(Value),
+    /// The stage failed by this cause.
+    Completion(Cause),
+    /// The stage was cancelled itself.
+    Cancellation,
+    /// The stage isn't settled yet.
+    NotYet,
+}
+
+/// What a pass keeps of one call.
+#[derive(Clone, Copy, Debug, Drop, PartialEq, Eq)]
+pub enum Rec {
+    /// A changing call with its reply. The place counts the events up to and with its own.
+    Did {
+        place: u16,
+        call: Call,
+        reply: Reply,
+    },
+    /// A question with what it was told. The place counts the events that the pass had seen.
+    Saw {
+        place: u16,
+        ask: Ask,
+        told: Told,
+    },
+}
+
+/// A closed pass: its caller and its records.
+#[derive(Drop)]
+pub struct Kept {
+    pub caller: u8,
+    pub records: Vec<Rec>,
+}
+
+/// A closed desk: all events in their one order, the passes in the order in which they were handed in, and the graph as
+/// all events leave it.
+#[derive(Drop)]
+pub struct Closed {
+    pub history: Vec<Event>,
+    pub passes: Vec<Kept>,
+    pub graph: Graph,
+}
+
+/// A caller's call as an event.
+pub(crate) fn event_by(who: u8, call: Call) -> Event
+    ensures { result ≡ event_by who call }
+{
+    match call {
+        Call::Complete(stage, value) => Event::Complete { who, stage, value },
+        Call::Fail(stage, code) => Event::Fail { who, stage, code },
+        Call::Cancel(stage) => Event::Cancel { who, stage },
+        Call::Claim(stage) => Event::Claim { who, stage },
+        Call::Finish(stage, answer) => Event::Finish { who, stage, answer },
+        Call::Tick(now) => Event::Tick { who, now },
+    }
+}
+
+/// What a join of a stage with this outcome, or none, is answered.
+pub(crate) fn joined_as(outcome: Option<Outcome>) -> Joined
+    ensures { result ≡ joined outcome }
+{
+    match outcome {
+        None => Joined::NotYet,
+        Some(Outcome::Value(v)) => Joined::Value(v),
+        Some(
+            Outcome::Fault {
+                cause: Cause::Cancelled,
+                wrapped: false,
+            },
+        ) => Joined::Cancellation,
+        Some(Outcome::Fault { cause, .. }) => Joined::Completion(cause),
+    }
+}

@@ -1,0 +1,119 @@
+//! How a desk is closed.
+ghost use Rattle.std.specs.Prelude.{◌≡◌, ◌<◌, ◌≤◌, ℕ, [], All, IsOkAnd, map, vec_capacity, vec_len};
+ghost use Rattle.std.specs.Mem.Slots.{IsFull, slots_items, slots_len};
+ghost use Rattle.cf_core.specs.States.{start};
+ghost use Rattle.cf_event.specs.Decoding.{decoded};
+ghost use Rattle.cf_desk.specs.Keepings.{AllFit, AreKept, IsFit, pass_kept};
+ghost use Rattle.cf_desk.specs.Log.{state_from};
+ghost use Rattle.cf_desk.specs.Views.{Closes, IsLatest, knowns};
+
+use crate::calls::{Closed, Kept};
+use crate::desk::{Desk, Row};
+use crate::faults::CloseFault;
+use crate::pass::Pass;
+use crate::row::{Both, Sits, View};
+use atomic_table::Seat;
+use cf_core::Event;
+use cf_event::decode;
+use cf_late::Graph;
+use std::alloc::Global;
+
+impl Desk {
+    /// Takes the desk apart, with all its passes, each once, in any order: all events in their one order, the passes in
+    /// this order with their callers and records, and the graph as all events leave it. It never fails.
+    pub fn close(self, passes: Vec<Pass>) -> Result<Closed, CloseFault>
+        requires table { All (λ p. p.table ≡ self.table) passes.items }
+        requires all { vec_len passes ≡ self.setting.callers }
+        ensures history { IsOkAnd result (λ closed. Closes self.setting passes.items closed.history.items) }
+        ensures passes { IsOkAnd result (λ closed. AreKept closed.passes.items passes.items) }
+        ensures fit { IsOkAnd result (λ closed. AllFit self.setting.plan closed.history.items (map pass_kept closed.passes.items)) }
+        ensures graph { IsOkAnd result (λ closed. closed.graph ≡ state_from self.setting.plan closed.history.items) }
+    {
+        let Desk {
+            table,
+            callers: _,
+            opening,
+            words,
+            history,
+            kept,
+        } = self;
+        let (seat, graph, kept) = gather(&table, opening, passes, kept);
+        let closed = table.close_with(seat);
+        let history = decode_row(&closed, words, history);
+        closed.free();
+        Ok(Closed {
+            history,
+            passes: kept,
+            graph,
+        })
+    }
+}
+
+/// Joins the seats of all passes into one, and finds the copy that has seen most.
+fn gather(
+    row: &Row,
+    opening: Graph,
+    passes: Vec<Pass>,
+    mut kept: Vec<Kept>,
+) -> (Seat<u8, View>, Graph, Vec<Kept>)
+    requires table { (0 < row.now.shared.table_id.words) × All (λ p. p.table ≡ row.now.shared.table_id) passes.items }
+    requires opening { opening ≡ start opening.plan }
+    requires kept { (kept.items ≡ []) × (vec_len passes ≤ vec_capacity kept) }
+    ensures seat { (result.0.table_id ≡ row.now.shared.table_id) × (result.0.me ≡ (knowns passes.items, [])) }
+    ensures copy { (most : ℕ) × IsLatest opening.plan most result.1 (knowns passes.items) }
+    ensures kept { AreKept result.2.items passes.items }
+    ensures fit { All IsFit passes.items }
+{
+    let mut seat = row.shared.load_new_seat::<Sits>(0).1;
+    let mut copy = opening;
+    let mut most = 0;
+    let mut rest = passes.into_iter();
+    'next: while let Some(pass) = rest.next() {
+        let Pass {
+            seat: other,
+            caller,
+            count,
+            copy: mine,
+            records,
+            calls: _,
+        } = pass;
+        row.shared.join_seat::<Both>(&mut seat, other);
+        copy = later(copy, most, mine, count);
+        most = most.max(count);
+        if kept.push(Kept { caller, records }).is_err() {
+            unreachable!();
+        }
+    }
+    (seat, copy, kept)
+}
+
+/// Of two copies the one that has seen more.
+fn later(copy: Graph, most: u16, mine: Graph, count: u16) -> Graph
+    ensures newer { most < count → result ≡ mine }
+    ensures older { count ≤ most → result ≡ copy }
+{
+    if most < count { mine } else { copy }
+}
+
+/// Reads the events of the filled words.
+fn decode_row(
+    row: &atomic_table::Closed<u8, Global>,
+    words: u16,
+    mut history: Vec<Event>,
+) -> Vec<Event>
+    requires row { IsFull row.now.words × (words ≡ slots_len row.now.words) }
+    requires history { (history.items ≡ []) × (words ≤ vec_capacity history) }
+    ensures { result.items ≡ decoded (slots_items row.now.words) }
+{
+    for place in 0..words {
+        match decode(row.word(place as usize)) {
+            None => return history,
+            Some(event) => {
+                if history.push(event).is_err() {
+                    unreachable!();
+                }
+            }
+        }
+    }
+    history
+}

@@ -1,0 +1,113 @@
+//! The calls that look, and the one by which two passes tell each other what they have seen.
+ghost use Rattle.std.specs.Prelude.{◌≡◌, ◌<◌, IfErr, IfOk, None, OnErr, OnOk, length};
+ghost use Rattle.cf_core.specs.declared.asks.Ask.TheVariants.{Outcome as AsksOutcome};
+ghost use Rattle.cf_core.specs.States.{lowest_ready_of, outcome_at};
+ghost use Rattle.cf_desk.specs.Faults.{AsksStage, HasRoom, IsDueToRead};
+ghost use Rattle.cf_desk.specs.Views.{Follows, HasLooked, IsSamePass, Joins, LookedFor, Meets, Reads, state_of};
+
+use crate::calls::Joined;
+use crate::desk::Desk;
+use crate::faults::DeskFault;
+use crate::pass::Pass;
+use cf_core::{Ask, Told};
+
+impl Desk {
+    /// Answers a question of all events that are there: loads the next word until it finds it empty, or the row at its
+    /// end. It adds a record to the pass, which is one of this desk's, and no event.
+    pub fn read(&self, p: &mut Pass, a: Ask) -> Result<Told, DeskFault>
+        requires { p.old.table ≡ self.now.table }
+        ensures same { IsSamePass p.old p.new }
+        ensures told { IfOk result (λ told. Reads p.old a told p.new) }
+        ensures looks { OnOk result (HasLooked 1 p.old p.new self.now) }
+        ensures due { OnOk result (AsksStage p.old a × HasRoom p.old) }
+        ensures refused { OnErr result (p.new ≡ p.old) }
+        ensures fault { IfErr result (IsDueToRead p.old a) }
+    {
+        if !p.knows(a) {
+            return Err(DeskFault::NoStage);
+        }
+        if p.left() == 0 {
+            return Err(DeskFault::PassFull);
+        }
+        self.catch_others(p);
+        Ok(p.tell(a))
+    }
+
+    /// Looks at most so many times, at least once, for the outcome of a stage (`CompletableFuture.join`), and ends with
+    /// the first look that finds it settled. The last look is recorded as a question for the outcome.
+    pub fn join(&self, p: &mut Pass, stage: u16, looks: u32) -> Result<Joined, DeskFault>
+        requires table { p.old.table ≡ self.now.table }
+        requires looks { 0 < looks }
+        ensures same { IsSamePass p.old p.new }
+        ensures told { IfOk result (λ answer. Joins p.old stage answer p.new) }
+        ensures looks { IfOk result (λ answer. LookedFor answer looks p.old p.new self.now) }
+        ensures due { OnOk result (AsksStage p.old (AsksOutcome stage) × HasRoom p.old) }
+        ensures refused { OnErr result (p.new ≡ p.old) }
+        ensures fault { IfErr result (IsDueToRead p.old (AsksOutcome stage)) }
+    {
+        if !p.knows(Ask::Outcome(stage)) {
+            return Err(DeskFault::NoStage);
+        }
+        if p.left() == 0 {
+            return Err(DeskFault::PassFull);
+        }
+        self.look_for(p, stage, looks);
+        Ok(p.tell_joined(stage))
+    }
+
+    /// The lowest ready stage of all events that are there. It adds neither an event nor a record.
+    pub fn ready(&self, p: &mut Pass) -> Option<u16>
+        requires { p.old.table ≡ self.now.table }
+        ensures seen { Follows p.old p.new }
+        ensures told { result ≡ lowest_ready_of (state_of p.new.known) }
+        ensures looks { HasLooked 1 p.old p.new self.now }
+    {
+        self.catch_others(p);
+        p.lowest_ready()
+    }
+
+    /// Lets two passes of this desk see the longer of their two lists of events.
+    pub fn meet(&self, p: &mut Pass, q: &mut Pass)
+        requires table { (p.old.table ≡ self.now.table) × (q.old.table ≡ self.now.table) }
+        ensures same { IsSamePass p.old p.new × IsSamePass q.old q.new }
+        ensures level { Meets p.old q.old p.new q.new }
+    {
+        self.level(&mut p.seat, &mut q.seat);
+        let to = p.count.max(q.count);
+        self.catch_up(&mut p.seat, &mut p.copy, p.count, to);
+        p.count = to;
+        self.catch_up(&mut q.seat, &mut q.copy, q.count, to);
+        q.count = to;
+    }
+
+    /// Looks until it finds the stage settled, at most so many times.
+    fn look_for(&self, p: &mut Pass, stage: u16, looks: u32)
+        requires table { p.old.table ≡ self.now.table }
+        requires stage { stage < length p.old.known.setting.plan.stages }
+        requires looks { 0 < looks }
+        ensures seen { Follows p.old p.new }
+        ensures once { HasLooked 1 p.old p.new self.now }
+        ensures unsettled { outcome_at (state_of p.new.known) stage ≡ None → HasLooked looks p.old p.new self.now }
+    {
+        'looks: for _ in 0..looks {
+            self.catch_others(p);
+            if p.outcome(stage).is_some() {
+                return;
+            }
+        }
+    }
+
+    /// One look: loads the next word until it finds it empty, or the row at its end.
+    fn catch_others(&self, p: &mut Pass)
+        requires { p.old.table ≡ self.now.table }
+        ensures seen { Follows p.old p.new }
+        ensures looks { HasLooked 1 p.old p.new self.now }
+    {
+        let words = self.words();
+        'next: while p.seen() < words {
+            if !self.look(p) {
+                break 'next;
+            }
+        }
+    }
+}

@@ -1,0 +1,106 @@
+//! The calls that make single steps on the row.
+ghost use Rattle.std.specs.Prelude.{◌≡◌, ◌<◌, ◌≤◌, length, MatchBool, MatchOption, take};
+ghost use Rattle.cf_desk.specs.Calls.{event_by};
+ghost use Rattle.cf_desk.specs.Log.{IsEventOf, state_from};
+ghost use Rattle.cf_desk.specs.Rule.{looked};
+ghost use Rattle.cf_desk.specs.Views.{AddedByOther, AddedOwn, IsOne, Levelled, known_of, state_of};
+
+use crate::calls::{Call, Rec, event_by};
+use crate::desk::Desk;
+use crate::pass::Pass;
+use crate::row::{Adds, Both, Finds, KeepsFirst, Levels, Looks, Sits, View};
+use atomic_table::Seat;
+use cf_core::Reply;
+use cf_event::{apply, decode, encode};
+use cf_late::Graph;
+use std::mem;
+
+impl Desk {
+    /// One exchange of the next word for that of the pass's call. It gives the reply where it was won.
+    pub(crate) fn add(&self, p: &mut Pass, call: Call) -> Option<Reply>
+        requires table { p.old.table ≡ self.now.table }
+        requires room { length p.old.known.seen < self.now.words }
+        requires call { length p.old.records < p.old.calls }
+        requires event { IsEventOf p.old.known.setting (event_by p.old.known.caller call) }
+        ensures { MatchOption result (AddedByOther p.old p.new) (λ reply. AddedOwn p.old call reply p.new) }
+    {
+        let event = event_by(p.caller, call);
+        let word = encode(&event);
+        let place = p.count as usize;
+        let found = self
+            .table
+            .shared
+            .compare_exchange::<Adds>(&mut p.seat, place, 0, word);
+        p.count += 1;
+        match decode(found) {
+            None => {
+                let reply = apply(&mut p.copy, &event);
+                let record = Rec::Did {
+                    place: p.count,
+                    call,
+                    reply,
+                };
+                if p.records.push(record).is_err() {
+                    unreachable!();
+                }
+                Some(reply)
+            }
+            Some(theirs) => {
+                apply(&mut p.copy, &theirs);
+                None
+            }
+        }
+    }
+
+    /// One load of the next word. It answers whether an event was there.
+    pub(crate) fn look(&self, p: &mut Pass) -> bool
+        requires table { p.old.table ≡ self.now.table }
+        requires room { length p.old.known.seen < self.now.words }
+        ensures { MatchBool result (AddedByOther p.old p.new) (p.new ≡ record p.old { known = looked p.old.known }) }
+    {
+        let place = p.count as usize;
+        let word = self.table.shared.load::<Looks>(&mut p.seat, place);
+        match decode(word) {
+            None => false,
+            Some(next) => {
+                p.count += 1;
+                apply(&mut p.copy, &next);
+                true
+            }
+        }
+    }
+
+    /// Lets two seats know the longer of what they have seen.
+    pub(crate) fn level(&self, p: &mut Seat<u8, View>, q: &mut Seat<u8, View>)
+        requires table { (p.old.table_id ≡ self.now.table) × (q.old.table_id ≡ self.now.table) }
+        requires one { IsOne p.old.me × IsOne q.old.me }
+        ensures table { (p.new.table_id ≡ self.now.table) × (q.new.table_id ≡ self.now.table) }
+        ensures level { Levelled p.old.me q.old.me p.new.me q.new.me }
+    {
+        let spare = self.table.shared.load_new_seat::<Sits>(0).1;
+        let other = mem::replace(q, spare);
+        self.table.shared.join_seat::<Both>(p, other);
+        self.table.shared.load::<Levels>(p, 0);
+        *q = self.table.shared.split_seat::<KeepsFirst>(p);
+    }
+
+    /// Loads the places that the seat knows from `from` up to `to`, and brings the copy up to there.
+    pub(crate) fn catch_up(&self, seat: &mut Seat<u8, View>, copy: &mut Graph, from: u16, to: u16)
+        requires table { seat.old.table_id ≡ self.now.table }
+        requires one { IsOne seat.old.me }
+        requires places { (from ≤ to) × (to ≡ length (known_of seat.old.me.0).seen) × (to ≤ seat.old.table_id.words) }
+        requires copy { copy.old ≡ state_from (known_of seat.old.me.0).setting.plan (take from (known_of seat.old.me.0).seen) }
+        ensures same { (seat.new.table_id ≡ seat.old.table_id) × (seat.new.me ≡ seat.old.me) }
+        ensures copy { copy.new ≡ state_of (known_of seat.old.me.0) }
+    {
+        for place in from..to {
+            let word = self.table.shared.load::<Finds>(seat, place as usize);
+            match decode(word) {
+                None => unreachable!(),
+                Some(event) => {
+                    apply(copy, &event);
+                }
+            }
+        }
+    }
+}

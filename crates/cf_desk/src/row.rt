@@ -1,0 +1,119 @@
+//! The row of words, its rule, and what each step tells.
+use atomic_table::{Join, Play, Split, TableRule};
+use cf_core::Event;
+use cf_plan::Plan;
+use std::collections::LinkedList;
+
+/// A desk's plan, and the number of its callers.
+#[derive(Drop)]
+pub struct Setting {
+    pub plan: Plan,
+    pub callers: u8,
+}
+
+/// What the row is told when it is made.
+#[derive(Drop)]
+pub struct Terms {
+    pub setting: Setting,
+    pub words: u16,
+}
+
+/// What a pass knows of the log. No value of it is made.
+pub struct Known {
+    pub setting: Setting,
+    pub caller: u8,
+    pub seen: LinkedList<Event>,
+    pub looks: u64,
+}
+
+/// What a seat knows: for each pass that it stands for, what that pass knows.
+pub type View = LinkedList<Known>;
+
+/// The rule of the row.
+pub struct RowRule;
+
+impl TableRule<u8, View, Terms> for RowRule {
+    ghost use Rattle.cf_desk.specs.Rule.{holds, first};
+
+    ghost holds = { holds };
+
+    ghost first = { first };
+}
+
+/// A load of the next word.
+pub struct Looks;
+
+impl Play<u8, View> for Looks {
+    ghost use Rattle.cf_desk.specs.Rule.{looks_next};
+
+    ghost then = { looks_next };
+}
+
+/// An exchange of the next word.
+pub struct Adds;
+
+impl Play<u8, View> for Adds {
+    ghost use Rattle.cf_desk.specs.Rule.{adds_next};
+
+    ghost then = { adds_next };
+}
+
+/// A load that levels what the passes of one seat have seen.
+pub struct Levels;
+
+impl Play<u8, View> for Levels {
+    ghost use Rattle.cf_desk.specs.Rule.{levels};
+
+    ghost then = { levels };
+}
+
+/// A load of a place that was seen.
+pub struct Finds;
+
+impl Play<u8, View> for Finds {
+    ghost use Rattle.cf_desk.specs.Rule.{finds};
+
+    ghost then = { finds };
+}
+
+/// A load with a new seat, which stands for no pass.
+pub struct Sits;
+
+impl Play<u8, View> for Sits {
+    ghost use Rattle.cf_desk.specs.Rule.{sits};
+
+    ghost then = { sits };
+}
+
+/// The new seat has the first pass.
+pub struct GivesFirst;
+
+impl Split<View> for GivesFirst {
+    ghost use Rattle.cf_desk.specs.Rule.{head_of, rest_of};
+
+    ghost left = { rest_of };
+
+    ghost right = { head_of };
+}
+
+/// The new seat has all but the first pass.
+pub struct KeepsFirst;
+
+impl Split<View> for KeepsFirst {
+    ghost use Rattle.cf_desk.specs.Rule.{head_of, rest_of};
+
+    ghost left = { head_of };
+
+    ghost right = { rest_of };
+}
+
+/// The seat stands for the passes of both.
+pub struct Both;
+
+impl Join<View> for Both {
+    ghost use Rattle.std.specs.Prelude.{[], ◌++◌};
+
+    ghost both = { λ v w. v ++ w };
+
+    ghost spent = { [] };
+}
