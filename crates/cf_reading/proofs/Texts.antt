@@ -1,0 +1,26 @@
+-- Bytes are JSON where they are UTF-8 and a text of JSON.
+use Rattle.std.proofs.Common.{◌≡◌, ◌≤◌, ℕ, List, length, nat_lt, arith, Option, Some, None, Bool, true, false, refl, ap, ◌∙◌, IsUtf8, if◌then◌else◌}
+use Rattle.std.proofs.lemmas.Str.{IsUtf8-from_is_utf8, is_utf8-from_IsUtf8}
+use Rattle.std.proofs.lemmas.Bool.Decides.{nat_tests}
+use Rattle.std.specs.Str.{is_utf8}
+use Rattle.serde_json.specs.Data.{Data}
+use Rattle.serde_json.specs.Read.{read}
+use Rattle.cf_reading.specs.Reading.{json_of, reading, script_of}
+
+pub json_found : (bytes : List ℕ) (d : Data) → IsUtf8 bytes → read bytes ≡ Some d → json_of bytes ≡ Some d
+json_found bytes d u e = ap (λ b. if b then read bytes else None) (is_utf8-from_IsUtf8 bytes u) ∙ e
+
+missing : (b : Bool) (r : Option Data) → (b ≡ true → r ≡ None) → (if b then r else None) ≡ None
+missing true r h = h refl
+missing false r h = refl
+
+pub json_missing : (bytes : List ℕ) → (IsUtf8 bytes → read bytes ≡ None) → json_of bytes ≡ None
+json_missing bytes h = missing (is_utf8 bytes) (read bytes) (λ e. h (IsUtf8-from_is_utf8 bytes e))
+
+-- bytes within the limit that are JSON say what their JSON value says
+pub reading_is : (bytes : List ℕ) (d : Data) → length bytes ≤ 1048576 → IsUtf8 bytes → read bytes ≡ Some d → reading bytes ≡ script_of d
+unfolding reading
+reading_is bytes d few u e =
+    let short : nat_lt 1048576 (length bytes) ≡ false = grind (arith, nat_tests) in
+    let said : json_of bytes ≡ Some d = json_found bytes d u e in
+    rw (short, said) refl

@@ -1,0 +1,12 @@
+pub mod Faults
+pub mod Functions
+pub mod Scripts
+pub mod Input
+pub mod Checks
+pub mod Parts
+pub mod Funcs
+pub mod Stages
+pub mod Limits
+pub mod Steps
+pub mod Reading
+pub mod Views

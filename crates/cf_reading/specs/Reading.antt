@@ -1,0 +1,46 @@
+-- What script bytes say, or the first fault in them.
+use Rattle.std.specs.Prelude.{ℕ, List, [], length, pos, Option, Some, None, option_map, option_and_then, unwrap_or, Bool, false, Result, Ok, Err, nat_lt, codes, if◌then◌else◌}
+use Rattle.std.specs.Ordering.{int_eq}
+use Rattle.std.specs.Str.{is_utf8}
+use Rattle.serde_json.specs.Data.{Data, Items, no_items}
+use Rattle.serde_json.specs.Find.{get, as_array, as_object}
+use Rattle.serde_json.specs.Read.{read}
+use Rattle.cf_reading.specs.declared.fault.Part.TheVariants as parts
+use Rattle.cf_reading.specs.declared.fault.ScriptFault.{ScriptFault}
+use Rattle.cf_reading.specs.declared.fault.ScriptFault.TheVariants as faults
+use Rattle.cf_reading.specs.Scripts.{Said}
+use Rattle.cf_reading.specs.Checks.{◌>>=◌, ok_or, guard, fold_items}
+use Rattle.cf_reading.specs.Parts.{whole}
+use Rattle.cf_reading.specs.Stages.{nothing_drafted, stage_next}
+use Rattle.cf_reading.specs.Limits.{limit_next}
+use Rattle.cf_reading.specs.Steps.{step_next}
+
+-- whether the version is 1
+abbrev pub has_version : Data → Bool
+has_version d = unwrap_or (option_map (λ z. int_eq z (pos 1)) (option_and_then whole (get (codes "cf") d))) false
+
+-- the items of an array; none, where nothing is said
+abbrev pub items_said : Option Data → Option Items
+items_said None = Some no_items
+items_said (Some d) = as_array d
+
+-- What a JSON value says: first the top, the version and the three arrays, then each stage, each limit and each step.
+unfoldable pub script_of : Data → Result Said ScriptFault
+script_of d = do
+  top ← ok_or (faults.Shape parts.Top) (as_object d)
+  version ← guard (has_version d) (faults.Shape parts.Version)
+  stages ← ok_or (faults.Shape parts.Stages) (option_and_then as_array (get (codes "stages") d))
+  limits ← ok_or (faults.Shape parts.Limits) (items_said (get (codes "limits") d))
+  steps ← ok_or (faults.Shape parts.Steps) (items_said (get (codes "steps") d))
+  drafted ← fold_items stage_next nothing_drafted stages
+  plan ← fold_items limit_next drafted.plan limits
+  done ← fold_items (step_next (length plan.stages)) [] steps
+  Ok (record { plan = plan; functions = drafted.functions; steps = done })
+
+-- the JSON value of the bytes, where they are UTF-8 and JSON
+abbrev pub json_of : List ℕ → Option Data
+json_of bytes = if is_utf8 bytes then read bytes else None
+
+-- What bytes say: there are at most 1,048,576 of them, they are JSON, and they say a script.
+unfoldable pub reading : List ℕ → Result Said ScriptFault
+reading bytes = if nat_lt 1048576 (length bytes) then Err faults.TooLong else ok_or faults.NotJson (json_of bytes) >>= script_of

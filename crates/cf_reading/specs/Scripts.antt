@@ -1,0 +1,28 @@
+-- Scripts: a plan, a list of functions, and a list of steps over the stages of the plan.
+use Rattle.std.specs.Prelude.{ℕ, ◌<◌, List, length, IfSome, All}
+use Rattle.cf_plan.specs.Plans.{Planned, PlannedStage}
+use Rattle.cf_core.specs.Ranges.{EventFits, AskFits}
+use Rattle.cf_reading.specs.declared.func.Func.{Func}
+use Rattle.cf_reading.specs.declared.script.Step.{Step}
+use Rattle.cf_reading.specs.declared.script.Step.TheVariants.{Does, Asks, Work, Nudge}
+
+pub record Said : Type 0 where
+  pub plan : Planned
+  pub functions : List Func
+  pub steps : List Step
+
+-- each stage that a step names is one of n
+abbrev pub StepFits : ℕ → Step → Type 0
+StepFits n (Does e) = EventFits n e
+StepFits n (Asks a) = AskFits n a
+StepFits n Work = Unit {0}
+StepFits n (Nudge k) = Unit {0}
+
+-- the function of a stage, if it has one, is one of n
+abbrev pub FunctionFits : ℕ → PlannedStage → Type 0
+FunctionFits n stage = IfSome stage.function (λ f. f < n)
+
+-- what is true of every script: functions and stages that are named are there
+pub record IsSaid (s : Said) : Type 0 where
+  pub numbered : All (FunctionFits (length s.functions)) s.plan.stages
+  pub steps_fit : All (StepFits (length s.plan.stages)) s.steps

@@ -1,0 +1,100 @@
+-- The stages of a script.
+use Rattle.std.specs.Prelude.{ℕ, List, [], ◌∷◌, ◌++◌, length, Option, Some, None, option_map, option_and_then, Result, Ok, codes, if◌then◌else◌}
+use Rattle.std.specs.Option.{option_or}
+use Rattle.std.specs.Str.{bytes_eq}
+use Rattle.serde_json.specs.Data.{Data}
+use Rattle.serde_json.specs.Find.{get, as_str, as_array}
+use Rattle.cf_plan.specs.declared.forms.Form.{Form}
+use Rattle.cf_plan.specs.declared.forms.Form.TheVariants.{Source, Supply, RunAsync, Apply, Accept, ThenRun, Combine, AcceptBoth, RunBoth, ApplyEither, AcceptEither, RunEither, Compose, Handle, WhenComplete, Exceptionally, AllOf, AnyOf}
+use Rattle.cf_plan.specs.Plans.{Planned, PlannedStage, edges_of, stage_fault, with_stage}
+use Rattle.cf_reading.specs.declared.fault.Part.TheVariants as parts
+use Rattle.cf_reading.specs.declared.fault.ScriptFault.{ScriptFault}
+use Rattle.cf_reading.specs.declared.fault.ScriptFault.TheVariants as faults
+use Rattle.cf_reading.specs.declared.func.Func.{Func}
+use Rattle.cf_reading.specs.Checks.{◌>>=◌, ok_or, planned_unless, fold_items}
+use Rattle.cf_reading.specs.Parts.{up_to}
+use Rattle.cf_reading.specs.Funcs.{function_said}
+
+-- the forms of no source and of one
+unfoldable pub single_form : List ℕ → Option Form
+single_form name =
+    if bytes_eq name (codes "source") then Some Source
+    else (if bytes_eq name (codes "supply") then Some Supply
+    else (if bytes_eq name (codes "runAsync") then Some RunAsync
+    else (if bytes_eq name (codes "apply") then Some Apply
+    else (if bytes_eq name (codes "accept") then Some Accept
+    else (if bytes_eq name (codes "thenRun") then Some ThenRun
+    else None)))))
+
+-- the forms of two sources
+unfoldable pub pair_form : List ℕ → Option Form
+pair_form name =
+    if bytes_eq name (codes "combine") then Some Combine
+    else (if bytes_eq name (codes "acceptBoth") then Some AcceptBoth
+    else (if bytes_eq name (codes "runBoth") then Some RunBoth
+    else (if bytes_eq name (codes "applyEither") then Some ApplyEither
+    else (if bytes_eq name (codes "acceptEither") then Some AcceptEither
+    else (if bytes_eq name (codes "runEither") then Some RunEither
+    else None)))))
+
+-- the forms that link, that are handed faults, and that stand for groups
+unfoldable pub other_form : List ℕ → Option Form
+other_form name =
+    if bytes_eq name (codes "compose") then Some Compose
+    else (if bytes_eq name (codes "handle") then Some Handle
+    else (if bytes_eq name (codes "whenComplete") then Some WhenComplete
+    else (if bytes_eq name (codes "exceptionally") then Some Exceptionally
+    else (if bytes_eq name (codes "allOf") then Some AllOf
+    else (if bytes_eq name (codes "anyOf") then Some AnyOf
+    else None)))))
+
+-- the form with a name
+unfoldable pub form_named : List ℕ → Option Form
+form_named name = option_or (single_form name) (option_or (pair_form name) (other_form name))
+
+-- the form of a stage
+abbrev pub form_of : Data → Option Form
+form_of d = option_and_then form_named (option_and_then as_str (get (codes "form") d))
+
+-- one source more, or the fault
+abbrev pub source_next : ScriptFault → List ℕ → Data → Result (List ℕ) ScriptFault
+source_next fault found d = ok_or fault (option_map (λ n. found ++ n ∷ []) (up_to 65535 d))
+
+-- the sources of a stage: none, where nothing is said of them
+abbrev pub sources_said : ScriptFault → Option Data → Result (List ℕ) ScriptFault
+sources_said fault None = Ok []
+sources_said fault (Some d) = ok_or fault (as_array d) >>= fold_items (source_next fault) []
+
+-- the plan and the functions so far
+pub record Drafted : Type 0 where
+  pub plan : Planned
+  pub functions : List Func
+
+abbrev pub nothing_drafted : Drafted
+nothing_drafted = record { plan = record { stages = []; limits = [] }; functions = [] }
+
+-- a stage's function has the number of functions before it
+abbrev pub number_after : List Func → Option Func → Option ℕ
+number_after functions None = None
+number_after functions (Some f) = Some (length functions)
+
+abbrev pub with_function : List Func → Option Func → List Func
+with_function functions None = functions
+with_function functions (Some f) = functions ++ f ∷ []
+
+-- the plan with one more stage, or why the builder refuses it
+abbrev pub staged : Planned → PlannedStage → Result Planned ScriptFault
+staged plan stage =
+    let k = length plan.stages in
+    planned_unless (stage_fault k (edges_of plan.stages) stage) k (with_stage plan stage)
+
+-- The next stage: its form and its sources, then its function, then what the builder says of it. Its position is the
+-- number of stages before it.
+unfoldable pub stage_next : Drafted → Data → Result Drafted ScriptFault
+stage_next drafted d = do
+  let k = length drafted.plan.stages
+  form ← ok_or (faults.Shape (parts.Stage k)) (form_of d)
+  sources ← sources_said (faults.Shape (parts.Stage k)) (get (codes "of") d)
+  function ← ok_or (faults.Function k) (function_said (get (codes "fn") d))
+  plan ← staged drafted.plan (record { form = form; sources = sources; function = number_after drafted.functions function })
+  Ok (record { plan = plan; functions = with_function drafted.functions function })

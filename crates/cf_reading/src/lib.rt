@@ -1,0 +1,32 @@
+//! What a script asks for: the reading of bytes as a plan, its functions and its steps, or the first fault in them.
+//!
+//! A script is a JSON object (RFC 8259). Bytes are read whole and no further than the first byte too many, made a
+//! JSON value by `serde_json`, and then checked in one fixed order: the top, the version, the three arrays, each
+//! stage, each limit, each step. The first thing that is wrong is the fault that is told. `specs/Reading.antt` is that
+//! order as a definition over the JSON value, and `read_script` is proved to give what it gives.
+#![tactic(auto)]
+
+mod draft;
+mod fault;
+mod forms;
+mod func;
+mod functions;
+mod input;
+mod limits;
+mod parts;
+mod reading;
+mod refused;
+mod script;
+mod stages;
+mod steps;
+mod words;
+
+pub use fault::{Part, ScriptFault};
+pub use func::Func;
+pub use input::{MAX_BYTES, read_input};
+pub use reading::read_script;
+pub use script::{Script, Step};
+pub use steps::MAX_STEPS;
+
+#[cfg(test)]
+mod tests;

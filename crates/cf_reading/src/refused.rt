@@ -1,0 +1,59 @@
+//! What the builder of plans accepts and refuses, as a script is told.
+ghost use Rattle.std.specs.Prelude.{◌≡◌, ◌≤◌, OnErr, OnOk, length};
+ghost use Rattle.cf_plan.specs.Plans.{with_stage};
+ghost use Rattle.cf_reading.specs.Checks.{Gives, refusal_told};
+ghost use Rattle.cf_reading.specs.Limits.{limited};
+ghost use Rattle.cf_reading.specs.Stages.{staged};
+
+use crate::fault::ScriptFault;
+use cf_plan::{Form, LimitKind, PlanBuilder, PlanFault};
+
+/// What a refusal at this position is told as.
+fn told(refusal: PlanFault, k: u32) -> ScriptFault
+    ensures { result ≡ refusal_told refusal k }
+{
+    match refusal {
+        PlanFault::NoMemory => ScriptFault::NoMemory,
+        e => ScriptFault::Plan(e, k),
+    }
+}
+
+/// Hands the next stage to the builder.
+pub(crate) fn plan_stage(
+    plan: &mut PlanBuilder,
+    form: Form,
+    of: &[u16],
+    function: Option<u16>,
+) -> Result<(), ScriptFault>
+    ensures gives { Gives (λ _. plan.new) result
+        (staged plan.old (record { form = form; sources = of.now; function = function })) }
+    ensures ok { OnOk result
+        (plan.new ≡ with_stage plan.old (record { form = form; sources = of.now; function = function })) }
+    ensures err { OnErr result (plan.new ≡ plan.old) }
+{
+    let k = plan.stages() as u32;
+    match plan.stage(form, of, function) {
+        Ok(_) => Ok(()),
+        Err(e) => Err(told(e, k)),
+    }
+}
+
+/// Hands the next limit to the builder.
+pub(crate) fn plan_limit(
+    plan: &mut PlanBuilder,
+    stage: u16,
+    at: u32,
+    kind: LimitKind,
+) -> Result<(), ScriptFault>
+    requires { length plan.old.limits ≤ 4096 }
+    ensures gives { Gives (λ _. plan.new) result
+        (limited plan.old (record { stage = stage; at = at; kind = kind })) }
+    ensures stages { OnOk result (plan.new.stages ≡ plan.old.stages) }
+    ensures few { OnOk result (length plan.new.limits ≤ 4096) }
+{
+    let k = plan.limits().len() as u32;
+    match plan.limit(stage, at, kind) {
+        Ok(()) => Ok(()),
+        Err(e) => Err(told(e, k)),
+    }
+}

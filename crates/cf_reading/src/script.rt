@@ -1,0 +1,68 @@
+//! Scripts: a plan, its functions, and the steps to take over it.
+use crate::func::Func;
+use cf_core::{Ask, Event};
+use cf_plan::Plan;
+use std::marker::Model;
+
+/// One step of a script.
+#[derive(Clone, Copy, Debug, PartialEq, Eq)]
+pub enum Step {
+    /// A changing call of one caller.
+    Does(Event),
+    /// A question.
+    Asks(Ask),
+    /// While a stage is ready: the lowest is claimed by caller 63, its function called, and its answer handed in.
+    Work,
+    /// At most so many turns of work that is still to be done, which no answer tells of.
+    Nudge(u32),
+}
+
+/// A script that was read.
+#[derive(Drop)]
+pub struct Script {
+    plan: Plan,
+    functions: Vec<Func>,
+    steps: Vec<Step>,
+}
+
+impl Model for Script {
+    ghost use Rattle.cf_reading.specs.Scripts.{Said, IsSaid};
+
+    ghost Value = { Said };
+
+    ghost view = { λ s. record { plan = s.plan; functions = s.functions.items; steps = s.steps.items } };
+
+    ghost invariant = { λ s. IsSaid (record { plan = s.plan; functions = s.functions.items; steps = s.steps.items }) };
+}
+
+impl Script {
+    ghost use Rattle.std.specs.Prelude.{◌≡◌};
+    ghost use Rattle.cf_reading.specs.Scripts.{Said, IsSaid};
+
+    /// A script of these parts.
+    pub(crate) fn new(plan: Plan, functions: Vec<Func>, steps: Vec<Step>) -> Script
+        requires { IsSaid (record { plan = plan; functions = functions.items; steps = steps.items }) }
+        ensures { result ≡ record { plan = plan; functions = functions.items; steps = steps.items } }
+    {
+        Script {
+            plan,
+            functions,
+            steps,
+        }
+    }
+
+    /// Its plan, its functions by their numbers, and its steps.
+    pub fn into_parts(self) -> (Plan, Vec<Func>, Vec<Step>)
+        ensures plan { result.0 ≡ self.plan }
+        ensures functions { result.1.items ≡ self.functions }
+        ensures steps { result.2.items ≡ self.steps }
+        ensures said { IsSaid self }
+    {
+        let Script {
+            plan,
+            functions,
+            steps,
+        } = self;
+        (plan, functions, steps)
+    }
+}

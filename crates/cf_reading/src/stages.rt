@@ -1,0 +1,124 @@
+//! The stages of a script.
+ghost use Rattle.std.specs.Prelude.{◌≡◌, ◌≤◌, All, IfOk, IsOkUnless, OnErr, OnOk, [], length, option_map};
+ghost use Rattle.serde_json.specs.View.{items_view, view};
+ghost use Rattle.cf_reading.specs.Checks.{Gives, fold_items};
+ghost use Rattle.cf_reading.specs.Scripts.{FunctionFits};
+ghost use Rattle.cf_reading.specs.Stages.{nothing_drafted, number_after, source_next, sources_said, stage_next, with_function};
+ghost use Rattle.cf_reading.specs.Views.{drafted};
+
+use crate::draft::Draft;
+use crate::fault::{Part, ScriptFault};
+use crate::forms::form_of;
+use crate::func::Func;
+use crate::functions::function;
+use crate::parts::small;
+use crate::refused::plan_stage;
+use cf_plan::PlanBuilder;
+use serde_json::Value as Json;
+use std::alloc::Global;
+
+/// Takes the next source of stage `k`.
+fn add_source(found: &mut Vec<u16>, json: &Json, k: u32) -> Result<(), ScriptFault>
+    ensures { Gives (λ _. found.new.items) result
+        (source_next (ScriptFault.Shape (Part.Stage k)) found.old.items (view json.now)) }
+{
+    let Some(n) = small(json) else {
+        return Err(ScriptFault::Shape(Part::Stage(k)));
+    };
+    if found.push(n).is_err() {
+        return Err(ScriptFault::NoMemory);
+    }
+    Ok(())
+}
+
+/// The sources of stage `k`, in order.
+fn read_sources(alloc: Global, list: &[Json], k: u32) -> Result<Vec<u16>, ScriptFault>
+    ensures { Gives (λ v. v.items) result
+        (fold_items (source_next (ScriptFault.Shape (Part.Stage k))) [] (items_view list.now)) }
+{
+    let mut found = Vec::new(alloc);
+    'sources: for json in list {
+        if let Err(e) = add_source(&mut found, json, k) {
+            return Err(e);
+        }
+    }
+    Ok(found)
+}
+
+/// The sources that stand in stage `k`, none where nothing is said of them.
+fn sources(alloc: Global, said: Option<&Json>, k: u32) -> Result<Vec<u16>, ScriptFault>
+    ensures { Gives (λ v. v.items) result
+        (sources_said (ScriptFault.Shape (Part.Stage k)) (option_map (λ d. view d.now) said.entry)) }
+{
+    let Some(json) = said else {
+        return Ok(Vec::new(alloc));
+    };
+    let Some(list) = json.as_array() else {
+        return Err(ScriptFault::Shape(Part::Stage(k)));
+    };
+    read_sources(alloc, list.as_slice(), k)
+}
+
+/// The number of a stage's function, which is the count of the functions before it.
+fn number_after(functions: &[Func], function: Option<Func>) -> Option<u16>
+    requires { length functions.now ≤ 4096 }
+    ensures { result ≡ number_after functions.now function }
+{
+    match function {
+        None => None,
+        Some(_) => Some(functions.len() as u16),
+    }
+}
+
+/// Takes a stage's function, if it has one.
+fn keep(functions: &mut Vec<Func>, function: Option<Func>) -> Result<(), ScriptFault>
+    ensures ok { OnOk result (functions.new.items ≡ with_function functions.old.items function) }
+    ensures err { OnErr result (functions.new.items ≡ functions.old.items) }
+    ensures refused { IsOkUnless result ScriptFault.NoMemory }
+{
+    match function {
+        None => Ok(()),
+        Some(f) => match functions.push(f) {
+            Ok(()) => Ok(()),
+            Err(_) => Err(ScriptFault::NoMemory),
+        },
+    }
+}
+
+/// Takes the next stage into the draft.
+#[tactic(auto, unfolding(crate::specs::Stages::stage_next))]
+fn add_stage(alloc: Global, draft: &mut Draft, json: &Json) -> Result<(), ScriptFault>
+    ensures gives { Gives (λ _. drafted draft.new) result (stage_next (drafted draft.old) (view json.now)) }
+    ensures numbered { OnOk result (All (FunctionFits (length draft.old.functions.items)) draft.old.plan.stages
+        → All (FunctionFits (length draft.new.functions.items)) draft.new.plan.stages) }
+{
+    let k = draft.plan.stages() as u32;
+    let Some(form) = form_of(json) else {
+        return Err(ScriptFault::Shape(Part::Stage(k)));
+    };
+    let of = sources(alloc, json.get("of"), k)?;
+    let Some(function) = function(json.get("fn")) else {
+        return Err(ScriptFault::Function(k));
+    };
+    let number = number_after(draft.functions.as_slice(), function);
+    plan_stage(&mut draft.plan, form, of.as_slice(), number)?;
+    keep(&mut draft.functions, function)
+}
+
+/// The stages of an array, in order.
+pub(crate) fn read_stages(alloc: Global, list: &[Json]) -> Result<Draft, ScriptFault>
+    ensures gives { Gives drafted result (fold_items stage_next nothing_drafted (items_view list.now)) }
+    ensures numbered { IfOk result
+        (λ draft. All (FunctionFits (length draft.functions.items)) draft.plan.stages) }
+{
+    let mut draft = Draft {
+        plan: PlanBuilder::new(alloc),
+        functions: Vec::new(alloc),
+    };
+    'stages: for json in list {
+        if let Err(e) = add_stage(alloc, &mut draft, json) {
+            return Err(e);
+        }
+    }
+    Ok(draft)
+}
