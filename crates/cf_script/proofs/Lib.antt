@@ -1,0 +1,3 @@
+pub mod WorkLemmas
+pub mod ReportLemmas
+pub mod RunLemmas

@@ -1,0 +1,11 @@
+use Rattle.std.proofs.Common.{◌≡◌, ◌++◌, length, drop, All, string_bytes}
+use Rattle.cf_core.specs.Laws.{SameShape}
+use Rattle.cf_script.specs.Reports.{steps_lines, after_steps}
+use Rattle.cf_script.proofs.report.write_steps.Given as goal
+
+abbrev pub invariant-steps : goal.invariant-steps
+invariant-steps l = record {
+  shape : SameShape l.initial.graph l.graph;
+  lines : string_bytes l.text ++ steps_lines l.functions l.graph (drop l.step-index l.steps) ≡ string_bytes l.initial.text ++ steps_lines l.functions l.initial.graph l.steps;
+  state : after_steps l.functions l.graph (drop l.step-index l.steps) ≡ after_steps l.functions l.initial.graph l.steps;
+}

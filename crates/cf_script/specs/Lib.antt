@@ -1,0 +1,5 @@
+pub mod Texts
+pub mod Working
+pub mod Reports
+pub mod Runs
+pub mod Laws

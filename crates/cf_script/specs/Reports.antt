@@ -1,0 +1,55 @@
+-- What a script writes.
+use Rattle.std.specs.Prelude.{ℕ, ◌+◌, List, [], ◌∷◌, ◌++◌, codes}
+use Rattle.std.specs.Fmt.{decimal}
+use Rattle.cf_plan.specs.Plans.{PlannedStage}
+use Rattle.cf_core.specs.States.{State, outcome_at, start}
+use Rattle.cf_core.specs.Events.{answered, told}
+use Rattle.cf_reading.specs.declared.func.Func.{Func}
+use Rattle.cf_reading.specs.declared.script.Step.{Step}
+use Rattle.cf_reading.specs.declared.script.Step.TheVariants.{Does, Asks, Work, Nudge}
+use Rattle.cf_reading.specs.Scripts.{Said}
+use Rattle.cf_script.specs.Texts.{line, reply_text, settled_text, told_text}
+use Rattle.cf_script.specs.Working.{worked}
+
+-- what a step writes
+abbrev pub step_text : List Func → State → Step → List ℕ
+step_text functions s (Does e) = reply_text ((answered s e).0)
+step_text functions s (Asks a) = told_text (told s a)
+step_text functions s Work = codes "worked " ++ decimal ((worked functions s).0)
+step_text functions s (Nudge k) = codes "nudged"
+
+-- the state that a step leaves
+abbrev pub after_step : List Func → State → Step → State
+after_step functions s (Does e) = (answered s e).1
+after_step functions s (Asks a) = s
+after_step functions s Work = (worked functions s).1
+after_step functions s (Nudge k) = s
+
+-- the lines of steps, one after another
+abbrev pub steps_lines : List Func → State → List Step → List ℕ
+steps_lines functions s [] = []
+steps_lines functions s (x ∷ xs) = line (step_text functions s x) ++ steps_lines functions (after_step functions s x) xs
+
+-- the state that steps leave
+abbrev pub after_steps : List Func → State → List Step → State
+after_steps functions s [] = s
+after_steps functions s (x ∷ xs) = after_steps functions (after_step functions s x) xs
+
+-- the line of a stage
+abbrev pub stage_text : State → ℕ → List ℕ
+stage_text s i = codes "stage " ++ decimal i ++ codes " " ++ settled_text (outcome_at s i)
+
+-- a line for each of these stages of the plan, the first being stage i
+abbrev pub stage_lines : State → ℕ → List PlannedStage → List ℕ
+stage_lines s i [] = []
+stage_lines s i (p ∷ stages) = line (stage_text s i) ++ stage_lines s (i + 1) stages
+
+-- the lines of all stages
+abbrev pub stages_lines : State → List ℕ
+stages_lines s = stage_lines s 0 s.plan.stages
+
+-- the lines of the steps in order, then those of the stages as the steps leave them
+abbrev pub report : Said → List ℕ
+report said =
+    let s = start said.plan in
+    steps_lines said.functions s said.steps ++ stages_lines (after_steps said.functions s said.steps)

@@ -1,0 +1,45 @@
+-- Work: the functions of ready stages are called, the lowest stage first.
+use Rattle.std.specs.Prelude.{ℕ, ◌+◌, zero, suc, List, length, Option, Some, None}
+use Rattle.std.specs.Option.{option_map_or}
+use Rattle.cf_outcome.specs.declared.outcome.Value.TheVariants.{Nil}
+use Rattle.cf_plan.specs.declared.forms.Args.{Args}
+use Rattle.cf_plan.specs.declared.forms.Answer.{Answer}
+use Rattle.cf_plan.specs.declared.forms.Answer.TheVariants.{Give}
+use Rattle.cf_plan.specs.Plans.{function_at}
+use Rattle.cf_core.specs.States.{State, lowest_ready_of}
+use Rattle.cf_core.specs.declared.replies.Claimed.TheVariants.{Granted}
+use Rattle.cf_core.specs.declared.events.Event.TheVariants.{Claim as Claims, Finish as Finishes}
+use Rattle.cf_core.specs.declared.events.Reply.{Reply}
+use Rattle.cf_core.specs.declared.events.Reply.TheVariants.{Claim as ToldClaim}
+use Rattle.cf_core.specs.Events.{answered}
+use Rattle.cf_reading.specs.declared.func.Func.{Func}
+use Rattle.cf_reading.specs.Functions.{meaning_of}
+
+-- what the function of a stage answers; nil where the stage has none, which no stage is that was ever ready
+abbrev pub answer_of : List Func → Option ℕ → Args → Answer
+answer_of functions number args = option_map_or (λ n. meaning_of functions n args) number (Give Nil)
+
+-- the stage i is finished by caller 63 with what its function answers to the arguments that a claim granted
+abbrev pub finished_after : List Func → ℕ → Reply × State → State
+finished_after functions i (ToldClaim (Granted args), s) =
+    (answered s (Finishes 63 i (answer_of functions (function_at s.plan.stages i) args))).1
+finished_after functions i (reply, s) = s
+
+-- the stage i is claimed by caller 63 and finished
+abbrev pub worked_once : List Func → State → ℕ → State
+worked_once functions s i = finished_after functions i (answered s (Claims 63 i))
+
+-- one more turn
+abbrev pub and_one : ℕ × State → ℕ × State
+and_one done = (done.0 + 1, done.1)
+
+-- while a stage is ready, the lowest is claimed and finished, but at most so many times; and how many times it was
+abbrev pub working : ℕ → List Func → State → ℕ × State
+working zero functions s = (0, s)
+working (suc most) functions s =
+    option_map_or (λ i. and_one (working most functions (worked_once functions s i))) (lowest_ready_of s) (0, s)
+
+-- Work until nothing is ready. Each turn claims a stage, and none is claimed twice, so as many turns as there are stages
+-- are enough.
+abbrev pub worked : List Func → State → ℕ × State
+worked functions s = working (length s.plan.stages) functions s

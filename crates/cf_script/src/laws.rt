@@ -1,0 +1,8 @@
+//! Laws of what a script's work does.
+ghost use Rattle.cf_script.specs.Laws.{WorkLeavesNothingReady};
+
+/// Work goes on until no stage is ready. Its definition takes at most as many turns as there are stages, and this says
+/// that the bound cuts nothing off: each turn claims a stage, and none is claimed twice.
+pub fn work_leaves_nothing_ready()
+    ensures { WorkLeavesNothingReady }
+{}

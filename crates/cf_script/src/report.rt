@@ -1,0 +1,110 @@
+//! The report of a script.
+ghost use Rattle.std.specs.Prelude.{◌≡◌, ◌++◌, ◌<◌, length, OnOk, IfOk, All, string_bytes};
+ghost use Rattle.cf_core.specs.Events.{told};
+ghost use Rattle.cf_core.specs.Ranges.{AskFits};
+ghost use Rattle.cf_reading.specs.Scripts.{StepFits};
+ghost use Rattle.cf_script.specs.Texts.{line};
+ghost use Rattle.cf_script.specs.Reports.{after_step, after_steps, report, stage_text, stages_lines, step_text, steps_lines};
+
+use crate::texts::{write_reply, write_told};
+use crate::work::work;
+use cf_core::{Ask, Told};
+use cf_event::apply;
+use cf_late::Graph;
+use cf_reading::{Func, Script, Step};
+use std::alloc::{AllocError, Global};
+
+/// What a question is told.
+fn tell(graph: &mut Graph, ask: Ask) -> Told
+    requires { AskFits (length graph.old.plan.stages) ask }
+    ensures told { result ≡ told graph.old ask }
+    ensures unchanged { graph.new ≡ graph.old }
+{
+    match ask {
+        Ask::Now(i, absent) => Told::Now(graph.now(i, absent)),
+        Ask::Outcome(i) => Told::Outcome(graph.outcome(i)),
+    }
+}
+
+/// Does a step, and adds its line.
+fn write_step(
+    text: &mut String,
+    graph: &mut Graph,
+    functions: &[Func],
+    step: Step,
+) -> Result<(), AllocError>
+    requires { StepFits (length graph.old.plan.stages) step }
+    ensures line { OnOk result
+        (string_bytes text.new ≡ string_bytes text.old ++ line (step_text functions.now graph.old step)) }
+    ensures state { graph.new ≡ after_step functions.now graph.old step }
+{
+    match step {
+        Step::Does(event) => write_reply(text, apply(graph, &event)),
+        Step::Asks(ask) => write_told(text, tell(graph, ask)),
+        Step::Work => {
+            let calls = work(graph, functions);
+            writeln!(text, "worked {calls}")
+        }
+        Step::Nudge(k) => {
+            graph.nudge(k);
+            writeln!(text, "nudged")
+        }
+    }
+}
+
+/// Does the steps in order, and adds their lines.
+fn write_steps(
+    text: &mut String,
+    graph: &mut Graph,
+    functions: &[Func],
+    steps: &[Step],
+) -> Result<(), AllocError>
+    requires { All (StepFits (length graph.old.plan.stages)) steps.now }
+    ensures lines { OnOk result
+        (string_bytes text.new ≡ string_bytes text.old ++ steps_lines functions.now graph.old steps.now) }
+    ensures state { OnOk result (graph.new ≡ after_steps functions.now graph.old steps.now) }
+{
+    'steps: for step in steps {
+        write_step(text, graph, functions, *step)?;
+    }
+    Ok(())
+}
+
+/// Adds the line of a stage.
+fn write_stage(text: &mut String, graph: &mut Graph, i: u16) -> Result<(), AllocError>
+    requires { i < length graph.old.plan.stages }
+    ensures line { OnOk result
+        (string_bytes text.new ≡ string_bytes text.old ++ line (stage_text graph.old i)) }
+    ensures unchanged { graph.new ≡ graph.old }
+{
+    match graph.outcome(i) {
+        Some(o) => writeln!(text, "stage {i} {o}"),
+        None => writeln!(text, "stage {i} pending"),
+    }
+}
+
+/// Adds the lines of all stages.
+fn write_stages(text: &mut String, graph: &mut Graph) -> Result<(), AllocError>
+    ensures { OnOk result
+        (string_bytes text.new ≡ string_bytes text.old ++ stages_lines graph.old) }
+{
+    'stages: for i in 0..graph.plan().stages() {
+        write_stage(text, graph, i)?;
+    }
+    Ok(())
+}
+
+/// The report of a script, whole.
+pub(crate) fn report_of(alloc: Global, script: Script) -> Result<String, AllocError>
+    ensures { IfOk result (λ text. string_bytes text ≡ report script) }
+{
+    let (plan, functions, steps) = script.into_parts();
+    let mut graph = match Graph::new(alloc, plan) {
+        Ok(graph) => graph,
+        Err(_) => return Err(AllocError),
+    };
+    let mut text = String::new(alloc);
+    write_steps(&mut text, &mut graph, &functions, &steps)?;
+    write_stages(&mut text, &mut graph)?;
+    Ok(text)
+}

@@ -1,0 +1,44 @@
+//! A whole run: from a reader's bytes to the report that a writer gets.
+ghost use Rattle.std.specs.Prelude.{List, ℕ};
+ghost use Rattle.cf_script.specs.Runs.{IsInput, Makes, Runs};
+
+use crate::fault_line::write_fault;
+use crate::report::report_of;
+use cf_outcome::write_text;
+use cf_reading::{ScriptFault, read_input, read_script};
+use std::alloc::Global;
+use std::io::{Read, Write};
+
+/// The report of the script that the reader gives, or the fault that stands in its way.
+fn made<R: Read>(alloc: Global, r: &mut R) -> Result<String, ScriptFault>
+    ensures { (input : List ℕ) × IsInput (R.remaining r.old) input × Makes result input }
+{
+    let input = read_input(alloc, r)?;
+    let script = read_script(alloc, &input)?;
+    match report_of(alloc, script) {
+        Ok(text) => Ok(text),
+        Err(_) => Err(ScriptFault::NoMemory),
+    }
+}
+
+/// Reads a script to its end, runs it, and writes its report.
+///
+/// The whole input is read and checked before anything is written, and the report is made whole in memory. Where that
+/// meets a fault, its line alone is written, and the fault answered. `Read` is every error of the reader, `Interrupted`
+/// too; `Write` every error of the writer, and a write that takes no byte: a front of the text has then gone out.
+/// `NoMemory` is a growth that was refused. `RaceSize` never comes.
+pub fn run_script<R: Read, W: Write>(alloc: Global, r: &mut R, w: &mut W) -> Result<(), ScriptFault>
+    ensures { (input : List ℕ) × IsInput (R.remaining r.old) input
+        × Runs result input (W.contents w.old) (W.contents w.new) }
+{
+    match made(alloc, r) {
+        Ok(text) => match write_text(w, text.as_str().as_bytes()) {
+            Ok(()) => Ok(()),
+            Err(_) => Err(ScriptFault::Write),
+        },
+        Err(fault) => match write_fault(w, fault) {
+            Ok(()) => Err(fault),
+            Err(_) => Err(ScriptFault::Write),
+        },
+    }
+}

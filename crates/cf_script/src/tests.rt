@@ -1,0 +1,225 @@
+//! Scripts with what they print, read and written whole, a byte at a time, and up to where a device fails.
+mod devices;
+mod rows;
+
+use self::devices::{Dripping, Sipping, Then};
+use self::rows::{BAD_PLANS, BAD_SHAPES, CALLS, CLAIMS, FORMS, LONG, LongRow, Row};
+use crate::{Command, CommandFault, ScriptFault, read_command, run_script};
+use std::alloc::{AllocError, Global};
+use std::io::{ErrorKind, Read, Write};
+use std::process::Abort;
+use std::test::Fail;
+
+/// The script of a source and an apply that adds 5, and its report.
+const ADD_FIVE: &str =
+    r#"{"cf":1,"stages":[{"form":"source"},{"form":"apply","of":[0],"fn":{"add":5}}],"steps":[["complete",0,3],["work"],["now",1]]}"#;
+
+const ADD_FIVE_REPORT: &str = "true / worked 1 / value 8 / stage 0 value 3 / stage 1 value 8";
+
+/// Adds the lines of a report, which ` / ` separates.
+fn add_lines(text: &mut String, report: &str) -> Result<(), AllocError> {
+    if !report.is_empty() {
+        for line in report.split(" / ") {
+            writeln!(text, "{line}")?;
+        }
+    }
+    Ok(())
+}
+
+fn lines(alloc: Global, report: &str) -> Result<String, AllocError> {
+    let mut text = String::new(alloc);
+    add_lines(&mut text, report)?;
+    Ok(text)
+}
+
+/// The status that the program ends with.
+fn status<R: Read, W: Write>(alloc: Global, words: &[&str], r: &mut R, w: &mut W) -> u8 {
+    match read_command(alloc, words) {
+        Ok(Command::Run) => match run_script(alloc, r, w) {
+            Ok(()) => 0,
+            Err(_) => 1,
+        },
+        Ok(Command::Race(_)) | Err(CommandFault::Usage) => 2,
+        Err(CommandFault::NoMemory) => 1,
+    }
+}
+
+/// Runs each row, with the whole script in one call, and then with devices that move one byte a call.
+fn check_rows(rt: &(impl Abort + AllocGlobal), rows: &[Row]) -> Result<(), Fail> {
+    for row in rows {
+        let name = row.name;
+        let report = lines(rt.alloc(), row.report)?;
+        let mut out: Vec<u8> = Vec::new(rt.alloc());
+        let mut input = row.script.as_bytes();
+        let ended = status(rt.alloc(), row.words, &mut input, &mut out);
+        assert_eq!(rt; out.as_slice(), report.as_str().as_bytes(), "{name}");
+        assert_eq!(rt; ended, row.status, "{name}");
+        let mut sips = Sipping {
+            held: Vec::new(rt.alloc()),
+            calls: u64::MAX,
+            then: Then::Fails,
+            flushes: true,
+        };
+        let mut drips = Dripping {
+            rest: row.script.as_bytes(),
+            calls: u64::MAX,
+            kind: ErrorKind::Other,
+        };
+        let ended = status(rt.alloc(), row.words, &mut drips, &mut sips);
+        assert_eq!(rt;
+            sips.held.as_slice(),
+            report.as_str().as_bytes(),
+            "{name}, a byte a call"
+        );
+        assert_eq!(rt; ended, row.status, "{name}, a byte a call");
+    }
+    Ok(())
+}
+
+#[test]
+fn callers_complete_fail_cancel_and_ask(rt: HostRuntime) -> Result<(), Fail> {
+    check_rows(&rt, &CALLS)
+}
+
+#[test]
+fn forms_take_what_their_sources_give(rt: HostRuntime) -> Result<(), Fail> {
+    check_rows(&rt, &FORMS)
+}
+
+#[test]
+fn claims_and_limits(rt: HostRuntime) -> Result<(), Fail> {
+    check_rows(&rt, &CLAIMS)
+}
+
+#[test]
+fn wrong_shapes_are_told(rt: HostRuntime) -> Result<(), Fail> {
+    check_rows(&rt, &BAD_SHAPES)
+}
+
+#[test]
+fn wrong_plans_and_steps_are_told(rt: HostRuntime) -> Result<(), Fail> {
+    check_rows(&rt, &BAD_PLANS)
+}
+
+/// The script of a long row.
+fn long_script(alloc: Global, row: &LongRow) -> Result<String, AllocError> {
+    let mut text = String::new(alloc);
+    text.push_str(row.head)?;
+    for _ in 0..row.times {
+        text.push_str(row.item)?;
+    }
+    text.push_str(row.last)?;
+    for _ in 0..row.times {
+        text.push_str(row.close)?;
+    }
+    text.push_str(row.tail)?;
+    Ok(text)
+}
+
+#[test]
+fn long_rows_print_their_reports(rt: HostRuntime) -> Result<(), Fail> {
+    for row in &LONG {
+        let name = row.name;
+        let script = long_script(rt.alloc(), row)?;
+        let mut report = String::new(rt.alloc());
+        for _ in 0..row.report_times {
+            add_lines(&mut report, row.report)?;
+        }
+        let mut out: Vec<u8> = Vec::new(rt.alloc());
+        let mut input = script.as_str().as_bytes();
+        let ended = status(rt.alloc(), &["run"], &mut input, &mut out);
+        assert!(&rt; out.as_slice() == report.as_str().as_bytes(), "{name}");
+        assert_eq!(&rt; ended, row.status, "{name}");
+    }
+    Ok(())
+}
+
+#[test]
+fn no_front_of_a_script_is_json(rt: HostRuntime) -> Result<(), Fail> {
+    let script = ADD_FIVE.as_bytes();
+    for len in 0..script.len() {
+        let mut out: Vec<u8> = Vec::new(rt.alloc());
+        let mut input = &script[..len];
+        let result = run_script(rt.alloc(), &mut input, &mut out);
+        assert!(&rt; result == Err(ScriptFault::NotJson), "{len}");
+        assert_eq!(&rt; out.as_slice(), b"fault 2 not json\n".as_slice(), "{len}");
+    }
+    Ok(())
+}
+
+#[test]
+fn a_failing_reader_is_told(rt: HostRuntime) -> Result<(), Fail> {
+    let report = lines(rt.alloc(), ADD_FIVE_REPORT)?;
+    let len = ADD_FIVE.len() as u64;
+    for kind in [ErrorKind::Interrupted, ErrorKind::Other] {
+        for calls in 0..len + 2 {
+            let mut out: Vec<u8> = Vec::new(rt.alloc());
+            let mut input = Dripping {
+                rest: ADD_FIVE.as_bytes(),
+                calls,
+                kind,
+            };
+            let result = run_script(rt.alloc(), &mut input, &mut out);
+            if calls <= len {
+                assert!(&rt; result == Err(ScriptFault::Read), "{calls}");
+                assert_eq!(&rt; out.as_slice(), b"fault 7 read\n".as_slice(), "{calls}");
+            } else {
+                assert!(&rt; result == Ok(()));
+                assert_eq!(&rt; out.as_slice(), report.as_str().as_bytes());
+            }
+        }
+    }
+    Ok(())
+}
+
+/// Whatever the script, a writer that fails holds a front of the text.
+fn check_failing_writers(
+    rt: &(impl Abort + AllocGlobal),
+    script: &str,
+    report: &str,
+    otherwise: Result<(), ScriptFault>,
+) -> Result<(), Fail> {
+    let text = lines(rt.alloc(), report)?;
+    let len = text.len() as u64;
+    for then in [Then::Fails, Then::TakesNothing] {
+        for flushes in [true, false] {
+            for calls in 0..len + 2 {
+                let mut out = Sipping {
+                    held: Vec::new(rt.alloc()),
+                    calls,
+                    then,
+                    flushes,
+                };
+                let result = run_script(rt.alloc(), &mut script.as_bytes(), &mut out);
+                let taken = calls.min(len) as usize;
+                let whole = calls >= len && flushes;
+                assert!(rt;
+                    result
+                        == (if whole {
+                            otherwise
+                        } else {
+                            Err(ScriptFault::Write)
+                        }),
+                    "{calls}"
+                );
+                assert_eq!(rt;
+                    out.held.as_slice(),
+                    &text.as_str().as_bytes()[..taken],
+                    "{calls}"
+                );
+            }
+        }
+    }
+    Ok(())
+}
+
+#[test]
+fn a_failing_writer_holds_a_front(rt: HostRuntime) -> Result<(), Fail> {
+    check_failing_writers(&rt, ADD_FIVE, ADD_FIVE_REPORT, Ok(()))?;
+    check_failing_writers(
+        &rt,
+        "[]",
+        "fault 3 shape top",
+        Err(ScriptFault::Shape(crate::Part::Top)),
+    )
+}
