@@ -1,0 +1,91 @@
+//! A script as large as scripts may be, and what running it takes beside reading its bytes as JSON alone.
+use anyhow::{Result, anyhow};
+use cf_script::run_script;
+use serde_json::Value as Json;
+use std::alloc::{AllocError, Global};
+use std::time::{Clock, Instant};
+
+const STAGES: u16 = 4096;
+
+const SOURCES: u16 = 2049;
+
+const STEPS: u16 = 20_000;
+
+const BYTES: usize = 1_048_576;
+
+const ROUNDS: u32 = 7;
+
+/// Sources, and combines of two stages each up to the root; each source is completed, all functions are called, and the
+/// other steps ask for outcomes. It is filled with blanks to 1 MiB.
+pub(crate) fn script_text(alloc: Global) -> Result<String, AllocError> {
+    let mut text = String::new(alloc);
+    text.push_str("{\"cf\": 1,\n\"stages\": [\n")?;
+    for i in 0..STAGES {
+        let end = if i < STAGES - 1 { ",\n" } else { "],\n" };
+        if i < SOURCES {
+            write!(text, "  {{\"form\": \"source\"}}{end}")?;
+        } else {
+            let left = (i - SOURCES).saturating_mul(2);
+            let right = left.saturating_add(1);
+            write!(
+                text,
+                "  {{\"form\": \"combine\", \"of\": [{left}, {right}], \"fn\": \"sum\"}}{end}"
+            )?;
+        }
+    }
+    text.push_str("\"steps\": [\n")?;
+    for k in 0..STEPS {
+        let end = if k < STEPS - 1 { ",\n" } else { "]" };
+        let stage = k % STAGES;
+        if k < SOURCES {
+            write!(text, "  [\"complete\", {stage}, {k}]{end}")?;
+        } else if k == SOURCES {
+            write!(text, "  [\"work\"]{end}")?;
+        } else if k % 2 == 0 {
+            write!(text, "  [\"now\", {stage}, -1]{end}")?;
+        } else {
+            write!(text, "  [\"outcome\", {stage}]{end}")?;
+        }
+    }
+    for _ in 0..BYTES {
+        if text.len() >= BYTES - 1 {
+            break;
+        }
+        text.push_str(" ")?;
+    }
+    text.push_str("}")?;
+    Ok(text)
+}
+
+/// The report of a script.
+fn report(alloc: Global, text: &str) -> Result<Vec<u8>> {
+    let mut out = Vec::new(alloc);
+    let mut input = text.as_bytes();
+    run_script(alloc, &mut input, &mut out).map_err(|_| anyhow!("the script was refused"))?;
+    Ok(out)
+}
+
+/// A sum over the bytes of the script's report, in which their order counts.
+pub(crate) fn report_checksum(alloc: Global, text: &str) -> Result<u64> {
+    let mut sum = 0u64;
+    for byte in report(alloc, text)?.iter() {
+        sum = sum.wrapping_mul(31).wrapping_add(u64::from(*byte));
+    }
+    Ok(sum)
+}
+
+/// The least nanoseconds that reading the bytes as JSON and that running the script took.
+pub(crate) fn measured_script<R: Clock>(rt: &R, alloc: Global, text: &str) -> Result<(u128, u128)> {
+    let mut reading = None;
+    let mut running = None;
+    for _ in 0..ROUNDS {
+        let start = Instant::now(rt)?;
+        let json = Json::from_slice(alloc, text.as_bytes());
+        reading = crate::shorter(reading, start.elapsed(rt)?.as_nanos());
+        json.map_err(|_| anyhow!("the bytes are no JSON"))?;
+        let start = Instant::now(rt)?;
+        report(alloc, text)?;
+        running = crate::shorter(running, start.elapsed(rt)?.as_nanos());
+    }
+    Ok((reading.unwrap_or(0), running.unwrap_or(0)))
+}

@@ -1,0 +1,78 @@
+//! The shapes of graphs that are measured.
+use cf_plan::{Form, Plan, PlanBuilder, PlanFault};
+use std::alloc::Global;
+use std::fmt;
+
+/// The shape of a graph.
+#[derive(Clone, Copy, Debug, PartialEq, Eq)]
+pub(crate) enum Shape {
+    /// A source, and behind each stage an apply of it. The source is completed.
+    Chain,
+    /// The same, and the source is failed.
+    FailedChain,
+    /// A source, and all others are applies of it.
+    FanOut,
+    /// Sources, and combines of two stages each up to the root.
+    CombineTree,
+    /// Sources, and one allOf over all of them.
+    AllOf,
+}
+
+impl fmt::Display for Shape {
+    fn fmt<W: fmt::Write>(&self, f: &mut fmt::Formatter<W>) -> fmt::Result {
+        match self {
+            Shape::Chain => write!(f, "chain"),
+            Shape::FailedChain => write!(f, "failed chain"),
+            Shape::FanOut => write!(f, "fan-out"),
+            Shape::CombineTree => write!(f, "combine tree"),
+            Shape::AllOf => write!(f, "allOf"),
+        }
+    }
+}
+
+/// How many of so many stages are sources.
+pub(crate) fn sources_of(shape: Shape, stages: u16) -> u16 {
+    match shape {
+        Shape::Chain | Shape::FailedChain | Shape::FanOut => stages.min(1),
+        Shape::CombineTree => (stages / 2).saturating_add(1).min(stages),
+        Shape::AllOf => stages.saturating_sub(1),
+    }
+}
+
+/// The plan of a shape.
+pub(crate) fn plan_of(alloc: Global, shape: Shape, stages: u16) -> Result<Plan, PlanFault> {
+    let mut builder = PlanBuilder::new(alloc);
+    let sources = sources_of(shape, stages);
+    let mut all = Vec::new(alloc);
+    for i in 0..stages {
+        if i < sources {
+            builder.stage(Form::Source, &[], None)?;
+            all.push(i).map_err(|_| PlanFault::NoMemory)?;
+        } else {
+            add(&mut builder, shape, i, sources, all.as_slice())?;
+        }
+    }
+    builder.build()
+}
+
+/// Adds stage `i`, which is no source.
+fn add(
+    builder: &mut PlanBuilder,
+    shape: Shape,
+    i: u16,
+    sources: u16,
+    all: &[u16],
+) -> Result<(), PlanFault> {
+    match shape {
+        Shape::Chain | Shape::FailedChain => {
+            builder.stage(Form::Apply, &[i.saturating_sub(1)], Some(0))?
+        }
+        Shape::FanOut => builder.stage(Form::Apply, &[0], Some(0))?,
+        Shape::CombineTree => {
+            let left = i.saturating_sub(sources).saturating_mul(2);
+            builder.stage(Form::Combine, &[left, left.saturating_add(1)], Some(0))?
+        }
+        Shape::AllOf => builder.stage(Form::AllOf, all, None)?,
+    };
+    Ok(())
+}
