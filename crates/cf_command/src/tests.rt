@@ -41,3 +41,13 @@ fn faults_have_lines(rt: HostRuntime) -> Result<(), Fail> {
     );
     Ok(())
 }
+
+#[test]
+fn refused_memory_is_told(rt: HostRuntime) {
+    let words = ["race", "--workers", "2"].as_slice();
+    let first = read_command(rt.alloc(), words);
+    if first != Ok(Command::Race(2)) {
+        assert!(&rt; first == Err(CommandFault::NoMemory));
+    }
+    assert!(&rt; read_command(rt.alloc(), words) == Ok(Command::Race(2)));
+}
