@@ -1,8 +1,9 @@
-//! Worked examples, each call once, and a graph of the greatest size.
-use crate::graph::Graph;
+//! Worked examples, each call once, a graph of the greatest size, and a graph whose memory is refused.
+use crate::graph::{Graph, GraphFault};
 use crate::replies::{Claimed, Finished, Ticked};
 use cf_outcome::{Cause, Now, Outcome, Value};
-use cf_plan::{Answer, Args, Form, LimitKind, PlanBuilder};
+use cf_plan::{Answer, Args, Form, LimitKind, Plan, PlanBuilder, PlanFault};
+use std::alloc::Global;
 use std::process::Abort;
 use std::test::Fail;
 
@@ -161,5 +162,47 @@ fn serves_the_greatest_graph(rt: HostRuntime) -> Result<(), Fail> {
         assert_eq!(rt; claim(&rt, &mut graph, i), Claimed::Granted(Args::None));
     }
     assert_eq!(rt; graph.lowest_ready(), None);
+    Ok(())
+}
+
+fn source_and_apply(alloc: Global) -> Result<Plan, PlanFault> {
+    let mut builder = PlanBuilder::new(alloc);
+    builder.stage(Form::Source, &[], None)?;
+    builder.stage(Form::Apply, &[0], Some(0))?;
+    builder.build()
+}
+
+/// The graph of a source and an apply. Where its memory is refused, one of another plan succeeds.
+fn graph_again(rt: &impl Abort, alloc: Global, plan: Plan) -> Result<Graph, Fail> {
+    match Graph::new(alloc, plan) {
+        Ok(graph) => Ok(graph),
+        Err(fault) => {
+            assert_eq!(rt; fault, GraphFault::NoMemory);
+            let plan = source_and_apply(alloc)?;
+            Ok(Graph::new(alloc, plan)?)
+        }
+    }
+}
+
+#[test]
+fn a_refused_graph_can_be_made_again(rt: HostRuntime) -> Result<(), Fail> {
+    let plan = match source_and_apply(rt.alloc()) {
+        Ok(plan) => plan,
+        Err(fault) => {
+            assert_eq!(rt; fault, PlanFault::NoMemory);
+            source_and_apply(rt.alloc())?
+        }
+    };
+    let mut graph = graph_again(&rt, rt.alloc(), plan)?;
+    assert!(rt; complete(&rt, &mut graph, 0, 3));
+    assert_eq!(rt;
+        claim(&rt, &mut graph, 1),
+        Claimed::Granted(Args::One(Value::Int(3)))
+    );
+    assert_eq!(rt;
+        finish(&rt, &mut graph, 1, Answer::Give(Value::Int(8))),
+        Finished::Won
+    );
+    assert_eq!(rt; now(&rt, &mut graph, 1), Now::Got(Value::Int(8)));
     Ok(())
 }
