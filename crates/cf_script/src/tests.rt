@@ -1,9 +1,10 @@
-//! Scripts with what they print, read and written whole, a byte at a time, and up to where a device fails.
+//! Scripts with what they print, read and written whole, a byte at a time, up to where a device fails, and where memory is
+//! refused.
 mod devices;
 mod rows;
 
-use self::devices::{Dripping, Sipping, Then};
-use self::rows::{BAD_PLANS, BAD_SHAPES, CALLS, CLAIMS, FORMS, LONG, LongRow, Row};
+use self::devices::{Dripping, Fixed, Sipping, Then};
+use self::rows::{BAD_PLANS, BAD_SHAPES, CALLS, CLAIMS, FORMS, LONG, LongRow, NUDGED, Row};
 use crate::{Command, CommandFault, ScriptFault, read_command, run_script};
 use std::alloc::{AllocError, Global};
 use std::io::{ErrorKind, Read, Write};
@@ -89,6 +90,11 @@ fn forms_take_what_their_sources_give(rt: HostRuntime) -> Result<(), Fail> {
 #[test]
 fn claims_and_limits(rt: HostRuntime) -> Result<(), Fail> {
     check_rows(&rt, &CLAIMS)
+}
+
+#[test]
+fn nudges_change_no_answer(rt: HostRuntime) -> Result<(), Fail> {
+    check_rows(&rt, &NUDGED)
 }
 
 #[test]
@@ -222,4 +228,33 @@ fn a_failing_writer_holds_a_front(rt: HostRuntime) -> Result<(), Fail> {
         "fault 3 shape top",
         Err(ScriptFault::Shape(crate::Part::Top)),
     )
+}
+
+/// Runs the script of a source and an apply, and checks that what was written is its report, or that no memory was left.
+fn check_refused(rt: &impl Abort, alloc: Global) -> bool {
+    let mut out = Fixed {
+        held: [0; 128],
+        count: 0,
+    };
+    let mut input = ADD_FIVE.as_bytes();
+    let result = run_script(alloc, &mut input, &mut out);
+    let report = b"true\nworked 1\nvalue 8\nstage 0 value 3\nstage 1 value 8\n".as_slice();
+    let fault = b"fault 9 memory\n".as_slice();
+    assert!(rt; out.count <= 128);
+    let written = &out.held[..out.count];
+    if result == Ok(()) {
+        assert!(rt; written == report);
+        true
+    } else {
+        assert!(rt; result == Err(ScriptFault::NoMemory));
+        assert!(rt; written == fault);
+        false
+    }
+}
+
+#[test]
+fn refused_memory_is_told(rt: HostRuntime) {
+    if !check_refused(&rt, rt.alloc()) {
+        assert!(&rt; check_refused(&rt, rt.alloc()), "the next run has memory");
+    }
 }

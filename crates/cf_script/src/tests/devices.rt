@@ -1,4 +1,4 @@
-//! A reader and a writer over memory that fail at a given call.
+//! A reader and a writer over memory that fail at a given call, and a writer that takes no memory.
 use std::io;
 use std::io::{ErrorKind, Read, Write};
 
@@ -63,5 +63,27 @@ impl Write for Sipping {
         } else {
             Err(io::Error::from(ErrorKind::Other))
         }
+    }
+}
+
+/// Takes what fits into the bytes that it has, and no memory.
+#[derive(Drop)]
+pub(crate) struct Fixed {
+    pub(crate) held: [u8; 128],
+    pub(crate) count: usize,
+}
+
+impl Write for Fixed {
+    fn write(&mut self, buf: &[u8]) -> io::Result<usize> {
+        if buf.is_empty() || self.count >= 128 {
+            return Ok(0);
+        }
+        self.held[self.count] = buf[0];
+        self.count += 1;
+        Ok(1)
+    }
+
+    fn flush(&mut self) -> io::Result<()> {
+        Ok(())
     }
 }

@@ -205,6 +205,45 @@ pub(crate) const CLAIMS: [Row; 5] = [
     },
 ];
 
+/// Rows from above with a turn of propagation between any two of their steps: nothing else changes.
+pub(crate) const NUDGED: [Row; 5] = [
+    Row {
+        name: "a stage that its source has failed is settled, with nudges",
+        words: &["run"],
+        script: r#"{"cf":1,"stages":[{"form":"source"},{"form":"apply","of":[0],"fn":{"add":5}}],"steps":[["fail",0,7],["nudge",1],["complete",1,9]]}"#,
+        report: "true / nudged / false / stage 0 fault thrown 7 raw / stage 1 fault thrown 7 wrapped",
+        status: 0,
+    },
+    Row {
+        name: "the earlier step decides an either, with nudges",
+        words: &["run"],
+        script: r#"{"cf":1,"stages":[{"form":"source"},{"form":"source"},{"form":"exceptionally","of":[0],"fn":{"rescue":0}},{"form":"exceptionally","of":[1],"fn":{"rescue":0}},{"form":"applyEither","of":[3,2],"fn":{"add":0}}],"steps":[["complete",0,10],["nudge",1],["complete",1,20],["nudge",1],["work"],["nudge",1],["now",4]]}"#,
+        report: "true / nudged / true / nudged / worked 1 / nudged / value 10 / stage 0 value 10 / stage 1 value 20 / stage 2 value 10 / stage 3 value 20 / stage 4 value 10",
+        status: 0,
+    },
+    Row {
+        name: "the first argument decides within one step, with nudges",
+        words: &["run"],
+        script: r#"{"cf":1,"stages":[{"form":"source"},{"form":"allOf","of":[0]},{"form":"anyOf","of":[0]},{"form":"applyEither","of":[2,1],"fn":{"add":1}},{"form":"applyEither","of":[1,2],"fn":{"add":1}}],"steps":[["complete",0,6],["nudge",1],["work"]]}"#,
+        report: "true / nudged / worked 2 / stage 0 value 6 / stage 1 value nil / stage 2 value 6 / stage 3 value 7 / stage 4 value 1",
+        status: 0,
+    },
+    Row {
+        name: "a compose links to a lower stage alone, with nudges",
+        words: &["run"],
+        script: r#"{"cf":1,"stages":[{"form":"source"},{"form":"source"},{"form":"compose","of":[0],"fn":{"goto":2}},{"form":"compose","of":[0],"fn":{"goto":1}}],"steps":[["complete",0,1],["nudge",1],["work"],["nudge",1],["complete",1,44],["nudge",1],["now",2]]}"#,
+        report: "true / nudged / worked 2 / nudged / true / nudged / completion badanswer / stage 0 value 1 / stage 1 value 44 / stage 2 fault badanswer wrapped / stage 3 value 44",
+        status: 0,
+    },
+    Row {
+        name: "limits fire one after another, with nudges",
+        words: &["run"],
+        script: r#"{"cf":1,"stages":[{"form":"source"},{"form":"apply","of":[0],"fn":{"add":1}},{"form":"apply","of":[1],"fn":{"add":1}}],"limits":[{"stage":1,"at":10,"kind":"timeout"},{"stage":2,"at":12,"kind":"value","value":5}],"steps":[["tick",20],["nudge",1],["tick",19],["nudge",1],["tick",20]]}"#,
+        report: "fired 1 / nudged / past / nudged / fired 0 / stage 0 pending / stage 1 fault timeout raw / stage 2 fault timeout wrapped",
+        status: 0,
+    },
+];
+
 /// Words that are no command, bytes that are no JSON, and parts of the wrong shape.
 pub(crate) const BAD_SHAPES: [Row; 12] = [
     Row {
