@@ -1,14 +1,16 @@
-ghost use Rattle.std.specs.Prelude.{◌≡◌, ◌<◌, ◌∷◌, [], All, IfOk, vec_len};
+ghost use Rattle.std.specs.Prelude.{◌≡◌, ◌<◌, ◌∷◌, [], All, IfOk, length, vec_len};
 ghost use Rattle.cf_desk.specs.Views.{Holder};
 
+use crate::calls::event_by;
 use crate::{Ask, Call, Closed, Desk, DeskFault, Joined, Kept, OpenFault, Pass, Rec, Told};
-use cf_core::{Claimed, Event, Finished, Reply};
+use cf_core::{Claimed, Event, Finished, Reply, Ticked};
 use cf_outcome::{Now, Outcome, Value};
 use cf_plan::{Answer, Args, Form, Plan, PlanBuilder};
 use std::alloc::Global;
-use std::sync::atomic::{AtomicBool, Ordering};
+use std::sync::atomic::{AtomicBool, AtomicU32, Ordering};
 use std::test::Fail;
 use std::thread;
+use std::thread::Threads;
 
 /// A plan of one source.
 fn one_source(alloc: Global) -> Result<Plan, Fail> {
@@ -99,6 +101,41 @@ fn completions_won(kept: &Kept) -> usize {
         .count()
 }
 
+/// The place of a changing call, or 0 where another event stands there.
+fn place_of(closed: &Closed, caller: u8, record: &Rec) -> u16 {
+    match *record {
+        Rec::Did { place, call, .. } => {
+            let event = event_by(caller, call);
+            let found = closed.history.get(place.wrapping_sub(1) as usize).copied();
+            if found == Some(event) { place } else { 0 }
+        }
+        Rec::Saw { .. } => 0,
+    }
+}
+
+/// Whether the changing calls of a pass stand in the history at rising places.
+fn stand_in_order(closed: &Closed, kept: &Kept) -> bool {
+    let mut last = 0;
+    for record in &kept.records {
+        let place = place_of(closed, kept.caller, record);
+        if place <= last {
+            return false;
+        }
+        last = place;
+    }
+    true
+}
+
+/// Whether the last record is of a cancel that was answered false.
+fn ends_with_refused_cancel(records: &[Rec]) -> bool {
+    match records.last() {
+        Some(Rec::Did { call, reply, .. }) => {
+            *call == Call::Cancel(0) && *reply == Reply::Flag(false)
+        }
+        _ => false,
+    }
+}
+
 #[test]
 fn one_of_three_completions_settles(rt: HostRuntime) -> Result<(), Fail> {
     let (desk, mut a, mut b) = open_two(rt.alloc(), 4, 4)?;
@@ -119,12 +156,14 @@ fn one_of_three_completions_settles(rt: HostRuntime) -> Result<(), Fail> {
     );
     let closed = close_two(rt.alloc(), desk, a, b)?;
     assert_eq!(rt; closed.history.len(), 4);
-    let mut won = 0;
+    let mut won = 0usize;
     for kept in &closed.passes {
         assert_eq!(rt; kept.records.len(), 2);
-        won = completions_won(kept).max(won);
+        assert!(rt; stand_in_order(&closed, kept));
+        won = won.wrapping_add(completions_won(kept));
     }
     assert_eq!(rt; won, 1);
+    assert!(rt; ends_with_refused_cancel(records_at(&closed, 1)));
     Ok(())
 }
 
@@ -336,5 +375,74 @@ fn a_caller_does_the_ready_work(rt: HostRuntime) -> Result<(), Fail> {
     assert_eq!(rt; desk.act(&mut p, finish), Ok(Reply::Finish(Finished::Won)));
     assert_eq!(rt; desk.ready(&mut p), None);
     assert_eq!(rt; desk.join(&mut p, 0, 1), Ok(Joined::Value(Value::Int(4))));
+    Ok(())
+}
+
+/// A desk over one source, and its four passes.
+fn open_four(alloc: Global, log: u16) -> Result<(Desk, Vec<Pass>), Fail>
+    ensures table { IfOk result (λ r. All (λ p. p.table ≡ r.0.table) r.1.items) }
+    ensures count { IfOk result (λ r. (vec_len r.1 ≡ 4) × (r.0.setting.callers ≡ 4)) }
+{
+    let plan = one_source(alloc)?;
+    Ok(Desk::open(alloc, plan, 4, log, 50).map_err(|_| "the desk was refused")?)
+}
+
+/// Fifty ticks of one pass. Those that a full log refuses are counted.
+fn tick_fifty(desk: &Desk, p: &mut Pass, full: &AtomicU32)
+    requires { p.old.table ≡ desk.now.table }
+    ensures { p.new.table ≡ p.old.table }
+{
+    for _ in 0..50u8 {
+        if desk.act(p, Call::Tick(0)) == Err(DeskFault::LogFull) {
+            full.fetch_add(1, Ordering::SeqCst);
+        }
+    }
+}
+
+/// Fifty ticks of each pass, on a thread for each.
+fn tick_all<R: Threads + Sync>(rt: &R, desk: &Desk, passes: &mut [Pass], full: &AtomicU32)
+    requires { All (λ p. p.table ≡ desk.now.table) passes.old }
+    ensures table { All (λ p. p.table ≡ desk.now.table) passes.new }
+    ensures count { length passes.new ≡ length passes.old }
+{
+    thread::for_each_mut(rt, passes, 4, &|_, p| tick_fifty(desk, p, full));
+}
+
+/// How many ticks that fired nothing a pass keeps.
+fn ticks_kept(kept: &Kept) -> usize {
+    let nothing = Reply::Tick(Ticked::Fired(0));
+    kept.records
+        .iter()
+        .filter(|r| matches!(r, Rec::Did { call: Call::Tick(0), reply, .. } if *reply == nothing))
+        .count()
+}
+
+/// How many ticks of a caller the history has.
+fn ticks_of(closed: &Closed, caller: u8) -> usize {
+    let tick = Event::Tick {
+        who: caller,
+        now: 0,
+    };
+    closed.history.iter().filter(|e| **e == tick).count()
+}
+
+#[test]
+fn four_callers(rt: HostRuntime) -> Result<(), Fail> {
+    for (log, refused) in [(200, 0), (199, 1)] {
+        let (desk, mut passes) = open_four(rt.alloc(), log)?;
+        let full = AtomicU32::new(0);
+        tick_all(&rt, &desk, passes.as_mut_slice(), &full);
+        let closed = desk.close(passes).map_err(|_| "the desk wasn't closed")?;
+        assert_eq!(rt; full.load(Ordering::SeqCst), refused);
+        assert_eq!(rt; closed.history.len(), log as usize);
+        let mut ticks = 0usize;
+        for kept in &closed.passes {
+            assert_eq!(rt; ticks_kept(kept), kept.records.len());
+            assert_eq!(rt; ticks_of(&closed, kept.caller), kept.records.len());
+            assert!(rt; refused > 0 || kept.records.len() == 50);
+            ticks = ticks.wrapping_add(kept.records.len());
+        }
+        assert_eq!(rt; ticks, log as usize);
+    }
     Ok(())
 }
