@@ -204,13 +204,13 @@ impl Stages {
         ensures sound { AreSound plan.now.stages self.new }
     {
         self.steps += 1;
-        let step = self.steps;
+        let settled = self.steps;
         self.put(
             plan,
             d,
             Kept {
                 stage: Stage::Settled(o),
-                step,
+                step: settled,
             },
         );
     }
