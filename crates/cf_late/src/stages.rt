@@ -56,6 +56,9 @@ impl Stages {
     }
 
     /// Writes one stage. A stage that settles marks its dependents and the stages linked to it.
+    ///
+    /// It stands in each caller's own code, so that a new stage is written part by part and never read back as a whole.
+    #[inline(always)]
     fn put(&mut self, plan: &Plan, d: u16, new: Kept)
         requires stage { d < length plan.now.stages }
         requires all_kept { length self.old.kept.items ≡ length plan.now.stages }
@@ -90,11 +93,10 @@ impl Stages {
         ensures taken { StayTaken self.old.kept.items self.new.kept.items }
         ensures sound { AreSound plan.now.stages self.new }
     {
-        let k = self.kept[m as usize];
         self.marks.remove(m);
         self.turns += 1;
-        if is_waiting(k.stage) {
-            let new = treated(&self.kept, plan.form(m), plan.sources(m), k);
+        if is_waiting(self.stage(m)) {
+            let new = treated(&self.kept, plan.form(m), plan.sources(m), m);
             self.put(plan, m, new);
         }
     }

@@ -3,6 +3,7 @@ ghost use Rattle.std.specs.Prelude.{◌≡◌, ℕ, ◌<◌, ◌∷◌, [], All,
 ghost use Rattle.std.specs.List.{list_all};
 ghost use Rattle.cf_plan.specs.Forms.{first_fault, due_of_both};
 ghost use Rattle.cf_core.specs.States.{outcome_of};
+ghost use Rattle.cf_late.specs.Sound.{kept_at};
 ghost use Rattle.cf_late.specs.Late.{dated_in, due_kept, earlier, earliest, late_due, latest, linked_kept, outcome_part, treated};
 
 use crate::kept::Kept;
@@ -10,15 +11,17 @@ use cf_core::Stage;
 use cf_outcome::{Outcome, Value, is_exceptional, wrap};
 use cf_plan::{Args, Due, Form, due_one, due_two};
 
-/// What becomes of a stage that is treated, by its form and its sources.
-pub fn treated(kept: &[Kept], form: Form, sources: &[u16], k: Kept) -> Kept
-    requires { All (λ j. j < length kept.now) sources.now }
-    ensures { (function : Option ℕ) → result ≡ treated kept.now (record { form = form; sources = sources.now; function = function }) k }
+/// What becomes of stage `m` when it is treated, by its form and its sources.
+pub fn treated(kept: &[Kept], form: Form, sources: &[u16], m: u16) -> Kept
+    requires stage { m < length kept.now }
+    requires sources { All (λ j. j < length kept.now) sources.now }
+    ensures { (function : Option ℕ) → result ≡ treated kept.now (record { form = form; sources = sources.now; function = function }) (kept_at kept.now m) }
 {
+    let k = &kept[m as usize];
     match k.stage {
         Stage::Pending => due(kept, form, sources, k.step),
         Stage::Linked(j) => linked(kept, j, k.step),
-        _ => k,
+        _ => *k,
     }
 }
 
@@ -113,11 +116,14 @@ fn earlier(x: Option<(Outcome, u32)>, y: Option<(Outcome, u32)>) -> Option<(Outc
     }
 }
 
-/// The source that settled first.
+/// The source that settled first. Most forms have one.
 fn earliest(kept: &[Kept], sources: &[u16]) -> Option<(Outcome, u32)>
     requires { All (λ j. j < length kept.now) sources.now }
     ensures { result ≡ earliest (map (dated_in kept.now) sources.now) }
 {
+    if let [j] = sources {
+        return dated(kept, *j);
+    }
     let mut first = None;
     for j in sources {
         first = earlier(first, dated(kept, *j));
