@@ -195,6 +195,7 @@ impl Stages {
     }
 
     /// Settles a stage that isn't settled, in a step of its own. No stage up to it waits for treatment.
+    #[inline(always)]
     pub fn settle(&mut self, plan: &Plan, d: u16, o: Outcome)
         requires sound { AreSound plan.now.stages self.old }
         requires stage { d < length plan.now.stages }

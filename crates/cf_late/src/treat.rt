@@ -67,8 +67,11 @@ fn due(kept: &[Kept], form: Form, sources: &[u16], step: u32) -> Kept
         Form::Source => keep(Due::Waits, 0, step),
         Form::Supply | Form::RunAsync => keep(Due::Needs(Args::None), 0, step),
         Form::Combine | Form::AcceptBoth | Form::RunBoth => {
-            let due = due_both(kept, form, sources);
-            keep(due, latest(kept, sources), step)
+            match due_both(kept, form, sources) {
+                Due::Settles(o) => keep(Due::Settles(o), latest(kept, sources), step),
+                Due::Needs(args) => keep(Due::Needs(args), 0, step),
+                Due::Waits => keep(Due::Waits, 0, step),
+            }
         }
         Form::AllOf => {
             if all_settled(kept, sources) {
