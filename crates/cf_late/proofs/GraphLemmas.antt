@@ -1,19 +1,15 @@
 -- From the stages that a graph keeps to the state that contracts see.
-use Rattle.std.proofs.Common.{◌≡◌, ◌≢◌, ℕ, ◌+◌, ◌<◌, ◌∷◌, [], List, Bool, true, false, Option, Some, None, length, suc, zero, arith, ap, sym, ◌∙◌, subst, refl, set, map, inl, inr, replicate, cond, All, ◌==◌}
-use Rattle.std.specs.Prelude.{slice_get, unwrap_or, option_and_then, nat_lt}
+use Rattle.std.proofs.Common.{◌≡◌, ℕ, ◌+◌, ◌<◌, ◌∷◌, [], List, true, false, Option, Some, None, length, suc, zero, arith, ap, sym, ◌∙◌, subst, refl, set, inl, inr, replicate, cond, All, ◌==◌}
+use Rattle.std.specs.Prelude.{slice_get, unwrap_or, option_and_then}
 use Rattle.std.specs.Option.{option_map_or}
 use Rattle.std.proofs.lemmas.List.Elements.{All-head}
 use Rattle.std.proofs.lemmas.Bool.Decides.{eqb_tells, nat_tests}
 use Rattle.cf_outcome.specs.declared.outcome.Outcome.{Outcome}
-use Rattle.cf_outcome.specs.declared.outcome.Outcome.TheVariants.{Value as Gives, Fault}
 use Rattle.cf_plan.specs.declared.forms.Args.{Args}
 use Rattle.cf_plan.specs.declared.forms.Answer.{Answer}
-use Rattle.cf_plan.specs.declared.forms.Answer.TheVariants.{Give, Throw, Link}
-use Rattle.cf_plan.specs.declared.forms.Form.{Form}
-use Rattle.cf_plan.specs.declared.forms.Form.TheVariants.{Compose, WhenComplete}
 use Rattle.cf_plan.specs.declared.forms.Landing.{Landing}
 use Rattle.cf_plan.specs.declared.forms.Landing.TheVariants.{Settles as Lands, Links}
-use Rattle.cf_plan.specs.Forms.{landing, bad_answer}
+use Rattle.cf_plan.specs.Forms.{landing}
 use Rattle.cf_plan.specs.Plans.{PlannedStage, form_at, sources_at}
 use Rattle.cf_core.specs.declared.stage.Stage.{Stage}
 use Rattle.cf_core.specs.declared.stage.Stage.TheVariants.{Pending, Ready, Claimed, Linked, Settled}

@@ -1,9 +1,8 @@
 -- Lists threaded through arrays, as a stage is put in or taken out.
-use Rattle.std.proofs.Common.{◌≡◌, ◌≢◌, ℕ, ◌+◌, ◌-◌, ◌<◌, ◌≤◌, ◌∷◌, [], List, All, Option, Some, None, length, suc, zero, arith, ap, sym, ◌∙◌, subst, refl, map, set, get_or, replicate, drop, add-one, length-set, get_or-set_same, get_or-set_other}
+use Rattle.std.proofs.Common.{◌≡◌, ◌≢◌, ℕ, ◌+◌, ◌-◌, ◌<◌, ◌∷◌, [], List, All, Some, None, length, suc, zero, arith, ap, sym, ◌∙◌, subst, refl, set, get_or, replicate, drop, add-one, length-set, get_or-set_same, get_or-set_other}
 use Rattle.std.specs.Prelude.{slice_get, slice_index}
-use Rattle.std.proofs.lemmas.List.{map-set, length-map, length-replicate, get_or_default}
-use Rattle.std.proofs.lemmas.List.Elements.{All-head, All-tail, All-cons, All-set, All-drop, All-get_or, All-replicate}
-use Rattle.std.proofs.lemmas.Grind.{get_or_default_zero}
+use Rattle.std.proofs.lemmas.List.{map-set, length-replicate}
+use Rattle.std.proofs.lemmas.List.Elements.{All-head, All-tail, All-cons, All-set, All-drop, All-replicate}
 use Rattle.cf_late.specs.declared.links.Head.{Head}
 use Rattle.cf_late.specs.Links.{walk, list_of, lists_of, list_at, AreLinks, IsFree}
 

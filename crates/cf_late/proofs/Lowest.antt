@@ -1,22 +1,21 @@
 -- The lowest mark, and the lowest ready stage.
-use Rattle.std.proofs.Common.{◌≡◌, ◌≢◌, ℕ, ◌+◌, ◌<◌, ◌≤◌, ◌∷◌, ◌++◌, [], List, Bool, true, false, cond, Option, Some, None, length, suc, zero, arith, ap, sym, ◌∙◌, subst, refl, map, get_or, take, inl, inr}
+use Rattle.std.proofs.Common.{◌≡◌, ℕ, ◌+◌, ◌<◌, ◌≤◌, ◌∷◌, ◌++◌, [], List, Bool, true, false, cond, Option, Some, None, length, suc, zero, arith, ap, sym, ◌∙◌, subst, refl, get_or, take, inl, inr}
 use Rattle.std.specs.Prelude.{slice_get, position, nat_lt, MatchOption}
 use Rattle.std.specs.List.{position_or_len}
 use Rattle.std.specs.Option.{option_map}
-use Rattle.std.proofs.lemmas.Bool.{cases_lt, lt-ltb}
+use Rattle.std.proofs.lemmas.Bool.{lt-ltb}
 use Rattle.std.proofs.lemmas.Bool.Decides.{eqb_tells, nat_tests}
 use Rattle.std.proofs.lemmas.List.{length-map}
 use Rattle.std.proofs.lemmas.List.Quantifiers.{position-Some}
 use Rattle.std.proofs.lemmas.List.Sums.{position_or_len_is}
-use Rattle.std.proofs.lemmas.Option.{slice_get-get_or}
 use Rattle.cf_plan.specs.Plans.{PlannedStage}
 use Rattle.cf_core.specs.declared.stage.Stage.{Stage}
 use Rattle.cf_core.specs.declared.stage.Stage.TheVariants.{Pending, Ready, Claimed, Linked, Settled}
 use Rattle.cf_core.specs.States.{is_ready}
 use Rattle.cf_late.specs.declared.kept.Kept.{Kept}
-use Rattle.cf_late.specs.Late.{IsQuiet, all_treated, treated, stages_of}
+use Rattle.cf_late.specs.Late.{IsQuiet, all_treated, treated}
 use Rattle.cf_late.specs.Sound.{AreTreated, IsSound, ReadyIsTreated, is_waiting, kept_at, outlook}
-use Rattle.cf_late.proofs.Sums.{kept_is, kept_there, there_within}
+use Rattle.cf_late.proofs.Sums.{kept_is, kept_there}
 use Rattle.cf_late.proofs.Waiting.{sources_below, stays, treated-take}
 use Rattle.cf_late.proofs.Marks.{quiet_by_stage}
 use Rattle.cf_late.proofs.Moves.{get-map, is_quiet, outlook_at}

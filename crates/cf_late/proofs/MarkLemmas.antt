@@ -1,5 +1,5 @@
 -- A stage is taken out of the list of linked stages, and marked.
-use Rattle.std.proofs.Common.{◌≡◌, ℕ, ◌+◌, ◌<◌, ◌∷◌, [], List, Bool, Option, Some, None, length, suc, zero, arith, ap, sym, ◌∙◌, refl, set, drop, length-set}
+use Rattle.std.proofs.Common.{◌≡◌, ℕ, ◌<◌, ◌∷◌, [], List, Bool, Some, None, length, suc, zero, arith, ap, ◌∙◌, refl, set, drop, length-set}
 use Rattle.std.specs.Prelude.{slice_get, unwrap_or}
 use Rattle.cf_late.specs.declared.kept.Kept.{Kept}
 use Rattle.cf_late.specs.Links.{list_at}

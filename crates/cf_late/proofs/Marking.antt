@@ -1,9 +1,9 @@
 -- What marking leaves, and which stages it marks.
-use Rattle.std.proofs.Common.{◌≡◌, ◌≢◌, ℕ, ◌+◌, ◌<◌, ◌≤◌, ◌∷◌, ◌++◌, [], List, All, Bool, true, false, cond, Option, Some, None, Contains, length, suc, zero, arith, ap, sym, ◌∙◌, subst, refl, set, get_or, replicate, inl, inr, ◌⊎◌, length-set}
-use Rattle.std.specs.Prelude.{slice_get, unwrap_or, count_by, ◌==◌}
+use Rattle.std.proofs.Common.{◌≡◌, ◌≢◌, ℕ, ◌+◌, ◌<◌, ◌≤◌, ◌∷◌, [], List, Bool, true, false, cond, Option, Some, None, Contains, length, suc, zero, arith, ap, ◌∙◌, refl, set, inl, inr, length-set}
+use Rattle.std.specs.Prelude.{slice_get, count_by, ◌==◌}
 use Rattle.std.proofs.lemmas.Bool.Decides.{eqb_tells, nat_tests}
-use Rattle.std.proofs.lemmas.List.Sums.{sum_by-append, sum_by-cons}
-use Rattle.cf_plan.specs.Plans.{PlannedStage, mentions, dependents_from, dependents_of}
+use Rattle.std.proofs.lemmas.List.Sums.{sum_by-cons}
+use Rattle.cf_plan.specs.Plans.{mentions}
 use Rattle.cf_late.specs.declared.kept.Kept.{Kept}
 use Rattle.cf_late.specs.Sound.{is_waiting, kept_at, mark_one, mark_all}
 

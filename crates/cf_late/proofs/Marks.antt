@@ -1,12 +1,12 @@
 -- Quiet stages, one by one.
-use Rattle.std.proofs.Common.{◌≡◌, ◌≢◌, ℕ, ◌<◌, ◌∷◌, ◌++◌, [], List, Option, Some, None, Contains, length, suc, zero, arith, ap, sym, ◌∙◌, refl, set, map, take, append_assoc, append-nil}
+use Rattle.std.proofs.Common.{◌≡◌, ◌≢◌, ℕ, ◌<◌, ◌∷◌, ◌++◌, [], List, Some, Contains, suc, zero, arith, ap, sym, ◌∙◌, refl, set, map, take, append_assoc, append-nil}
 use Rattle.std.specs.Prelude.{slice_get, option_and_then}
 use Rattle.cf_plan.specs.Plans.{PlannedStage}
 use Rattle.cf_core.specs.declared.stage.Stage.{Stage}
 use Rattle.cf_core.specs.declared.stage.Stage.TheVariants.{Pending, Ready, Claimed, Linked, Settled}
 use Rattle.cf_late.specs.declared.kept.Kept.{Kept}
-use Rattle.cf_late.specs.Late.{all_treated, treated, treated_by, due_kept, late_due, dated_in, dated_of, linked_kept, IsQuiet}
-use Rattle.cf_late.specs.Marks.{WaitsNow, QuietByStage, OthersWait}
+use Rattle.cf_late.specs.Late.{treated, treated_by, due_kept, late_due, dated_in, dated_of, linked_kept, IsQuiet}
+use Rattle.cf_late.specs.Marks.{QuietByStage, OthersWait}
 
 quiet : (below : List Kept) (plan : List PlannedStage) (kept : List Kept) (m : ℕ) →
     ((i : ℕ) (p : PlannedStage) (k : Kept) → i < m → slice_get plan i ≡ Some p → slice_get kept i ≡ Some k → treated (below ++ take i kept) p k ≡ k) →

@@ -1,24 +1,21 @@
 -- Each kind of move of a call: it keeps what is true between calls, and leads to what the sequential graph's move does.
-use Rattle.std.proofs.Common.{◌≡◌, ◌≢◌, ℕ, ◌+◌, ◌<◌, ◌≤◌, ◌∷◌, [], List, All, Bool, true, false, Option, Some, None, Contains, length, suc, zero, arith, ap, sym, ◌∙◌, subst, refl, set, map, inl, inr, length-set}
+use Rattle.std.proofs.Common.{◌≡◌, ◌≢◌, ℕ, ◌+◌, ◌<◌, ◌≤◌, ◌∷◌, [], List, All, Bool, true, false, Some, None, Contains, length, suc, zero, arith, ap, sym, ◌∙◌, subst, refl, set, map, inl, inr, length-set}
 use Rattle.std.specs.Prelude.{slice_get, option_and_then, unwrap_or}
 use Rattle.std.specs.Option.{option_map}
-use Rattle.std.specs.List.{sum_by}
 use Rattle.std.proofs.lemmas.Bool.Decides.{eqb_tells}
-use Rattle.std.proofs.lemmas.List.Sums.{sum_by-cons}
 use Rattle.std.proofs.lemmas.List.Elements.{All-head, All-tail, All-cons, All-set}
 use Rattle.cf_outcome.specs.declared.outcome.Outcome.{Outcome}
 use Rattle.cf_plan.specs.declared.forms.Args.{Args}
 use Rattle.cf_plan.specs.declared.forms.Form.TheVariants.{Compose}
 use Rattle.cf_plan.specs.Plans.{PlannedStage, form_at, dependents_of}
-use Rattle.cf_core.specs.declared.stage.Stage.{Stage}
-use Rattle.cf_core.specs.declared.stage.Stage.TheVariants.{Pending, Ready, Claimed, Linked, Settled}
+use Rattle.cf_core.specs.declared.stage.Stage.TheVariants.{Ready, Claimed, Linked, Settled}
 use Rattle.cf_core.specs.States.{outcome_of, outcome_in, new_states}
 use Rattle.cf_late.specs.declared.kept.Kept.{Kept}
-use Rattle.cf_late.specs.Late.{IsQuiet, all_treated, dated_in, dated_of, linked_kept, stages_of, treated}
+use Rattle.cf_late.specs.Late.{IsQuiet, all_treated, dated_in, linked_kept, stages_of, treated}
 use Rattle.cf_late.specs.Links.{list_at}
-use Rattle.cf_late.specs.Sound.{IsSound, IsListed, AreBound, is_bound, kept_at, mark_all, marks_after, marks_of, link_marks, links_after, outlook, steps_of}
+use Rattle.cf_late.specs.Sound.{IsSound, is_bound, kept_at, mark_all, marks_of, link_marks, outlook, steps_of}
 use Rattle.cf_late.proofs.Marking.{get-set_same, get-set_other}
-use Rattle.cf_late.proofs.Sums.{sum_by-set_at, sum_by-at, kept_there, kept_is, list_there, there_within, StepsUpTo-at}
+use Rattle.cf_late.proofs.Sums.{sum_by-set_at, sum_by-at, kept_there, kept_is, list_there, there_within}
 use Rattle.cf_late.proofs.Waiting.{quiet_below, quiet_at, treated-take, sources_below}
 use Rattle.cf_late.proofs.Turns.{turns_change_nothing}
 use Rattle.cf_late.proofs.Settling.{settling_is_after}

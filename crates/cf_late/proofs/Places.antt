@@ -1,5 +1,5 @@
 -- Stages, their plans and their marks at a place.
-use Rattle.std.proofs.Common.{◌≡◌, ◌≢◌, ℕ, ◌+◌, ◌<◌, ◌≤◌, ◌∷◌, [], List, Bool, true, false, Option, Some, None, length, suc, zero, arith, ap, sym, ◌∙◌, refl, set, get_or, map, inl, inr}
+use Rattle.std.proofs.Common.{◌≡◌, ℕ, ◌+◌, ◌<◌, ◌∷◌, [], List, Bool, true, false, Some, None, length, suc, zero, arith, ap, sym, ◌∙◌, refl, set, get_or, inl, inr}
 use Rattle.std.specs.Prelude.{slice_get, position, unwrap_or, option_and_then}
 use Rattle.std.specs.Option.{option_map}
 use Rattle.cf_plan.specs.declared.forms.Args.{Args}

@@ -1,5 +1,5 @@
 -- What is true of the stages between any two calls stays true.
-use Rattle.std.proofs.Common.{◌≡◌, ◌≢◌, ℕ, ◌+◌, ◌*◌, ◌<◌, ◌≤◌, ◌∷◌, [], List, All, Bool, true, false, cond, Option, Some, None, Contains, length, suc, zero, arith, ap, sym, ◌∙◌, subst, refl, set, map, inl, inr, length-set}
+use Rattle.std.proofs.Common.{◌≡◌, ◌≢◌, ℕ, ◌+◌, ◌<◌, ◌≤◌, ◌∷◌, [], List, All, Bool, true, false, Option, Some, None, Contains, length, arith, ap, sym, ◌∙◌, subst, refl, set, map, inl, inr, length-set}
 use Rattle.std.specs.Prelude.{slice_get, option_and_then, unwrap_or, count_by}
 use Rattle.std.specs.Option.{option_map}
 use Rattle.std.specs.List.{sum_by}
@@ -16,13 +16,13 @@ use Rattle.cf_core.specs.declared.stage.Stage.{Stage}
 use Rattle.cf_core.specs.declared.stage.Stage.TheVariants.{Pending, Ready, Claimed, Linked, Settled}
 use Rattle.cf_core.specs.States.{outcome_of, is_ready}
 use Rattle.cf_late.specs.declared.kept.Kept.{Kept}
-use Rattle.cf_late.specs.Late.{StepsUpTo, dated_in, dated_of, treated, treated_by, due_kept, late_due, linked_kept}
+use Rattle.cf_late.specs.Late.{dated_in, dated_of, treated, treated_by, due_kept, late_due, linked_kept}
 use Rattle.cf_late.specs.Marks.{WaitsNow}
 use Rattle.cf_late.specs.Links.{list_at, IsFree}
-use Rattle.cf_late.specs.Sound.{IsSound, IsListed, AreListed, AreBound, Waits, is_waiting, is_bound, kept_at, mark_all, marks_after, links_after, marks_of, marks_from, steps_of, link_marks}
+use Rattle.cf_late.specs.Sound.{IsSound, IsListed, AreListed, AreBound, is_waiting, is_bound, kept_at, mark_all, marks_after, links_after, marks_of, steps_of, link_marks}
 use Rattle.cf_late.proofs.Marking.{mentioned, get-set_same, get-set_other, length-mark_all, count-mark_all, count-set_false}
 use Rattle.cf_late.proofs.Sums.{sum_by-set_at, marks_from-set, kept_there, kept_is, list_there, there_within, StepsUpTo-set, StepsUpTo-le, StepsUpTo-at}
-use Rattle.cf_late.proofs.Waiting.{never_linked, links_same, WaitsBut, NamesDependents, but_marks, but_closed, but_unsettled, but_settled, stays, treated_again, treated-few, sources_below}
+use Rattle.cf_late.proofs.Waiting.{never_linked, links_same, NamesDependents, but_marks, but_closed, but_unsettled, but_settled, stays, treated_again, treated-few, sources_below}
 
 -- ---- pieces
 

@@ -1,6 +1,6 @@
 -- At the start all steps are 0, so that argument order decides.
-use Rattle.std.proofs.Common.{◌≡◌, ℕ, ◌≤◌, ◌∷◌, ◌++◌, [], List, Bool, true, false, cond, Option, Some, None, suc, zero, arith, ap, sym, ◌∙◌, refl, map, replicate, max}
-use Rattle.std.specs.Prelude.{nat_le, option_and_then}
+use Rattle.std.proofs.Common.{◌≡◌, ℕ, ◌≤◌, ◌∷◌, ◌++◌, [], List, true, Option, Some, None, suc, zero, arith, ap, ◌∙◌, refl, map, replicate}
+use Rattle.std.specs.Prelude.{nat_le}
 use Rattle.std.specs.Option.{option_map}
 use Rattle.std.proofs.lemmas.Bool.Decides.{nat_tests}
 use Rattle.std.proofs.lemmas.List.{map-append}
@@ -11,11 +11,10 @@ use Rattle.cf_plan.specs.declared.forms.Due.{Due}
 use Rattle.cf_plan.specs.declared.forms.Due.TheVariants.{Waits, Settles, Needs}
 use Rattle.cf_plan.specs.Forms.{follows, due_of_first, first_there}
 use Rattle.cf_plan.specs.Plans.{PlannedStage}
-use Rattle.cf_core.specs.declared.stage.Stage.{Stage}
 use Rattle.cf_core.specs.declared.stage.Stage.TheVariants.{Pending}
-use Rattle.cf_core.specs.States.{outcome_of, outcome_in, due_state, next_of, new_states}
+use Rattle.cf_core.specs.States.{outcome_of, outcome_in, due_state, new_states}
 use Rattle.cf_late.specs.declared.kept.Kept.{Kept}
-use Rattle.cf_late.specs.Late.{StepsUpTo, all_treated, stages_of, treated, treated_by, due_kept, late_due, dated_in, dated_of, earlier, earliest, latest, step_part, outcome_part}
+use Rattle.cf_late.specs.Late.{StepsUpTo, all_treated, stages_of, treated, due_kept, late_due, dated_in, earlier, earliest, step_part, outcome_part}
 use Rattle.cf_late.specs.Starts.{TreatingStarts, untreated}
 use Rattle.cf_late.proofs.Settling.{outcome_in-stages_of}
 use Rattle.cf_late.proofs.Waiting.{treated-few}

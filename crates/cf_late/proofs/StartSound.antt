@@ -1,7 +1,7 @@
 -- What is true between calls is true at the start.
-use Rattle.std.proofs.Common.{◌≡◌, ℕ, ◌+◌, ◌*◌, ◌<◌, ◌≤◌, ◌∷◌, [], List, All, Bool, true, false, cond, Option, Some, None, length, suc, zero, arith, ap, sym, ◌∙◌, subst, refl, map, set, drop, get_or, replicate, is_some, add-one, length-set}
-use Rattle.std.specs.Prelude.{slice_get, count_by, unwrap_or}
-use Rattle.std.specs.List.{list_all, range_with_len, sum_by}
+use Rattle.std.proofs.Common.{◌≡◌, ℕ, ◌+◌, ◌*◌, ◌<◌, ◌≤◌, ◌∷◌, [], List, All, Bool, true, false, cond, Option, Some, None, length, suc, zero, arith, ap, sym, ◌∙◌, refl, map, set, drop, get_or, replicate, add-one, length-set}
+use Rattle.std.specs.Prelude.{slice_get, count_by}
+use Rattle.std.specs.List.{range_with_len, sum_by}
 use Rattle.std.proofs.Math.Seq.{drop-cons}
 use Rattle.std.proofs.lemmas.List.{length-replicate}
 use Rattle.std.proofs.lemmas.List.Elements.{All-nil, All-replicate}
@@ -10,20 +10,17 @@ use Rattle.cf_outcome.specs.declared.outcome.Outcome.{Outcome}
 use Rattle.cf_plan.specs.declared.forms.Form.{Form}
 use Rattle.cf_plan.specs.declared.forms.Form.TheVariants.{Source, Supply, RunAsync, Apply, Accept, ThenRun, Combine, AcceptBoth, RunBoth, ApplyEither, AcceptEither, RunEither, Compose, Handle, WhenComplete, Exceptionally, AllOf, AnyOf}
 use Rattle.cf_plan.specs.declared.forms.Due.{Due}
-use Rattle.cf_plan.specs.declared.forms.Due.TheVariants.{Waits, Settles, Needs}
-use Rattle.cf_plan.specs.Forms.{follows, due_of_both, due_of_first}
+use Rattle.cf_plan.specs.declared.forms.Due.TheVariants.{Waits}
+use Rattle.cf_plan.specs.Forms.{due_of_both, due_of_first}
 use Rattle.cf_plan.specs.Plans.{PlannedStage, HasLowerSources, dependents_of, edges_of, form_at, sources_at}
 use Rattle.cf_plan.proofs.DependentLemmas.{all_dependents}
-use Rattle.cf_core.specs.declared.stage.Stage.TheVariants.{Pending}
 use Rattle.cf_core.specs.States.{is_ready}
 use Rattle.cf_core.proofs.StateLemmas.{form_at-within, sources_at-within}
 use Rattle.cf_late.specs.declared.kept.Kept.{Kept}
 use Rattle.cf_late.specs.Late.{StepsUpTo, dated_in, due_kept, earliest, late_due, outcome_part, treated}
-use Rattle.cf_late.specs.Links.{list_at}
 use Rattle.cf_late.specs.Sound.{IsSound, is_bound, kept_at, link_marks, marks_from, steps_of}
 use Rattle.cf_late.specs.Starts.{mark_starts, starts, untreated}
 use Rattle.cf_late.proofs.Marking.{count-set_true, get-set_same, get-set_other}
-use Rattle.cf_late.proofs.Sums.{there_within}
 
 -- ---- what isn't marked waits
 

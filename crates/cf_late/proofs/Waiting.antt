@@ -1,7 +1,7 @@
 -- Which stages still wait once one is written.
-use Rattle.std.proofs.Common.{◌≡◌, ◌≢◌, ℕ, ◌+◌, ◌<◌, ◌≤◌, ◌∷◌, ◌++◌, [], List, All, Bool, true, false, cond, Option, Some, None, Contains, length, suc, zero, arith, ap, sym, ◌∙◌, subst, refl, set, map, take, max, inl, inr}
+use Rattle.std.proofs.Common.{◌≡◌, ◌≢◌, ℕ, ◌<◌, ◌≤◌, ◌∷◌, [], List, All, Bool, true, false, cond, Option, Some, None, Contains, length, suc, zero, arith, ap, sym, ◌∙◌, subst, refl, set, map, take, inl, inr}
 use Rattle.std.specs.Prelude.{slice_get, option_and_then, nat_le}
-use Rattle.std.specs.Option.{option_map, option_map_or}
+use Rattle.std.specs.Option.{option_map}
 use Rattle.std.proofs.lemmas.Bool.Decides.{eqb_tells}
 use Rattle.std.proofs.lemmas.List.Elements.{All-head, All-tail}
 use Rattle.cf_outcome.specs.declared.outcome.Outcome.{Outcome}
@@ -18,11 +18,11 @@ use Rattle.cf_late.specs.declared.kept.Kept.{Kept}
 use Rattle.cf_late.specs.Late.{StepsUpTo, IsQuiet, all_treated, treated, treated_by, due_kept, late_due, dated_in, dated_of, linked_kept, earlier, earliest, latest, step_part, outcome_part, takes_first}
 use Rattle.cf_late.specs.Marks.{WaitsNow}
 use Rattle.cf_late.specs.Links.{list_at}
-use Rattle.cf_late.specs.Sound.{Waits, IsListed, AreListed, is_waiting, kept_at, mark_all}
-use Rattle.cf_late.proofs.Marking.{get-set_same, get-set_other, mentioned, mark_all-marks, mark_all-unmarked, mark_all-stays, length-mark_all}
+use Rattle.cf_late.specs.Sound.{Waits, AreListed, is_waiting, kept_at, mark_all}
+use Rattle.cf_late.proofs.Marking.{get-set_other, mentioned, mark_all-marks, mark_all-unmarked, length-mark_all}
 use Rattle.cf_late.proofs.Marks.{treated-set, others_wait, quiet_by_stage}
 use Rattle.cf_late.proofs.Turns.{stage_twice}
-use Rattle.cf_late.proofs.Sums.{kept_is, there_within, StepsUpTo-at}
+use Rattle.cf_late.proofs.Sums.{kept_is, there_within}
 use Rattle.cf_late.proofs.Writes.{Alike, treated-alike, unsettled}
 
 -- all but stage d

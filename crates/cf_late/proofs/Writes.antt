@@ -1,9 +1,7 @@
 -- A write that changes no outcome.
-use Rattle.std.proofs.Common.{◌≡◌, ℕ, ◌+◌, ◌<◌, length, arith, append_assoc, length-append, ◌∷◌, ◌++◌, [], List, Option, Some, None, suc, zero, ap, sym, ◌∙◌, refl, set, map}
-use Rattle.std.specs.Prelude.{slice_get, option_and_then}
+use Rattle.std.proofs.Common.{◌≡◌, ℕ, ◌+◌, ◌<◌, length, arith, append_assoc, length-append, ◌∷◌, ◌++◌, [], List, None, suc, zero, ap, sym, ◌∙◌, refl, set, map}
 use Rattle.std.specs.Option.{option_map}
 use Rattle.std.proofs.lemmas.List.{map-set}
-use Rattle.cf_outcome.specs.declared.outcome.Outcome.{Outcome}
 use Rattle.cf_plan.specs.Plans.{PlannedStage}
 use Rattle.cf_core.specs.declared.stage.Stage.{Stage}
 use Rattle.cf_core.specs.declared.stage.Stage.TheVariants.{Pending, Ready, Claimed, Linked, Settled}

@@ -3,7 +3,7 @@ use Rattle.std.specs.Prelude.{◌≡◌, ◌≢◌, ℕ, ◌<◌, Some, List, []
 use Rattle.cf_plan.specs.Plans.{PlannedStage}
 use Rattle.cf_core.specs.declared.stage.Stage.TheVariants.{Linked}
 use Rattle.cf_late.specs.declared.kept.Kept.{Kept}
-use Rattle.cf_late.specs.Late.{treated, IsQuiet, dated_in}
+use Rattle.cf_late.specs.Late.{treated, IsQuiet}
 
 -- a stage stays as it is when it is treated by what all stages have now
 abbrev pub WaitsNow : List Kept → PlannedStage → Kept → Type 0

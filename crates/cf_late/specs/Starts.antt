@@ -1,5 +1,5 @@
 -- Stages at the start, where nothing has settled yet.
-use Rattle.std.specs.Prelude.{◌≡◌, ℕ, ◌+◌, Bool, true, false, List, [], ◌∷◌, length, replicate, slice_set, if◌then◌else◌}
+use Rattle.std.specs.Prelude.{◌≡◌, ℕ, ◌+◌, Bool, true, false, List, [], ◌∷◌, replicate, slice_set, if◌then◌else◌}
 use Rattle.cf_plan.specs.declared.forms.Form.{Form}
 use Rattle.cf_plan.specs.declared.forms.Form.TheVariants.{Supply, RunAsync, AllOf}
 use Rattle.cf_plan.specs.Plans.{PlannedStage}

@@ -1,5 +1,5 @@
 -- A write to a stage that neither had nor gets an outcome.
-use Rattle.std.specs.Prelude.{◌≡◌, ℕ, ◌<◌, None, Some, List, [], slice_get, slice_set}
+use Rattle.std.specs.Prelude.{◌≡◌, ℕ, ◌<◌, None, List, [], slice_set}
 use Rattle.cf_plan.specs.Plans.{PlannedStage}
 use Rattle.cf_core.specs.declared.stage.Stage.TheVariants.{Claimed, Linked}
 use Rattle.cf_core.specs.States.{outcome_in}

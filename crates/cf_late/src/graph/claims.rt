@@ -1,11 +1,17 @@
 //! The calls by which a caller takes a stage's function and hands in its answer.
-ghost use Rattle.std.specs.Prelude.{◌≡◌, ◌<◌, ◌==◌, None, false, length, slice_get, unwrap_or};
+ghost use Rattle.std.specs.Prelude.{◌≡◌, ◌+◌, ◌<◌, ◌==◌, None, false, length, option_and_then, slice_get, unwrap_or};
 ghost use Rattle.std.specs.Option.{option_map_or};
+ghost use Rattle.cf_plan.specs.Forms.{landing};
+ghost use Rattle.cf_plan.specs.Plans.{form_at, sources_at};
+ghost use Rattle.cf_core.specs.States.{outcome_in};
 ghost use Rattle.cf_core.specs.Events.{claiming, finishing};
+ghost use Rattle.cf_late.specs.Sound.{AreTreated};
+ghost use Rattle.cf_late.specs.SoundStages.{AreSound, outlook_of};
 
 use crate::graph::Graph;
+use crate::stages::Stages;
 use cf_core::{Claimed, Finished, Stage};
-use cf_plan::{Answer, landing};
+use cf_plan::{Answer, Form, Landing, Plan, landing};
 
 impl Graph {
     /// Hands a ready stage's arguments to a caller, whose claim is open from then until its first finish of the stage, also
@@ -40,8 +46,7 @@ impl Graph {
         match self.stages.outcome(i) {
             Some(_) => Finished::Late,
             None => {
-                let source = self.stages.source(&self.plan, i);
-                let at = landing(self.plan.form(i), i, source, answer);
+                let at = landing_of(&self.stages, &self.plan, i, answer);
                 self.stages.land(&self.plan, i, at);
                 Finished::Won
             }
@@ -55,4 +60,17 @@ fn has_claim(claims: &[Option<u8>], who: u8, i: u16) -> bool
     ensures { result ≡ option_map_or (λ w. w == who) (unwrap_or (slice_get claims.now i) None) false }
 {
     claims[i as usize] == Some(who)
+}
+
+/// Where a stage lands with an answer. Of all forms `WhenComplete` alone looks at its source.
+fn landing_of(stages: &Stages, plan: &Plan, i: u16, answer: Answer) -> Landing
+    requires sound { AreSound plan.now.stages stages.now }
+    requires stage { i < length plan.now.stages }
+    requires treated { AreTreated (i + 1) stages.now.marks }
+    ensures { result ≡ landing (form_at plan.now.stages i) i (option_and_then (outcome_in (outlook_of plan.now.stages stages.now)) (slice_get (sources_at plan.now.stages i) 0)) answer }
+{
+    match plan.form(i) {
+        Form::WhenComplete => landing(Form::WhenComplete, i, stages.source(plan, i), answer),
+        form => landing(form, i, None, answer),
+    }
 }

@@ -1,4 +1,4 @@
-use Rattle.std.proofs.Common.{◌∙◌, ◌≤◌, None, ap, arith, length, replicate, subst, sym}
+use Rattle.std.proofs.Common.{◌∙◌, None, ap, arith, length, subst, sym}
 use Rattle.std.proofs.lemmas.List.{length-replicate}
 use Rattle.cf_late.specs.Graphs.{AreClaimed}
 use Rattle.cf_late.proofs.GraphLemmas.{no_claims}

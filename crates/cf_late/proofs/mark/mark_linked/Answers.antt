@@ -1,5 +1,4 @@
-use Rattle.std.proofs.Common.{◌≡◌, ◌<◌, ◌∙◌, Some, arith, sym, ap, length}
-use Rattle.std.specs.Prelude.{slice_get}
+use Rattle.std.proofs.Common.{◌<◌, ◌∙◌, arith, ap, length}
 use Rattle.cf_late.specs.Links.{list_at}
 use Rattle.cf_late.specs.Sound.{is_waiting, kept_at, mark_all}
 use Rattle.cf_late.proofs.Marking.{length-mark_one}

@@ -1,7 +1,7 @@
 use Rattle.std.proofs.Common.{◌≡◌, ◌∙◌, Some, ap, refl, sym, length-set, inl, inr}
 use Rattle.std.specs.Prelude.{slice_get}
 use Rattle.cf_core.specs.declared.stage.Stage.TheVariants.{Pending, Ready, Claimed, Linked, Settled}
-use Rattle.cf_core.specs.declared.replies.Claimed.TheVariants.{Granted, Settled as IsSettled, Taken, NotReady}
+use Rattle.cf_core.specs.declared.replies.Claimed.TheVariants.{Settled as IsSettled, Taken, NotReady}
 use Rattle.cf_late.specs.SoundStages.{outlook_of}
 use Rattle.cf_late.proofs.GraphLemmas.{AreClaimed-set, AreClaimed-stay, claims_not, claims_now, told_stage}
 use Rattle.cf_late.proofs.graph.Graph.claim.Goals as goal

@@ -1,4 +1,4 @@
-use Rattle.std.proofs.Common.{◌≡◌, ◌<◌, ◌∙◌, ◌==◌, None, Some, ap, false, length, length-set, sym, true}
+use Rattle.std.proofs.Common.{◌≡◌, ◌∙◌, ◌==◌, None, Some, ap, false, length-set, refl, sym, true}
 use Rattle.std.specs.Prelude.{slice_get, unwrap_or}
 use Rattle.std.specs.Option.{option_map_or}
 use Rattle.cf_core.specs.States.{outcome_in}
@@ -71,5 +71,5 @@ returns-in-None c =
     ap (λ xs. option_map_or (λ w. w == c.args.who) (unwrap_or (slice_get xs c.args.i) None) false) (sym c.deref.ensures.value) ∙ sym c.has_claim.ensures ∙ c.if-not-has_claim.false in
     let told = told_outcome plan t c.args.i c.treat_up_to.ensures.sound (rw (← c.self.view_is) at c.requires) c.treat_up_to.ensures.treated in
     let is : outcome_in (outlook_of plan t) c.args.i ≡ None = told ∙ sym c.outcome.ensures ∙ c.in-None.is in
-    rw (← c.self.view_is) (finishes_now _ c.args.who c.args.i c.args.answer c.source-source.result c.landing-at.result (outlook_of plan t) (outlook_of plan c.land.new.self)
-    c.treat_up_to.ensures.same has is c.source-source.ensures (rw c.form.ensures at c.landing-at.ensures) c.land.ensures.landed)
+    rw (← c.self.view_is) (finishes_now _ c.args.who c.args.i c.args.answer _ c.landing_of-at.result (outlook_of plan t) (outlook_of plan c.land.new.self)
+    c.treat_up_to.ensures.same has is refl c.landing_of-at.ensures c.land.ensures.landed)

@@ -1,4 +1,4 @@
-use Rattle.std.proofs.Common.{◌≡◌, ◌∙◌, None, Some, ap, sym}
+use Rattle.std.proofs.Common.{◌≡◌, ◌∙◌, None, Some, sym}
 use Rattle.cf_core.specs.States.{outcome_in}
 use Rattle.cf_late.specs.SoundStages.{outlook_of}
 use Rattle.cf_late.proofs.GraphLemmas.{settles_not, settles_now, told_outcome}

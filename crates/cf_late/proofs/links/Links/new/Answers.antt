@@ -1,6 +1,3 @@
-use Rattle.std.proofs.Common.{◌≡◌, ◌∙◌, ap, sym, subst, replicate, List, ℕ}
-use Rattle.cf_late.specs.declared.links.Head.{Head}
-use Rattle.cf_late.specs.Links.{lists_of, AreLinks}
 use Rattle.cf_late.proofs.LinkLemmas.{AreLinks-empty, lists_of-empty}
 use Rattle.cf_late.proofs.links.Links.new.Goals as goal
 

@@ -1,7 +1,6 @@
-use Rattle.std.proofs.Common.{◌≡◌, ◌∙◌, ◌<◌, ◌∷◌, List, arith, ap, sym, subst, ℕ, length, drop, set}
+use Rattle.std.proofs.Common.{◌≡◌, ◌∙◌, ◌<◌, arith, ap, sym, length}
 use Rattle.std.proofs.lemmas.Grind.{get_or_default_zero}
-use Rattle.std.specs.Prelude.{slice_get, slice_index}
-use Rattle.cf_late.specs.Links.{list_at, list_of, lists_of, IsFree}
+use Rattle.std.specs.Prelude.{slice_index}
 use Rattle.cf_late.proofs.LinkLemmas.{length-lists_of, AreLinks-pop, first_listed, first_within, lists_of-pop, lists_of-pop_none, none_listed}
 use Rattle.cf_late.proofs.links.Links.pop.Goals as goal
 

@@ -1,7 +1,5 @@
-use Rattle.std.proofs.Common.{◌≡◌, ◌∙◌, ◌<◌, ◌∷◌, List, arith, ap, sym, subst, ℕ, length, drop, set}
-use Rattle.std.proofs.lemmas.Grind.{get_or_default_zero}
-use Rattle.std.specs.Prelude.{slice_get, slice_index}
-use Rattle.cf_late.specs.Links.{list_at, list_of, lists_of, IsFree}
+use Rattle.std.proofs.Common.{◌<◌, List, arith, ap, sym, subst, ℕ, length}
+use Rattle.cf_late.specs.Links.{list_at, IsFree}
 use Rattle.cf_late.proofs.LinkLemmas.{length-lists_of, AreLinks-push, few_listed, lists_of-push}
 use Rattle.cf_late.proofs.links.Links.push.Goals as goal
 

@@ -1,4 +1,4 @@
-use Rattle.std.proofs.Common.{◌≡◌, ◌<◌, ◌+◌, ◌≤◌, ◌∙◌, ap, arith, length, refl, subst, sym, true}
+use Rattle.std.proofs.Common.{◌<◌, ◌+◌, ◌≤◌, ◌∙◌, ap, arith, length, refl, subst, sym}
 use Rattle.cf_core.specs.declared.stage.Stage.TheVariants.{Claimed}
 use Rattle.cf_late.specs.declared.kept.Kept.{Kept}
 use Rattle.cf_late.specs.Sound.{StayTaken, is_taken, kept_at, outlook}

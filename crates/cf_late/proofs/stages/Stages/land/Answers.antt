@@ -1,5 +1,4 @@
 use Rattle.std.proofs.Common.{◌≡◌, ◌∙◌, None, Some, [], ap, set, sym}
-use Rattle.cf_outcome.specs.Outcomes.{wrap}
 use Rattle.cf_core.specs.declared.stage.Stage.TheVariants.{Settled}
 use Rattle.cf_core.specs.States.{new_states, outcome_in}
 use Rattle.cf_late.specs.Landings.{landed_stages, linked_stages}

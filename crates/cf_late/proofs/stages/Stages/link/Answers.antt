@@ -1,12 +1,8 @@
-use Rattle.std.proofs.Common.{◌≡◌, ◌≢◌, ◌<◌, ◌+◌, ◌≤◌, ◌∷◌, ◌∙◌, None, ap, arith, refl, set, subst, sym, length}
-use Rattle.std.specs.Prelude.{option_and_then}
-use Rattle.std.specs.Option.{option_map}
+use Rattle.std.proofs.Common.{◌≡◌, ◌+◌, ◌∙◌, None, ap, arith, subst, sym}
 use Rattle.cf_core.specs.declared.stage.Stage.TheVariants.{Linked}
 use Rattle.cf_late.specs.declared.kept.Kept.{Kept}
-use Rattle.cf_late.specs.Late.{dated_in, dated_of}
-use Rattle.cf_late.specs.Links.{list_at}
-use Rattle.cf_late.specs.Sound.{StayTakenBut, kept_at, links_after, marks_after, outlook}
-use Rattle.cf_late.proofs.Sums.{kept_there}
+use Rattle.cf_late.specs.Late.{dated_in}
+use Rattle.cf_late.specs.Sound.{StayTakenBut, outlook}
 use Rattle.cf_late.proofs.Moves.{is_quiet, link_free, link_room, link_same, link_sound}
 use Rattle.cf_late.proofs.Places.{IsSound-same, StayTakenBut-set, undated}
 use Rattle.cf_late.proofs.stages.Stages.link.Goals as goal

@@ -1,4 +1,4 @@
-use Rattle.std.proofs.Common.{◌≤◌, ◌+◌, ◌∙◌, arith, sym}
+use Rattle.std.proofs.Common.{◌+◌, ◌∙◌, arith, sym}
 use Rattle.cf_late.proofs.Lowest.{lowest_above, none_marked}
 use Rattle.cf_late.proofs.stages.Stages.marked_up_to.Goals as goal
 

@@ -1,4 +1,4 @@
-use Rattle.std.proofs.Common.{◌≡◌, ◌∙◌, [], refl, ap, arith, length, sym}
+use Rattle.std.proofs.Common.{◌∙◌, [], refl, ap, length}
 use Rattle.std.specs.Prelude.{false, replicate}
 use Rattle.cf_late.specs.Sound.{outlook}
 use Rattle.cf_late.specs.Starts.{mark_starts, untreated}

@@ -1,4 +1,4 @@
-use Rattle.std.proofs.Common.{◌≡◌, ◌<◌, ◌+◌, ◌∙◌, ap, arith, refl, subst, sym}
+use Rattle.std.proofs.Common.{◌+◌, ◌∙◌, ap, arith, refl, subst, sym}
 use Rattle.cf_core.specs.declared.stage.Stage.TheVariants.{Settled}
 use Rattle.cf_late.specs.declared.kept.Kept.{Kept}
 use Rattle.cf_late.specs.Sound.{StayTaken, outlook}

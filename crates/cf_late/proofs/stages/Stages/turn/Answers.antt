@@ -1,9 +1,8 @@
-use Rattle.std.proofs.Common.{◌≡◌, ◌<◌, ◌+◌, ◌∙◌, ap, arith, false, length, set, subst, sym, true}
+use Rattle.std.proofs.Common.{◌≡◌, ◌∙◌, ap, false, set, subst, sym, true}
 use Rattle.cf_plan.specs.Plans.{function_at}
-use Rattle.cf_late.specs.declared.kept.Kept.{Kept}
 use Rattle.cf_late.specs.Late.{treated}
-use Rattle.cf_late.specs.Sound.{IsSound, StayTaken, is_waiting, kept_at, marks_after, outlook}
-use Rattle.cf_late.proofs.Places.{IsSound-same, kept_read, planned_at, turn_idle, turn_kept, turn_outlook, turn_taken, turn_within}
+use Rattle.cf_late.specs.Sound.{StayTaken, is_waiting, kept_at, marks_after, outlook}
+use Rattle.cf_late.proofs.Places.{IsSound-same, planned_at, turn_idle, turn_kept, turn_outlook, turn_taken}
 use Rattle.cf_late.proofs.stages.Stages.turn.Goals as goal
 
 pub returns-then-is_waiting-clause-same : goal.returns-then-is_waiting-clause-same
