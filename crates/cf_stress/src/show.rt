@@ -1,0 +1,109 @@
+//! The text of a closed desk.
+use crate::caller::call_of;
+use cf_core::{Ask, Claimed, Finished, Reply, Ticked, Told};
+use cf_desk::{Call, Closed, Rec};
+use cf_late::Graph;
+use cf_outcome::Outcome;
+use cf_plan::{Answer, Args};
+use std::alloc::{AllocError, Global};
+
+/// A line for each event, for each pass with one for each of its records, and for each stage.
+pub(crate) fn text_of(alloc: Global, closed: Closed) -> Result<String, AllocError> {
+    let Closed {
+        history,
+        passes,
+        mut graph,
+    } = closed;
+    let mut text = String::new(alloc);
+    for event in &history {
+        let (who, call) = call_of(*event);
+        write!(text, "event {who} ")?;
+        write_call(&mut text, call)?;
+        text.push_str("\n")?;
+    }
+    for kept in &passes {
+        let caller = kept.caller;
+        writeln!(text, "pass {caller}")?;
+        for record in &kept.records {
+            write_record(&mut text, *record)?;
+        }
+    }
+    write_stages(&mut text, &mut graph)?;
+    Ok(text)
+}
+
+fn write_stages(text: &mut String, graph: &mut Graph) -> Result<(), AllocError> {
+    for i in 0..graph.plan().stages() {
+        if graph.has(i) {
+            write!(text, "stage {i} ")?;
+            write_outcome(text, graph.outcome(i))?;
+        }
+    }
+    Ok(())
+}
+
+fn write_record(text: &mut String, record: Rec) -> Result<(), AllocError> {
+    match record {
+        Rec::Did { place, call, reply } => {
+            write!(text, "did {place} ")?;
+            write_call(text, call)?;
+            text.push_str(": ")?;
+            write_reply(text, reply)
+        }
+        Rec::Saw { place, ask, told } => {
+            write!(text, "saw {place} ")?;
+            match ask {
+                Ask::Now(i, absent) => write!(text, "now {i} {absent}: ")?,
+                Ask::Outcome(i) => write!(text, "outcome {i}: ")?,
+            }
+            match told {
+                Told::Now(now) => writeln!(text, "{now}"),
+                Told::Outcome(outcome) => write_outcome(text, outcome),
+            }
+        }
+    }
+}
+
+fn write_call(text: &mut String, call: Call) -> Result<(), AllocError> {
+    match call {
+        Call::Complete(i, value) => write!(text, "complete {i} {value}"),
+        Call::Fail(i, code) => write!(text, "fail {i} {code}"),
+        Call::Cancel(i) => write!(text, "cancel {i}"),
+        Call::Claim(i) => write!(text, "claim {i}"),
+        Call::Finish(i, Answer::Give(value)) => write!(text, "finish {i} give {value}"),
+        Call::Finish(i, Answer::Throw(code)) => write!(text, "finish {i} throw {code}"),
+        Call::Finish(i, Answer::Link(j)) => write!(text, "finish {i} link {j}"),
+        Call::Tick(now) => write!(text, "tick {now}"),
+    }
+}
+
+fn write_outcome(text: &mut String, outcome: Option<Outcome>) -> Result<(), AllocError> {
+    match outcome {
+        Some(o) => writeln!(text, "{o}"),
+        None => writeln!(text, "pending"),
+    }
+}
+
+fn write_reply(text: &mut String, reply: Reply) -> Result<(), AllocError> {
+    match reply {
+        Reply::Flag(flag) => writeln!(text, "{flag}"),
+        Reply::Claim(Claimed::Granted(args)) => write_granted(text, args),
+        Reply::Claim(Claimed::Settled) => writeln!(text, "settled"),
+        Reply::Claim(Claimed::Taken) => writeln!(text, "taken"),
+        Reply::Claim(Claimed::NotReady) => writeln!(text, "notready"),
+        Reply::Finish(Finished::Won) => writeln!(text, "won"),
+        Reply::Finish(Finished::Late) => writeln!(text, "late"),
+        Reply::Finish(Finished::NotYours) => writeln!(text, "notyours"),
+        Reply::Tick(Ticked::Fired(count)) => writeln!(text, "fired {count}"),
+        Reply::Tick(Ticked::Past) => writeln!(text, "past"),
+    }
+}
+
+fn write_granted(text: &mut String, args: Args) -> Result<(), AllocError> {
+    match args {
+        Args::None => writeln!(text, "granted none"),
+        Args::One(v) => writeln!(text, "granted one {v}"),
+        Args::Two(v, w) => writeln!(text, "granted two {v} {w}"),
+        Args::Got(o) => writeln!(text, "granted got {o}"),
+    }
+}
