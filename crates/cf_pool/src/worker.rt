@@ -1,0 +1,167 @@
+//! What one worker does with its pass.
+ghost use Rattle.std.specs.Prelude.{◌≡◌, ◌<◌, IfErr, IfOk, None, OnErr, OnOk, Some, length};
+ghost use Rattle.cf_core.specs.States.{lowest_ready_of};
+ghost use Rattle.cf_desk.specs.declared.calls.Call.TheVariants.{Finish};
+ghost use Rattle.cf_desk.specs.Faults.{HasRoom};
+ghost use Rattle.cf_desk.specs.Views.{Acts, Follows, HasLooked, IsSamePass, state_of};
+ghost use Rattle.cf_pool.specs.Counting.{Ends, late_by, won_by};
+ghost use Rattle.cf_pool.specs.Turns.{Adds, Does, answer_for, granted_by};
+ghost use Rattle.cf_pool.specs.Works.{IsDueToStop, IsOf, Owed, Works, meanings_of};
+
+use crate::gate::Gate;
+use cf_core::{Claimed, Finished, Reply};
+use cf_desk::{Call, Desk, DeskFault, Pass};
+use cf_outcome::Value;
+use cf_plan::{Answer, Args, StageFn};
+
+/// What a worker counted.
+#[derive(Clone, Copy, Debug, Drop, PartialEq, Eq)]
+pub struct Done {
+    /// Its claims that were granted. It ran a function after each.
+    pub run: u32,
+    /// Its finishes that won.
+    pub won: u32,
+    /// Its finishes that came late: another caller had settled the stage.
+    pub late: u32,
+}
+
+/// Claims the lowest ready stage, lets the gate know, calls the stage's function and finishes the stage with its answer,
+/// again and again. It ends after so many looks in a row that found nothing ready, at least one. The pass is one of this
+/// desk's. A function's number without a function is answered by nil.
+///
+/// On a fault it stops. The last claim that it was granted may then stay open.
+pub fn work<F: StageFn, G: Gate>(
+    desk: &Desk,
+    pass: &mut Pass,
+    fns: &[F],
+    gate: &G,
+    patience: u32,
+) -> Result<Done, DeskFault>
+    requires pass { IsOf desk.now pass.old }
+    requires patience { 0 < patience }
+    ensures same { IsSamePass pass.old pass.new }
+    ensures works { Works (meanings_of F.meaning fns.now) pass.old pass.new }
+    ensures done { IfOk result (λ done. Ends (meanings_of F.meaning fns.now) pass.old pass.new done) }
+    ensures nothing_ready { OnOk result (lowest_ready_of (state_of pass.new.known) ≡ None) }
+    ensures looks { OnOk result (HasLooked patience pass.old pass.new desk.now) }
+    ensures fault { IfErr result (IsDueToStop desk.now pass.new) }
+{
+    let room = pass.left();
+    let mut done = Done {
+        run: 0,
+        won: 0,
+        late: 0,
+    };
+    'turns: while let Some(stage) = next_ready(desk, pass, patience) {
+        let turn = take_turn(desk, pass, fns, gate, stage)?;
+        done.run += turn.run;
+        done.won += turn.won;
+        done.late += turn.late;
+    }
+    Ok(done)
+}
+
+/// The lowest ready stage, found by at most so many looks.
+fn next_ready(desk: &Desk, pass: &mut Pass, patience: u32) -> Option<u16>
+    requires table { pass.old.table ≡ desk.now.table }
+    requires patience { 0 < patience }
+    ensures seen { Follows pass.old pass.new }
+    ensures told { result ≡ lowest_ready_of (state_of pass.new.known) }
+    ensures once { HasLooked 1 pass.old pass.new desk.now }
+    ensures looks { result ≡ None → HasLooked patience pass.old pass.new desk.now }
+{
+    'looks: for _ in 0..patience {
+        let ready = desk.ready(pass);
+        if ready.is_some() {
+            return ready;
+        }
+    }
+    None
+}
+
+/// Claims a ready stage, and runs and finishes it where the claim is granted.
+fn take_turn<F: StageFn, G: Gate>(
+    desk: &Desk,
+    pass: &mut Pass,
+    fns: &[F],
+    gate: &G,
+    stage: u16,
+) -> Result<Done, DeskFault>
+    requires pass { IsOf desk.now pass.old }
+    requires ready { lowest_ready_of (state_of pass.old.known) ≡ Some stage }
+    ensures adds { (owes : Owed) × Adds (meanings_of F.meaning fns.now) None pass.old pass.new owes }
+    ensures done { IfOk result (λ done. Does (meanings_of F.meaning fns.now) None pass.old pass.new done) }
+    ensures more { OnOk result (length pass.old.records < length pass.new.records) }
+    ensures looks { OnOk result (pass.new.known.looks ≡ pass.old.known.looks) }
+    ensures fault { IfErr result (IsDueToStop desk.now pass.new) }
+{
+    let reply = desk.act(pass, Call::Claim(stage))?;
+    match granted(reply) {
+        None => Ok(Done {
+            run: 0,
+            won: 0,
+            late: 0,
+        }),
+        Some(args) => {
+            let finished = finish(desk, pass, fns, gate, stage, args)?;
+            Ok(count(finished))
+        }
+    }
+}
+
+/// The arguments that a reply grants.
+fn granted(reply: Reply) -> Option<Args>
+    ensures { result ≡ granted_by reply }
+{
+    match reply {
+        Reply::Claim(Claimed::Granted(args)) => Some(args),
+        _ => None,
+    }
+}
+
+/// Runs the function of a stage with the arguments that were granted, and finishes the stage.
+fn finish<F: StageFn, G: Gate>(
+    desk: &Desk,
+    pass: &mut Pass,
+    fns: &[F],
+    gate: &G,
+    stage: u16,
+    args: Args,
+) -> Result<Reply, DeskFault>
+    requires pass { IsOf desk.now pass.old }
+    requires stage { stage < length pass.old.known.setting.plan.stages }
+    ensures done { IfOk result (λ reply. Acts pass.old (Finish stage (answer_for (meanings_of F.meaning fns.now) pass.old.known.setting.plan stage args)) reply pass.new) }
+    ensures room { OnOk result (HasRoom pass.old) }
+    ensures refused { OnErr result (Follows pass.old pass.new) }
+    ensures fault { IfErr result (IsDueToStop desk.now pass.new) }
+{
+    gate.before(stage, pass.caller());
+    let answer = answer_of(desk, fns, stage, &args);
+    desk.act(pass, Call::Finish(stage, answer))
+}
+
+/// One run, and whether its finish won or came late.
+fn count(finished: Reply) -> Done
+    ensures run { result.run ≡ 1 }
+    ensures won { result.won ≡ won_by finished }
+    ensures late { result.late ≡ late_by finished }
+{
+    let (won, late) = match finished {
+        Reply::Finish(Finished::Won) => (1, 0),
+        Reply::Finish(Finished::Late) => (0, 1),
+        _ => (0, 0),
+    };
+    Done { run: 1, won, late }
+}
+
+/// What the function of a stage answers to these arguments.
+fn answer_of<F: StageFn>(desk: &Desk, fns: &[F], stage: u16, args: &Args) -> Answer
+    requires { stage < length desk.now.setting.plan.stages }
+    ensures { result ≡ answer_for (meanings_of F.meaning fns.now) desk.now.setting.plan stage args.now }
+{
+    let number = desk.function(stage).unwrap_or(0);
+    match fns.get(number as usize) {
+        None => Answer::Give(Value::Nil),
+        Some(function) => function.call(args),
+    }
+}
