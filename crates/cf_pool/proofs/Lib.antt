@@ -1,1 +1,3 @@
+pub mod Pools
+pub mod Runs
 pub mod Turns

@@ -1,3 +1,4 @@
 pub mod Counting
+pub mod Runs
 pub mod Turns
 pub mod Works

@@ -6,8 +6,12 @@
 //! worker, on the thread of its caller. `run` starts a thread for each worker, joins them all, and closes the desk.
 #![tactic(auto)]
 
+mod faults;
 mod gate;
+mod pool;
 mod worker;
 
+pub use faults::PoolFault;
 pub use gate::{Gate, NoGate};
+pub use pool::run;
 pub use worker::{Done, work};

@@ -1,0 +1,129 @@
+-- Passes that workers have worked with, one after another.
+use Rattle.std.proofs.Common.{◌≡◌, ℕ, suc, ◌+◌, ◌<◌, ◌≤◌, Bool, true, false, Option, Some, None, List, [], ◌∷◌, ◌++◌, length, map, All, sym, refl, ap, ◌∙◌, subst, append-nil, append_assoc, length-append, take, get_or, arith}
+use Rattle.std.specs.Prelude.{nat_lt, slice_index_or}
+use Rattle.std.specs.List.{AllZip}
+use Rattle.std.proofs.lemmas.List.{take_more}
+use Rattle.std.proofs.lemmas.List.Elements.{All-head, All-tail, All-push, All-weaker, Contains-append_left, Contains-push}
+use borrow.Author.Tests.{ltb-true, ltb-false}
+use mathlib.Core.List.{map-append}
+use Rattle.cf_plan.specs.declared.forms.Answer.{Answer}
+use Rattle.cf_plan.specs.declared.forms.Args.{Args}
+use Rattle.cf_desk.specs.declared.faults.DeskFault.{DeskFault}
+use Rattle.cf_desk.specs.declared.row.Known.{Known}
+use Rattle.cf_desk.specs.Rule.{AllShort}
+use Rattle.cf_desk.specs.Views.{Holder, Meets, Place, knowns}
+use Rattle.cf_pool.specs.declared.pool.Met.{Met}
+use Rattle.cf_pool.specs.declared.pool.Worked.{Worked}
+use Rattle.cf_pool.specs.Runs.{EndsIf, IsFirst, IsWork, SeesMore, Stop, first_with, lower_of, stop_of}
+use Rattle.cf_pool.specs.Works.{meanings_of}
+
+-- ---- the lowest caller that was stopped
+
+lower_more : (stops : List Stop) (met new : Met) (b : Bool) → nat_lt new.caller met.caller ≡ b → IsFirst stops (Some met) → IsFirst (stops ++ (new.caller, Some new.fault) ∷ []) (Some (lower_of b met new))
+lower_more stops met new true e h =
+    let lt : new.caller < met.caller = ltb-true new.caller met.caller e in (
+      Contains-push stops (new.caller, Some new.fault),
+      All-push (EndsIf new.caller) stops (new.caller, Some new.fault) (All-weaker (EndsIf met.caller) (EndsIf new.caller) (λ (x : Stop) f l. f (omega arith)) stops h.1) (λ l. absurd (omega arith)),
+    )
+lower_more stops met new false e h =
+    let le : met.caller ≤ new.caller = ltb-false new.caller met.caller e in (
+      Contains-append_left stops ((new.caller, Some new.fault) ∷ []) (met.caller, Some met.fault) h.0,
+      All-push (EndsIf met.caller) stops (new.caller, Some new.fault) h.1 (λ l. absurd (omega arith)),
+    )
+
+pub first_more : (stops : List Stop) (met : Option Met) (caller : ℕ) (fault : Option DeskFault) → IsFirst stops met → IsFirst (stops ++ (caller, fault) ∷ []) (first_with met caller fault)
+first_more stops None caller None h = All-push (λ (x : Stop). x.1 ≡ None) stops (caller, None) h refl
+first_more stops (Some met) caller None h =
+    (Contains-append_left stops ((caller, None) ∷ []) (met.caller, Some met.fault) h.0, All-push (EndsIf met.caller) stops (caller, None) h.1 (λ l. refl))
+first_more stops None caller (Some fault) h = (
+  Contains-push stops (caller, Some fault),
+  All-push (EndsIf caller) stops (caller, Some fault) (All-weaker (λ (x : Stop). x.1 ≡ None) (EndsIf caller) (λ (x : Stop) e l. e) stops h) (λ l. absurd (omega arith)),
+)
+first_more stops (Some met) caller (Some fault) h = lower_more stops met (record { caller = caller; fault = fault }) (nat_lt caller met.caller) refl h
+
+-- ---- lists side by side
+
+pub zip_push : {A B : Type 0} (R : A → B → Type 0) (xs : List A) (ys : List B) (x : A) (y : B) → AllZip R xs ys → R x y → AllZip R (xs ++ x ∷ []) (ys ++ y ∷ [])
+zip_push R [] [] x y h r = (r, tt)
+zip_push R [] (b ∷ ys) x y h r = absurd h
+zip_push R (a ∷ xs) [] x y h r = absurd h
+zip_push R (a ∷ xs) (b ∷ ys) x y h r = (h.0, zip_push R xs ys x y h.1 r)
+
+pub zip_kept : {H : Type 0} (P : H → Type 0) (f : H → Holder) (W : Holder → Worked → Type 0) (hs : List H) (ws : List Worked) → length ws ≡ length hs → All P hs
+    → ((i : ℕ) (d : Worked) → i < length hs → (h : H) × (h ≡ slice_index_or hs i h) × (P h → W (f h) (slice_index_or ws i d))) → AllZip W (map f hs) ws
+zip_kept P f W [] [] same all each = tt
+zip_kept P f W [] (w ∷ ws) same all each = absurd (omega arith)
+zip_kept P f W (h ∷ hs) [] same all each = absurd (omega arith)
+zip_kept P f W (h ∷ hs) (w ∷ ws) same all each =
+    let x = each 0 w (omega arith) in (
+      subst (λ y. W (f y) w) x.1 (x.2 (subst P (sym x.1) (All-head P h hs all))),
+      zip_kept P f W hs ws (omega arith) (All-tail P h hs all) (λ i d l. each (suc i) d (omega arith)),
+    )
+
+-- ---- passes that see more
+
+pub sees_itself : (p : Holder) → SeesMore p p
+sees_itself p = record { same = (refl, refl, refl, refl); seen = []; goes_on = sym (append-nil p.known.seen); records = refl }
+
+pub sees_then : (p q r : Holder) → SeesMore p q → SeesMore q r → SeesMore p r
+sees_then p q r a b = record {
+  same = (b.same.0 ∙ a.same.0, b.same.1 ∙ a.same.1, b.same.2 ∙ a.same.2, b.same.3 ∙ a.same.3);
+  seen = a.seen ++ b.seen;
+  goes_on = b.goes_on ∙ ap (λ l. l ++ b.seen) a.goes_on ∙ append_assoc p.known.seen a.seen b.seen;
+  records = b.records ∙ a.records;
+}
+
+pub sees_left : (p q p' q' : Holder) → Meets p q p' q' → SeesMore p p'
+sees_left p q p' q' m = record {
+  same = (ap (λ (h : Holder). h.table) m.left, ap (λ (h : Holder). h.known.setting) m.left, ap (λ (h : Holder). h.known.caller) m.left, ap (λ (h : Holder). h.calls) m.left);
+  seen = m.begins_left.others;
+  goes_on = ap (λ (h : Holder). h.known.seen) m.left ∙ m.begins_left.joined;
+  records = ap (λ (h : Holder). h.records) m.left;
+}
+
+pub sees_right : (p q p' q' : Holder) → Meets p q p' q' → SeesMore q q'
+sees_right p q p' q' m = record {
+  same = (ap (λ (h : Holder). h.table) m.right, ap (λ (h : Holder). h.known.setting) m.right, ap (λ (h : Holder). h.known.caller) m.right, ap (λ (h : Holder). h.calls) m.right);
+  seen = m.begins_right.others;
+  goes_on = ap (λ (h : Holder). h.known.seen) m.right ∙ m.begins_right.joined;
+  records = ap (λ (h : Holder). h.records) m.right;
+}
+
+pub sees_longer : (p q : Holder) → SeesMore p q → length p.known.seen ≤ length q.known.seen
+sees_longer p q a = let e = ap length a.goes_on in let l = length-append p.known.seen a.seen in omega arith
+
+pub short_more : (n m : ℕ) (ks : List Known) → n ≤ m → AllShort n ks → AllShort m ks
+short_more n m [] le h = tt
+short_more n m (k ∷ ks) le h = (let x = h.0 in omega arith, short_more n m ks le h.1)
+
+short_push : (n : ℕ) (ks : List Known) (k : Known) → AllShort n ks → length k.seen ≤ n → AllShort n (ks ++ k ∷ [])
+short_push n [] k h le = (le, tt)
+short_push n (l ∷ ks) k h le = (h.0, short_push n ks k h.1 le)
+
+-- the other passes, with one more that has met the caller's
+pub short_met : (p q p' q' : Holder) (qs : List Holder) → Meets p q p' q' → AllShort (length p.known.seen) (knowns qs) → AllShort (length p'.known.seen) (knowns (qs ++ q' ∷ []))
+short_met p q p' q' qs m h =
+    let n = sees_longer p p' (sees_left p q p' q' m) in
+    let a = ap (λ (x : Holder). length x.known.seen) m.left in
+    let b = ap (λ (x : Holder). length x.known.seen) m.right in
+    subst (AllShort (length p'.known.seen)) (sym (map-append (λ (x : Holder). x.known) qs (q' ∷ [])))
+    (short_push (length p'.known.seen) (knowns qs) q'.known (short_more (length p.known.seen) (length p'.known.seen) (knowns qs) n h) (omega arith))
+
+pub stop_step : (ws : List Worked) (i caller : ℕ) (w : Worked) (met now : Option Met) → i < length ws → w ≡ get_or ws i w → caller ≡ w.pass.known.caller → now ≡ first_with met caller w.fault → IsFirst (map stop_of (take i ws)) met → IsFirst (map stop_of (take (i + 1) ws)) now
+stop_step ws i caller w met now l is by_caller by_fault h =
+    let more : take (i + 1) ws ≡ take i ws ++ w ∷ [] = take_more ws i w l ∙ ap (λ x. take i ws ++ x ∷ []) (sym is) in
+    let stops : map stop_of (take (i + 1) ws) ≡ map stop_of (take i ws) ++ stop_of w ∷ [] = ap (map stop_of) more ∙ map-append stop_of (take i ws) (w ∷ []) in
+    let then : now ≡ first_with met w.pass.known.caller w.fault = by_fault ∙ ap (λ n. first_with met n w.fault) by_caller in
+    subst (λ m. IsFirst (map stop_of (take (i + 1) ws)) m) (sym then)
+    (subst (λ s. IsFirst s (first_with met w.pass.known.caller w.fault)) (sym stops) (first_more (map stop_of (take i ws)) met w.pass.known.caller w.fault h))
+
+pub parts_step : {H : Type 0} (f : H → Holder) (hs now : List H) (h : H) (p : Holder) (rest all : List Holder) → all ≡ map f hs ++ p ∷ rest → f h ≡ p → now ≡ hs ++ h ∷ [] → all ≡ map f now ++ rest
+parts_step f hs now h p rest all parts same items =
+    parts ∙ ap (λ x. map f hs ++ x ∷ rest) (sym same) ∙ sym (append_assoc (map f hs) (f h ∷ []) rest) ∙ ap (λ x. x ++ rest) (sym (ap (map f) items ∙ map-append f hs (h ∷ [])))
+
+pub all_step : {H : Type 0} (P : H → Type 0) (hs now : List H) (h : H) → now ≡ hs ++ h ∷ [] → All P hs → P h → All P now
+all_step P hs now h items all one = subst (All P) (sym items) (All-push P hs h all one)
+
+pub work_same : {F : Type 0} (meaning : F → Args → Answer) (fns now : List F) (d e : Place) (p : Holder) (w : Worked) → d ≡ e → fns ≡ now → IsWork (meanings_of meaning fns) d p w → IsWork (meanings_of meaning now) e p w
+work_same meaning fns now d e p w same_desk same_fns h =
+    subst (λ (x : Place). IsWork (meanings_of meaning now) x p w) same_desk (subst (λ fs. IsWork (meanings_of meaning fs) d p w) same_fns h)
