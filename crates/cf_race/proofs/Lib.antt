@@ -1,0 +1,9 @@
+pub mod Recorded
+pub mod Owing
+pub mod Totals
+pub mod Counts
+pub mod Claimed
+pub mod Quiet
+pub mod Expressed
+pub mod Joining
+pub mod Ending

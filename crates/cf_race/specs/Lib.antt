@@ -1,0 +1,4 @@
+pub mod Works
+pub mod Records
+pub mod Races
+pub mod Beginnings
