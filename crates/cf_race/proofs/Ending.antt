@@ -59,3 +59,73 @@ all_own callers (w ∷ ws) h none =
             let f = (own_split (eqb (who_of w) (who_of w)) w (own (who_of w) ws) (none (who_of w) (omega arith) (All-head (λ e. who_of e < callers) w ws h))).0 in
             let same = eq-eqb (who_of w) (who_of w) refl in
             let nothing : ⊥ = cc in absurd nothing
+
+pub front_all : (P : Event → Type 0) (xs ys : List Event) → All P (xs ++ ys) → All P xs
+front_all P [] ys h = All-nil P
+front_all P (x ∷ xs) ys h = All-cons P x xs (All-head P x (xs ++ ys) h) (front_all P xs ys (All-tail P x (xs ++ ys) h))
+
+pub back_all : (P : Event → Type 0) (xs ys : List Event) → All P (xs ++ ys) → All P ys
+back_all P [] ys h = h
+back_all P (x ∷ xs) ys h = back_all P xs ys (All-tail P x (xs ++ ys) h)
+
+-- ---- what the passes held before
+
+abbrev pub Calls : ℕ → Holder → Type 0
+Calls calls p = p.calls ≡ calls
+
+pub first_begun : (d : Place) (steps : List Event) (calls : ℕ) (p : Holder) → Took d steps p → p.calls ≡ calls → HadBegun d.setting p.known.seen (length steps) calls p
+first_begun d steps calls p t room = record {
+  setting_is = t.of.1;
+  fits = subst (λ (s : Setting). Fits s.plan p.known.caller p.known.seen p.records) t.of.1 t.fit;
+  few = (let h = t.held in let f = t.few in omega arith);
+  calls_are = room;
+}
+
+apart_begun : (d : Place) (seen : List Event) (most calls : ℕ) (p : Holder) → IsApart d seen p → p.calls ≡ calls → HadBegun d.setting seen most calls p
+apart_begun d seen most calls p a room = record {
+  setting_is = a.of.1;
+  fits = subst (Fits d.setting.plan p.known.caller seen) (sym a.idle) (fits_more d.setting.plan p.known.caller [] seen [] (record { others = seen; joined = refl; none = a.none }) (fits_new d.setting.plan p.known.caller));
+  few = (let e : length p.records ≡ 0 = ap length a.idle in omega arith);
+  calls_are = room;
+}
+
+pub others_begun : (d : Place) (seen : List Event) (most calls : ℕ) (ps : List Holder) → All (IsApart d seen) ps → All (Calls calls) ps → All (HadBegun d.setting seen most calls) ps
+others_begun d seen most calls [] a r = All-nil (HadBegun d.setting seen most calls)
+others_begun d seen most calls (p ∷ ps) a r =
+    All-cons (HadBegun d.setting seen most calls) p ps (apart_begun d seen most calls p (All-head (IsApart d seen) p ps a) (All-head (Calls calls) p ps r))
+    (others_begun d seen most calls ps (All-tail (IsApart d seen) p ps a) (All-tail (Calls calls) p ps r))
+
+-- ---- caller 0 had seen the steps that it did, and nothing else
+
+pub own_none : (d : Place) (plan : Planned) (history : List Event) (meanings : Meanings) (seen : List Event) (c : ℕ) (ps qs : List Holder) → AllZip (Works meanings) ps qs → All (IsApart d seen) ps → All (IsKeptFit plan history) (map pass_did qs)
+    → 0 < count_in c (knowns qs) → own c seen ≡ []
+own_none d plan history meanings seen = each_pass plan history (Works meanings) (IsApart d seen) (λ c. own c seen ≡ []) (λ p q w. w.same.2) (λ p q w a fit. a.none)
+
+pub weigh_zero : (b : Bool) (n : ℕ) → b ≡ false → weight b + n ≡ 1 → 0 < n
+weigh_zero true n e l = cc
+weigh_zero false n e l = omega arith
+
+pub seen_is : (d : Place) (steps : List Event) (p : Holder) (callers : ℕ) → (t : Took d steps p) → All (λ e. who_of e < callers) p.known.seen → ((c : ℕ) → 0 < c → c < callers → own c p.known.seen ≡ []) → p.known.seen ≡ take t.taken steps
+seen_is d steps p callers t h none =
+    let did : dids 0 p.records ≡ events_of 0 p.known.seen = subst (λ (c : ℕ). dids c p.records ≡ events_of c p.known.seen) t.caller t.fit.did in
+    sym (all_own callers p.known.seen h none) ∙ sym (calls_of 0 0 p.known.seen) ∙ sym (ap (map call_of) did) ∙ t.did
+
+-- ---- the history of a run
+
+-- it begins with what caller 0 had seen, and each caller goes on with work
+pub record Whole (meanings : Meanings) (setting : Setting) (history seen work : List Event) : Type 0 where
+  pub history_is : history ≡ seen ++ work
+  pub events : All (IsEventOf setting) (seen ++ work)
+  pub shares_of : (c : ℕ) → c < setting.callers → Shares meanings setting.plan (recorded c (length seen) (state_from setting.plan seen) work)
+
+no_work : (meanings : Meanings) (plan : Planned) → Shares meanings plan []
+no_work meanings plan = record { work = tt; once = λ i. omega arith }
+
+pub all_share : (meanings : Meanings) (setting : Setting) (history seen work : List Event) → Whole meanings setting history seen work → (c : ℕ) → Shares meanings setting.plan (recorded c (length seen) (state_from setting.plan seen) work)
+all_share meanings setting history seen work w c = split (cases_lt c setting.callers)
+  where
+    split : (c < setting.callers) ⊎ (setting.callers ≤ c) → Shares meanings setting.plan (recorded c (length seen) (state_from setting.plan seen) work)
+    split (inl l) = w.shares_of c l
+    split (inr l) = subst (Shares meanings setting.plan)
+        (sym (absent_records setting.callers c (length seen) (state_from setting.plan seen) work l (All-weaker (IsEventOf setting) (λ e. who_of e < setting.callers) (λ e h. h.caller) work (back_all (IsEventOf setting) seen work w.events))))
+        (no_work meanings setting.plan)

@@ -44,10 +44,10 @@ all_work meanings granted s (e ∷ events) h =
     All-cons (λ e. is_work e ≡ true) e events (event_is_work meanings granted s e h.0) (all_work meanings (granted_with granted e ((answered s e).0)) ((answered s e).1) events h.1)
 
 pub raced_is_expression : RacedIsExpression
-raced_is_expression plan steps meanings s i built plain_plan plain raced l =
+raced_is_expression plan steps meanings s i plain_plan plain raced l =
     let granted = grants_after nothing_granted (start plan) steps in
     let then = state_after (start plan) steps in
     let all = plain_append meanings nothing_granted (start plan) steps raced.work plain (work_is_plain meanings granted then raced.work raced.done) in
     ap (λ (t : State). outcome_at t i) raced.state
-    ∙ quiet_is_expression plan (steps ++ raced.work) meanings i built plain_plan all (subst IsQuiet raced.state raced.quiet) l
+    ∙ quiet_is_expression plan (steps ++ raced.work) meanings i raced.built plain_plan all (subst IsQuiet raced.state raced.quiet) l
     ∙ work_keeps_expressions plan steps raced.work meanings i (all_work meanings granted then raced.work raced.done)

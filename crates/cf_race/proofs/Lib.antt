@@ -7,3 +7,4 @@ pub mod Quiet
 pub mod Expressed
 pub mod Joining
 pub mod Ending
+pub mod Raced

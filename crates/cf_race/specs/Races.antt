@@ -41,8 +41,10 @@ IsWork meanings granted s [] = Unit {0}
 IsWork meanings granted s (e ∷ events) =
     IsWorkEvent meanings granted s e × IsWork meanings (granted_with granted e ((answered s e).0)) ((answered s e).1) events
 
--- The state after a history that begins with the steps and goes on with work alone, and that leaves nothing ready or claimed.
+-- The plan is one that a builder built, and the state comes after a history that begins with the steps, goes on with work alone,
+-- and leaves nothing ready or claimed.
 pub record IsRaced (meanings : Meanings) (plan : Planned) (steps : List Event) (s : State) : Type 0 where
+  pub built : IsBuilt plan
   pub work : List Event
   pub done : IsWork meanings (grants_after nothing_granted (start plan) steps) (state_after (start plan) steps) work
   pub state : s ≡ state_after (start plan) (steps ++ work)
@@ -52,7 +54,7 @@ pub record IsRaced (meanings : Meanings) (plan : Planned) (steps : List Event) (
 abbrev pub RacedIsExpression : Type 0
 RacedIsExpression =
     (plan : Planned) (steps : List Event) (meanings : Meanings) (s : State) (i : ℕ) →
-    IsBuilt plan → IsPlainPlan plan → IsPlain meanings nothing_granted (start plan) steps → IsRaced meanings plan steps s →
+    IsPlainPlan plan → IsPlain meanings nothing_granted (start plan) steps → IsRaced meanings plan steps s →
     i < length plan.stages → outcome_at s i ≡ expr plan steps meanings i
 
 -- why there is no race

@@ -1,0 +1,194 @@
+-- A run that begins as a race ends as one, and its log and its passes are never full.
+use Rattle.std.proofs.Common.{◌≡◌, ◌≢◌, ℕ, zero, suc, ◌+◌, ◌*◌, ◌<◌, ◌≤◌, ◌⊎◌, inl, inr, Bool, true, false, eqb, Option, Some, None, List, [], ◌∷◌, ◌++◌, length, map, take, replicate, sym, refl, ap, ◌∙◌, subst, arith, length-append, append_assoc}
+use Rattle.std.specs.List.{All, AllZip, Contains}
+use native.Mathlib.Nat.{mul-suc}
+use Rattle.std.proofs.lemmas.Bool.{eqb-true, false_from_ne_true, cases_lt}
+use Rattle.std.proofs.lemmas.List.{length-take-le, length-replicate}
+use Rattle.std.proofs.lemmas.List.Sums.{count_by-le-length}
+use Rattle.std.proofs.Math.Seq.{take-length}
+use Rattle.std.proofs.lemmas.List.Elements.{All-cons, All-head, All-tail, All-weaker, All-contains}
+use Rattle.cf_plan.specs.declared.forms.Args.{Args}
+use Rattle.cf_plan.specs.Plans.{Planned, IsBuilt}
+use Rattle.cf_core.specs.declared.events.Event.{Event}
+use Rattle.cf_core.specs.declared.stage.Stage.TheVariants.{Pending}
+use Rattle.cf_core.specs.States.{State, start, stage_at}
+use Rattle.cf_core.specs.Claims.{claimable_count, is_claimable}
+use Rattle.cf_core.specs.Events.{answered, state_after}
+use Rattle.cf_core.specs.Ranges.{EventFits}
+use Rattle.cf_core.proofs.LowestReady.{lowest_ready-none}
+use Rattle.cf_core.proofs.Shape.{length-new_states, state_after-shape}
+use Rattle.cf_event.specs.Words.{who_of}
+use Rattle.cf_laws.specs.Expressions.{Meanings}
+use Rattle.cf_laws.specs.Histories.{grants_after, nothing_granted}
+use Rattle.cf_desk.specs.declared.calls.Kept.{Kept}
+use Rattle.cf_desk.specs.declared.calls.Rec.{Rec}
+use Rattle.cf_desk.specs.declared.row.Setting.{Setting}
+use Rattle.cf_desk.specs.Keepings.{IsKeptFit, pass_did, pass_kept}
+use Rattle.cf_desk.specs.Log.{Catches, IsEventOf, own, state_from}
+use Rattle.cf_desk.specs.Rule.{count_in, weight}
+use Rattle.cf_desk.specs.Views.{Closes, Holder, Place, knowns}
+use Rattle.cf_desk.proofs.Recs.{plan_stays}
+use Rattle.cf_race.specs.Works.{Owed, Works, WorksOut, Ran, RanOut, owed_after}
+use Rattle.cf_race.specs.Records.{recorded}
+use Rattle.cf_race.specs.Races.{IsRaced, IsStep, IsWork, log_words}
+use Rattle.cf_race.specs.Beginnings.{HaveBegun, IsApart, Took}
+use Rattle.cf_race.proofs.Claimed.{is_claimed, is_quiet, steps_leave_unclaimed}
+use Rattle.cf_race.proofs.Counts.{AllBelow, ByCaller, history_at_most, recorded_below}
+use Rattle.cf_race.proofs.Ending.{Calls, Whole, all_share, back_all, first_begun, front_all, others_begun, own_none, seen_is, weigh_zero}
+use Rattle.cf_race.proofs.Joining.{HadBegun, Shares, absent_records, all_room, each_pass, has_room, owes_none, shares, shares_few}
+use Rattle.cf_race.proofs.Owing.{AllWork, is_work_then}
+use Rattle.cf_race.proofs.Quiet.{work_leaves_unclaimed}
+
+-- a run that began with the steps
+pub record Ended (meanings : Meanings) (d : Place) (steps : List Event) (calls : ℕ) (ps qs : List Holder) (history : List Event) : Type 0 where
+  pub seen : List Event
+  pub work : List Event
+  pub whole : Whole meanings d.setting history seen work
+  pub begun : All (HadBegun d.setting seen (length steps) calls) ps
+  pub steps_are : seen ≡ steps
+  pub short : length history < d.words
+  pub room : All (λ (q : Holder). length q.records < q.calls) qs
+
+-- ---- how long it is
+
+start_few : (plan : Planned) (events : List Event) → claimable_count (state_from plan events) ≤ length plan.stages
+start_few plan events =
+    let a = count_by-le-length is_claimable (state_from plan events).stages in
+    let b : length (state_from plan events).stages ≡ length plan.stages =
+        (state_after-shape (start plan) events).all_stages ∙ length-new_states [] plan.stages (replicate (length plan.stages) Pending) ∙ length-replicate (length plan.stages) Pending in
+    omega (arith, a, b)
+
+by_callers : (setting : Setting) (events : List Event) → All (IsEventOf setting) events → All (ByCaller setting.callers) events
+by_callers setting events h = All-weaker (IsEventOf setting) (ByCaller setting.callers) (λ e k. k.caller) events h
+
+all_below : (meanings : Meanings) (setting : Setting) (history seen work : List Event) → Whole meanings setting history seen work → (c : ℕ) → AllBelow (length setting.plan.stages) (recorded c (length seen) (state_from setting.plan seen) work)
+all_below meanings setting history seen work w c =
+    recorded_below (length setting.plan.stages) c (length seen) (state_from setting.plan seen) work
+    (All-weaker (IsEventOf setting) (EventFits (length setting.plan.stages)) (λ e k. k.stage) work (back_all (IsEventOf setting) seen work w.events))
+
+work_few : (meanings : Meanings) (setting : Setting) (history seen work : List Event) → Whole meanings setting history seen work → length work ≤ length setting.plan.stages * setting.callers + length setting.plan.stages
+work_few meanings setting history seen work w =
+    history_at_most setting.callers (length setting.plan.stages) (length seen) (state_from setting.plan seen) work
+    (by_callers setting work (back_all (IsEventOf setting) seen work w.events)) (start_few setting.plan seen)
+    (λ c l. (shares_few meanings setting.plan (length setting.plan.stages) (recorded c (length seen) (state_from setting.plan seen) work) (w.shares_of c l) (all_below meanings setting history seen work w c)).0)
+
+history_short : (meanings : Meanings) (d : Place) (steps : ℕ) (workers : ℕ) (history seen work : List Event) → Whole meanings d.setting history seen work → length seen ≤ steps
+    → d.setting.callers ≡ workers + 1 → d.words ≡ log_words steps (length d.setting.plan.stages) workers → length history < d.words
+history_short meanings d steps workers history seen work w few callers words =
+    let n = length d.setting.plan.stages in
+    let a = work_few meanings d.setting history seen work w in
+    let b : length history ≡ length seen + length work = ap length w.history_is ∙ length-append seen work in
+    let c : n * (workers + 2) ≡ n * d.setting.callers + n = ap (λ (k : ℕ). n * k) (let e : workers + 2 ≡ suc d.setting.callers = omega arith in e) ∙ mul-suc n d.setting.callers in
+    omega (arith, a, b, c, few, words)
+
+-- ---- the whole
+
+apart_none : (d : Place) (meanings : Meanings) (history : List Event) (first q : Holder) (others qs : List Holder) → first.known.caller ≡ 0 → Works meanings first q → AllZip (Works meanings) others qs → All (IsApart d first.known.seen) others
+    → All (IsKeptFit d.setting.plan history) (map pass_did qs) → (c : ℕ) → 0 < c → count_in c (knowns (q ∷ qs)) ≡ 1 → own c first.known.seen ≡ []
+apart_none d meanings history first q others qs zeroth w zip apart fit c more one =
+    own_none d d.setting.plan history meanings first.known.seen c others qs zip apart fit
+    (weigh_zero (eqb q.known.caller c) (count_in c (knowns qs)) (false_from_ne_true (eqb q.known.caller c) (λ e. let same = eqb-true q.known.caller c e in let was : q.known.caller ≡ 0 = w.same.2 ∙ zeroth in let nothing : ⊥ = omega arith in nothing)) one)
+
+all_taken : (d : Place) (steps : List Event) (first : Holder) (t : Took d steps first) (history : List Event) → first.known.seen ≡ take t.taken steps → length first.known.seen ≤ length history → length history < d.words → first.known.seen ≡ steps
+all_taken d steps first t history is begins short = split t.all
+  where
+    split : (t.taken ≡ length steps) ⊎ (d.words ≤ length first.known.seen) → first.known.seen ≡ steps
+    split (inl e) = is ∙ ap (λ (k : ℕ). take k steps) e ∙ take-length steps
+    split (inr l) = absurd (omega arith)
+
+ended : (meanings : Meanings) (d : Place) (steps : List Event) (calls workers : ℕ) (first q : Holder) (others qs : List Holder) (history : List Event) → Took d steps first → All (IsApart d first.known.seen) others → All (Calls calls) (first ∷ others)
+    → AllZip (Works meanings) (first ∷ others) (q ∷ qs) → Closes d.setting (q ∷ qs) history → All (IsKeptFit d.setting.plan history) (map pass_did (q ∷ qs))
+    → d.setting.callers ≡ workers + 1 → d.words ≡ log_words (length steps) (length d.setting.plan.stages) workers → length steps + 2 * length d.setting.plan.stages < calls
+    → Ended meanings d steps calls (first ∷ others) (q ∷ qs) history
+ended meanings d steps calls workers first q others qs history t apart room zip closes fit callers words enough =
+    let setting = d.setting in
+    let seen = first.known.seen in
+    let w = zip.0 in
+    let catch = All-head (λ (p : Holder). Catches p.known.caller p.known.seen history) q qs closes.begins in
+    let work = w.seen ++ catch.others in
+    let is : history ≡ seen ++ work = catch.joined ∙ ap (λ l. l ++ catch.others) w.goes_on ∙ append_assoc seen w.seen catch.others in
+    let events : All (IsEventOf setting) (seen ++ work) = subst (All (IsEventOf setting)) is closes.events in
+    let fits : All (IsKeptFit setting.plan (seen ++ work)) (map pass_did (q ∷ qs)) = subst (λ (h : List Event). All (IsKeptFit setting.plan h) (map pass_did (q ∷ qs))) is fit in
+    let begun = All-cons (HadBegun setting seen (length steps) calls) first others (first_begun d steps calls first t (All-head (Calls calls) first others room))
+        (others_begun d seen (length steps) calls others apart (All-tail (Calls calls) first others room)) in
+    let whole : Whole meanings setting history seen work = record {
+      history_is = is;
+      events = events;
+      shares_of = λ c l. each_pass setting.plan (seen ++ work) (Works meanings) (HadBegun setting seen (length steps) calls) (λ k. Shares meanings setting.plan (recorded k (length seen) (state_from setting.plan seen) work))
+          (λ a b v. v.same.2) (shares meanings setting seen work (length steps) calls) c (first ∷ others) (q ∷ qs) zip begun fits (let one = closes.each c l in omega (arith, one));
+    } in
+    let taken : seen ≡ take t.taken steps = seen_is d steps first setting.callers t (by_callers setting seen (front_all (IsEventOf setting) seen work events))
+        (λ c more less. apart_none d meanings (seen ++ work) first q others qs t.caller w zip.1 apart (All-tail (IsKeptFit setting.plan (seen ++ work)) (pass_did q) (map pass_did qs) fits) c more (closes.each c less)) in
+    let few : length seen ≤ length steps = (let a = ap length taken in let b = length-take-le t.taken steps t.few in let c = t.few in omega (arith, a, b, c)) in
+    let short = history_short meanings d (length steps) workers history seen work whole few callers words in
+    record {
+      seen = seen;
+      work = work;
+      whole = whole;
+      begun = begun;
+      steps_are = all_taken d steps first t history taken (let e : length history ≡ length seen + length work = ap length is ∙ length-append seen work in omega arith) short;
+      short = short;
+      room = all_room setting.plan (seen ++ work) (Works meanings) (HadBegun setting seen (length steps) calls)
+          (has_room meanings setting seen work (length steps) calls (length setting.plan.stages) enough (all_below meanings setting history seen work whole))
+          (first ∷ others) (q ∷ qs) zip begun fits;
+    }
+
+ended_any : (meanings : Meanings) (d : Place) (steps : List Event) (calls workers : ℕ) (first : Holder) (others qs : List Holder) (history : List Event) → Took d steps first → All (IsApart d first.known.seen) others → All (Calls calls) (first ∷ others)
+    → AllZip (Works meanings) (first ∷ others) qs → Closes d.setting qs history → All (IsKeptFit d.setting.plan history) (map pass_did qs)
+    → d.setting.callers ≡ workers + 1 → d.words ≡ log_words (length steps) (length d.setting.plan.stages) workers → length steps + 2 * length d.setting.plan.stages < calls
+    → Ended meanings d steps calls (first ∷ others) qs history
+ended_any meanings d steps calls workers first others [] history t apart room zip closes fit callers words enough = absurd zip
+ended_any meanings d steps calls workers first others (q ∷ qs) history t apart room zip closes fit callers words enough =
+    ended meanings d steps calls workers first q others qs history t apart room zip closes fit callers words enough
+
+pub run_ended : (meanings : Meanings) (d : Place) (steps : List Event) (calls workers : ℕ) (ps : List Holder) (history : List Event) (kept : List Kept) (graph : State) → HaveBegun d steps calls ps → (r : Ran meanings d.setting ps history kept graph)
+    → d.setting.callers ≡ workers + 1 → d.words ≡ log_words (length steps) (length d.setting.plan.stages) workers → length steps + 2 * length d.setting.plan.stages < calls
+    → Ended meanings d steps calls ps r.qs history
+run_ended meanings d steps calls workers ps history kept graph b r callers words enough =
+    subst (λ (l : List Holder). Ended meanings d steps calls l r.qs history) (sym b.are)
+    (ended_any meanings d steps calls workers b.first b.others r.qs history b.took b.apart (subst (All (Calls calls)) b.are b.room) (subst (λ (l : List Holder). AllZip (Works meanings) l r.qs) b.are r.works)
+        r.closes (subst (All (IsKeptFit d.setting.plan history)) r.kept_are r.fit.each) callers words enough)
+
+-- ---- the race
+
+abbrev nobody : ℕ → Owed
+nobody c = None
+
+state_append : (s : State) (xs ys : List Event) → state_after s (xs ++ ys) ≡ state_after (state_after s xs) ys
+state_append s [] ys = refl
+state_append s (x ∷ xs) ys = state_append ((answered s x).1) xs ys
+
+none_owed : (meanings : Meanings) (setting : Setting) (history seen work : List Event) (most calls : ℕ) (ps qs : List Holder) → Whole meanings setting history seen work → All (HadBegun setting seen most calls) ps → AllZip (WorksOut meanings) ps qs → Closes setting qs history
+    → All (IsKeptFit setting.plan (seen ++ work)) (map pass_did qs) → (c : ℕ) → owed_after None (recorded c (length seen) (state_from setting.plan seen) work) ≡ None
+none_owed meanings setting history seen work most calls ps qs w begun zip closes fits c = split (cases_lt c setting.callers)
+  where
+    split : (c < setting.callers) ⊎ (setting.callers ≤ c) → owed_after None (recorded c (length seen) (state_from setting.plan seen) work) ≡ None
+    split (inl l) = each_pass setting.plan (seen ++ work) (WorksOut meanings) (HadBegun setting seen most calls) (λ k. owed_after None (recorded k (length seen) (state_from setting.plan seen) work) ≡ None)
+        (λ a b v. v.works.same.2) (owes_none meanings setting seen work most calls) c ps qs zip begun fits (let one = closes.each c l in omega (arith, one))
+    split (inr l) = ap (owed_after None) (absent_records setting.callers c (length seen) (state_from setting.plan seen) work l (by_callers setting work (back_all (IsEventOf setting) seen work w.events)))
+
+pub race_ended : (meanings : Meanings) (d : Place) (steps : List Event) (calls : ℕ) (ps : List Holder) (history : List Event) (kept : List Kept) (graph : State) → IsBuilt d.setting.plan → All (IsStep (length d.setting.plan.stages)) steps
+    → (o : RanOut meanings d.setting ps history kept graph) → Ended meanings d steps calls ps o.ran.qs history → IsRaced meanings d.setting.plan steps graph
+race_ended meanings d steps calls ps history kept graph built are o e =
+    let plan = d.setting.plan in
+    let s = state_from plan e.seen in
+    let is : history ≡ e.seen ++ e.work = e.whole.history_is in
+    let fits : All (IsKeptFit plan (e.seen ++ e.work)) (map pass_did o.ran.qs) = subst (λ (h : List Event). All (IsKeptFit plan h) (map pass_did o.ran.qs)) is (subst (All (IsKeptFit plan history)) o.ran.kept_are o.ran.fit.each) in
+    let works : AllWork meanings plan nobody (length e.seen) s e.work = λ c. (all_share meanings d.setting history e.seen e.work e.whole c).work in
+    let started : All (IsStep (length plan.stages)) e.seen = subst (All (IsStep (length plan.stages))) (sym e.steps_are) are in
+    let shape = state_after-shape (start plan) e.seen in
+    let lengths : length s.claims ≡ length s.stages =
+        shape.all_claims ∙ length-replicate (length plan.stages) None ∙ sym (length-new_states [] plan.stages (replicate (length plan.stages) Pending) ∙ length-replicate (length plan.stages) Pending) ∙ sym shape.all_stages in
+    let state : graph ≡ state_after (start plan) (steps ++ e.work) = o.ran.graph_is ∙ ap (state_from plan) (is ∙ ap (λ l. l ++ e.work) e.steps_are) in
+    let joined : state_after s e.work ≡ graph = sym (state_append (start plan) e.seen e.work) ∙ sym (ap (state_from plan) is) ∙ sym o.ran.graph_is in
+    record {
+      built = built;
+      work = e.work;
+      done = subst (λ (l : List Event). IsWork meanings (grants_after nothing_granted (start plan) l) (state_after (start plan) l) e.work) e.steps_are
+          (is_work_then meanings plan nobody (grants_after nothing_granted (start plan) e.seen) (length e.seen) s e.work (plan_stays (start plan) e.seen) (λ c i args owed. (let nothing : ⊥ = cc in absurd nothing)) works);
+      state = state;
+      quiet = is_quiet graph (lowest_ready-none graph o.none)
+          (λ i. ap (λ (t : State). is_claimed (stage_at t i)) (sym joined) ∙ work_leaves_unclaimed meanings plan nobody (length e.seen) s e.work lengths
+              (λ j claimed. (let free = steps_leave_unclaimed plan (length plan.stages) e.seen started j in let nothing : ⊥ = cc in absurd nothing)) works
+              (none_owed meanings d.setting history e.seen e.work (length steps) calls ps o.ran.qs e.whole e.begun o.out o.ran.closes fits) i);
+    }
