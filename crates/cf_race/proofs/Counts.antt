@@ -23,7 +23,7 @@ use Rattle.cf_desk.specs.declared.calls.Call.{Call}
 use Rattle.cf_desk.specs.declared.calls.Call.TheVariants.{Complete, Fail, Cancel, Claim, Finish, Tick}
 use Rattle.cf_desk.specs.declared.calls.Rec.{Rec}
 use Rattle.cf_desk.specs.declared.calls.Rec.TheVariants.{Did, Saw}
-use Rattle.cf_race.specs.Works.{Owed, owed_by, IsNext, AreWork, claims_of}
+use Rattle.cf_pool.specs.Works.{Owed, owed_by, IsNext, AreWork, claims_of}
 use Rattle.cf_race.specs.Records.{call_of, recorded}
 use Rattle.cf_race.proofs.Totals.{total, total_zero, total_most, total_more}
 
@@ -205,7 +205,7 @@ lengths_shared callers n s (e ∷ events) h =
     let t = (answered s e).1 in
     let rest = lengths_shared callers (suc n) t events (All-tail (ByCaller callers) e events h) in
     let more = total_more (who_of e) 1 callers (λ c. length (recorded c n s (e ∷ events))) (λ c. length (recorded c (suc n) t events))
-        (λ c. length_split (eqb (who_of e) c) (Did (suc n) (call_of e) ((answered s e).0)) (recorded c (suc n) t events)) (All-head (ByCaller callers) e events h) in
+    (λ c. length_split (eqb (who_of e) c) (Did (suc n) (call_of e) ((answered s e).0)) (recorded c (suc n) t events)) (All-head (ByCaller callers) e events h) in
     omega (arith, rest, more)
 
 pub grants_shared : (callers n : ℕ) (s : State) (events : List Event) → All (ByCaller callers) events → total callers (λ c. grants_in (recorded c n s events)) ≡ grants_along n s events

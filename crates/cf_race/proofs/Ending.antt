@@ -20,7 +20,7 @@ use Rattle.cf_desk.specs.Records.{Fits, dids}
 use Rattle.cf_desk.specs.Rule.{count_in, weight}
 use Rattle.cf_desk.specs.Views.{Closes, Holder, Place, knowns}
 use Rattle.cf_desk.proofs.Recs.{fits_more, fits_new}
-use Rattle.cf_race.specs.Works.{Works, WorksOut, AreWork, claims_of, owed_after}
+use Rattle.cf_pool.specs.Works.{Works, WorksOut, AreWork, claims_of, owed_after}
 use Rattle.cf_race.specs.Records.{recorded}
 use Rattle.cf_race.specs.Beginnings.{IsApart, Took}
 use Rattle.cf_race.proofs.Joining.{HadBegun, Shares, absent_records, each_pass, shares}
@@ -70,36 +70,30 @@ back_all P (x ∷ xs) ys h = back_all P xs ys (All-tail P x (xs ++ ys) h)
 
 -- ---- what the passes held before
 
-abbrev pub Calls : ℕ → Holder → Type 0
-Calls calls p = p.calls ≡ calls
-
 pub first_begun : (d : Place) (steps : List Event) (calls : ℕ) (p : Holder) → Took d steps p → p.calls ≡ calls → HadBegun d.setting p.known.seen (length steps) calls p
 first_begun d steps calls p t room = record {
-  setting_is = t.of.1;
-  fits = subst (λ (s : Setting). Fits s.plan p.known.caller p.known.seen p.records) t.of.1 t.fit;
-  few = (let h = t.held in let f = t.few in omega arith);
+  setting_is = t.done.of.1;
+  fits = subst (λ (s : Setting). Fits s.plan p.known.caller p.known.seen p.records) t.done.of.1 t.done.fit;
+  few = (let h = t.done.held in let f = t.few in omega arith);
   calls_are = room;
 }
 
-apart_begun : (d : Place) (seen : List Event) (most calls : ℕ) (p : Holder) → IsApart d seen p → p.calls ≡ calls → HadBegun d.setting seen most calls p
-apart_begun d seen most calls p a room = record {
+apart_begun : (d : Place) (seen : List Event) (most calls : ℕ) (p : Holder) → IsApart d calls seen p → HadBegun d.setting seen most calls p
+apart_begun d seen most calls p a = record {
   setting_is = a.of.1;
   fits = subst (Fits d.setting.plan p.known.caller seen) (sym a.idle) (fits_more d.setting.plan p.known.caller [] seen [] (record { others = seen; joined = refl; none = a.none }) (fits_new d.setting.plan p.known.caller));
   few = (let e : length p.records ≡ 0 = ap length a.idle in omega arith);
-  calls_are = room;
+  calls_are = a.room;
 }
 
-pub others_begun : (d : Place) (seen : List Event) (most calls : ℕ) (ps : List Holder) → All (IsApart d seen) ps → All (Calls calls) ps → All (HadBegun d.setting seen most calls) ps
-others_begun d seen most calls [] a r = All-nil (HadBegun d.setting seen most calls)
-others_begun d seen most calls (p ∷ ps) a r =
-    All-cons (HadBegun d.setting seen most calls) p ps (apart_begun d seen most calls p (All-head (IsApart d seen) p ps a) (All-head (Calls calls) p ps r))
-    (others_begun d seen most calls ps (All-tail (IsApart d seen) p ps a) (All-tail (Calls calls) p ps r))
+pub others_begun : (d : Place) (seen : List Event) (most calls : ℕ) (ps : List Holder) → All (IsApart d calls seen) ps → All (HadBegun d.setting seen most calls) ps
+others_begun d seen most calls ps a = All-weaker (IsApart d calls seen) (HadBegun d.setting seen most calls) (apart_begun d seen most calls) ps a
 
 -- ---- caller 0 had seen the steps that it did, and nothing else
 
-pub own_none : (d : Place) (plan : Planned) (history : List Event) (meanings : Meanings) (seen : List Event) (c : ℕ) (ps qs : List Holder) → AllZip (Works meanings) ps qs → All (IsApart d seen) ps → All (IsKeptFit plan history) (map pass_did qs)
+pub own_none : (d : Place) (calls : ℕ) (plan : Planned) (history : List Event) (meanings : Meanings) (seen : List Event) (c : ℕ) (ps qs : List Holder) → AllZip (Works meanings) ps qs → All (IsApart d calls seen) ps → All (IsKeptFit plan history) (map pass_did qs)
     → 0 < count_in c (knowns qs) → own c seen ≡ []
-own_none d plan history meanings seen = each_pass plan history (Works meanings) (IsApart d seen) (λ c. own c seen ≡ []) (λ p q w. w.same.2) (λ p q w a fit. a.none)
+own_none d calls plan history meanings seen = each_pass plan history (Works meanings) (IsApart d calls seen) (λ c. own c seen ≡ []) (λ p q w. w.same.2) (λ p q w a fit. a.none)
 
 pub weigh_zero : (b : Bool) (n : ℕ) → b ≡ false → weight b + n ≡ 1 → 0 < n
 weigh_zero true n e l = cc
@@ -107,8 +101,8 @@ weigh_zero false n e l = omega arith
 
 pub seen_is : (d : Place) (steps : List Event) (p : Holder) (callers : ℕ) → (t : Took d steps p) → All (λ e. who_of e < callers) p.known.seen → ((c : ℕ) → 0 < c → c < callers → own c p.known.seen ≡ []) → p.known.seen ≡ take t.taken steps
 seen_is d steps p callers t h none =
-    let did : dids 0 p.records ≡ events_of 0 p.known.seen = subst (λ (c : ℕ). dids c p.records ≡ events_of c p.known.seen) t.caller t.fit.did in
-    sym (all_own callers p.known.seen h none) ∙ sym (calls_of 0 0 p.known.seen) ∙ sym (ap (map call_of) did) ∙ t.did
+    let did : dids 0 p.records ≡ events_of 0 p.known.seen = subst (λ (c : ℕ). dids c p.records ≡ events_of c p.known.seen) t.done.caller t.done.fit.did in
+    sym (all_own callers p.known.seen h none) ∙ sym (calls_of 0 0 p.known.seen) ∙ sym (ap (map call_of) did) ∙ t.done.did
 
 -- ---- the history of a run
 

@@ -18,7 +18,7 @@ use Rattle.cf_desk.specs.Log.{own, state_from}
 use Rattle.cf_desk.specs.Records.{Fits}
 use Rattle.cf_desk.specs.Rule.{count_in, weight}
 use Rattle.cf_desk.specs.Views.{Holder, knowns}
-use Rattle.cf_race.specs.Works.{Works, WorksOut, AreWork, claims_of, owed_after}
+use Rattle.cf_pool.specs.Works.{Works, WorksOut, AreWork, claims_of, owed_after}
 use Rattle.cf_race.specs.Records.{recorded}
 use Rattle.cf_race.proofs.Recorded.{only_dids, only_append, only_work, fits_recorded, recorded_append}
 use Rattle.cf_race.proofs.Counts.{AllBelow, grants_in, claims_in, records_at_most, grants_at_most, claims_at_most}
@@ -33,11 +33,11 @@ more_is meanings plan seen work p q w before now =
     let a = fits_recorded plan c seen p.records before in
     let b = fits_recorded plan c (seen ++ work) q.records now_p in
     let added : only_dids q.records ≡ only_dids p.records ++ w.more =
-        ap only_dids w.records ∙ only_append p.records w.more ∙ ap (λ l. only_dids p.records ++ l) (only_work meanings p.known.setting.plan None w.more w.work) in
+    ap only_dids w.records ∙ only_append p.records w.more ∙ ap (λ l. only_dids p.records ++ l) (only_work meanings p.known.setting.plan None w.more w.work) in
     let place : 0 + length seen ≡ length seen = omega arith in
     append_cancel_left (recorded c 0 (start plan) seen) w.more (recorded c (length seen) (state_from plan seen) work)
     (ap (λ l. l ++ w.more) (sym a) ∙ sym added ∙ b ∙ recorded_append c 0 (start plan) seen work
-        ∙ ap (λ (k : ℕ). recorded c 0 (start plan) seen ++ recorded c k (state_from plan seen) work) place)
+    ∙ ap (λ (k : ℕ). recorded c 0 (start plan) seen ++ recorded c k (state_from plan seen) work) place)
 
 -- ---- each caller has a pass
 

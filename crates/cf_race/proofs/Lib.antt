@@ -8,3 +8,4 @@ pub mod Expressed
 pub mod Joining
 pub mod Ending
 pub mod Raced
+pub mod Begun

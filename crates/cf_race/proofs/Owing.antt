@@ -21,7 +21,7 @@ use Rattle.cf_laws.specs.Histories.{Grants, granted_with}
 use Rattle.cf_laws.proofs.Parts.{granted_with-other}
 use Rattle.cf_desk.specs.declared.calls.Rec.{Rec}
 use Rattle.cf_desk.specs.declared.calls.Rec.TheVariants.{Did}
-use Rattle.cf_race.specs.Works.{Owed, owed_by, IsNext, AreWork}
+use Rattle.cf_pool.specs.Works.{Owed, owed_by, IsNext, AreWork}
 use Rattle.cf_race.specs.Records.{call_of, recorded}
 use Rattle.cf_race.specs.Races.{IsWorkEvent, IsWork}
 
@@ -113,7 +113,6 @@ granted_still granted c (Fails who j code) reply i ne = refl
 granted_still granted c (Cancels who j) reply i ne = refl
 granted_still granted c (Finishes who j answer) reply i ne = refl
 granted_still granted c (Ticks who now) reply i ne = refl
-
 
 pub still_granted : (owes : ℕ → Owed) (granted : Grants) (n : ℕ) (e : Event) (reply : Reply) → WasGranted owes granted → WasGranted (owing_with owes n e reply) (granted_with granted e reply)
 still_granted owes granted n e reply h c i args owed = split (eqb (who_of e) c) refl owed

@@ -24,7 +24,7 @@ use Rattle.cf_core.proofs.Shape.{answered-shape}
 use Rattle.cf_event.specs.Words.{who_of}
 use Rattle.cf_laws.specs.Expressions.{Meanings}
 use Rattle.cf_desk.specs.declared.calls.Rec.{Rec}
-use Rattle.cf_race.specs.Works.{Owed, owed_by, owed_after, IsNext, AreWork}
+use Rattle.cf_pool.specs.Works.{Owed, owed_by, owed_after, IsNext, AreWork}
 use Rattle.cf_race.specs.Records.{call_of, recorded}
 use Rattle.cf_race.proofs.Owing.{rec_of, owing_with, AllWork, is_next, rest_works, by_next}
 use Rattle.cf_race.proofs.Claimed.{is_claimed, at, landed_claimed}
@@ -172,14 +172,14 @@ not_mine : (owes : ℕ → Owed) (s : State) (r : Rec) (who i : ℕ) (args : Arg
 not_mine owes s r who i args h mine missed j e =
     let old = h j e in
     let other : eqb who old.who ≡ false = false_from_ne_true (eqb who old.who) (λ t.
-        let same = eqb-true who old.who t in
-        let both = ap owes same in
-        let pair : (let p : ℕ × Args = (i, args) in p) ≡ (j, old.args) = cc in
-        let here : claim_at s i ≡ Some who = ap (claim_at s) (ap (λ (p : ℕ × Args). p.0) pair) ∙ old.open_claim ∙ ap (λ (k : ℕ). Some k) (sym same) in
-        let yes : (who == who) ≡ true = grind (arith, nat_tests) in
-        let found : option_map_or (λ w. w == who) (claim_at s i) false ≡ true = ap (λ (c : Option ℕ). option_map_or (λ w. w == who) c false) here ∙ yes in
-        let false_true : true ≡ false = sym found ∙ missed in
-        let nothing : ⊥ = cc in nothing) in
+    let same = eqb-true who old.who t in
+    let both = ap owes same in
+    let pair : (let p : ℕ × Args = (i, args) in p) ≡ (j, old.args) = cc in
+    let here : claim_at s i ≡ Some who = ap (claim_at s) (ap (λ (p : ℕ × Args). p.0) pair) ∙ old.open_claim ∙ ap (λ (k : ℕ). Some k) (sym same) in
+    let yes : (who == who) ≡ true = grind (arith, nat_tests) in
+    let found : option_map_or (λ w. w == who) (claim_at s i) false ≡ true = ap (λ (c : Option ℕ). option_map_or (λ w. w == who) c false) here ∙ yes in
+    let false_true : true ≡ false = sym found ∙ missed in
+    let nothing : ⊥ = cc in nothing) in
     record {
       who = old.who;
       args = old.args;

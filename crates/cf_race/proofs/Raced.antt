@@ -22,19 +22,21 @@ use Rattle.cf_laws.specs.Expressions.{Meanings}
 use Rattle.cf_laws.specs.Histories.{grants_after, nothing_granted}
 use Rattle.cf_desk.specs.declared.calls.Kept.{Kept}
 use Rattle.cf_desk.specs.declared.calls.Rec.{Rec}
+use Rattle.cf_desk.specs.declared.faults.DeskFault.{DeskFault}
+use Rattle.cf_desk.specs.declared.faults.DeskFault.TheVariants.{LogFull, NoStage, PassFull}
 use Rattle.cf_desk.specs.declared.row.Setting.{Setting}
 use Rattle.cf_desk.specs.Keepings.{IsKeptFit, pass_did, pass_kept}
 use Rattle.cf_desk.specs.Log.{Catches, IsEventOf, own, state_from}
 use Rattle.cf_desk.specs.Rule.{count_in, weight}
 use Rattle.cf_desk.specs.Views.{Closes, Holder, Place, knowns}
 use Rattle.cf_desk.proofs.Recs.{plan_stays}
-use Rattle.cf_race.specs.Works.{Owed, Works, WorksOut, Ran, RanOut, owed_after}
+use Rattle.cf_pool.specs.Works.{IsDueToTell, Owed, Works, WorksOut, Ran, RanOut, owed_after}
 use Rattle.cf_race.specs.Records.{recorded}
 use Rattle.cf_race.specs.Races.{IsRaced, IsStep, IsWork, log_words}
 use Rattle.cf_race.specs.Beginnings.{HaveBegun, IsApart, Took}
 use Rattle.cf_race.proofs.Claimed.{is_claimed, is_quiet, steps_leave_unclaimed}
 use Rattle.cf_race.proofs.Counts.{AllBelow, ByCaller, history_at_most, recorded_below}
-use Rattle.cf_race.proofs.Ending.{Calls, Whole, all_share, back_all, first_begun, front_all, others_begun, own_none, seen_is, weigh_zero}
+use Rattle.cf_race.proofs.Ending.{Whole, all_share, back_all, first_begun, front_all, others_begun, own_none, seen_is, weigh_zero}
 use Rattle.cf_race.proofs.Joining.{HadBegun, Shares, absent_records, all_room, each_pass, has_room, owes_none, shares, shares_few}
 use Rattle.cf_race.proofs.Owing.{AllWork, is_work_then}
 use Rattle.cf_race.proofs.Quiet.{work_leaves_unclaimed}
@@ -55,7 +57,7 @@ start_few : (plan : Planned) (events : List Event) → claimable_count (state_fr
 start_few plan events =
     let a = count_by-le-length is_claimable (state_from plan events).stages in
     let b : length (state_from plan events).stages ≡ length plan.stages =
-        (state_after-shape (start plan) events).all_stages ∙ length-new_states [] plan.stages (replicate (length plan.stages) Pending) ∙ length-replicate (length plan.stages) Pending in
+    (state_after-shape (start plan) events).all_stages ∙ length-new_states [] plan.stages (replicate (length plan.stages) Pending) ∙ length-replicate (length plan.stages) Pending in
     omega (arith, a, b)
 
 by_callers : (setting : Setting) (events : List Event) → All (IsEventOf setting) events → All (ByCaller setting.callers) events
@@ -83,10 +85,10 @@ history_short meanings d steps workers history seen work w few callers words =
 
 -- ---- the whole
 
-apart_none : (d : Place) (meanings : Meanings) (history : List Event) (first q : Holder) (others qs : List Holder) → first.known.caller ≡ 0 → Works meanings first q → AllZip (Works meanings) others qs → All (IsApart d first.known.seen) others
+apart_none : (d : Place) (calls : ℕ) (meanings : Meanings) (history : List Event) (first q : Holder) (others qs : List Holder) → first.known.caller ≡ 0 → Works meanings first q → AllZip (Works meanings) others qs → All (IsApart d calls first.known.seen) others
     → All (IsKeptFit d.setting.plan history) (map pass_did qs) → (c : ℕ) → 0 < c → count_in c (knowns (q ∷ qs)) ≡ 1 → own c first.known.seen ≡ []
-apart_none d meanings history first q others qs zeroth w zip apart fit c more one =
-    own_none d d.setting.plan history meanings first.known.seen c others qs zip apart fit
+apart_none d calls meanings history first q others qs zeroth w zip apart fit c more one =
+    own_none d calls d.setting.plan history meanings first.known.seen c others qs zip apart fit
     (weigh_zero (eqb q.known.caller c) (count_in c (knowns qs)) (false_from_ne_true (eqb q.known.caller c) (λ e. let same = eqb-true q.known.caller c e in let was : q.known.caller ≡ 0 = w.same.2 ∙ zeroth in let nothing : ⊥ = omega arith in nothing)) one)
 
 all_taken : (d : Place) (steps : List Event) (first : Holder) (t : Took d steps first) (history : List Event) → first.known.seen ≡ take t.taken steps → length first.known.seen ≤ length history → length history < d.words → first.known.seen ≡ steps
@@ -96,11 +98,11 @@ all_taken d steps first t history is begins short = split t.all
     split (inl e) = is ∙ ap (λ (k : ℕ). take k steps) e ∙ take-length steps
     split (inr l) = absurd (omega arith)
 
-ended : (meanings : Meanings) (d : Place) (steps : List Event) (calls workers : ℕ) (first q : Holder) (others qs : List Holder) (history : List Event) → Took d steps first → All (IsApart d first.known.seen) others → All (Calls calls) (first ∷ others)
+ended : (meanings : Meanings) (d : Place) (steps : List Event) (calls workers : ℕ) (first q : Holder) (others qs : List Holder) (history : List Event) → Took d steps first → first.calls ≡ calls → All (IsApart d calls first.known.seen) others
     → AllZip (Works meanings) (first ∷ others) (q ∷ qs) → Closes d.setting (q ∷ qs) history → All (IsKeptFit d.setting.plan history) (map pass_did (q ∷ qs))
     → d.setting.callers ≡ workers + 1 → d.words ≡ log_words (length steps) (length d.setting.plan.stages) workers → length steps + 2 * length d.setting.plan.stages < calls
     → Ended meanings d steps calls (first ∷ others) (q ∷ qs) history
-ended meanings d steps calls workers first q others qs history t apart room zip closes fit callers words enough =
+ended meanings d steps calls workers first q others qs history t room apart zip closes fit callers words enough =
     let setting = d.setting in
     let seen = first.known.seen in
     let w = zip.0 in
@@ -109,8 +111,8 @@ ended meanings d steps calls workers first q others qs history t apart room zip 
     let is : history ≡ seen ++ work = catch.joined ∙ ap (λ l. l ++ catch.others) w.goes_on ∙ append_assoc seen w.seen catch.others in
     let events : All (IsEventOf setting) (seen ++ work) = subst (All (IsEventOf setting)) is closes.events in
     let fits : All (IsKeptFit setting.plan (seen ++ work)) (map pass_did (q ∷ qs)) = subst (λ (h : List Event). All (IsKeptFit setting.plan h) (map pass_did (q ∷ qs))) is fit in
-    let begun = All-cons (HadBegun setting seen (length steps) calls) first others (first_begun d steps calls first t (All-head (Calls calls) first others room))
-        (others_begun d seen (length steps) calls others apart (All-tail (Calls calls) first others room)) in
+    let begun = All-cons (HadBegun setting seen (length steps) calls) first others (first_begun d steps calls first t room)
+    (others_begun d seen (length steps) calls others apart) in
     let whole : Whole meanings setting history seen work = record {
       history_is = is;
       events = events;
@@ -118,7 +120,7 @@ ended meanings d steps calls workers first q others qs history t apart room zip 
           (λ a b v. v.same.2) (shares meanings setting seen work (length steps) calls) c (first ∷ others) (q ∷ qs) zip begun fits (let one = closes.each c l in omega (arith, one));
     } in
     let taken : seen ≡ take t.taken steps = seen_is d steps first setting.callers t (by_callers setting seen (front_all (IsEventOf setting) seen work events))
-        (λ c more less. apart_none d meanings (seen ++ work) first q others qs t.caller w zip.1 apart (All-tail (IsKeptFit setting.plan (seen ++ work)) (pass_did q) (map pass_did qs) fits) c more (closes.each c less)) in
+    (λ c more less. apart_none d calls meanings (seen ++ work) first q others qs t.done.caller w zip.1 apart (All-tail (IsKeptFit setting.plan (seen ++ work)) (pass_did q) (map pass_did qs) fits) c more (closes.each c less)) in
     let few : length seen ≤ length steps = (let a = ap length taken in let b = length-take-le t.taken steps t.few in let c = t.few in omega (arith, a, b, c)) in
     let short = history_short meanings d (length steps) workers history seen work whole few callers words in
     record {
@@ -133,21 +135,21 @@ ended meanings d steps calls workers first q others qs history t apart room zip 
           (first ∷ others) (q ∷ qs) zip begun fits;
     }
 
-ended_any : (meanings : Meanings) (d : Place) (steps : List Event) (calls workers : ℕ) (first : Holder) (others qs : List Holder) (history : List Event) → Took d steps first → All (IsApart d first.known.seen) others → All (Calls calls) (first ∷ others)
+ended_any : (meanings : Meanings) (d : Place) (steps : List Event) (calls workers : ℕ) (first : Holder) (others qs : List Holder) (history : List Event) → Took d steps first → first.calls ≡ calls → All (IsApart d calls first.known.seen) others
     → AllZip (Works meanings) (first ∷ others) qs → Closes d.setting qs history → All (IsKeptFit d.setting.plan history) (map pass_did qs)
     → d.setting.callers ≡ workers + 1 → d.words ≡ log_words (length steps) (length d.setting.plan.stages) workers → length steps + 2 * length d.setting.plan.stages < calls
     → Ended meanings d steps calls (first ∷ others) qs history
-ended_any meanings d steps calls workers first others [] history t apart room zip closes fit callers words enough = absurd zip
-ended_any meanings d steps calls workers first others (q ∷ qs) history t apart room zip closes fit callers words enough =
-    ended meanings d steps calls workers first q others qs history t apart room zip closes fit callers words enough
+ended_any meanings d steps calls workers first others [] history t room apart zip closes fit callers words enough = absurd zip
+ended_any meanings d steps calls workers first others (q ∷ qs) history t room apart zip closes fit callers words enough =
+    ended meanings d steps calls workers first q others qs history t room apart zip closes fit callers words enough
 
 pub run_ended : (meanings : Meanings) (d : Place) (steps : List Event) (calls workers : ℕ) (ps : List Holder) (history : List Event) (kept : List Kept) (graph : State) → HaveBegun d steps calls ps → (r : Ran meanings d.setting ps history kept graph)
     → d.setting.callers ≡ workers + 1 → d.words ≡ log_words (length steps) (length d.setting.plan.stages) workers → length steps + 2 * length d.setting.plan.stages < calls
     → Ended meanings d steps calls ps r.qs history
 run_ended meanings d steps calls workers ps history kept graph b r callers words enough =
     subst (λ (l : List Holder). Ended meanings d steps calls l r.qs history) (sym b.are)
-    (ended_any meanings d steps calls workers b.first b.others r.qs history b.took b.apart (subst (All (Calls calls)) b.are b.room) (subst (λ (l : List Holder). AllZip (Works meanings) l r.qs) b.are r.works)
-        r.closes (subst (All (IsKeptFit d.setting.plan history)) r.kept_are r.fit.each) callers words enough)
+    (ended_any meanings d steps calls workers b.first b.others r.qs history b.took b.room b.apart (subst (λ (l : List Holder). AllZip (Works meanings) l r.qs) b.are r.works)
+    r.closes (subst (All (IsKeptFit d.setting.plan history)) r.kept_are r.fit.each) callers words enough)
 
 -- ---- the race
 
@@ -178,7 +180,7 @@ race_ended meanings d steps calls ps history kept graph built are o e =
     let started : All (IsStep (length plan.stages)) e.seen = subst (All (IsStep (length plan.stages))) (sym e.steps_are) are in
     let shape = state_after-shape (start plan) e.seen in
     let lengths : length s.claims ≡ length s.stages =
-        shape.all_claims ∙ length-replicate (length plan.stages) None ∙ sym (length-new_states [] plan.stages (replicate (length plan.stages) Pending) ∙ length-replicate (length plan.stages) Pending) ∙ sym shape.all_stages in
+    shape.all_claims ∙ length-replicate (length plan.stages) None ∙ sym (length-new_states [] plan.stages (replicate (length plan.stages) Pending) ∙ length-replicate (length plan.stages) Pending) ∙ sym shape.all_stages in
     let state : graph ≡ state_after (start plan) (steps ++ e.work) = o.ran.graph_is ∙ ap (state_from plan) (is ∙ ap (λ l. l ++ e.work) e.steps_are) in
     let joined : state_after s e.work ≡ graph = sym (state_append (start plan) e.seen e.work) ∙ sym (ap (state_from plan) is) ∙ sym o.ran.graph_is in
     record {
@@ -189,6 +191,44 @@ race_ended meanings d steps calls ps history kept graph built are o e =
       state = state;
       quiet = is_quiet graph (lowest_ready-none graph o.none)
           (λ i. ap (λ (t : State). is_claimed (stage_at t i)) (sym joined) ∙ work_leaves_unclaimed meanings plan nobody (length e.seen) s e.work lengths
-              (λ j claimed. (let free = steps_leave_unclaimed plan (length plan.stages) e.seen started j in let nothing : ⊥ = cc in absurd nothing)) works
-              (none_owed meanings d.setting history e.seen e.work (length steps) calls ps o.ran.qs e.whole e.begun o.out o.ran.closes fits) i);
+          (λ j claimed. (let free = steps_leave_unclaimed plan (length plan.stages) e.seen started j in let nothing : ⊥ = cc in absurd nothing)) works
+          (none_owed meanings d.setting history e.seen e.work (length steps) calls ps o.ran.qs e.whole e.begun o.out o.ran.closes fits) i);
     }
+
+-- ---- as the code has it
+
+-- a desk of this plan, for so many workers and steps
+pub record IsSized (d : Place) (plan : Planned) (steps : List Event) (workers calls : ℕ) : Type 0 where
+  pub setting_is : d.setting ≡ record { plan = plan; callers = workers + 1 }
+  pub words_are : d.words ≡ log_words (length steps) (length plan.stages) workers
+  pub calls_are : calls ≡ length steps + 2 * length plan.stages + 1
+
+sized_ended : (meanings : Meanings) (d : Place) (plan : Planned) (steps : List Event) (calls workers : ℕ) (ps : List Holder) (history : List Event) (kept : List Kept) (graph : State) → IsSized d plan steps workers calls → HaveBegun d steps calls ps
+    → (r : Ran meanings d.setting ps history kept graph) → Ended meanings d steps calls ps r.qs history
+sized_ended meanings d plan steps calls workers ps history kept graph z b r =
+    let same : d.setting.plan ≡ plan = ap (λ (s : Setting). s.plan) z.setting_is in
+    let n : length d.setting.plan.stages ≡ length plan.stages = ap (λ (p : Planned). length p.stages) same in
+    let calls_are = z.calls_are in
+    run_ended meanings d steps calls workers ps history kept graph b r (ap (λ (s : Setting). s.callers) z.setting_is)
+    (z.words_are ∙ ap (λ (k : ℕ). log_words (length steps) k workers) (sym n)) (omega (arith, n, calls_are))
+
+-- what a run ends with is the race's state
+pub raced : (meanings : Meanings) (d : Place) (plan : Planned) (steps : List Event) (calls workers : ℕ) (ps : List Holder) (history : List Event) (kept : List Kept) (graph : State) → IsSized d plan steps workers calls → HaveBegun d steps calls ps
+    → IsBuilt plan → All (IsStep (length plan.stages)) steps → RanOut meanings d.setting ps history kept graph → IsRaced meanings plan steps graph
+raced meanings d plan steps calls workers ps history kept graph z b built are o =
+    let same : d.setting.plan ≡ plan = ap (λ (s : Setting). s.plan) z.setting_is in
+    subst (λ (p : Planned). IsRaced meanings p steps graph) same
+    (race_ended meanings d steps calls ps history kept graph (subst IsBuilt (sym same) built) (subst (λ (p : Planned). All (IsStep (length p.stages)) steps) (sym same) are) o
+    (sized_ended meanings d plan steps calls workers ps history kept graph z b o.ran))
+
+-- and it meets no fault of the desk
+pub never_full : (meanings : Meanings) (d : Place) (plan : Planned) (steps : List Event) (calls workers : ℕ) (ps : List Holder) (history : List Event) (kept : List Kept) (graph : State) → IsSized d plan steps workers calls → HaveBegun d steps calls ps
+    → (fault : DeskFault) (r : Ran meanings d.setting ps history kept graph) → IsDueToTell d.words r.qs history fault → ⊥
+never_full meanings d plan steps calls workers ps history kept graph z b NoStage r due = due
+never_full meanings d plan steps calls workers ps history kept graph z b LogFull r due =
+    let short = (sized_ended meanings d plan steps calls workers ps history kept graph z b r).short in
+    omega (arith, short, due)
+never_full meanings d plan steps calls workers ps history kept graph z b PassFull r due =
+    let room = All-contains (λ (q : Holder). length q.records < q.calls) r.qs due.0 (sized_ended meanings d plan steps calls workers ps history kept graph z b r).room due.1 in
+    let full = due.2 in
+    omega (arith, room, full)

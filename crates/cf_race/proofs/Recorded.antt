@@ -19,7 +19,7 @@ use Rattle.cf_desk.specs.Log.{state_from, placed, events_of}
 use Rattle.cf_desk.specs.Records.{dids, IsAnswered, Fits}
 use Rattle.cf_desk.proofs.Recs.{state_snoc}
 use Rattle.std.specs.Prelude.{Option, Some, None}
-use Rattle.cf_race.specs.Works.{Owed, IsNext, AreWork, owed_by}
+use Rattle.cf_pool.specs.Works.{Owed, IsNext, AreWork, owed_by}
 use Rattle.cf_race.specs.Records.{call_of, recorded}
 
 -- the changing calls among records
@@ -72,8 +72,8 @@ told_events plan c xs (w ∷ ws) =
     (Did (suc (length xs)) (call_of w) ((answered (state_from plan xs) w).0)) (recorded c (suc (length xs)) ((answered (state_from plan xs) w).1) ws)
     (told_here plan xs ws w)
     ((λ i. map (told_of plan (sym (append_assoc xs (w ∷ []) ws) i)) (filter (mine c) (placed (longer xs w i) ws)))
-        ∙ told_events plan c (xs ++ w ∷ []) ws
-        ∙ (λ i. recorded c (sym (longer xs w) i) (state_snoc (start plan) xs w i) ws))
+    ∙ told_events plan c (xs ++ w ∷ []) ws
+    ∙ (λ i. recorded c (sym (longer xs w) i) (state_snoc (start plan) xs w i) ws))
 
 pub fits_recorded : (plan : Planned) (c : ℕ) (history : List Event) (rs : List Rec) → Fits plan c history rs → only_dids rs ≡ recorded c 0 (start plan) history
 fits_recorded plan c history rs f = told_dids plan history c rs f.answers ∙ ap (map (told_of plan history)) f.did ∙ told_events plan c [] history

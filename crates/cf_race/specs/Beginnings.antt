@@ -1,5 +1,5 @@
 -- What the passes of a race hold before its workers begin.
-use Rattle.std.specs.Prelude.{◌≡◌, ℕ, ◌≤◌, ◌<◌, ◌⊎◌, List, [], ◌∷◌, length, map, take}
+use Rattle.std.specs.Prelude.{◌≡◌, ℕ, ◌≤◌, ◌⊎◌, List, [], ◌∷◌, length, map, take}
 use Rattle.std.specs.List.{All}
 use Rattle.cf_core.specs.declared.events.Event.{Event}
 use Rattle.cf_desk.specs.Keepings.{IsFit}
@@ -7,24 +7,36 @@ use Rattle.cf_desk.specs.Laws.{call_of}
 use Rattle.cf_desk.specs.Log.{own}
 use Rattle.cf_desk.specs.Records.{dids}
 use Rattle.cf_desk.specs.Views.{Holder, Place}
-use Rattle.cf_race.specs.Works.{IsOf}
+use Rattle.cf_pool.specs.Works.{IsOf}
 
--- caller 0 has done the steps in order, or the first of them, where what it has seen fills the log
-pub record Took (d : Place) (steps : List Event) (p : Holder) : Type 0 where
+-- caller 0 has done the first of the steps in order, so many of them
+pub record HasTaken (d : Place) (steps : List Event) (taken : ℕ) (p : Holder) : Type 0 where
   pub of : IsOf d p
   pub caller : p.known.caller ≡ 0
   pub fit : IsFit p
-  pub taken : ℕ
-  pub few : taken ≤ length steps
   pub held : length p.records ≡ taken
   pub did : map call_of (dids 0 p.records) ≡ take taken steps
+
+-- it has done them all, or what it has seen fills the log
+pub record Took (d : Place) (steps : List Event) (p : Holder) : Type 0 where
+  pub taken : ℕ
+  pub few : taken ≤ length steps
+  pub done : HasTaken d steps taken p
   pub all : (taken ≡ length steps) ⊎ (d.words ≤ length p.known.seen)
 
+-- a pass of the desk with room for so many records that has seen and recorded nothing
+pub record IsIdle (d : Place) (calls : ℕ) (p : Holder) : Type 0 where
+  pub of : IsOf d p
+  pub idle : p.records ≡ []
+  pub unseeing : p.known.seen ≡ []
+  pub room : p.calls ≡ calls
+
 -- another caller has done nothing, and stands nowhere in what caller 0 has seen
-pub record IsApart (d : Place) (seen : List Event) (p : Holder) : Type 0 where
+pub record IsApart (d : Place) (calls : ℕ) (seen : List Event) (p : Holder) : Type 0 where
   pub of : IsOf d p
   pub idle : p.records ≡ []
   pub none : own p.known.caller seen ≡ []
+  pub room : p.calls ≡ calls
 
 -- the passes, caller 0's first, each with room for so many records
 pub record HaveBegun (d : Place) (steps : List Event) (calls : ℕ) (ps : List Holder) : Type 0 where
@@ -32,5 +44,5 @@ pub record HaveBegun (d : Place) (steps : List Event) (calls : ℕ) (ps : List H
   pub others : List Holder
   pub are : ps ≡ first ∷ others
   pub took : Took d steps first
-  pub apart : All (IsApart d first.known.seen) others
-  pub room : All (λ (p : Holder). p.calls ≡ calls) ps
+  pub room : first.calls ≡ calls
+  pub apart : All (IsApart d calls first.known.seen) others

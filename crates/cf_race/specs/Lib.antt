@@ -1,4 +1,3 @@
-pub mod Works
 pub mod Records
 pub mod Races
 pub mod Beginnings

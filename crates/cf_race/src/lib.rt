@@ -1,7 +1,29 @@
-//! Races.
+//! Races: caller 0 settles what a plan's sources take, and then workers, each on a thread of its own, do all the work
+//! that there is.
+//!
+//! A race's desk has a caller for each worker beside caller 0. Its log is as long as the steps, a claim of each stage by
+//! each caller, and one finish for each stage need, and one word more. So by count neither the log nor a pass is ever
+//! full, and a race fails for want of memory or for its size alone. What the workers do comes between one another in any
+//! order, but in a plain plan each stage ends as its expression, whatever the order and however many workers there are.
 #![tactic(auto)]
 
-ghost use Rattle.cf_race.specs.Races.{RacedIsExpression};
+mod beginning;
+mod sizes;
+
+ghost use Rattle.std.specs.Prelude.{◌≡◌, ◌<◌, ◌≤◌, All, IfErr, IfOk, length};
+ghost use Rattle.cf_pool.specs.Works.{meanings_of};
+ghost use Rattle.cf_race.specs.Races.{IsDue, IsRaced, IsStep, RacedIsExpression, log_words};
+
+use crate::beginning::begin;
+use crate::sizes::sizes;
+use cf_core::Event;
+use cf_desk::Closed;
+use cf_late::Graph;
+use cf_plan::{Plan, StageFn};
+use cf_pool::{Gate, PoolFault, run};
+use std::alloc::Global;
+use std::sync::Wait;
+use std::thread::Threads;
 
 /// Why there is no race.
 #[derive(Clone, Copy, Debug, Drop, PartialEq, Eq)]
@@ -10,6 +32,45 @@ pub enum RaceFault {
     NoMemory,
     /// The log would have more than 65,535 words.
     Size,
+}
+
+/// Does these steps as caller 0's, in order, and then lets so many workers, 1 to 32, work on threads of their own until
+/// nothing is ready. It gives the graph as the whole history leaves it.
+pub fn race<R: Threads + Wait + Sync, F: StageFn + Sync, G: Gate + Sync>(
+    rt: &R,
+    alloc: Global,
+    plan: Plan,
+    steps: &[Event],
+    fns: &[F],
+    gate: &G,
+    workers: u8,
+) -> Result<Graph, RaceFault>
+    requires workers { (0 < workers) × (workers ≤ 32) }
+    requires steps { All (IsStep (length plan.stages)) steps.now }
+    ensures raced { IfOk result (λ g. IsRaced (meanings_of F.meaning fns.now) plan steps.now g) }
+    ensures size { IfOk result (λ g. log_words (length steps.now) (length plan.stages) workers ≤ 65535) }
+    ensures fault { IfErr result (IsDue (log_words (length steps.now) (length plan.stages) workers)) }
+{
+    let (log, calls) = match sizes(steps.len(), plan.stages(), workers) {
+        Some(sizes) => sizes,
+        None => return Err(RaceFault::Size),
+    };
+    let (desk, passes) = match begin(alloc, plan, workers + 1, steps, log, calls) {
+        Ok(begun) => begun,
+        Err(_) => return Err(RaceFault::NoMemory),
+    };
+    match run(rt, desk, passes, fns, gate, workers) {
+        Ok(closed) => {
+            let Closed {
+                history: _,
+                passes: _,
+                graph,
+            } = closed;
+            Ok(graph)
+        }
+        Err(PoolFault::NoMemory) => Err(RaceFault::NoMemory),
+        Err(PoolFault::Desk(..)) => unreachable!(),
+    }
 }
 
 /// However many workers there were, and whatever they did first, a race of a plain plan with plain steps ends as the
