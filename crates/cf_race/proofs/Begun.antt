@@ -1,9 +1,8 @@
 -- How the passes of a race begin.
-use Rattle.std.proofs.Common.{◌≡◌, ◌==◌, ℕ, zero, suc, ◌+◌, ◌-◌, ◌<◌, ◌≤◌, ◌⊎◌, inl, inr, ⊎_elim, true, List, [], ◌∷◌, ◌++◌, length, map, take, drop, get_or, sym, refl, ap, ◌∙◌, subst, arith, length-append}
-use mathlib.Core.List.{map-append}
+use Rattle.std.proofs.Common.{◌≡◌, ◌==◌, ℕ, zero, suc, ◌+◌, ◌<◌, ◌≤◌, ◌⊎◌, inl, inr, true, List, [], ◌∷◌, ◌++◌, length, map, take, drop, get_or, sym, refl, ap, ◌∙◌, subst, arith, length-append}
 use Rattle.std.specs.List.{All}
 use Rattle.std.proofs.lemmas.List.{take_more}
-use Rattle.std.proofs.lemmas.List.Elements.{All-nil, All-cons, All-get_or}
+use Rattle.std.proofs.lemmas.List.Elements.{All-nil, All-cons, All-get_or, All-weaker}
 use Rattle.cf_core.specs.declared.events.Event.{Event}
 use Rattle.cf_core.specs.declared.events.Event.TheVariants.{Complete as Completes, Fail as Fails, Cancel as Cancels, Claim as Claims, Finish as Finishes, Tick as Ticks}
 use Rattle.cf_core.specs.declared.events.Reply.{Reply}
@@ -14,17 +13,16 @@ use Rattle.cf_desk.specs.declared.calls.Rec.{Rec}
 use Rattle.cf_desk.specs.declared.calls.Rec.TheVariants.{Did, Saw}
 use Rattle.cf_desk.specs.declared.faults.DeskFault.{DeskFault}
 use Rattle.cf_desk.specs.declared.faults.DeskFault.TheVariants.{NoStage, LogFull, PassFull}
-use Rattle.cf_desk.specs.declared.row.Known.{Known}
 use Rattle.cf_desk.specs.declared.row.Setting.{Setting}
 use Rattle.cf_desk.specs.Calls.{event_by}
 use Rattle.cf_desk.specs.Faults.{IsDue, IsOnStage}
-use Rattle.cf_desk.specs.Keepings.{IsFit}
 use Rattle.cf_desk.specs.Laws.{call_of}
-use Rattle.cf_desk.specs.Log.{own, Catches}
+use Rattle.cf_desk.specs.Log.{own}
 use Rattle.cf_desk.specs.Records.{dids, Fits}
 use Rattle.cf_desk.specs.Rule.{blank, fresh, with_seen}
-use Rattle.cf_desk.specs.Views.{Acts, Follows, Holder, IsSamePass, Meets, Place, new_pass, opened}
+use Rattle.cf_desk.specs.Views.{Acts, Follows, Holder, Meets, Place, new_pass, opened}
 use Rattle.cf_desk.proofs.Recs.{fits_did, fits_more, fits_new, own_call}
+use Rattle.cf_pool.specs.Works.{IsOf}
 use Rattle.cf_race.specs.Records.{call_of as call_by}
 use Rattle.cf_race.specs.Races.{IsStep, is_step}
 use Rattle.cf_race.specs.Beginnings.{HasTaken, HaveBegun, IsApart, IsIdle, Took}
@@ -154,3 +152,8 @@ parted_new d calls (suc n) p ps l first others = record {
 pub parted : (d : Place) (calls : ℕ) (all : List Holder) (p : Holder) (ps : List Holder) → 0 < d.setting.callers → all ≡ opened d.table d.setting calls → p ≡ get_or all 0 p → ps ≡ take 0 all ++ drop 1 all → Parted d calls p ps
 parted d calls all p ps l is first others =
     parted_new d calls d.setting.callers p ps l (first ∙ ap (λ (h : List Holder). get_or h 0 p) is) (others ∙ ap (drop 1) is)
+
+-- all are of the desk
+pub begun_of : (d : Place) (steps : List Event) (calls : ℕ) (ps : List Holder) → HaveBegun d steps calls ps → All (IsOf d) ps
+begun_of d steps calls ps h = subst (All (IsOf d)) (sym h.are)
+    (All-cons (IsOf d) h.first h.others h.took.done.of (All-weaker (IsApart d calls h.first.known.seen) (IsOf d) (λ p a. a.of) h.others h.apart))

@@ -1,6 +1,6 @@
 -- Which stages are claimed, along a history.
-use Rattle.std.proofs.Common.{◌≡◌, ◌≢◌, ℕ, zero, suc, ◌+◌, ◌<◌, ◌==◌, Bool, true, false, cond, eqb, Option, Some, None, List, [], ◌∷◌, ◌++◌, length, set, replicate, sym, refl, ap, ◌∙◌, subst, arith}
-use Rattle.std.specs.Prelude.{slice_get, unwrap_or, option_and_then, nat_lt, map}
+use Rattle.std.proofs.Common.{◌≡◌, ◌≢◌, ℕ, zero, suc, ◌+◌, Bool, true, false, cond, Option, Some, None, List, [], ◌∷◌, ◌++◌, length, set, replicate, sym, refl, ◌∙◌, arith}
+use Rattle.std.specs.Prelude.{slice_get, unwrap_or, nat_lt, map}
 use Rattle.std.specs.List.{All}
 use Rattle.std.proofs.lemmas.Bool.{false_from_ne_true}
 use Rattle.std.proofs.lemmas.List.Elements.{All-nil, All-cons, All-head, All-tail}
@@ -21,7 +21,7 @@ use Rattle.cf_core.specs.declared.stage.Stage.TheVariants.{Pending, Ready, Claim
 use Rattle.cf_core.specs.declared.replies.Ticked.TheVariants.{Fired, Past}
 use Rattle.cf_core.specs.declared.events.Event.{Event}
 use Rattle.cf_core.specs.declared.events.Event.TheVariants.{Complete as Completes, Fail as Fails, Cancel as Cancels, Claim as Claims, Finish as Finishes, Tick as Ticks}
-use Rattle.cf_core.specs.States.{State, start, outcome_of, outcome_in, outcome_at, stage_at, is_ready, due_state, linked_state, next_of, new_states}
+use Rattle.cf_core.specs.States.{State, start, outcome_in, outcome_at, stage_at, is_ready, due_state, linked_state, next_of, new_states}
 use Rattle.cf_core.specs.Events.{answered, state_after, settled_by, settling, cancelled_by, landed, linked_to, firing, due_limits, limit_outcome}
 use Rattle.cf_laws.specs.Histories.{IsQuiet, is_at_rest}
 use Rattle.cf_race.specs.Races.{IsStep, is_step}

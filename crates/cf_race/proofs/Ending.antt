@@ -1,29 +1,24 @@
 -- What a run leaves of a race.
-use Rattle.std.proofs.Common.{◌≡◌, ◌≢◌, ℕ, zero, suc, ◌+◌, ◌*◌, ◌<◌, ◌≤◌, ◌⊎◌, inl, inr, ⊎_elim, Bool, true, false, cond, eqb, eq-eqb, Option, Some, None, List, [], ◌∷◌, ◌++◌, length, map, take, sym, refl, ap, ◌∙◌, subst, arith, length-append, append_assoc}
+use Rattle.std.proofs.Common.{◌≡◌, ◌≢◌, ℕ, suc, ◌+◌, ◌<◌, ◌≤◌, ◌⊎◌, inl, inr, Bool, true, false, cond, eqb, eq-eqb, List, [], ◌∷◌, ◌++◌, length, map, take, sym, refl, ap, ◌∙◌, subst, arith}
 use Rattle.std.specs.List.{All, AllZip, filter}
-use Rattle.std.proofs.lemmas.Bool.{eqb-true, eqb-false, false_from_ne_true, cases_lt}
+use Rattle.std.proofs.lemmas.Bool.{eqb-false, cases_lt}
 use Rattle.std.proofs.lemmas.List.Elements.{All-nil, All-cons, All-head, All-tail, All-weaker}
 use Rattle.cf_plan.specs.Plans.{Planned}
 use Rattle.cf_core.specs.declared.events.Event.{Event}
-use Rattle.cf_core.specs.States.{State, start}
-use Rattle.cf_core.specs.Events.{answered, state_after}
-use Rattle.cf_core.specs.Ranges.{EventFits}
 use Rattle.cf_event.specs.Words.{who_of}
 use Rattle.cf_laws.specs.Expressions.{Meanings}
-use Rattle.cf_desk.specs.declared.calls.Kept.{Kept}
-use Rattle.cf_desk.specs.declared.calls.Rec.{Rec}
 use Rattle.cf_desk.specs.declared.row.Setting.{Setting}
 use Rattle.cf_desk.specs.Keepings.{IsKeptFit, pass_did}
 use Rattle.cf_desk.specs.Laws.{call_of}
-use Rattle.cf_desk.specs.Log.{Catches, IsEventOf, events_of, own, placed, state_from}
+use Rattle.cf_desk.specs.Log.{IsEventOf, events_of, own, placed, state_from}
 use Rattle.cf_desk.specs.Records.{Fits, dids}
 use Rattle.cf_desk.specs.Rule.{count_in, weight}
-use Rattle.cf_desk.specs.Views.{Closes, Holder, Place, knowns}
+use Rattle.cf_desk.specs.Views.{Holder, Place, knowns}
 use Rattle.cf_desk.proofs.Recs.{fits_more, fits_new}
-use Rattle.cf_pool.specs.Works.{Works, WorksOut, AreWork, claims_of, owed_after}
+use Rattle.cf_pool.specs.Works.{Works}
 use Rattle.cf_race.specs.Records.{recorded}
 use Rattle.cf_race.specs.Beginnings.{IsApart, Took}
-use Rattle.cf_race.proofs.Joining.{HadBegun, Shares, absent_records, each_pass, shares}
+use Rattle.cf_race.proofs.Joining.{HadBegun, Shares, absent_records, each_pass}
 
 -- ---- what caller 0 had seen was the steps alone
 

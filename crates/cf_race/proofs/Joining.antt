@@ -1,27 +1,26 @@
 -- From what each pass holds to the one history: what each caller adds to it, and how long it is.
-use Rattle.std.proofs.Common.{◌≡◌, ◌≢◌, ℕ, zero, suc, ◌+◌, ◌*◌, ◌<◌, ◌≤◌, ◌⊎◌, inl, inr, Bool, true, false, cond, eqb, eq-eqb, Option, Some, None, List, [], ◌∷◌, ◌++◌, length, map, sym, refl, ap, ◌∙◌, subst, arith, length-append}
-use Rattle.std.specs.List.{All, AllZip, Contains, filter}
-use Rattle.std.proofs.lemmas.Bool.{eqb-true, eqb-false}
+use Rattle.std.proofs.Common.{◌≡◌, ℕ, suc, ◌+◌, ◌*◌, ◌<◌, ◌≤◌, Bool, true, false, cond, eqb, None, List, [], ◌∷◌, ◌++◌, length, map, sym, refl, ap, ◌∙◌, subst, arith, length-append}
+use Rattle.std.specs.List.{All, AllZip}
+use Rattle.std.proofs.lemmas.Bool.{eqb-true}
 use Rattle.std.proofs.lemmas.List.{append_cancel_left}
-use Rattle.std.proofs.lemmas.List.Elements.{All-nil, All-cons, All-head, All-tail, All-contains, All-weaker}
+use Rattle.std.proofs.lemmas.List.Elements.{All-nil, All-cons, All-head, All-tail}
 use Rattle.cf_plan.specs.Plans.{Planned}
 use Rattle.cf_core.specs.declared.events.Event.{Event}
 use Rattle.cf_core.specs.States.{State, start}
-use Rattle.cf_core.specs.Events.{answered, state_after}
+use Rattle.cf_core.specs.Events.{answered}
 use Rattle.cf_event.specs.Words.{who_of}
 use Rattle.cf_laws.specs.Expressions.{Meanings}
 use Rattle.cf_desk.specs.declared.calls.Rec.{Rec}
-use Rattle.cf_desk.specs.declared.row.Known.{Known}
 use Rattle.cf_desk.specs.declared.row.Setting.{Setting}
 use Rattle.cf_desk.specs.Keepings.{IsKeptFit, pass_did}
-use Rattle.cf_desk.specs.Log.{own, state_from}
+use Rattle.cf_desk.specs.Log.{state_from}
 use Rattle.cf_desk.specs.Records.{Fits}
 use Rattle.cf_desk.specs.Rule.{count_in, weight}
 use Rattle.cf_desk.specs.Views.{Holder, knowns}
 use Rattle.cf_pool.specs.Works.{Works, WorksOut, AreWork, claims_of, owed_after}
 use Rattle.cf_race.specs.Records.{recorded}
 use Rattle.cf_race.proofs.Recorded.{only_dids, only_append, only_work, fits_recorded, recorded_append}
-use Rattle.cf_race.proofs.Counts.{AllBelow, grants_in, claims_in, records_at_most, grants_at_most, claims_at_most}
+use Rattle.cf_race.proofs.Counts.{AllBelow, grants_in, records_at_most, grants_at_most, claims_at_most}
 
 -- ---- what a pass added is what the rest of the history makes of its caller's events
 

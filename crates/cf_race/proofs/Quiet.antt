@@ -1,5 +1,5 @@
 -- Once nobody owes anything, no stage is claimed.
-use Rattle.std.proofs.Common.{◌≡◌, ◌≢◌, ℕ, zero, suc, ◌+◌, ◌<◌, ◌==◌, Bool, true, false, cond, eqb, eq-eqb, Option, Some, None, List, [], ◌∷◌, length, set, sym, refl, ap, ◌∙◌, subst, arith}
+use Rattle.std.proofs.Common.{◌≡◌, ◌≢◌, ℕ, zero, suc, ◌<◌, ◌==◌, Bool, true, false, cond, eqb, eq-eqb, Option, Some, None, List, [], ◌∷◌, length, set, sym, refl, ap, ◌∙◌, subst, arith}
 use Rattle.std.specs.Prelude.{slice_get, unwrap_or, option_and_then}
 use Rattle.std.specs.Option.{option_map_or}
 use Rattle.std.proofs.lemmas.Bool.{eqb-true, eqb-false, false_from_ne_true}
@@ -15,7 +15,7 @@ use Rattle.cf_core.specs.declared.stage.Stage.{Stage}
 use Rattle.cf_core.specs.declared.stage.Stage.TheVariants.{Pending, Ready, Claimed, Linked, Settled}
 use Rattle.cf_core.specs.declared.replies.Finished.TheVariants.{NotYours}
 use Rattle.cf_core.specs.declared.events.Event.{Event}
-use Rattle.cf_core.specs.declared.events.Event.TheVariants.{Complete as Completes, Fail as Fails, Cancel as Cancels, Claim as Claims, Finish as Finishes, Tick as Ticks}
+use Rattle.cf_core.specs.declared.events.Event.TheVariants.{Claim as Claims, Finish as Finishes}
 use Rattle.cf_core.specs.declared.events.Reply.{Reply}
 use Rattle.cf_core.specs.declared.events.Reply.TheVariants.{Claim as ToldClaim}
 use Rattle.cf_core.specs.States.{State, outcome_of, outcome_at, stage_at, claim_at}
@@ -24,8 +24,8 @@ use Rattle.cf_core.proofs.Shape.{answered-shape}
 use Rattle.cf_event.specs.Words.{who_of}
 use Rattle.cf_laws.specs.Expressions.{Meanings}
 use Rattle.cf_desk.specs.declared.calls.Rec.{Rec}
-use Rattle.cf_pool.specs.Works.{Owed, owed_by, owed_after, IsNext, AreWork}
-use Rattle.cf_race.specs.Records.{call_of, recorded}
+use Rattle.cf_pool.specs.Works.{Owed, owed_by, owed_after, IsNext}
+use Rattle.cf_race.specs.Records.{recorded}
 use Rattle.cf_race.proofs.Owing.{rec_of, owing_with, AllWork, is_next, rest_works, by_next}
 use Rattle.cf_race.proofs.Claimed.{is_claimed, at, landed_claimed}
 

@@ -1,13 +1,12 @@
 -- A run that begins as a race ends as one, and its log and its passes are never full.
-use Rattle.std.proofs.Common.{◌≡◌, ◌≢◌, ℕ, zero, suc, ◌+◌, ◌*◌, ◌<◌, ◌≤◌, ◌⊎◌, inl, inr, Bool, true, false, eqb, Option, Some, None, List, [], ◌∷◌, ◌++◌, length, map, take, replicate, sym, refl, ap, ◌∙◌, subst, arith, length-append, append_assoc}
-use Rattle.std.specs.List.{All, AllZip, Contains}
+use Rattle.std.proofs.Common.{◌≡◌, ℕ, suc, ◌+◌, ◌*◌, ◌<◌, ◌≤◌, ◌⊎◌, inl, inr, eqb, None, List, [], ◌∷◌, ◌++◌, length, map, take, replicate, sym, refl, ap, ◌∙◌, subst, arith, length-append, append_assoc}
+use Rattle.std.specs.List.{All, AllZip}
 use native.Mathlib.Nat.{mul-suc}
 use Rattle.std.proofs.lemmas.Bool.{eqb-true, false_from_ne_true, cases_lt}
 use Rattle.std.proofs.lemmas.List.{length-take-le, length-replicate}
 use Rattle.std.proofs.lemmas.List.Sums.{count_by-le-length}
 use Rattle.std.proofs.Math.Seq.{take-length}
 use Rattle.std.proofs.lemmas.List.Elements.{All-cons, All-head, All-tail, All-weaker, All-contains}
-use Rattle.cf_plan.specs.declared.forms.Args.{Args}
 use Rattle.cf_plan.specs.Plans.{Planned, IsBuilt}
 use Rattle.cf_core.specs.declared.events.Event.{Event}
 use Rattle.cf_core.specs.declared.stage.Stage.TheVariants.{Pending}
@@ -17,17 +16,15 @@ use Rattle.cf_core.specs.Events.{answered, state_after}
 use Rattle.cf_core.specs.Ranges.{EventFits}
 use Rattle.cf_core.proofs.LowestReady.{lowest_ready-none}
 use Rattle.cf_core.proofs.Shape.{length-new_states, state_after-shape}
-use Rattle.cf_event.specs.Words.{who_of}
 use Rattle.cf_laws.specs.Expressions.{Meanings}
 use Rattle.cf_laws.specs.Histories.{grants_after, nothing_granted}
 use Rattle.cf_desk.specs.declared.calls.Kept.{Kept}
-use Rattle.cf_desk.specs.declared.calls.Rec.{Rec}
 use Rattle.cf_desk.specs.declared.faults.DeskFault.{DeskFault}
 use Rattle.cf_desk.specs.declared.faults.DeskFault.TheVariants.{LogFull, NoStage, PassFull}
 use Rattle.cf_desk.specs.declared.row.Setting.{Setting}
-use Rattle.cf_desk.specs.Keepings.{IsKeptFit, pass_did, pass_kept}
+use Rattle.cf_desk.specs.Keepings.{IsKeptFit, pass_did}
 use Rattle.cf_desk.specs.Log.{Catches, IsEventOf, own, state_from}
-use Rattle.cf_desk.specs.Rule.{count_in, weight}
+use Rattle.cf_desk.specs.Rule.{count_in}
 use Rattle.cf_desk.specs.Views.{Closes, Holder, Place, knowns}
 use Rattle.cf_desk.proofs.Recs.{plan_stays}
 use Rattle.cf_pool.specs.Works.{IsDueToTell, Owed, Works, WorksOut, Ran, RanOut, owed_after}

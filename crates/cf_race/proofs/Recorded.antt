@@ -1,5 +1,5 @@
 -- The records of a pass are what the history makes of its caller's events.
-use Rattle.std.proofs.Common.{◌≡◌, ℕ, zero, suc, ◌+◌, ◌-◌, Bool, true, false, cond, eqb, List, [], ◌∷◌, ◌++◌, length, take, map, All, sym, refl, ap, ◌∙◌, subst, append_assoc, length-append, arith}
+use Rattle.std.proofs.Common.{◌≡◌, ℕ, suc, ◌+◌, ◌-◌, Bool, true, false, cond, eqb, List, [], ◌∷◌, ◌++◌, length, take, map, All, sym, refl, ap, ◌∙◌, append_assoc, length-append, arith}
 use Rattle.std.specs.List.{filter}
 use Rattle.std.proofs.Math.Seq.{take-append_seam}
 use Rattle.std.proofs.lemmas.List.Elements.{All-head, All-tail}
@@ -15,11 +15,11 @@ use Rattle.cf_desk.specs.declared.calls.Call.TheVariants.{Complete, Fail, Cancel
 use Rattle.cf_desk.specs.declared.calls.Rec.{Rec}
 use Rattle.cf_desk.specs.declared.calls.Rec.TheVariants.{Did, Saw}
 use Rattle.cf_desk.specs.Calls.{event_by}
-use Rattle.cf_desk.specs.Log.{state_from, placed, events_of}
+use Rattle.cf_desk.specs.Log.{state_from, placed}
 use Rattle.cf_desk.specs.Records.{dids, IsAnswered, Fits}
 use Rattle.cf_desk.proofs.Recs.{state_snoc}
-use Rattle.std.specs.Prelude.{Option, Some, None}
-use Rattle.cf_pool.specs.Works.{Owed, IsNext, AreWork, owed_by}
+use Rattle.std.specs.Prelude.{Some, None}
+use Rattle.cf_pool.specs.Works.{Owed, AreWork, owed_by}
 use Rattle.cf_race.specs.Records.{call_of, recorded}
 
 -- the changing calls among records

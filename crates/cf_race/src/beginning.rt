@@ -1,5 +1,6 @@
 //! How a race begins: caller 0 does the steps, and then it meets each other caller.
 ghost use Rattle.std.specs.Prelude.{◌≡◌, ◌<◌, ◌≤◌, All, IfOk, length, vec_len};
+ghost use Rattle.cf_pool.specs.Works.{IsOf};
 ghost use Rattle.cf_race.specs.Beginnings.{HasTaken, HaveBegun, IsApart, IsIdle, Took};
 ghost use Rattle.cf_race.specs.Races.{IsStep};
 ghost use Rattle.cf_race.specs.Records.{call_of};
@@ -20,7 +21,7 @@ pub(crate) fn begin(
 ) -> Result<(Desk, Vec<Pass>), AllocError>
     requires steps { All (IsStep (length plan.stages)) steps.now × (length steps.now < calls) }
     ensures desk { IfOk result (λ r. (r.0.setting ≡ record { plan = plan; callers = callers }) × (r.0.words ≡ log)) }
-    ensures count { IfOk result (λ r. vec_len r.1 ≡ callers) }
+    ensures passes { IfOk result (λ r. All (IsOf r.0) r.1.items × (vec_len r.1 ≡ callers)) }
     ensures begun { IfOk result (λ r. HaveBegun r.0 steps.now calls r.1.items) }
 {
     let (desk, mut passes) = match Desk::open(alloc, plan, callers, log, calls) {

@@ -1,4 +1,4 @@
-use Rattle.std.proofs.Common.{◌≡◌, ◌+◌, ◌*◌, ◌∙◌, ap, arith, length, ℕ, refl, sym, subst}
+use Rattle.std.proofs.Common.{◌≡◌, ◌+◌, ◌*◌, ◌∙◌, ap, length, ℕ, subst}
 use Rattle.cf_pool.specs.Runs.{IsRefused}
 use Rattle.cf_pool.specs.Works.{meanings_of}
 use Rattle.cf_race.specs.Races.{log_words}
@@ -11,7 +11,7 @@ sized : (g : Over) (c : In-Ok g) → IsSized c.in-Ok.begun.0 c.args.plan c.args.
 sized g c =
     let d = c.in-Ok.ensures.desk in
     let s = c.in-Some.ensures in
-    let n = c.stages.ensures.count in
+    let n : c.stages.result ≡ length c.args.plan.stages = c.stages.ensures.count in
     record { setting_is = d.0; words_are = d.1 ∙ s.0 ∙ ap (λ (k : ℕ). log_words (length c.args.steps.now) k c.args.workers) n; calls_are = s.1 ∙ ap (λ (k : ℕ). length c.args.steps.now + 2 * k + 1) n }
 
 pub returns-in-Ok-run-clause-raced : goal.returns-in-Ok-run-clause-raced

@@ -1,10 +1,10 @@
-use Rattle.std.proofs.Common.{◌≡◌, ◌<◌, ◌+◌, ◌∷◌, length, sym, ◌∙◌, ap, arith, refl, subst, ℕ}
+use Rattle.std.proofs.Common.{◌≡◌, ◌∷◌, length, sym, ◌∙◌, ap, arith, subst, vec_len, ℕ}
 use Rattle.std.specs.List.{All}
 use Rattle.cf_desk.specs.declared.row.Setting.{Setting}
 use Rattle.cf_desk.specs.Views.{Holder}
-use Rattle.cf_race.specs.Beginnings.{IsApart, IsIdle}
+use Rattle.cf_race.specs.Beginnings.{HaveBegun, IsApart, IsIdle}
 use Rattle.cf_race.specs.Races.{IsStep}
-use Rattle.cf_race.proofs.Begun.{Parted, none_taken, parted}
+use Rattle.cf_race.proofs.Begun.{Parted, begun_of, none_taken, parted}
 use Rattle.cf_race.proofs.beginning.begin.Goals as goal
 use Rattle.cf_race.proofs.beginning.begin.Goals.{After-remove-first}
 
@@ -40,15 +40,14 @@ returns c =
     let first = c.take_steps.new.pass in
     let calls : first.calls ≡ c.args.calls = c.take_steps.ensures.calls ∙ f.first.room in
     let others = c.in_ok-passes.passes.items in
-    record {
-      desk = (o.0, o.1);
-      count = (let a = c.in_ok-insert.ensures.len in let b = c.in_ok-passes.ensures.count in let r = c.remove-first.ensures.len in let n = c.in-Ok.ensures.passes.1 in omega (arith, a, b, r, n));
-      begun = record {
-        first = first;
-        others = others;
-        are = c.in_ok-insert.ensures.items ∙ ap (λ (h : Holder). h ∷ others) c.meet_others.ensures.first;
-        took = c.take_steps.ensures.took;
-        room = calls;
-        apart = subst (λ (n : ℕ). All (IsApart d n first.known.seen) others) calls c.in_ok-passes.ensures.apart;
-      };
-    }
+    let begun : HaveBegun d c.args.steps.now c.args.calls c.insert.new.self.items = record {
+      first = first;
+      others = others;
+      are = c.in_ok-insert.ensures.items ∙ ap (λ (h : Holder). h ∷ others) c.meet_others.ensures.first;
+      took = c.take_steps.ensures.took;
+      room = calls;
+      apart = subst (λ (n : ℕ). All (IsApart d n first.known.seen) others) calls c.in_ok-passes.ensures.apart;
+    } in
+    let count : vec_len c.insert.new.self ≡ c.args.callers =
+    (let a = c.in_ok-insert.ensures.len in let b = c.in_ok-passes.ensures.count in let r = c.remove-first.ensures.len in let n = c.in-Ok.ensures.passes.1 in omega (arith, a, b, r, n)) in
+    record { desk = (o.0, o.1); passes = (begun_of d c.args.steps.now c.args.calls c.insert.new.self.items begun, count); begun = begun }

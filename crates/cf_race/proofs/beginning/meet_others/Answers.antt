@@ -1,4 +1,4 @@
-use Rattle.std.proofs.Common.{◌≡◌, ◌<◌, ◌+◌, ◌∷◌, sym, ◌∙◌, ap, arith, refl, subst}
+use Rattle.std.proofs.Common.{◌∷◌, sym, ◌∙◌, ap, arith, subst}
 use Rattle.std.specs.List.{All}
 use Rattle.std.specs.Vec.Iter.{into_iter_items}
 use Rattle.std.proofs.lemmas.List.Elements.{All-head, All-tail, All-push}

@@ -1,5 +1,4 @@
 use Rattle.std.proofs.Common.{◌≡◌}
-use Rattle.cf_desk.specs.Views.{IsSamePass}
 use Rattle.cf_race.specs.Beginnings.{HasTaken}
 use Rattle.cf_race.proofs.beginning.take_steps.Given as goal
 
