@@ -1,3 +1,4 @@
 pub mod Records
 pub mod Races
 pub mod Beginnings
+pub mod Samples

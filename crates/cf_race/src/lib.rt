@@ -78,3 +78,6 @@ pub fn race<R: Threads + Wait + Sync, F: StageFn + Sync, G: Gate + Sync>(
 pub fn races_end_as_expressions()
     ensures { RacedIsExpression }
 {}
+
+#[cfg(test)]
+mod tests;
