@@ -1,5 +1,5 @@
 -- The steps of a script. Each is an array of exactly the elements that its word asks for.
-use Rattle.std.specs.Prelude.{ℕ, List, [], ◌∷◌, ◌++◌, length, Option, Some, None, option_map, option_and_then, Result, Err, nat_lt, ◌==◌, codes, if◌then◌else◌}
+use Rattle.std.specs.Prelude.{ℕ, List, [], ◌∷◌, ◌++◌, length, Bool, true, false, Option, Some, None, option_map, option_and_then, Result, Err, nat_lt, ◌==◌, codes, if◌then◌else◌}
 use Rattle.std.specs.Option.{option_or}
 use Rattle.std.specs.Str.{bytes_eq}
 use Rattle.serde_json.specs.Data.{Data}
@@ -137,8 +137,25 @@ step_named stages d word = option_or (own_step stages d word) (other_step stages
 abbrev pub step_of : ℕ → Data → Option Step
 step_of stages d = option_and_then (step_named stages d) (option_and_then as_str (at 0 d))
 
+-- whether a race takes a step: what caller 0 completes, fails and cancels, and its ticks
+abbrev pub is_raced : Step → Bool
+is_raced (Does (Completes who i v)) = who == 0
+is_raced (Does (Fails who i code)) = who == 0
+is_raced (Does (Cancels who i)) = who == 0
+is_raced (Does (Ticks who now)) = who == 0
+is_raced step = false
+
+-- what runs the steps: a run takes all of them, a race only some
+abbrev pub takes : Bool → Step → Bool
+takes true step = is_raced step
+takes false step = true
+
+-- a step over so many stages that is taken
+abbrev pub step_for : Bool → ℕ → Data → Option Step
+step_for races stages d = option_and_then (λ s. if takes races s then Some s else None) (step_of stages d)
+
 -- the next step, of which there are at most 20,000
-unfoldable pub step_next : ℕ → List Step → Data → Result (List Step) ScriptFault
-step_next stages found d =
-    if nat_lt (length found) 20000 then ok_or (faults.Step (length found)) (option_map (λ s. found ++ s ∷ []) (step_of stages d))
+unfoldable pub step_next : Bool → ℕ → List Step → Data → Result (List Step) ScriptFault
+step_next races stages found d =
+    if nat_lt (length found) 20000 then ok_or (faults.Step (length found)) (option_map (λ s. found ++ s ∷ []) (step_for races stages d))
     else Err (faults.Step (length found))

@@ -24,7 +24,7 @@ mod words;
 pub use fault::{Part, ScriptFault};
 pub use func::Func;
 pub use input::{MAX_BYTES, read_input};
-pub use reading::read_script;
+pub use reading::{read_race, read_script};
 pub use script::{Script, Step};
 pub use steps::MAX_STEPS;
 

@@ -1,8 +1,9 @@
 //! A script as a whole.
-ghost use Rattle.std.specs.Prelude.{◌≡◌, option_map};
+ghost use Rattle.std.specs.Prelude.{◌≡◌, All, IfOk, option_map, true};
 ghost use Rattle.serde_json.specs.View.{items_view, view};
 ghost use Rattle.cf_reading.specs.Checks.{Gives};
-ghost use Rattle.cf_reading.specs.Reading.{has_version, items_said, reading, script_of};
+ghost use Rattle.cf_reading.specs.Steps.{is_raced, takes};
+ghost use Rattle.cf_reading.specs.Reading.{has_version, items_said, race_reading, reading, reading_for, script_of};
 
 use crate::draft::Draft;
 use crate::fault::{Part, ScriptFault};
@@ -35,10 +36,11 @@ fn items<'a>(said: Option<&'a Json>) -> Option<&'a [Json]>
     }
 }
 
-/// What a JSON value says.
+/// What a JSON value says, to a run or to a race.
 #[tactic(auto, unfolding(crate::specs::Reading::script_of))]
-fn script(alloc: Global, json: &Json) -> Result<Script, ScriptFault>
-    ensures { Gives (λ s. s) result (script_of (view json.now)) }
+fn script(alloc: Global, json: &Json, races: bool) -> Result<Script, ScriptFault>
+    ensures says { Gives (λ s. s) result (script_of races (view json.now)) }
+    ensures taken { IfOk result (λ s. All (λ x. takes races x ≡ true) s.steps) }
 {
     if !json.is_object() {
         return Err(ScriptFault::Shape(Part::Top));
@@ -61,7 +63,7 @@ fn script(alloc: Global, json: &Json) -> Result<Script, ScriptFault>
         functions,
     } = draft;
     read_limits(&mut plan, limits)?;
-    let steps = read_steps(alloc, plan.stages(), steps)?;
+    let steps = read_steps(alloc, plan.stages(), steps, races)?;
     match plan.build() {
         Ok(plan) => Ok(Script::new(plan, functions, steps)),
         Err(_) => Err(ScriptFault::NoMemory),
@@ -74,15 +76,32 @@ fn script(alloc: Global, json: &Json) -> Result<Script, ScriptFault>
 /// checks is: the top, the version, the arrays `stages`, `limits` and `steps`, each stage (its form and sources, its
 /// function, the builder), each limit (its shape, the builder), each step. A refused growth is `NoMemory` wherever it
 /// is met. `Read`, `Write` and `RaceSize` never come.
-#[tactic(auto, using(crate::proofs::Texts::json_found, crate::proofs::Texts::json_missing), unfolding(crate::specs::Reading::reading))]
 pub fn read_script(alloc: Global, bytes: &[u8]) -> Result<Script, ScriptFault>
     ensures { Gives (λ s. s) result (reading bytes.now) }
+{
+    read_for(alloc, bytes, false)
+}
+
+/// The same of a script that is raced: a step that isn't a `complete`, `fail`, `cancel` or `tick` of caller 0 is the
+/// fault `Step` where it stands in the order of steps.
+pub fn read_race(alloc: Global, bytes: &[u8]) -> Result<Script, ScriptFault>
+    ensures says { Gives (λ s. s) result (race_reading bytes.now) }
+    ensures raced { IfOk result (λ s. All (λ x. is_raced x ≡ true) s.steps) }
+{
+    read_for(alloc, bytes, true)
+}
+
+/// The script that the bytes say to a run or to a race, or the first fault in them.
+#[tactic(auto, using(crate::proofs::Texts::json_found, crate::proofs::Texts::json_missing), unfolding(crate::specs::Reading::reading_for))]
+fn read_for(alloc: Global, bytes: &[u8], races: bool) -> Result<Script, ScriptFault>
+    ensures says { Gives (λ s. s) result (reading_for races bytes.now) }
+    ensures taken { IfOk result (λ s. All (λ x. takes races x ≡ true) s.steps) }
 {
     if bytes.len() > MAX_BYTES {
         return Err(ScriptFault::TooLong);
     }
     match Json::from_slice(alloc, bytes) {
-        Ok(json) => script(alloc, &json),
+        Ok(json) => script(alloc, &json, races),
         Err(e) => {
             if e.is_memory() {
                 Err(ScriptFault::NoMemory)
