@@ -1,11 +1,16 @@
 //! The words after the program's name.
+ghost use Rattle.std.specs.Prelude.{IfOk};
+ghost use Rattle.cf_command.specs.Words.{HasWorkers};
+
 use cf_script::{Command, CommandFault, read_command};
 use std::env;
 use std::io::ErrorKind;
 use std::rt::Env;
 
 /// The command that the program was called with. A word that isn't UTF-8 is no command.
-pub(crate) fn command<R: Env + AllocGlobal>(rt: &R) -> Result<Command, CommandFault> {
+pub(crate) fn command<R: Env + AllocGlobal>(rt: &R) -> Result<Command, CommandFault>
+    ensures { IfOk result HasWorkers }
+{
     let words = words(rt)?;
     let mut texts = Vec::new(rt.alloc());
     for word in &words {

@@ -1,5 +1,5 @@
 -- What the words of the command line say.
-use Rattle.std.specs.Prelude.{◌+◌, ◌-◌, ◌*◌, ◌&&◌, ℕ, List, [], ◌∷◌, codes, Option, Some, None, option_map, Bool, true, false, nat_le, if◌then◌else◌}
+use Rattle.std.specs.Prelude.{◌+◌, ◌-◌, ◌*◌, ◌<◌, ◌≤◌, ◌&&◌, ℕ, List, [], ◌∷◌, codes, Option, Some, None, option_map, Bool, true, false, nat_le, if◌then◌else◌}
 use Rattle.std.specs.Str.{bytes_eq}
 use Rattle.clap.specs.Walk.{is_empty}
 use Rattle.clap.specs.Words.{App, Row, Rule, Shape, Text, new_app, new_rule, with_rule, with_subcommand, subcommand_of, first_of, fault_of}
@@ -52,3 +52,8 @@ command_said (Some p) = command_named p.0 p.1
 -- `clap` finds no fault in the words, and the number of workers is one
 unfoldable pub command_of : List Text → Option Command
 command_of words = if is_empty (fault_of cf_words words) then command_said (subcommand_of cf_words words) else None
+
+-- a race has 1 to 32 workers
+abbrev pub HasWorkers : Command → Type 0
+HasWorkers Run = Unit {0}
+HasWorkers (Race workers) = (0 < workers) × (workers ≤ 32)

@@ -1,7 +1,7 @@
 //! The commands, and how they are read.
-ghost use Rattle.std.specs.Prelude.{◌≡◌, IfOk, IsErrOf, Some, None, map, codes};
+ghost use Rattle.std.specs.Prelude.{◌≡◌, IfOk, IfSome, IsErrOf, Some, None, map, codes};
 ghost use Rattle.clap.specs.Words.{subcommand_of, subcommand_rows_of, fault_of, FailsBy, first_of, rows_of, found_of};
-ghost use Rattle.cf_command.specs.Words.{cf_words, command_said, command_of, race_said};
+ghost use Rattle.cf_command.specs.Words.{HasWorkers, cf_words, command_said, command_of, race_said};
 
 use crate::fault::CommandFault;
 use crate::workers::workers;
@@ -38,7 +38,8 @@ fn matched<'a>(alloc: Global, words: &'a [&'a str]) -> Result<ArgMatches<'a>, Er
 /// The race that the matches of its words tell.
 #[tactic(auto, using(crate::proofs::Rows::first_row))]
 fn race(inner: &ArgMatches<'_>) -> Option<Command>
-    ensures { result ≡ race_said (first_of (codes "workers") (rows_of (found_of inner.now))) }
+    ensures said { result ≡ race_said (first_of (codes "workers") (rows_of (found_of inner.now))) }
+    ensures few { IfSome result HasWorkers }
 {
     match inner.get_str("workers") {
         None => Some(Command::Race(4)),
@@ -48,7 +49,8 @@ fn race(inner: &ArgMatches<'_>) -> Option<Command>
 
 /// The command that the matches tell.
 fn told_by(matches: &ArgMatches<'_>) -> Option<Command>
-    ensures { result ≡ command_said (subcommand_rows_of matches.now) }
+    ensures said { result ≡ command_said (subcommand_rows_of matches.now) }
+    ensures few { IfSome result HasWorkers }
 {
     let (name, inner) = matches.subcommand()?;
     if name == "run" {
@@ -68,6 +70,7 @@ fn told_by(matches: &ArgMatches<'_>) -> Option<Command>
 #[tactic(auto, unfolding(crate::specs::Words::command_of))]
 pub fn read_command<'a>(alloc: Global, words: &'a [&'a str]) -> Result<Command, CommandFault>
     ensures ok { IfOk result (λ c. command_of (map (λ w. w.now) words.entry.now) ≡ Some c) }
+    ensures few { IfOk result HasWorkers }
     ensures usage { IsErrOf result CommandFault.Usage
         → command_of (map (λ w. w.now) words.entry.now) ≡ None }
 {

@@ -1,3 +1,4 @@
 pub mod WorkLemmas
 pub mod ReportLemmas
+pub mod RaceLemmas
 pub mod RunLemmas

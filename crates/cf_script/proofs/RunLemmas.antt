@@ -1,5 +1,5 @@
 -- From what was made of an input to what was written.
-use Rattle.std.proofs.Common.{◌≡◌, ◌⊎◌, inl, inr, ℕ, ◌<◌, List, length, Option, Some, None, Result, Ok, Err, IfSome, refl, sym, ap, subst, ◌∙◌, String, string_bytes, arith}
+use Rattle.std.proofs.Common.{◌≡◌, ◌⊎◌, inl, inr, ℕ, ◌<◌, List, length, Option, Some, None, Result, Ok, Err, IfSome, Bool, false, refl, sym, ap, subst, ◌∙◌, String, string_bytes, arith}
 use Rattle.std.specs.Prelude.{replicate, unwrap_or}
 use Rattle.std.proofs.lemmas.Bool.{lt-ltb}
 use Rattle.std.proofs.lemmas.List.{length-replicate}
@@ -8,24 +8,26 @@ use Rattle.std.specs.declared.alloc.Global.{Global}
 use Rattle.cf_outcome.specs.Output.{AppendsFront}
 use Rattle.cf_reading.specs.Checks.{Fails}
 use Rattle.cf_reading.specs.Input.{IsOfInput}
-use Rattle.cf_reading.specs.Reading.{reading}
+use Rattle.cf_reading.specs.Reading.{reading, reading_for}
 use Rattle.cf_reading.specs.declared.fault.ScriptFault.{ScriptFault}
 use Rattle.cf_reading.specs.declared.fault.ScriptFault.TheVariants as faults
 use Rattle.cf_script.specs.Reports.{report}
 use Rattle.cf_script.specs.Runs.{fault_line, told_of, IsInput, MayTell, Makes, Runs}
 
-long_input : (n : ℕ) (bytes : List ℕ) → 1048576 < n → length bytes ≡ n → reading bytes ≡ Err faults.TooLong
-unfolding reading
-long_input n bytes lt e = rw (e, lt-ltb 1048576 n lt) refl
+long_input : (races : Bool) (n : ℕ) (bytes : List ℕ) → 1048576 < n → length bytes ≡ n → reading_for races bytes ≡ Err faults.TooLong
+unfolding reading_for
+long_input races n bytes lt e = rw (e, lt-ltb 1048576 n lt) refl
 
-some_long : (n : ℕ) → 1048576 < n → (bytes : List ℕ) × (reading bytes ≡ Err faults.TooLong)
-some_long n lt = (replicate n 0, long_input n (replicate n 0) lt (length-replicate n 0))
+some_long : (races : Bool) (n : ℕ) → 1048576 < n → (bytes : List ℕ) × (reading_for races bytes ≡ Err faults.TooLong)
+some_long races n lt = (replicate n 0, long_input races n (replicate n 0) lt (length-replicate n 0))
 
-input_too_long : (held : Option (List ℕ)) → IfSome held (λ bytes. 1048576 < length bytes) → (input : List ℕ) × IsInput held input × (reading input ≡ Err faults.TooLong)
-input_too_long (Some bytes) lt = (bytes, refl, long_input (length bytes) bytes lt refl)
-input_too_long None any = let long = some_long 1048577 (omega arith) in (long.0, tt, long.1)
+-- an input that is too long, for a run or for a race
+pub input_too_long : (races : Bool) (held : Option (List ℕ)) → IfSome held (λ bytes. 1048576 < length bytes) →
+    (input : List ℕ) × IsInput held input × (reading_for races input ≡ Err faults.TooLong)
+input_too_long races (Some bytes) lt = (bytes, refl, long_input races (length bytes) bytes lt refl)
+input_too_long races None any = let long = some_long races 1048577 (omega arith) in (long.0, tt, long.1)
 
-held_or_empty : (held : Option (List ℕ)) → (input : List ℕ) × IsInput held input
+pub held_or_empty : (held : Option (List ℕ)) → (input : List ℕ) × IsInput held input
 held_or_empty (Some bytes) = (bytes, refl)
 held_or_empty None = (replicate 0 0, tt)
 
@@ -35,7 +37,7 @@ any_input held e h = let some = held_or_empty held in (some.0, some.1, h some.0)
 -- the input couldn't be read
 pub unread : (held : Option (List ℕ)) (e : ScriptFault) → IsOfInput e → (e ≡ faults.TooLong → IfSome held (λ bytes. 1048576 < length bytes)) →
     (input : List ℕ) × IsInput held input × Makes (Err e) input
-unread held faults.TooLong of long = input_too_long held (long refl)
+unread held faults.TooLong of long = input_too_long false held (long refl)
 unread held faults.Read of long = any_input held faults.Read (λ input. tt)
 unread held faults.NoMemory of long = any_input held faults.NoMemory (λ input. tt)
 unread held faults.NotJson of long = absurd of

@@ -12,6 +12,7 @@
 
 mod fault_line;
 pub mod laws;
+mod race;
 mod report;
 mod run;
 mod texts;
@@ -19,7 +20,9 @@ mod work;
 
 pub use cf_command::{Command, CommandFault, read_command};
 pub use cf_plan::PlanFault;
-pub use cf_reading::{Func, Part, Script, ScriptFault, Step, read_script};
+pub use cf_pool::{Gate, NoGate};
+pub use cf_reading::{Func, Part, Script, ScriptFault, Step, read_race, read_script};
+pub use race::race_script;
 pub use run::run_script;
 
 #[cfg(test)]

@@ -84,7 +84,7 @@ fn write_stage(text: &mut String, graph: &mut Graph, i: u16) -> Result<(), Alloc
 }
 
 /// Adds the lines of all stages.
-fn write_stages(text: &mut String, graph: &mut Graph) -> Result<(), AllocError>
+pub(crate) fn write_stages(text: &mut String, graph: &mut Graph) -> Result<(), AllocError>
     ensures { OnOk result
         (string_bytes text.new ≡ string_bytes text.old ++ stages_lines graph.old) }
 {

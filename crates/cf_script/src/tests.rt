@@ -1,6 +1,7 @@
 //! Scripts with what they print, read and written whole, a byte at a time, up to where a device fails, and where memory is
 //! refused.
 mod devices;
+mod races;
 mod rows;
 
 use self::devices::{Dripping, Fixed, Sipping, Then};
@@ -27,7 +28,7 @@ fn add_lines(text: &mut String, report: &str) -> Result<(), AllocError> {
     Ok(())
 }
 
-fn lines(alloc: Global, report: &str) -> Result<String, AllocError> {
+pub(crate) fn lines(alloc: Global, report: &str) -> Result<String, AllocError> {
     let mut text = String::new(alloc);
     add_lines(&mut text, report)?;
     Ok(text)

@@ -1,0 +1,116 @@
+//! A whole race: from a reader's bytes to the lines of the stages that a writer gets.
+ghost use Rattle.std.specs.Prelude.{◌≡◌, ◌<◌, ◌≤◌, All, IfErr, IfOk, List, ℕ, length, string_bytes, true};
+ghost use Rattle.cf_race.specs.Races.{IsStep};
+ghost use Rattle.cf_reading.specs.Scripts.{IsSaid, StepFits};
+ghost use Rattle.cf_reading.specs.Steps.{is_raced};
+ghost use Rattle.cf_script.specs.Reports.{stages_lines};
+ghost use Rattle.cf_script.specs.Runs.{IsInput};
+ghost use Rattle.cf_script.specs.Races.{EndsOf, IsWhyOf, MakesRace, Races, events_of};
+
+use crate::fault_line::write_fault;
+use crate::report::write_stages;
+use cf_core::Event;
+use cf_late::Graph;
+use cf_outcome::write_text;
+use cf_pool::Gate;
+use cf_race::{RaceFault, race};
+use cf_reading::{Script, ScriptFault, Step, read_input, read_race};
+use std::alloc::{AllocError, Global};
+use std::io::{Read, Write};
+use std::thread::Threads;
+
+/// The events of a race's steps.
+fn events(alloc: Global, steps: &[Step]) -> Result<Vec<Event>, AllocError>
+    ensures { IfOk result (λ v. v.items ≡ events_of steps.now) }
+{
+    let mut found = Vec::new(alloc);
+    'steps: for step in steps {
+        if let Step::Does(event) = *step {
+            found.push(event)?;
+        }
+    }
+    Ok(found)
+}
+
+/// The graph as a race of the script leaves it.
+fn graph_of<R: Threads + Sync, G: Gate + Sync>(
+    rt: &R,
+    alloc: Global,
+    script: Script,
+    gate: &G,
+    workers: u8,
+) -> Result<Graph, ScriptFault>
+    requires workers { (0 < workers) × (workers ≤ 32) }
+    requires raced { All (λ x. is_raced x ≡ true) script.steps }
+    ensures ends { IfOk result (λ g. EndsOf workers script g) }
+    ensures why { IfErr result (IsWhyOf workers script) }
+{
+    let (plan, functions, steps) = script.into_parts();
+    let Ok(events) = events(alloc, &steps) else {
+        return Err(ScriptFault::NoMemory);
+    };
+    match race(rt, alloc, plan, &events, &functions, gate, workers) {
+        Ok(graph) => Ok(graph),
+        Err(RaceFault::NoMemory) => Err(ScriptFault::NoMemory),
+        Err(RaceFault::Size) => Err(ScriptFault::RaceSize),
+    }
+}
+
+/// The lines of all stages of a graph.
+fn lines_of(alloc: Global, mut graph: Graph) -> Result<String, AllocError>
+    ensures { IfOk result (λ text. string_bytes text ≡ stages_lines graph) }
+{
+    let mut text = String::new(alloc);
+    write_stages(&mut text, &mut graph)?;
+    Ok(text)
+}
+
+/// The lines of the stages as a race of the script that the reader gives leaves them, or the fault that stands in its way.
+fn raced<R: Threads + Sync, I: Read, G: Gate + Sync>(
+    rt: &R,
+    alloc: Global,
+    r: &mut I,
+    gate: &G,
+    workers: u8,
+) -> Result<String, ScriptFault>
+    requires { (0 < workers) × (workers ≤ 32) }
+    ensures { (input : List ℕ) × IsInput (I.remaining r.old) input × MakesRace workers result input }
+{
+    let input = read_input(alloc, r)?;
+    let script = read_race(alloc, &input)?;
+    let graph = graph_of(rt, alloc, script, gate, workers)?;
+    match lines_of(alloc, graph) {
+        Ok(text) => Ok(text),
+        Err(_) => Err(ScriptFault::NoMemory),
+    }
+}
+
+/// Reads a script to its end, races it with 1 to 32 workers on threads of their own, and writes the lines of its stages.
+///
+/// Caller 0 does the steps, each of which is a `complete`, `fail`, `cancel` or `tick`; another is the fault `Step`. Then
+/// each worker claims ready stages, lets the gate pass, calls their functions and finishes them, until none is ready.
+/// The faults are those of `run_script`, and `RaceSize` where the log of the race would have more than 65,535 words; a
+/// thread that was refused is `NoMemory` too.
+pub fn race_script<R: Threads + Sync, I: Read, W: Write, G: Gate + Sync>(
+    rt: &R,
+    alloc: Global,
+    r: &mut I,
+    w: &mut W,
+    gate: &G,
+    workers: u8,
+) -> Result<(), ScriptFault>
+    requires { (0 < workers) × (workers ≤ 32) }
+    ensures { (input : List ℕ) × IsInput (I.remaining r.old) input
+        × Races workers result input (W.contents w.old) (W.contents w.new) }
+{
+    match raced(rt, alloc, r, gate, workers) {
+        Ok(text) => match write_text(w, text.as_str().as_bytes()) {
+            Ok(()) => Ok(()),
+            Err(_) => Err(ScriptFault::Write),
+        },
+        Err(fault) => match write_fault(w, fault) {
+            Ok(()) => Err(fault),
+            Err(_) => Err(ScriptFault::Write),
+        },
+    }
+}
