@@ -14,6 +14,7 @@ ghost use Rattle.std.specs.Process.{exit_status};
 use cf_script::{Command, CommandFault, NoGate, ScriptFault, race_script, run_script};
 use std::io;
 use std::process::ExitCode;
+use std::sync::Wait;
 use std::thread::Threads;
 
 fn main(rt: HostRuntime) -> ExitCode {
@@ -30,19 +31,12 @@ fn run<R: Input + Print + AllocGlobal>(rt: &R) -> ExitCode {
 }
 
 /// Races the script on standard input, with this many workers.
-fn race<R: Input + Print + AllocGlobal + Threads + Sync>(rt: &R, workers: u8) -> ExitCode
+fn race<R: Input + Print + AllocGlobal + Threads + Wait + Sync>(rt: &R, workers: u8) -> ExitCode
     requires { (0 < workers) × (workers ≤ 32) }
 {
     let mut input = rt.reader();
     let mut output = io::writer(rt);
-    status(race_script(
-        rt,
-        rt.alloc(),
-        &mut input,
-        &mut output,
-        &NoGate,
-        workers,
-    ))
+    status(race_script(rt, rt.alloc(), &mut input, &mut output, &NoGate, workers))
 }
 
 /// The status that a run or a race ends with.

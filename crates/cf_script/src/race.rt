@@ -17,6 +17,7 @@ use cf_race::{RaceFault, race};
 use cf_reading::{Script, ScriptFault, Step, read_input, read_race};
 use std::alloc::{AllocError, Global};
 use std::io::{Read, Write};
+use std::sync::Wait;
 use std::thread::Threads;
 
 /// The events of a race's steps.
@@ -33,7 +34,7 @@ fn events(alloc: Global, steps: &[Step]) -> Result<Vec<Event>, AllocError>
 }
 
 /// The graph as a race of the script leaves it.
-fn graph_of<R: Threads + Sync, G: Gate + Sync>(
+fn graph_of<R: Threads + Wait + Sync, G: Gate + Sync>(
     rt: &R,
     alloc: Global,
     script: Script,
@@ -66,7 +67,7 @@ fn lines_of(alloc: Global, mut graph: Graph) -> Result<String, AllocError>
 }
 
 /// The lines of the stages as a race of the script that the reader gives leaves them, or the fault that stands in its way.
-fn raced<R: Threads + Sync, I: Read, G: Gate + Sync>(
+fn raced<R: Threads + Wait + Sync, I: Read, G: Gate + Sync>(
     rt: &R,
     alloc: Global,
     r: &mut I,
@@ -91,7 +92,7 @@ fn raced<R: Threads + Sync, I: Read, G: Gate + Sync>(
 /// each worker claims ready stages, lets the gate pass, calls their functions and finishes them, until none is ready.
 /// The faults are those of `run_script`, and `RaceSize` where the log of the race would have more than 65,535 words; a
 /// thread that was refused is `NoMemory` too.
-pub fn race_script<R: Threads + Sync, I: Read, W: Write, G: Gate + Sync>(
+pub fn race_script<R: Threads + Wait + Sync, I: Read, W: Write, G: Gate + Sync>(
     rt: &R,
     alloc: Global,
     r: &mut I,

@@ -7,6 +7,7 @@ use crate::{Gate, NoGate, ScriptFault, race_script};
 use std::alloc::{AllocError, Global};
 use std::io::{ErrorKind, Read, Write};
 use std::process::Abort;
+use std::sync::Wait;
 use std::sync::atomic::{AtomicBool, AtomicU32, Ordering};
 use std::test::Fail;
 use std::thread::Threads;
@@ -214,7 +215,7 @@ fn sources_and_ticks(alloc: Global, sources: u32, ticks: u32) -> Result<String, 
 
 /// What a race with 32 workers of so many sources and so many ticks answers.
 fn raced_by_all(
-    rt: &(impl Threads + Sync + AllocGlobal),
+    rt: &(impl Threads + Wait + Sync + AllocGlobal),
     sources: u32,
     ticks: u32,
 ) -> Result<Result<(), ScriptFault>, Fail> {
