@@ -1,7 +1,7 @@
 -- The lowest ready stage is ready, and where there is none no stage is.
-use Rattle.std.proofs.Common.{◌≡◌, ℕ, ◌<◌, ◌≤◌, List, Bool, true, false, cond, Option, Some, None, length, arith, ap, sym, ◌∙◌, refl, subst, get_or, inl, inr}
-use Rattle.std.specs.Prelude.{nat_lt, not, slice_get, unwrap_or}
-use Rattle.std.specs.List.{position, position_or_len, prefix_len}
+use Rattle.std.proofs.Common.{◌≡◌, ℕ, ◌<◌, Bool, true, false, cond, Some, None, length, arith, ap, sym, ◌∙◌, refl, subst, get_or, inl, inr}
+use Rattle.std.specs.Prelude.{nat_lt, not, unwrap_or}
+use Rattle.std.specs.List.{position_or_len}
 use Rattle.std.proofs.lemmas.Bool.{cases_lt, lt-ltb}
 use Rattle.std.proofs.lemmas.List.Sums.{prefix_len_passes, prefix_len_stops, prefix_len-le-length}
 use Rattle.std.proofs.lemmas.Option.{slice_get-get_or, slice_get_past}
