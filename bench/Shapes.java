@@ -5,11 +5,13 @@ import java.util.concurrent.CompletionException;
 
 /**
  * Builds and settles the shapes of crates/cf_bench with java.util.concurrent.CompletableFuture, and prints nanoseconds
- * a stage, the best of several rounds, in the same lines.
+ * a stage, the best of several rounds, in the same lines; then 1, 2 and 4 threads that complete the same 4,095 futures.
  */
 public final class Shapes {
     private static final int[] SIZES = {64, 512, 4095};
     private static final int STAGES_A_SHAPE = 4_095_000;
+    private static final int RACES = 1_000;
+    private static final int RACED = 4095;
 
     /** A graph that was built: its sources, and all of its stages. */
     private record Built(List<CompletableFuture<Integer>> sources, List<CompletableFuture<?>> stages) {}
@@ -89,7 +91,41 @@ public final class Shapes {
         return count;
     }
 
-    public static void main(String[] words) {
+    /** The nanoseconds in which so many threads complete the same futures, each all of them. */
+    private static long race(int threads, int stages) throws InterruptedException {
+        List<CompletableFuture<Integer>> futures = new ArrayList<>(stages);
+        for (int i = 0; i < stages; i++) {
+            futures.add(new CompletableFuture<>());
+        }
+        List<Thread> racing = new ArrayList<>(threads);
+        for (int k = 0; k < threads; k++) {
+            racing.add(new Thread(() -> {
+                for (int i = 0; i < stages; i++) {
+                    futures.get(i).complete(i);
+                }
+            }));
+        }
+        long start = System.nanoTime();
+        for (Thread thread : racing) {
+            thread.start();
+        }
+        for (Thread thread : racing) {
+            thread.join();
+        }
+        return System.nanoTime() - start;
+    }
+
+    private static void showRaces() throws InterruptedException {
+        for (int threads : new int[] {1, 2, 4}) {
+            long racing = Long.MAX_VALUE;
+            for (int round = 0; round < RACES; round++) {
+                racing = Math.min(racing, race(threads, RACED));
+            }
+            System.out.printf("race %d: %d ns a stage%n", threads, racing / RACED);
+        }
+    }
+
+    public static void main(String[] words) throws InterruptedException {
         int settled = 0;
         for (String shape : new String[] {"chain", "failed chain", "fan-out", "combine tree", "allOf"}) {
             for (int stages : SIZES) {
@@ -109,6 +145,7 @@ public final class Shapes {
                     shape, stages, building / stages, settling / stages);
             }
         }
+        showRaces();
         if (settled == 0) {
             System.out.println("nothing settled");
         }

@@ -3,8 +3,11 @@
 //! Without words it prints a checksum of the outcomes of each, which doesn't depend on the machine, and one of the report
 //! of a script of 1 MiB. With the word `time` it prints, for each, the nanoseconds a stage that building and settling
 //! took, the best of several rounds, and for the script the milliseconds of a run beside those of reading it as JSON.
+//! Then the same for 1, 2 and 4 threads that complete the same 4,095 stages through one desk, and for a read that finds
+//! nothing new.
 #![tactic(auto)]
 
+mod race;
 mod script;
 mod shape;
 mod work;
@@ -12,10 +15,12 @@ mod work;
 use anyhow::{Result, anyhow};
 use cf_late::Graph;
 use cf_plan::Plan;
+use race::{measured_race, measured_read, race_checksum};
 use script::{measured_script, report_checksum, script_text};
 use shape::{Shape, plan_of};
 use std::alloc::Global;
 use std::env;
+use std::thread::Threads;
 use std::time::{Clock, Instant};
 use work::{checksum, settle};
 
@@ -93,6 +98,23 @@ fn show_script<R: Clock + Print>(rt: &R, alloc: Global, timed: bool) -> Result<(
     Ok(())
 }
 
+/// The same for threads over one desk.
+fn show_race<R: Clock + Print + Threads + Sync>(
+    rt: &R,
+    alloc: Global,
+    timed: bool,
+    threads: u8,
+) -> Result<()> {
+    if timed {
+        let took = measured_race(rt, alloc, threads)?;
+        println!(rt; "race {threads}: {took} ns a stage")?;
+    } else {
+        let (sum, events) = race_checksum(rt, alloc, threads)?;
+        println!(rt; "race {threads}: {events} events, checksum {sum}")?;
+    }
+    Ok(())
+}
+
 fn main(rt: HostRuntime) -> Result<()> {
     let timed = env::args(&rt)?.any(|word| word.as_str() == "time");
     for shape in [
@@ -106,5 +128,13 @@ fn main(rt: HostRuntime) -> Result<()> {
             show_shape(&rt, rt.alloc(), timed, shape, stages)?;
         }
     }
-    show_script(&rt, rt.alloc(), timed)
+    show_script(&rt, rt.alloc(), timed)?;
+    for threads in [1, 2, 4] {
+        show_race(&rt, rt.alloc(), timed, threads)?;
+    }
+    if timed {
+        let took = measured_read(&rt, rt.alloc())?;
+        println!(rt; "read: {took} ps")?;
+    }
+    Ok(())
 }
