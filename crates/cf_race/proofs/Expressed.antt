@@ -11,7 +11,7 @@ use Rattle.cf_laws.specs.Expressions.{Meanings}
 use Rattle.cf_laws.specs.Histories.{Grants, IsPlain, IsPlainEvent, IsQuiet, grants_after, granted_with, is_work, nothing_granted}
 use Rattle.cf_laws.proofs.Parts.{plain_append, work_keeps_expressions}
 use Rattle.cf_laws.proofs.Runs.{quiet_is_expression}
-use Rattle.cf_race.specs.Races.{IsWork, IsWorkEvent, RacedIsExpression}
+use Rattle.cf_race.specs.Races.{IsWork, IsWorkEvent, RacedIsExpression, RacesEndAlike}
 
 plain_event : (meanings : Meanings) (granted : Grants) (s : State) (e : Event) → IsWorkEvent meanings granted s e → IsPlainEvent meanings granted s e
 plain_event meanings granted s (Completes who i v) h = absurd h
@@ -50,3 +50,7 @@ raced_is_expression plan steps meanings s i plain_plan plain raced l =
     ap (λ (t : State). outcome_at t i) raced.state
     ∙ quiet_is_expression plan (steps ++ raced.work) meanings i raced.built plain_plan all (subst IsQuiet raced.state raced.quiet) l
     ∙ work_keeps_expressions plan steps raced.work meanings i (all_work meanings granted then raced.work raced.done)
+
+pub races_end_alike : RacesEndAlike
+races_end_alike plan steps meanings s r i plain_plan plain first second l =
+    raced_is_expression plan steps meanings s i plain_plan plain first l ∙ sym (raced_is_expression plan steps meanings r i plain_plan plain second l)

@@ -57,6 +57,13 @@ RacedIsExpression =
     IsPlainPlan plan → IsPlain meanings nothing_granted (start plan) steps → IsRaced meanings plan steps s →
     i < length plan.stages → outcome_at s i ≡ expr plan steps meanings i
 
+-- So two races that begin with the same plain steps end alike.
+abbrev pub RacesEndAlike : Type 0
+RacesEndAlike =
+    (plan : Planned) (steps : List Event) (meanings : Meanings) (s r : State) (i : ℕ) →
+    IsPlainPlan plan → IsPlain meanings nothing_granted (start plan) steps → IsRaced meanings plan steps s → IsRaced meanings plan steps r →
+    i < length plan.stages → outcome_at s i ≡ outcome_at r i
+
 -- why there is no race
 abbrev pub IsDue : ℕ → RaceFault → Type 0
 IsDue words Size = 65535 < words

@@ -35,7 +35,8 @@ pub(crate) fn begin(
     Ok((desk, passes))
 }
 
-/// Does the steps in order, up to the first that finds the log full.
+/// Does the steps in order, up to the first that finds the log full. In a race none does: all that caller 0 has then seen
+/// is its own, as it learns where it meets the others, and the log is longer than the steps.
 fn take_steps(desk: &Desk, pass: &mut Pass, steps: &[Event])
     requires pass { HasTaken desk.now steps.now 0 pass.old × (length steps.now < pass.old.calls) }
     requires steps { All (IsStep (length desk.now.setting.plan.stages)) steps.now }

@@ -12,7 +12,7 @@ mod sizes;
 
 ghost use Rattle.std.specs.Prelude.{◌≡◌, ◌<◌, ◌≤◌, All, IfErr, IfOk, length};
 ghost use Rattle.cf_pool.specs.Works.{meanings_of};
-ghost use Rattle.cf_race.specs.Races.{IsDue, IsRaced, IsStep, RacedIsExpression, log_words};
+ghost use Rattle.cf_race.specs.Races.{IsDue, IsRaced, IsStep, RacedIsExpression, RacesEndAlike, log_words};
 
 use crate::beginning::begin;
 use crate::sizes::sizes;
@@ -77,6 +77,11 @@ pub fn race<R: Threads + Wait + Sync, F: StageFn + Sync, G: Gate + Sync>(
 /// expressions say.
 pub fn races_end_as_expressions()
     ensures { RacedIsExpression }
+{}
+
+/// So two races that begin with the same plain steps end alike, whatever their numbers of workers.
+pub fn races_end_alike()
+    ensures { RacesEndAlike }
 {}
 
 #[cfg(test)]
