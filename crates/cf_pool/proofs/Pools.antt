@@ -1,21 +1,21 @@
 -- Passes that workers have worked with, one after another.
-use Rattle.std.proofs.Common.{◌≡◌, ℕ, suc, ◌+◌, ◌<◌, ◌≤◌, Bool, true, false, Option, Some, None, List, [], ◌∷◌, ◌++◌, length, map, All, sym, refl, ap, ◌∙◌, subst, append-nil, append_assoc, length-append, take, get_or, arith}
+use Rattle.std.proofs.Common.{◌≡◌, ℕ, zero, suc, ◌+◌, ◌<◌, ◌≤◌, Bool, true, false, Option, Some, None, List, [], ◌∷◌, ◌++◌, length, map, All, sym, refl, ap, ◌∙◌, subst, append-nil, append_assoc, length-append, take, get_or, arith}
 use Rattle.std.specs.Prelude.{nat_lt, slice_index_or}
 use Rattle.std.specs.List.{AllZip}
 use Rattle.std.proofs.lemmas.List.{take_more}
-use Rattle.std.proofs.lemmas.List.Elements.{All-head, All-tail, All-push, All-weaker, Contains-append_left, Contains-push}
+use Rattle.std.proofs.lemmas.List.Elements.{All-cons, All-head, All-nil, All-tail, All-push, All-weaker, Contains-append_left, Contains-push}
 use borrow.Author.Tests.{ltb-true, ltb-false}
 use mathlib.Core.List.{map-append}
 use Rattle.cf_plan.specs.declared.forms.Answer.{Answer}
 use Rattle.cf_plan.specs.declared.forms.Args.{Args}
 use Rattle.cf_desk.specs.declared.faults.DeskFault.{DeskFault}
 use Rattle.cf_desk.specs.declared.row.Known.{Known}
-use Rattle.cf_desk.specs.Rule.{AllShort}
-use Rattle.cf_desk.specs.Views.{Holder, Meets, Place, knowns}
+use Rattle.cf_desk.specs.Rule.{AllShort, blank, fresh}
+use Rattle.cf_desk.specs.Views.{Holder, Meets, Place, knowns, new_pass, opened}
 use Rattle.cf_pool.specs.declared.pool.Met.{Met}
 use Rattle.cf_pool.specs.declared.pool.Worked.{Worked}
 use Rattle.cf_pool.specs.Runs.{EndsIf, IsFirst, IsWork, SeesMore, Stop, first_with, lower_of, stop_of}
-use Rattle.cf_pool.specs.Works.{meanings_of}
+use Rattle.cf_pool.specs.Works.{IsOf, meanings_of}
 
 -- ---- the lowest caller that was stopped
 
@@ -127,3 +127,11 @@ all_step P hs now h items all one = subst (All P) (sym items) (All-push P hs h a
 pub work_same : {F : Type 0} (meaning : F → Args → Answer) (fns now : List F) (d e : Place) (p : Holder) (w : Worked) → d ≡ e → fns ≡ now → IsWork (meanings_of meaning fns) d p w → IsWork (meanings_of meaning now) e p w
 work_same meaning fns now d e p w same_desk same_fns h =
     subst (λ (x : Place). IsWork (meanings_of meaning now) x p w) same_desk (subst (λ fs. IsWork (meanings_of meaning fs) d p w) same_fns h)
+
+fresh_of : (d : Place) (calls c n : ℕ) → All (IsOf d) (map (new_pass d.table calls) (fresh d.setting c n))
+fresh_of d calls c zero = All-nil (IsOf d)
+fresh_of d calls c (suc n) = All-cons (IsOf d) (new_pass d.table calls (blank d.setting c)) (map (new_pass d.table calls) (fresh d.setting (suc c) n)) (refl, refl) (fresh_of d calls (suc c) n)
+
+-- the passes of a desk that was just opened are of it
+pub opened_of : (d : Place) (calls : ℕ) → All (IsOf d) (opened d.table d.setting calls)
+opened_of d calls = fresh_of d calls 0 d.setting.callers

@@ -15,3 +15,6 @@ pub use faults::PoolFault;
 pub use gate::{Gate, NoGate};
 pub use pool::run;
 pub use worker::{Done, work};
+
+#[cfg(test)]
+mod tests;
