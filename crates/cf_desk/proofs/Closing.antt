@@ -1,14 +1,14 @@
 -- What the last seat shows, where it stands for every pass.
 use Rattle.cf_plan.specs.Plans.{Planned}
 use Rattle.std.proofs.Common.{◌≡◌, ℕ, zero, suc, ◌+◌, ◌-◌, ◌<◌, ◌≤◌, ◌≢◌, ◌⊎◌, Bool, true, false, eqb, leb, ⊎_elim, length-append, eq-eqb, ne_eqb, Option, Some, None, List, [], ◌∷◌, ◌++◌, map, length, replicate, All, sym, refl, drop, ap, ◌∙◌, subst, append-nil, arith}
-use Rattle.std.proofs.lemmas.List.Elements.{All-nil, All-cons, All-head, All-tail, filter-append}
+use Rattle.std.proofs.lemmas.List.Elements.{All-nil, All-cons, All-head, All-tail}
 use mathlib.Core.Logic.{dite}
 use native.Mathlib.Decide.{ℕ_discrete}
 use mathlib.Core.Option.{some, some-injective, some-ne-none}
 use Rattle.std.proofs.lemmas.List.{length-replicate, length-map}
 use Rattle.atomic_table.proofs.Lists.{drop_at}
 use lib.ListN.{get_elem?}
-use Rattle.atomic_table.specs.Table.{State, Final, Seen, Me}
+use Rattle.atomic_table.specs.Table.{Final, Seen, Me}
 use Rattle.atomic_table.specs.Seated.{TableId}
 use mathlib.Core.List.{map-append}
 use Rattle.cf_desk.specs.declared.calls.Rec.{Rec}
@@ -22,7 +22,7 @@ use Rattle.cf_event.specs.Decoding.{decoded, decoded_with, event_of}
 use Rattle.cf_event.proofs.WordLemmas.{decoded_words}
 use Rattle.cf_desk.specs.Log.{own, IsEventOf, Catches, state_from}
 use Rattle.cf_desk.specs.Records.{Fits}
-use Rattle.cf_desk.specs.Rule.{Stands, AllStand, weight, count_in, count_all, IsRow, Kept, holds, longer_if, longest, with_seen, level, AllCatch, AllShort, blank, fresh, first, head_of, rest_of}
+use Rattle.cf_desk.specs.Rule.{AllStand, weight, count_in, IsRow, Kept, holds, longer_if, longest, with_seen, level, AllCatch, AllShort, blank, fresh, first, head_of, rest_of}
 use Rattle.cf_desk.specs.Views.{Holder, knowns, Closes, IsOneOf, IsLatest, new_pass, known_of}
 use Rattle.cf_desk.specs.Keepings.{IsFit, IsKeptFit, AllFit, pass_did}
 use Rattle.std.specs.List.{Contains}

@@ -1,6 +1,6 @@
 -- Passes that fit a history have one history.
 use Rattle.cf_plan.specs.Plans.{Planned}
-use Rattle.std.proofs.Common.{◌≡◌, ℕ, zero, suc, ◌+◌, ◌-◌, ◌<◌, ◌≤◌, Bool, true, false, cond, eqb, Some, List, [], ◌∷◌, ◌++◌, map, length, take, slice_get, All, sym, refl, ap, ◌∙◌, subst, append_assoc, length-append, arith}
+use Rattle.std.proofs.Common.{◌≡◌, ℕ, zero, suc, ◌-◌, ◌≤◌, Bool, true, false, cond, eqb, Some, List, [], ◌∷◌, ◌++◌, map, length, take, slice_get, All, sym, refl, ap, ◌∙◌, subst, append_assoc, length-append, arith}
 use Rattle.std.specs.List.{filter}
 use Rattle.std.proofs.lemmas.Option.{none-some}
 use Rattle.std.proofs.lemmas.List.Elements.{All-nil, All-cons, All-head, All-tail}
@@ -16,10 +16,10 @@ use Rattle.cf_laws.proofs.Runs.{quiet_is_expression}
 use Rattle.cf_core.specs.Events.{answered}
 use Rattle.cf_event.specs.Words.{who_of}
 use Rattle.cf_core.specs.Events.{state_after, state_at}
-use Rattle.cf_desk.specs.Log.{own, placed, events_of}
+use Rattle.cf_desk.specs.Log.{own, placed}
 use Rattle.cf_desk.specs.Records.{dids, IsAnswered, Fits}
-use Rattle.cf_desk.specs.Keepings.{AllFit, IsKeptFit}
-use Rattle.cf_desk.specs.Laws.{replies, place_of, call_of, Rises, StandsAt, IsSequential, IsOneOfAll, IsOnesOfAll, OneHistory}
+use Rattle.cf_desk.specs.Keepings.{IsKeptFit}
+use Rattle.cf_desk.specs.Laws.{replies, call_of, Rises, StandsAt, IsSequential, IsOneOfAll, IsOnesOfAll, OneHistory}
 
 abbrev mine : ℕ → ℕ × Event → Bool
 mine c e = eqb (who_of e.1) c

@@ -1,12 +1,12 @@
 -- Seats that are joined, levelled and split keep the rule.
-use Rattle.std.proofs.Common.{◌≡◌, ℕ, zero, suc, ◌+◌, ◌<◌, ◌≤◌, ◌≢◌, ◌⊎◌, Bool, true, false, eqb, leb, leb-true, leb-false, Some, List, [], ◌∷◌, ◌++◌, map, length, replicate, get_or, set, slice_get, slice_index, All, sym, refl, ap, ◌∙◌, subst, inl, inr, ⊎_elim, append_assoc, append-nil, length-append, arith}
+use Rattle.std.proofs.Common.{◌≡◌, ℕ, zero, suc, ◌+◌, ◌<◌, ◌≤◌, ◌≢◌, Bool, true, false, eqb, leb, leb-true, leb-false, Some, List, [], ◌∷◌, ◌++◌, map, length, replicate, get_or, set, slice_get, slice_index, All, sym, refl, ap, ◌∙◌, subst, ⊎_elim, arith}
 use Rattle.std.proofs.lemmas.List.{set-get_or}
 use Rattle.std.proofs.lemmas.List.Elements.{All-head, All-tail, filter-append}
 use Rattle.std.proofs.lemmas.Option.{none-some}
-use mathlib.Core.Option.{some, none, some-injective, some-ne-none}
+use mathlib.Core.Option.{some, none}
 use lib.ListN.{get_elem?}
-use Rattle.atomic_table.specs.Table.{State, Step, Me, step, stepped, keeps, Allows, Splits, Joins, Enters}
-use Rattle.atomic_table.proofs.Lists.{at_set, at_snoc, set_again}
+use Rattle.atomic_table.specs.Table.{Me, step, keeps, Allows, Splits, Joins, Enters}
+use Rattle.atomic_table.proofs.Lists.{at_set, at_snoc}
 use Rattle.cf_core.specs.declared.events.Event.{Event}
 use Rattle.cf_desk.specs.declared.row.Setting.{Setting}
 use Rattle.cf_desk.specs.declared.row.Terms.{Terms}
@@ -14,8 +14,8 @@ use Rattle.cf_desk.specs.declared.row.Known.{Known}
 use Rattle.cf_event.specs.Words.{who_of, word_of}
 use Rattle.cf_event.specs.Decoding.{event_of}
 use Rattle.cf_event.proofs.WordLemmas.{event_of_own_word}
-use Rattle.cf_desk.specs.Log.{own, IsEventOf, Catches}
-use Rattle.cf_desk.specs.Rule.{Stands, AllStand, weight, count_in, count_all, IsRow, Kept, holds, longer, longer_if, longest, with_seen, level, AllCatch, AllShort, levels, finds, FindsSeen, head_of, rest_of}
+use Rattle.cf_desk.specs.Log.{own, IsEventOf}
+use Rattle.cf_desk.specs.Rule.{AllStand, count_in, count_all, Kept, holds, longer_if, longest, with_seen, level, AllCatch, AllShort, levels, finds, FindsSeen, head_of, rest_of}
 use Rattle.cf_desk.proofs.Keeps.{count_set, keeps_view, same_some}
 
 count_snoc : (c : ℕ) (views : List (List Known)) (v : List Known) → count_all c (views ++ v ∷ []) ≡ count_all c views + count_in c v

@@ -1,11 +1,11 @@
 -- What a step does to a pass.
 use Rattle.cf_plan.specs.Plans.{Planned}
-use Rattle.std.proofs.Common.{◌≡◌, ℕ, zero, suc, ◌+◌, ◌<◌, ◌≤◌, ◌≢◌, ◌⊎◌, inl, inr, ⊎_elim, eqb, leb, leb-true, leb-false, max, Bool, true, false, Option, Some, None, List, [], ◌∷◌, ◌++◌, length, sym, refl, ap, ◌∙◌, subst, append-nil, append_assoc, length-append, take, slice_get, arith}
+use Rattle.std.proofs.Common.{◌≡◌, ℕ, zero, suc, ◌+◌, ◌<◌, ◌≤◌, ◌⊎◌, inl, inr, ⊎_elim, eqb, leb, leb-true, leb-false, max, Bool, true, false, Option, Some, List, [], ◌∷◌, ◌++◌, length, sym, refl, ap, ◌∙◌, subst, append-nil, append_assoc, length-append, take, slice_get, arith}
 use Rattle.std.proofs.lemmas.Option.{none-some}
 use Rattle.std.proofs.lemmas.List.Elements.{filter-append}
 use mathlib.Core.Option.{none}
 use prog.Atomic.{either}
-use Rattle.atomic_table.specs.Table.{Step, Me, step, Allows}
+use Rattle.atomic_table.specs.Table.{Me, step, Allows}
 use Rattle.atomic_table.specs.Seated.{TableId}
 use Rattle.cf_core.specs.declared.events.Event.{Event}
 use Rattle.cf_desk.specs.declared.row.Terms.{Terms}
@@ -27,8 +27,8 @@ use Rattle.cf_event.specs.Words.{who_of, word_of}
 use Rattle.cf_desk.specs.Log.{own, IsEventOf, state_from, Catches}
 use Rattle.cf_desk.specs.Calls.{event_by, joined}
 use Rattle.cf_desk.specs.Records.{Fits}
-use Rattle.cf_desk.specs.Rule.{holds, saw, looked, LooksNext, AddsNext, looks_next, adds_next, finds, FindsSeen, longer, longer_if, longest, with_seen, level, AllCatch, head_of, rest_of}
-use Rattle.cf_desk.specs.Views.{known_of, Holder, IsSamePass, state_of, AddedByOther, AddedOwn, Follows, Acts, Reads, Joins, HasLooked, Place, IsOne, Levelled, Meets, longer_of}
+use Rattle.cf_desk.specs.Rule.{holds, saw, looked, looks_next, adds_next, finds, longer_if, longest, with_seen, level, AllCatch, head_of, rest_of}
+use Rattle.cf_desk.specs.Views.{known_of, Holder, IsSamePass, state_of, AddedByOther, AddedOwn, Follows, Acts, Reads, Joins, HasLooked, Place, IsOne, Levelled, longer_of}
 use Rattle.cf_desk.specs.Desks.{Agrees}
 use Rattle.cf_desk.proofs.Recs.{own_call, state_snoc, plan_stays, fits_more, fits_did, fits_saw}
 use Rattle.cf_desk.proofs.Keeps.{looks, adds, same_some}

@@ -3,16 +3,13 @@ use Rattle.std.proofs.Common.{◌≡◌, ℕ, zero, suc, ◌+◌, ◌<◌, ◌�
 use Rattle.std.specs.List.{Contains}
 use Rattle.std.proofs.lemmas.Option.{none-some}
 use Rattle.std.proofs.lemmas.List.Elements.{All-nil, All-cons, All-contains, Contains-append_cases, filter-append}
-use mathlib.Core.Option.{some}
-use lib.ListN.{get_elem?}
 use Rattle.cf_core.specs.declared.events.Event.{Event}
 use Rattle.cf_event.specs.Words.{who_of}
 use Rattle.cf_desk.specs.declared.row.Setting.{Setting}
-use Rattle.cf_desk.specs.declared.row.Terms.{Terms}
 use Rattle.cf_desk.specs.declared.row.Known.{Known}
 use Rattle.cf_desk.specs.Log.{own}
-use Rattle.cf_desk.specs.Rule.{AllStand, Stands, Kept, count_in, weight, longest, level, with_seen}
-use Rattle.cf_desk.specs.Rows.{Begins, GoesOn, RowHolds, RowsHold, callers_of}
+use Rattle.cf_desk.specs.Rule.{AllStand, count_in, weight, longest, with_seen}
+use Rattle.cf_desk.specs.Rows.{GoesOn, RowsHold, callers_of}
 use Rattle.cf_desk.proofs.Keeps.{count_two, same_some}
 use Rattle.cf_desk.proofs.Meets.{between, longest_begins, stand_levelled}
 

@@ -1,8 +1,7 @@
 -- The calls of a caller as events, and what a join tells.
-use Rattle.std.specs.Prelude.{ℕ, Option, Some, None, true, false}
+use Rattle.std.specs.Prelude.{ℕ, Option, Some, None, false}
 use Rattle.cf_outcome.specs.declared.outcome.Outcome.{Outcome}
 use Rattle.cf_outcome.specs.declared.outcome.Outcome.TheVariants.{Value as Gives, Fault}
-use Rattle.cf_outcome.specs.declared.outcome.Cause.{Cause}
 use Rattle.cf_outcome.specs.declared.outcome.Cause.TheVariants.{Cancelled}
 use Rattle.cf_core.specs.declared.events.Event.{Event}
 use Rattle.cf_core.specs.declared.events.Event.TheVariants.{Complete as Completes, Fail as Fails, Cancel as Cancels, Claim as Claims, Finish as Finishes, Tick as Ticks}

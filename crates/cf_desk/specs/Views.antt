@@ -20,7 +20,7 @@ use Rattle.cf_desk.specs.declared.row.Known.{Known}
 use Rattle.cf_desk.specs.declared.row.Setting.{Setting}
 use Rattle.cf_desk.specs.Calls.{event_by, joined}
 use Rattle.cf_desk.specs.Log.{own, IsEventOf, Catches, state_from}
-use Rattle.cf_desk.specs.Records.{dids, Fits}
+use Rattle.cf_desk.specs.Records.{Fits}
 use Rattle.cf_desk.specs.Rule.{saw, longest, with_seen, fresh, count_in, AllShort}
 use Rattle.std.specs.List.{All}
 use Rattle.atomic_table.specs.Table.{Me}

@@ -1,5 +1,5 @@
-use Rattle.std.proofs.Common.{◌≡◌, ◌∷◌, [], length, replicate, refl, sym, ap, ◌∙◌, subst, arith, rules}
-use Rattle.cf_desk.specs.Views.{known_of, new_pass}
+use Rattle.std.proofs.Common.{◌≡◌, ◌∷◌, [], length, ap, ◌∙◌, arith}
+use Rattle.cf_desk.specs.Views.{known_of}
 use Rattle.cf_desk.proofs.Meets.{gives_first}
 use Rattle.cf_desk.proofs.Closing.{begins, split_next, new_one, agrees_new}
 use Rattle.cf_desk.proofs.Passes.{one_known}

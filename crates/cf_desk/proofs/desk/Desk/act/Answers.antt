@@ -1,5 +1,5 @@
 use Rattle.std.proofs.Common.{refl}
-use Rattle.cf_desk.proofs.Passes.{follows_itself, acts_then}
+use Rattle.cf_desk.proofs.Passes.{follows_itself}
 use Rattle.cf_desk.proofs.desk.Desk.act.Goals as goal
 
 pub returns-then-left-eq0-clause-refused : goal.returns-then-left-eq0-clause-refused

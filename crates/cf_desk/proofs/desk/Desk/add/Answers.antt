@@ -1,4 +1,4 @@
-use Rattle.std.proofs.Common.{◌≡◌, ℕ, ◌<◌, ◌+◌, ◌++◌, ◌∷◌, [], length, length-append, is_ok, not, true, None, Some, sym, ap, ◌∙◌, subst, arith, rules}
+use Rattle.std.proofs.Common.{◌≡◌, ℕ, ◌<◌, ◌+◌, ◌++◌, ◌∷◌, [], length, length-append, is_ok, not, true, sym, ap, ◌∙◌, subst, arith}
 use Rattle.atomic_table.specs.Seated.{TableId}
 use Rattle.cf_core.specs.declared.events.Event.{Event}
 use Rattle.cf_core.specs.declared.events.Reply.{Reply}
@@ -10,9 +10,9 @@ use Rattle.cf_desk.specs.Calls.{event_by}
 use Rattle.cf_desk.specs.Log.{IsEventOf}
 use Rattle.cf_desk.specs.Rule.{saw, AddsNext}
 use Rattle.cf_desk.specs.declared.calls.Rec.TheVariants.{Did}
-use Rattle.cf_desk.specs.Views.{Holder, Place, AddedByOther, state_of, known_of}
+use Rattle.cf_desk.specs.Views.{Holder, Place, known_of}
 use Rattle.cf_desk.proofs.Recs.{own_call}
-use Rattle.cf_desk.proofs.Passes.{adds_at, one_known, short_same, short_more, agrees_own, agrees_other, on_plan}
+use Rattle.cf_desk.proofs.Passes.{adds_at, one_known, short_more, agrees_own, agrees_other, on_plan}
 use Rattle.cf_desk.proofs.desk.Desk.add.Goals as goal
 use Rattle.cf_desk.proofs.desk.Desk.add.Goals.{After-event_by-event, After-compare_exchange-found, Else-is_err}
 

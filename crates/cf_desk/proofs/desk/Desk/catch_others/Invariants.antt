@@ -1,4 +1,4 @@
-use Rattle.std.proofs.Common.{◌≡◌, ◌-◌, ◌<◌, length}
+use Rattle.std.proofs.Common.{◌≡◌, ◌-◌, length}
 use Rattle.cf_desk.specs.Views.{Follows}
 use Rattle.cf_desk.proofs.desk.Desk.catch_others.Given as goal
 

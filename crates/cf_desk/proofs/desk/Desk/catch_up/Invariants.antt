@@ -1,4 +1,4 @@
-use Rattle.std.proofs.Common.{◌≡◌, ◌≤◌, take}
+use Rattle.std.proofs.Common.{◌≡◌, take}
 use Rattle.cf_desk.specs.Log.{state_from}
 use Rattle.cf_desk.specs.Views.{known_of}
 use Rattle.cf_desk.proofs.desk.Desk.catch_up.Given as goal

@@ -1,6 +1,5 @@
-use Rattle.std.proofs.Common.{◌≡◌, ◌<◌, ◌∷◌, [], sym, ap, ◌∙◌, subst, arith, rules}
-use Rattle.atomic_table.specs.Seated.{TableId}
-use Rattle.cf_desk.specs.Views.{Place, known_of}
+use Rattle.std.proofs.Common.{sym, ap, ◌∙◌, arith}
+use Rattle.cf_desk.specs.Views.{Place}
 use Rattle.cf_desk.proofs.Meets.{sits_down, joins, levels_out, keeps_first}
 use Rattle.cf_desk.proofs.Passes.{levelled_from}
 use Rattle.cf_desk.proofs.desk.Desk.level.Goals as goal

@@ -1,5 +1,5 @@
-use Rattle.std.proofs.Common.{◌≡◌, ◌≤◌, inl, arith, ap, sym, ◌∙◌}
-use Rattle.cf_desk.proofs.Passes.{follows_itself, follows_then, looked_more, looked_less}
+use Rattle.std.proofs.Common.{inl, arith}
+use Rattle.cf_desk.proofs.Passes.{follows_itself}
 use Rattle.cf_desk.proofs.desk.Desk.look_for.Goals as goal
 
 pub looks-init : goal.looks-init

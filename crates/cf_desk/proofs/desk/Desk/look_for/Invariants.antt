@@ -1,4 +1,3 @@
-use Rattle.std.proofs.Common.{◌≡◌}
 use Rattle.cf_desk.specs.Views.{Follows, HasLooked}
 use Rattle.cf_desk.proofs.desk.Desk.look_for.Given as goal
 

@@ -1,4 +1,4 @@
-use Rattle.std.proofs.Common.{◌≡◌, ◌≤◌, length, sym, ap, ◌∙◌, rules, arith}
+use Rattle.std.proofs.Common.{sym, ap, ◌∙◌, rules}
 use Rattle.cf_desk.specs.Views.{Holder, known_of, longer_of}
 use Rattle.cf_desk.proofs.Recs.{fits_more}
 use Rattle.cf_desk.proofs.Passes.{longer_either, longest_count, one_known, agrees_levelled}

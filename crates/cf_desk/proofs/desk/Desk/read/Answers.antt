@@ -1,4 +1,3 @@
-use Rattle.std.proofs.Common.{◌≡◌, ap, ◌∙◌, sym}
 use Rattle.cf_desk.proofs.Passes.{reads_then}
 use Rattle.cf_desk.proofs.desk.Desk.read.Goals as goal
 

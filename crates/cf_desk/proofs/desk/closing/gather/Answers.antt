@@ -1,9 +1,7 @@
-use Rattle.std.proofs.Common.{List, map, append-nil, ◌≡◌, ◌<◌, ◌≤◌, ◌+◌, ◌++◌, ◌∷◌, [], length, is_ok, not, true, refl, sym, ap, ◌∙◌, subst, append_assoc, arith}
+use Rattle.std.proofs.Common.{List, map, append-nil, ◌≡◌, ◌++◌, ◌∷◌, [], length, is_ok, not, true, refl, sym, ap, ◌∙◌, subst, append_assoc, arith}
 use Rattle.std.proofs.lemmas.List.Elements.{All-nil, All-push}
 use Rattle.std.specs.List.{All}
 use Rattle.std.specs.Vec.Iter.{into_iter_items}
-use Rattle.atomic_table.specs.Seated.{TableId}
-use Rattle.cf_desk.specs.declared.row.Known.{Known}
 use Rattle.cf_desk.specs.Views.{Holder, known_of, knowns, state_of, IsLatest}
 use Rattle.cf_desk.specs.Keepings.{IsFit, pass_kept}
 use Rattle.cf_desk.proofs.Meets.{sits_down, joins}

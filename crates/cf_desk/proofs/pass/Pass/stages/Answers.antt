@@ -1,4 +1,4 @@
-use Rattle.std.proofs.Common.{◌≡◌, ◌<◌, ◌≤◌, length, sym, ap, ◌∙◌}
+use Rattle.std.proofs.Common.{length, ap, ◌∙◌}
 use Rattle.cf_plan.specs.Plans.{Planned}
 use Rattle.cf_desk.specs.Views.{Holder, known_of}
 use Rattle.cf_desk.proofs.Passes.{plan_of}

@@ -1,10 +1,10 @@
-use Rattle.std.proofs.Common.{◌≡◌, ℕ, ◌<◌, ◌+◌, ◌++◌, ◌∷◌, [], length, length-append, is_ok, not, true, sym, refl, ap, ◌∙◌, subst, arith, rules}
+use Rattle.std.proofs.Common.{◌≡◌, ℕ, ◌++◌, ◌∷◌, [], length, length-append, is_ok, not, true, sym, refl, ap, ◌∙◌, subst, arith}
 use Rattle.cf_desk.specs.declared.calls.Rec.TheVariants.{Saw}
 use Rattle.cf_core.specs.States.{State}
 use Rattle.cf_core.specs.Events.{told}
 use Rattle.cf_core.specs.Ranges.{AskFits}
 use Rattle.cf_desk.specs.declared.row.Known.{Known}
-use Rattle.cf_desk.specs.Views.{Holder, known_of, state_of}
+use Rattle.cf_desk.specs.Views.{Holder, known_of}
 use Rattle.cf_desk.proofs.Passes.{agrees_told, none_new, asked_there}
 use Rattle.cf_desk.proofs.pass.Pass.tell.Goals as goal
 use Rattle.cf_desk.proofs.pass.Pass.tell.Goals.{Else-is_err}

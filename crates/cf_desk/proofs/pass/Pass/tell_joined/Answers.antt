@@ -1,4 +1,3 @@
-use Rattle.std.proofs.Common.{◌≡◌, ap, sym, ◌∙◌}
 use Rattle.cf_desk.proofs.Passes.{joins_told}
 use Rattle.cf_desk.proofs.pass.Pass.tell_joined.Goals as goal
 
