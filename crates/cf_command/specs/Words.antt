@@ -1,8 +1,8 @@
 -- What the words of the command line say.
-use Rattle.std.specs.Prelude.{◌+◌, ◌-◌, ◌*◌, ◌<◌, ◌≤◌, ◌&&◌, ℕ, List, [], ◌∷◌, codes, Option, Some, None, option_map, Bool, true, false, nat_le, if◌then◌else◌}
+use Rattle.std.specs.Prelude.{◌+◌, ◌-◌, ◌*◌, ◌<◌, ◌≤◌, ◌&&◌, ℕ, List, [], ◌∷◌, codes, Option, Some, None, option_map, Bool, true, nat_le, if◌then◌else◌}
 use Rattle.std.specs.Str.{bytes_eq}
 use Rattle.clap.specs.Walk.{is_empty}
-use Rattle.clap.specs.Words.{App, Row, Rule, Shape, Text, new_app, new_rule, with_rule, with_subcommand, subcommand_of, first_of, fault_of}
+use Rattle.clap.specs.Words.{App, Row, Rule, Text, new_app, new_rule, with_rule, with_subcommand, subcommand_of, first_of, fault_of}
 use Rattle.cf_command.specs.declared.command.Command.{Command}
 use Rattle.cf_command.specs.declared.command.Command.TheVariants.{Run, Race}
 

@@ -1,8 +1,6 @@
 -- The events of a race's steps, and from what was made of an input to what was written.
-use Rattle.std.proofs.Common.{◌≡◌, ◌+◌, ◌++◌, inl, inr, ℕ, suc, ◌<◌, List, [], ◌∷◌, length, Option, Some, None, Result, Ok, Err, true, All, ◌≤◌, refl, sym, ap, subst, ◌∙◌, String, string_bytes, arith}
-use Rattle.std.specs.Prelude.{IfSome, replicate, codes}
-use Rattle.std.proofs.lemmas.Bool.{lt-ltb}
-use Rattle.std.proofs.lemmas.List.{length-replicate}
+use Rattle.std.proofs.Common.{◌≡◌, ◌+◌, ◌++◌, inl, inr, ℕ, suc, ◌<◌, List, [], ◌∷◌, length, Option, Ok, Err, true, All, ◌≤◌, refl, ap, subst, ◌∙◌, String, string_bytes, arith}
+use Rattle.std.specs.Prelude.{IfSome, codes}
 use Rattle.std.proofs.lemmas.List.Elements.{All-nil, All-cons, All-head, All-tail}
 use Rattle.std.specs.Io.KnownBytes.{Appends}
 use Rattle.std.specs.declared.alloc.Global.{Global}
@@ -15,7 +13,7 @@ use Rattle.cf_reading.specs.declared.script.Step.{Step}
 use Rattle.cf_reading.specs.declared.script.Step.TheVariants.{Does, Asks, Work, Nudge}
 use Rattle.cf_reading.specs.Checks.{Fails as Misreads}
 use Rattle.cf_reading.specs.Input.{IsOfInput}
-use Rattle.cf_reading.specs.Reading.{race_reading, reading_for}
+use Rattle.cf_reading.specs.Reading.{race_reading}
 use Rattle.cf_reading.specs.Scripts.{Said, StepFits}
 use Rattle.cf_reading.specs.Functions.{meaning_of}
 use Rattle.cf_core.specs.States.{State, outcome_at, start}
@@ -30,7 +28,7 @@ use Rattle.cf_reading.specs.Steps.{is_raced}
 use Rattle.cf_race.specs.Races.{IsRaced, IsStep, RacedIsExpression, is_step, log_words}
 use Rattle.cf_script.specs.Runs.{IsInput, fault_line}
 use Rattle.cf_script.proofs.RunLemmas.{held_or_empty, input_too_long}
-use Rattle.cf_script.specs.Races.{IsWhyNot, MakesRace, MayTellRace, Races, RacesTo, EndsOf, PlainRacesWriteExpressions, events_of, lines_of, words_of}
+use Rattle.cf_script.specs.Races.{IsWhyNot, MakesRace, Races, EndsOf, PlainRacesWriteExpressions, events_of, lines_of, words_of}
 
 abbrev Raced : Step → Type 0
 Raced x = is_raced x ≡ true

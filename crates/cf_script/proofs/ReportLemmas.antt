@@ -1,14 +1,11 @@
 -- What steps keep, and how lines follow one another.
-use Rattle.std.proofs.Common.{None, ◌≡◌, ℕ, ◌+◌, ◌<◌, List, [], ◌∷◌, ◌++◌, length, drop, get_or, refl, sym, ap, subst, ◌∙◌, append_assoc, add-one}
+use Rattle.std.proofs.Common.{None, ◌≡◌, ℕ, ◌+◌, ◌<◌, List, [], ◌∷◌, ◌++◌, length, drop, get_or, sym, ap, subst, ◌∙◌, append_assoc, add-one}
 use Rattle.std.proofs.Math.Seq.{drop-cons}
-use Rattle.std.proofs.lemmas.List.{length-replicate}
-use Rattle.std.specs.Prelude.{replicate}
 use Rattle.cf_plan.specs.declared.forms.Form.TheVariants.{Source}
-use Rattle.cf_plan.specs.Plans.{Planned, PlannedStage}
-use Rattle.cf_core.specs.declared.stage.Stage.TheVariants.{Pending}
-use Rattle.cf_core.specs.States.{State, start, new_states}
+use Rattle.cf_plan.specs.Plans.{Planned}
+use Rattle.cf_core.specs.States.{State}
 use Rattle.cf_core.specs.Laws.{SameShape}
-use Rattle.cf_core.proofs.Shape.{answered-shape, length-new_states}
+use Rattle.cf_core.proofs.Shape.{answered-shape}
 use Rattle.cf_reading.specs.declared.func.Func.{Func}
 use Rattle.cf_reading.specs.declared.script.Step.{Step}
 use Rattle.cf_reading.specs.declared.script.Step.TheVariants.{Does, Asks, Work, Nudge}

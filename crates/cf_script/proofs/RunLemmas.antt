@@ -1,6 +1,6 @@
 -- From what was made of an input to what was written.
-use Rattle.std.proofs.Common.{◌≡◌, ◌⊎◌, inl, inr, ℕ, ◌<◌, List, length, Option, Some, None, Result, Ok, Err, IfSome, Bool, false, refl, sym, ap, subst, ◌∙◌, String, string_bytes, arith}
-use Rattle.std.specs.Prelude.{replicate, unwrap_or}
+use Rattle.std.proofs.Common.{◌≡◌, inl, inr, ℕ, ◌<◌, List, length, Option, Some, None, Ok, Err, IfSome, Bool, false, refl, sym, ap, subst, ◌∙◌, String, string_bytes, arith}
+use Rattle.std.specs.Prelude.{replicate}
 use Rattle.std.proofs.lemmas.Bool.{lt-ltb}
 use Rattle.std.proofs.lemmas.List.{length-replicate}
 use Rattle.std.specs.Io.KnownBytes.{Appends}
@@ -11,7 +11,6 @@ use Rattle.cf_reading.specs.Input.{IsOfInput}
 use Rattle.cf_reading.specs.Reading.{reading, reading_for}
 use Rattle.cf_reading.specs.declared.fault.ScriptFault.{ScriptFault}
 use Rattle.cf_reading.specs.declared.fault.ScriptFault.TheVariants as faults
-use Rattle.cf_script.specs.Reports.{report}
 use Rattle.cf_script.specs.Runs.{fault_line, told_of, IsInput, MayTell, Makes, Runs}
 
 long_input : (races : Bool) (n : ℕ) (bytes : List ℕ) → 1048576 < n → length bytes ≡ n → reading_for races bytes ≡ Err faults.TooLong

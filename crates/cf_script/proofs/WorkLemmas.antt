@@ -1,18 +1,17 @@
 -- Work ends with nothing ready, and keeps the plan.
 use Rattle.std.proofs.Common.{◌≡◌, ℕ, ◌+◌, ◌<◌, ◌≤◌, List, Bool, true, false, cond, Option, Some, None, zero, suc, length, get_or, arith, ap, sym, subst, ◌∙◌, refl}
-use Rattle.std.specs.Prelude.{count_by, nat_lt, slice_get, unwrap_or}
+use Rattle.std.specs.Prelude.{nat_lt}
 use Rattle.std.specs.List.{position, position_or_len}
 use Rattle.std.proofs.lemmas.List.Sums.{passes_at_first, count_by-le-length}
 use Rattle.std.proofs.lemmas.Bool.Decides.{nat_tests}
 use Rattle.std.proofs.lemmas.Option.{unwrap_or-slice_get}
-use Rattle.cf_core.specs.declared.stage.Stage.{Stage}
 use Rattle.cf_core.specs.declared.stage.Stage.TheVariants.{Pending}
 use Rattle.cf_core.specs.declared.replies.Claimed.TheVariants as claims
 use Rattle.cf_core.specs.declared.events.Event.TheVariants.{Claim as Claims, Finish as Finishes}
 use Rattle.cf_core.specs.declared.events.Reply.{Reply}
 use Rattle.cf_core.specs.declared.events.Reply.TheVariants as replies
 use Rattle.cf_core.specs.States.{State, is_ready, lowest_ready_of, stage_at}
-use Rattle.cf_core.specs.Events.{answered, claiming}
+use Rattle.cf_core.specs.Events.{answered}
 use Rattle.cf_core.specs.Claims.{is_claimable, claimable_count}
 use Rattle.cf_core.specs.Laws.{SameShape}
 use Rattle.cf_core.proofs.Claimable.{answered-claimable, claiming-claimable, ready-granted}

@@ -1,5 +1,5 @@
 -- Work: the functions of ready stages are called, the lowest stage first.
-use Rattle.std.specs.Prelude.{ℕ, ◌+◌, zero, suc, List, length, Option, Some, None}
+use Rattle.std.specs.Prelude.{ℕ, ◌+◌, zero, suc, List, length, Option}
 use Rattle.std.specs.Option.{option_map_or}
 use Rattle.cf_outcome.specs.declared.outcome.Value.TheVariants.{Nil}
 use Rattle.cf_plan.specs.declared.forms.Args.{Args}

@@ -1,6 +1,6 @@
 use Rattle.std.proofs.Common.{rules, ap, ap₂, subst, true, map, List, ℕ, Bor, ◌≡◌, ◌∙◌}
 use Rattle.std.proofs.lemmas.Result.{IfOk-weaker}
-use Rattle.clap.specs.Words.{App, Rule, Text, app_of, rule_of, is_simple, subcommand_of, with_rule, with_subcommand, fault_of, is_simple_and_free, FailsBy}
+use Rattle.clap.specs.Words.{App, app_of, rule_of, is_simple, subcommand_of, with_rule, with_subcommand, fault_of, is_simple_and_free, FailsBy}
 use Rattle.clap.specs.Simple.{app_of_fields}
 use Rattle.clap.specs.declared.builder.command.Command.{Command}
 use Rattle.clap.specs.declared.builder.command.Command.TheOpen.{Command-F}

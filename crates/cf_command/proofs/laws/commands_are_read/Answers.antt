@@ -1,4 +1,4 @@
-use Rattle.std.proofs.Common.{refl, [], ◌∷◌, Some, None, codes, ◌≡◌}
+use Rattle.std.proofs.Common.{refl}
 use Rattle.clap.proofs.OnLiterals.{clap_on_literals}
 use Rattle.cf_command.specs.Words.{command_of, workers_of}
 use Rattle.cf_command.proofs.laws.commands_are_read.Goals as goal

@@ -1,4 +1,4 @@
-use Rattle.std.proofs.Common.{◌≡◌, ◌++◌, length, drop, All, string_bytes}
+use Rattle.std.proofs.Common.{◌≡◌, ◌++◌, drop, string_bytes}
 use Rattle.cf_core.specs.Laws.{SameShape}
 use Rattle.cf_script.specs.Reports.{steps_lines, after_steps}
 use Rattle.cf_script.proofs.report.write_steps.Given as goal

@@ -1,4 +1,4 @@
-use Rattle.std.proofs.Common.{arith, rules}
+use Rattle.std.proofs.Common.{arith}
 use Rattle.cf_script.proofs.WorkLemmas.{turn_done, turn_falls, turn_keeps}
 use Rattle.cf_script.proofs.work.work.Goals as goal
 
