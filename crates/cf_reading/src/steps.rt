@@ -97,12 +97,7 @@ fn step_taken(stages: u16, json: &Json, races: bool) -> Option<Step>
 
 /// Takes the next step, of which there are at most `MAX_STEPS`.
 #[tactic(auto, unfolding(crate::specs::Steps::step_next))]
-fn add_step(
-    stages: u16,
-    found: &mut Vec<Step>,
-    json: &Json,
-    races: bool,
-) -> Result<(), ScriptFault>
+fn add_step(stages: u16, found: &mut Vec<Step>, json: &Json, races: bool) -> Result<(), ScriptFault>
     requires { length found.old.items ≤ MAX_STEPS }
     ensures gives { Gives (λ _. found.new.items) result (step_next races stages found.old.items (view json.now)) }
     ensures most { OnOk result (length found.new.items ≤ MAX_STEPS) }
