@@ -66,7 +66,7 @@ const ROWS: &[RaceRow] = &[
         name: "the steps come first, in their order",
         workers: 4,
         script: r#"{"cf":1,"stages":[{"form":"source"},{"form":"apply","of":[0],"fn":{"add":5}},{"form":"source"},{"form":"handle","of":[2],"fn":{"rescue":7}}],"limits":[{"stage":2,"at":9,"kind":"timeout"}],"steps":[["complete",0,3],["fail",0,1],["tick",9],["cancel",2]]}"#,
-        report: "stage 0 value 3 / stage 1 value 8 / stage 2 timeout / stage 3 value 7",
+        report: "stage 0 value 3 / stage 1 value 8 / stage 2 fault timeout raw / stage 3 value 7",
         raced: true,
     },
     RaceRow {
@@ -152,6 +152,9 @@ impl Meeting {
 
 impl Gate for Meeting {
     fn before(&self, stage: u16, _worker: u8) {
+        if stage >= self.stages {
+            return;
+        }
         let Some(flag) = self.there.get(stage as usize) else {
             return;
         };
