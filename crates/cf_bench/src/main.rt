@@ -13,7 +13,7 @@ mod shape;
 mod work;
 
 use anyhow::{Result, anyhow};
-use cf_late::Graph;
+use cf_core::Graph;
 use cf_plan::Plan;
 use race::{measured_race, measured_read, race_checksum};
 use script::{measured_script, report_checksum, script_text};

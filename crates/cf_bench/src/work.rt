@@ -1,7 +1,6 @@
 //! Settling a graph of one of the shapes, and summing up what came of it.
 use crate::shape::{Shape, sources_of};
-use cf_core::Claimed;
-use cf_late::Graph;
+use cf_core::{Claimed, Graph};
 use cf_outcome::{Cause, Outcome, Value};
 use cf_plan::{Answer, Args};
 

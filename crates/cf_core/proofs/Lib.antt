@@ -1,7 +1,7 @@
 pub mod StateLemmas
 pub mod Moves
-pub mod Marks
 pub mod Claimable
 pub mod Shape
 pub mod Firing
 pub mod LowestReady
+pub mod Keeping

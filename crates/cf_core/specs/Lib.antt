@@ -3,4 +3,4 @@ pub mod Events
 pub mod Ranges
 pub mod Claims
 pub mod Laws
-pub mod Graphs
+pub mod Keeping

@@ -1,24 +1,18 @@
-//! The graph: what it keeps, how it begins, and what it tells without a change.
+//! The graph: what it keeps, how it begins, and what it tells.
 mod claims;
 mod limits;
 mod settling;
 
-ghost use Rattle.std.specs.Prelude.{◌≡◌, ◌<◌, ◌↔◌, IfOk, IsTrue, length, nat_lt, replicate};
+ghost use Rattle.std.specs.Prelude.{◌≡◌, ◌+◌, ◌<◌, ◌≤◌, ◌↔◌, IfOk, IsTrue, None, length, nat_lt, replicate};
 ghost use Rattle.cf_outcome.specs.Outcomes.{now_of};
-ghost use Rattle.cf_plan.specs.Plans.{IsBuilt};
-ghost use Rattle.cf_core.specs.declared.stage.Stage.TheVariants.{Pending};
+ghost use Rattle.cf_plan.specs.Plans.{edges_of};
 ghost use Rattle.cf_core.specs.States.{lowest_ready_of, outcome_at, start};
 
-use crate::settle::{outcome, settle_all};
-use crate::stage::Stage;
-use cf_bits::BitSet;
+use crate::stages::Stages;
 use cf_outcome::{Now, Outcome, Value, now_of};
 use cf_plan::Plan;
 use std::alloc::{AllocError, Global};
 use std::marker::Model;
-
-/// How many turns of work a call leaves over.
-const LEFT_OVER: u32 = 0;
 
 /// Why there is no graph.
 #[derive(Clone, Copy, Debug, PartialEq, Eq)]
@@ -29,13 +23,12 @@ pub enum GraphFault {
 
 /// A graph of stages, of which each is pending, ready, claimed, linked or settled.
 ///
-/// A contract sees it as its `State`: the plan, the stages, for each stage the caller whose claim is open, the greatest
-/// moment so far, and how many of the plan's limits are used.
+/// A contract sees it as its `State`, in which all consequences have come to pass, whether they were worked out yet or
+/// not.
 #[derive(Drop)]
 pub struct Graph {
     plan: Plan,
-    stages: Vec<Stage>,
-    ready: BitSet,
+    stages: Stages,
     claims: Vec<Option<u8>>,
     moment: u32,
     used: usize,
@@ -46,21 +39,21 @@ impl Model for Graph {
 
     ghost Value = { State };
 
-    ghost use Rattle.cf_core.specs.Graphs.{IsInStep};
+    ghost use Rattle.cf_core.specs.Keeping.SoundStages.{outlook_of};
+    ghost use Rattle.cf_core.specs.Keeping.Graphs.{IsInStep};
 
-    ghost view = { λ g. record { plan = g.plan; stages = g.stages.items; claims = g.claims.items; moment = g.moment; used = g.used } };
+    ghost view = { λ g. record { plan = g.plan; stages = outlook_of g.plan.stages g.stages; claims = g.claims.items; moment = g.moment; used = g.used } };
 
-    ghost invariant = { λ g. IsInStep g.plan g.stages.items g.claims.items g.ready g.used };
+    ghost invariant = { λ g. IsInStep g.plan g.stages g.claims.items g.used };
 }
 
 impl Graph {
-    /// The graph of a plan, at its start: what is due without any call has come to pass. It takes all the memory that the
-    /// graph will ever need, and fails only where there is none.
+    /// The graph of a plan, at its start. It takes all the memory that the graph will ever need, and fails only where there
+    /// is none.
     pub fn new(alloc: Global, plan: Plan) -> Result<Graph, GraphFault>
         ensures { IfOk result (λ graph. graph ≡ start plan) }
     {
-        let count = plan.stages();
-        match graph_of(alloc, plan, count) {
+        match graph_of(alloc, plan) {
             Ok(graph) => Ok(graph),
             Err(_) => Err(GraphFault::NoMemory),
         }
@@ -89,7 +82,7 @@ impl Graph {
         ensures told { result ≡ now_of (outcome_at self.old i) absent }
         ensures unchanged { self.new ≡ self.old }
     {
-        now_of(outcome(self.stages[i as usize]), absent)
+        now_of(self.outcome(i), absent)
     }
 
     /// The outcome of a stage, if it is settled.
@@ -98,7 +91,8 @@ impl Graph {
         ensures told { result ≡ outcome_at self.old i }
         ensures unchanged { self.new ≡ self.old }
     {
-        outcome(self.stages[i as usize])
+        self.stages.treat_up_to(&self.plan, i);
+        self.stages.outcome(i)
     }
 
     /// The lowest ready stage, or none where no stage is ready.
@@ -106,49 +100,43 @@ impl Graph {
         ensures told { result ≡ lowest_ready_of self.old }
         ensures unchanged { self.new ≡ self.old }
     {
-        self.ready.lowest()
+        self.stages.lowest_ready(&self.plan)
     }
 
-    /// Does at most `k` turns of work that is still to be done, and says how many. Each call does all of its work before it
-    /// returns, so nothing is ever left over, and the answer is 0.
+    /// Does at most `k` turns of work that is left over, and says how many. It changes no answer but that of `turns`.
     pub fn nudge(&mut self, k: u32) -> u32
-        ensures none { result ≡ 0 }
+        ensures few { result ≤ k }
         ensures unchanged { self.new ≡ self.old }
     {
-        k.min(LEFT_OVER)
+        self.stages.nudge(&self.plan, k)
     }
 
-    /// How many turns of work that was left over were done so far: none, since nothing is ever left over.
+    /// How many turns were taken so far, over the graph's whole life.
     pub fn turns(&self) -> u64
-        ensures { result ≡ 0 }
+        ensures { result ≤ edges_of self.now.plan.stages + length self.now.plan.stages }
     {
-        LEFT_OVER as u64
+        self.stages.turns()
     }
 }
 
-/// The graph of a plan with this many stages.
-fn graph_of(alloc: Global, plan: Plan, count: u16) -> Result<Graph, AllocError>
-    requires built { IsBuilt plan }
-    requires all { count ≡ length plan.stages }
+/// The graph of a plan.
+fn graph_of(alloc: Global, plan: Plan) -> Result<Graph, AllocError>
     ensures { IfOk result (λ graph. graph ≡ start plan) }
 {
-    let mut stages = pending(alloc, count)?;
-    let claims = vec![in alloc; None; count as usize]?;
-    let mut ready = BitSet::new(alloc, count)?;
-    settle_all(&plan, &mut stages, &mut ready);
+    let stages = Stages::new(alloc, &plan)?;
+    let claims = no_claims(alloc, plan.stages())?;
     Ok(Graph {
         plan,
         stages,
-        ready,
         claims,
         moment: 0,
         used: 0,
     })
 }
 
-/// So many stages that are pending.
-fn pending(alloc: Global, count: u16) -> Result<Vec<Stage>, AllocError>
-    ensures { IfOk result (λ stages. stages.items ≡ replicate count Pending) }
+/// So many stages that nobody has a claim of.
+fn no_claims(alloc: Global, count: u16) -> Result<Vec<Option<u8>>, AllocError>
+    ensures { IfOk result (λ claims. claims.items ≡ replicate count None) }
 {
-    vec![in alloc; Stage::Pending; count as usize]
+    vec![in alloc; None; count as usize]
 }

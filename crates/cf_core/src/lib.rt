@@ -20,10 +20,16 @@
 mod asks;
 mod events;
 mod graph;
+mod kept;
 pub mod laws;
+mod links;
+mod mark;
+pub mod propagation;
 mod replies;
-mod settle;
 mod stage;
+mod stages;
+mod treat;
+
 #[cfg(test)]
 mod tests;
 

@@ -78,7 +78,7 @@ fn applies_over_a_source(rt: HostRuntime) -> Result<(), Fail> {
     assert_eq!(rt; now(&rt, &mut graph, 1), Now::Got(Value::Int(8)));
     assert_eq!(rt; claim(&rt, &mut graph, 1), Claimed::Settled);
     assert_eq!(rt; graph.nudge(4), 0);
-    assert_eq!(rt; graph.turns(), 0);
+    assert_eq!(rt; graph.turns(), 1);
     Ok(())
 }
 
@@ -204,5 +204,28 @@ fn a_refused_graph_can_be_made_again(rt: HostRuntime) -> Result<(), Fail> {
         Finished::Won
     );
     assert_eq!(rt; now(&rt, &mut graph, 1), Now::Got(Value::Int(8)));
+    Ok(())
+}
+
+#[test]
+fn chain_is_settled_when_it_is_asked_for(rt: HostRuntime) -> Result<(), Fail> {
+    let mut builder = PlanBuilder::new(rt.alloc());
+    builder.stage(Form::Source, &[], None)?;
+    for i in 0..4095 {
+        builder.stage(Form::Apply, &[i], Some(0))?;
+    }
+    let mut graph = Graph::new(rt.alloc(), builder.build()?)?;
+    assert!(rt; graph.has(0) && graph.has(4095));
+    assert!(rt; graph.fail(0, 7));
+    assert_eq!(rt; graph.turns(), 0);
+    assert_eq!(rt; graph.nudge(10), 10);
+    let thrown = Outcome::Fault {
+        cause: Cause::Thrown(7),
+        wrapped: true,
+    };
+    assert!(rt; graph.has(4095));
+    assert_eq!(rt; graph.outcome(4095), Some(thrown));
+    assert_eq!(rt; graph.turns(), 4095);
+    assert_eq!(rt; graph.nudge(5), 0);
     Ok(())
 }

@@ -2,8 +2,7 @@
 ghost use Rattle.std.specs.Prelude.{◌≡◌};
 ghost use Rattle.cf_desk.specs.Calls.{event_by, joined};
 
-use cf_core::{Ask, Event, Reply, Told};
-use cf_late::Graph;
+use cf_core::{Ask, Event, Graph, Reply, Told};
 use cf_outcome::{Cause, Outcome, Value};
 use cf_plan::Answer;
 

@@ -12,8 +12,7 @@ ghost use Rattle.cf_desk.specs.Views.{Joins, Reads, state_of};
 use crate::calls::{Joined, Rec, joined_as};
 use crate::row::View;
 use atomic_table::Seat;
-use cf_core::{Ask, Event, Told};
-use cf_late::Graph;
+use cf_core::{Ask, Event, Graph, Told};
 use cf_outcome::Outcome;
 use std::marker::Model;
 

@@ -3,8 +3,7 @@ ghost use Rattle.std.specs.Prelude.{◌≡◌, All, length};
 ghost use Rattle.cf_core.specs.Events.{answered, state_after};
 ghost use Rattle.cf_core.specs.Ranges.{EventFits};
 
-use cf_core::{Event, Reply};
-use cf_late::Graph;
+use cf_core::{Event, Graph, Reply};
 
 /// Does an event to a graph, and gives its reply. The event's stage, if it has one, is in the graph.
 pub fn apply(g: &mut Graph, e: &Event) -> Reply

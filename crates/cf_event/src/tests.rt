@@ -1,6 +1,5 @@
 use crate::{Event, Reply, apply, decode, encode, is_event, replay};
-use cf_core::{Claimed, Ticked};
-use cf_late::Graph;
+use cf_core::{Claimed, Graph, Ticked};
 use cf_outcome::Value;
 use cf_plan::{Answer, Args, Form, PlanBuilder};
 use std::test::Fail;

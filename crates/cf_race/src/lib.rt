@@ -16,9 +16,8 @@ ghost use Rattle.cf_race.specs.Races.{IsDue, IsRaced, IsStep, RacedIsExpression,
 
 use crate::beginning::begin;
 use crate::sizes::sizes;
-use cf_core::Event;
+use cf_core::{Event, Graph};
 use cf_desk::Closed;
-use cf_late::Graph;
 use cf_plan::{Plan, StageFn};
 use cf_pool::{Gate, PoolFault, run};
 use std::alloc::Global;

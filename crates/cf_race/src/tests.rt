@@ -2,8 +2,7 @@
 ghost use Rattle.std.specs.Prelude.{◌≡◌};
 
 use crate::{RaceFault, race};
-use cf_core::Event;
-use cf_late::Graph;
+use cf_core::{Event, Graph};
 use cf_outcome::{Outcome, Value};
 use cf_plan::{Answer, Args, Form, Plan, PlanBuilder, StageFn};
 use cf_pool::NoGate;

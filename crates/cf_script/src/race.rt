@@ -9,8 +9,7 @@ ghost use Rattle.cf_script.specs.Races.{EndsOf, IsWhyOf, MakesRace, Races, event
 
 use crate::fault_line::write_fault;
 use crate::report::write_stages;
-use cf_core::Event;
-use cf_late::Graph;
+use cf_core::{Event, Graph};
 use cf_outcome::write_text;
 use cf_pool::Gate;
 use cf_race::{RaceFault, race};

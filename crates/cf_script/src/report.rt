@@ -8,9 +8,8 @@ ghost use Rattle.cf_script.specs.Reports.{after_step, after_steps, report, stage
 
 use crate::texts::{write_reply, write_told};
 use crate::work::work;
-use cf_core::{Ask, Told};
+use cf_core::{Ask, Graph, Told};
 use cf_event::apply;
-use cf_late::Graph;
 use cf_reading::{Func, Script, Step};
 use std::alloc::{AllocError, Global};
 

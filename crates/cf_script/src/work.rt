@@ -3,9 +3,8 @@ ghost use Rattle.std.specs.Prelude.{◌≡◌, ◌<◌, Some, length};
 ghost use Rattle.cf_core.specs.States.{lowest_ready_of};
 ghost use Rattle.cf_script.specs.Working.{answer_of, worked, worked_once};
 
-use cf_core::{Claimed, Event, Reply};
+use cf_core::{Claimed, Event, Graph, Reply};
 use cf_event::apply;
-use cf_late::Graph;
 use cf_outcome::Value;
 use cf_plan::{Answer, Args, StageFn};
 use cf_reading::Func;

@@ -1,8 +1,7 @@
 //! The text of a closed desk.
 use crate::caller::call_of;
-use cf_core::{Ask, Claimed, Finished, Reply, Ticked, Told};
+use cf_core::{Ask, Claimed, Finished, Graph, Reply, Ticked, Told};
 use cf_desk::{Call, Closed, Rec};
-use cf_late::Graph;
 use cf_outcome::Outcome;
 use cf_plan::{Answer, Args};
 use std::alloc::{AllocError, Global};

@@ -1,13 +1,18 @@
 //! The calls by which a caller takes a stage's function and hands in its answer.
-ghost use Rattle.std.specs.Prelude.{◌≡◌, ◌<◌, length};
-ghost use Rattle.cf_core.specs.Events.{claiming, finishing, landed, source_outcome};
+ghost use Rattle.std.specs.Prelude.{◌≡◌, ◌+◌, ◌<◌, ◌==◌, None, false, length, option_and_then, slice_get, unwrap_or};
+ghost use Rattle.std.specs.Option.{option_map_or};
+ghost use Rattle.cf_plan.specs.Forms.{landing};
+ghost use Rattle.cf_plan.specs.Plans.{form_at, sources_at};
+ghost use Rattle.cf_core.specs.States.{outcome_in};
+ghost use Rattle.cf_core.specs.Events.{claiming, finishing};
+ghost use Rattle.cf_core.specs.Keeping.Sound.{AreTreated};
+ghost use Rattle.cf_core.specs.Keeping.SoundStages.{AreSound, outlook_of};
 
 use crate::graph::Graph;
+use crate::stages::Stages;
 use crate::replies::{Claimed, Finished};
-use crate::settle::outcome;
 use crate::stage::Stage;
-use cf_outcome::{Outcome, wrap};
-use cf_plan::{Answer, Landing, landing};
+use cf_plan::{Answer, Form, Landing, Plan, landing};
 
 impl Graph {
     /// Hands a ready stage's arguments to a caller, whose claim is open from then until its first finish of the stage, also
@@ -16,9 +21,10 @@ impl Graph {
         requires { i < length self.old.plan.stages }
         ensures { (result, self.new) ≡ claiming self.old who i }
     {
-        match self.stages[i as usize] {
+        self.stages.treat_up_to(&self.plan, i);
+        match self.stages.stage(i) {
             Stage::Ready(args) => {
-                self.put(i, Stage::Claimed);
+                self.stages.claim(&self.plan, i);
                 self.claims[i as usize] = Some(who);
                 Claimed::Granted(args)
             }
@@ -33,44 +39,39 @@ impl Graph {
         requires { i < length self.old.plan.stages }
         ensures { (result, self.new) ≡ finishing self.old who i answer }
     {
-        if self.claims[i as usize] != Some(who) {
+        self.stages.treat_up_to(&self.plan, i);
+        if !has_claim(&self.claims, who, i) {
             return Finished::NotYours;
         }
         self.claims[i as usize] = None;
-        match outcome(self.stages[i as usize]) {
+        match self.stages.outcome(i) {
             Some(_) => Finished::Late,
             None => {
-                let source = self.source(i);
-                let form = self.plan.form(i);
-                self.land(i, landing(form, i, source, answer));
+                let at = landing_of(&self.stages, &self.plan, i, answer);
+                self.stages.land(&self.plan, i, at);
                 Finished::Won
             }
         }
     }
+}
 
-    /// The outcome of a stage's first source.
-    fn source(&self, i: u16) -> Option<Outcome>
-        requires { i < length self.now.plan.stages }
-        ensures { result ≡ source_outcome self.now i }
-    {
-        let j = self.plan.sources(i).first()?;
-        outcome(self.stages[*j as usize])
-    }
+/// Whether a caller's claim of a stage is open.
+fn has_claim(claims: &[Option<u8>], who: u8, i: u16) -> bool
+    requires { i < length claims.now }
+    ensures { result ≡ option_map_or (λ w. w == who) (unwrap_or (slice_get claims.now i) None) false }
+{
+    claims[i as usize] == Some(who)
+}
 
-    /// A stage lands.
-    fn land(&mut self, i: u16, at: Landing)
-        requires { i < length self.old.plan.stages }
-        ensures { self.new ≡ landed self.old i at }
-    {
-        match at {
-            Landing::Settles(o) => self.take(i, o),
-            Landing::Links(j) => match self.stages.get(j as usize) {
-                Some(Stage::Settled(o)) => {
-                    let o = *o;
-                    self.take(i, wrap(o))
-                }
-                _ => self.put(i, Stage::Linked(j)),
-            },
-        }
+/// Where a stage lands with an answer. Of all forms `WhenComplete` alone looks at its source.
+fn landing_of(stages: &Stages, plan: &Plan, i: u16, answer: Answer) -> Landing
+    requires sound { AreSound plan.now.stages stages.now }
+    requires stage { i < length plan.now.stages }
+    requires treated { AreTreated (i + 1) stages.now.marks }
+    ensures { result ≡ landing (form_at plan.now.stages i) i (option_and_then (outcome_in (outlook_of plan.now.stages stages.now)) (slice_get (sources_at plan.now.stages i) 0)) answer }
+{
+    match plan.form(i) {
+        Form::WhenComplete => landing(Form::WhenComplete, i, stages.source(plan, i), answer),
+        form => landing(form, i, None, answer),
     }
 }

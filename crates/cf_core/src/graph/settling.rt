@@ -1,13 +1,10 @@
 //! The calls that settle a stage directly.
-ghost use Rattle.std.specs.Prelude.{◌≡◌, ◌<◌, false, length, slice_set};
+ghost use Rattle.std.specs.Prelude.{◌≡◌, ◌<◌, false, length};
 ghost use Rattle.cf_outcome.specs.declared.outcome.Outcome.TheVariants.{Value as Gives, Fault};
 ghost use Rattle.cf_outcome.specs.declared.outcome.Cause.TheVariants.{Thrown};
-ghost use Rattle.cf_core.specs.States.{after};
 ghost use Rattle.cf_core.specs.Events.{cancelling, settling};
 
 use crate::graph::Graph;
-use crate::settle::{mark, outcome, settle_all};
-use crate::stage::Stage;
 use cf_outcome::{Cause, Outcome, Value, is_cancelled};
 
 impl Graph {
@@ -41,18 +38,15 @@ impl Graph {
         requires { i < length self.old.plan.stages }
         ensures { (result, self.new) ≡ cancelling self.old i }
     {
-        match outcome(self.stages[i as usize]) {
+        match self.outcome(i) {
             Some(old) => is_cancelled(old),
-            None => {
-                self.take(
-                    i,
-                    Outcome::Fault {
-                        cause: Cause::Cancelled,
-                        wrapped: false,
-                    },
-                );
-                true
-            }
+            None => self.settle(
+                i,
+                Outcome::Fault {
+                    cause: Cause::Cancelled,
+                    wrapped: false,
+                },
+            ),
         }
     }
 
@@ -61,30 +55,13 @@ impl Graph {
         requires { i < length self.old.plan.stages }
         ensures { (result, self.new) ≡ settling self.old i o }
     {
-        match outcome(self.stages[i as usize]) {
+        self.stages.treat_up_to(&self.plan, i);
+        match self.stages.outcome(i) {
             Some(_) => false,
             None => {
-                self.take(i, o);
+                self.stages.settle(&self.plan, i, o);
                 true
             }
         }
-    }
-
-    /// Settles a stage, and all that follows from it.
-    pub(super) fn take(&mut self, i: u16, o: Outcome)
-        requires { i < length self.old.plan.stages }
-        ensures { self.new ≡ after self.old i o }
-    {
-        self.put(i, Stage::Settled(o));
-        settle_all(&self.plan, &mut self.stages, &mut self.ready);
-    }
-
-    /// Writes the state of one stage alone.
-    pub(super) fn put(&mut self, i: u16, stage: Stage)
-        requires { i < length self.old.plan.stages }
-        ensures { self.new ≡ record self.old { stages = slice_set self.old.stages i stage } }
-    {
-        self.stages[i as usize] = stage;
-        mark(&mut self.ready, i, stage);
     }
 }

@@ -13,9 +13,8 @@ use crate::faults::CloseFault;
 use crate::pass::Pass;
 use crate::row::{Both, Sits, View};
 use atomic_table::Seat;
-use cf_core::Event;
+use cf_core::{Event, Graph};
 use cf_event::decode;
-use cf_late::Graph;
 use std::alloc::Global;
 
 impl Desk {

@@ -10,9 +10,8 @@ use crate::desk::Desk;
 use crate::pass::Pass;
 use crate::row::{Adds, Both, Finds, KeepsFirst, Levels, Looks, Sits, View};
 use atomic_table::Seat;
-use cf_core::Reply;
+use cf_core::{Graph, Reply};
 use cf_event::{apply, decode, encode};
-use cf_late::Graph;
 use std::mem;
 
 impl Desk {

@@ -1,8 +1,16 @@
-use Rattle.std.proofs.Common.{◌∙◌, ap, sym, map}
-use Rattle.cf_core.specs.States.{is_ready}
-use Rattle.cf_core.proofs.Marks.{marks-none}
+use Rattle.std.proofs.Common.{◌∙◌, None, ap, arith, length, subst, sym}
+use Rattle.std.proofs.lemmas.List.{length-replicate}
+use Rattle.cf_core.specs.Keeping.Graphs.{AreClaimed}
+use Rattle.cf_core.proofs.Keeping.GraphLemmas.{no_claims}
 use Rattle.cf_core.proofs.graph.graph_of.Goals as goal
 
-pub settle_all-requires-clause-marks : goal.settle_all-requires-clause-marks
-settle_all-requires-clause-marks c =
-    c.in_ok-ready.ensures ∙ marks-none c.args.count ∙ ap (map is_ready) (sym (c.deref_mut.ensures.value ∙ c.in_ok-stages.ensures))
+pub invariant_of-result : goal.invariant_of-result
+invariant_of-result c =
+    let kept = c.in_ok-stages.stages.kept.items in
+    record {
+      built = c.stages.ensures.built;
+      sound = c.in_ok-stages.ensures.sound;
+      all_claims = ap length c.in_ok-claims.ensures ∙ length-replicate c.stages.result None ∙ c.stages.ensures.count;
+      claimed = subst (λ claims. AreClaimed claims kept) (sym c.in_ok-claims.ensures) (no_claims c.stages.result kept);
+      few_used = omega arith;
+    }

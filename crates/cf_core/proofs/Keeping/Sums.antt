@@ -1,0 +1,82 @@
+-- Sums over lists with one element written, and what is kept of a stage.
+use Rattle.std.proofs.Common.{◌≡◌, ℕ, ◌+◌, ◌<◌, ◌≤◌, ◌∷◌, [], List, Some, length, suc, zero, arith, ap, refl, set}
+use Rattle.std.specs.Prelude.{slice_get, unwrap_or}
+use Rattle.std.specs.List.{sum_by}
+use Rattle.std.proofs.lemmas.List.Sums.{sum_by-cons}
+use Rattle.cf_plan.specs.Plans.{PlannedStage}
+use Rattle.cf_core.specs.declared.stage.Stage.TheVariants.{Pending}
+use Rattle.cf_core.specs.declared.kept.Kept.{Kept}
+use Rattle.cf_core.specs.Keeping.Late.{StepsUpTo}
+use Rattle.cf_core.specs.Keeping.Links.{list_at}
+use Rattle.cf_core.specs.Keeping.Sound.{kept_at, marks_of, marks_from}
+
+pub sum_by-set_at : {X : Type 0} (f : X → ℕ) (xs : List X) (i : ℕ) (old new : X) → slice_get xs i ≡ Some old → sum_by f (set xs i new) + f old ≡ sum_by f xs + f new
+sum_by-set_at f [] i old new e = cc
+sum_by-set_at f (x ∷ xs) zero old new e =
+    let same : f x ≡ f old = (let s : x ≡ old = cc in ap f s) in
+    let h = sum_by-cons f new xs in
+    let k = sum_by-cons f x xs in
+    omega (arith, h, k, same)
+sum_by-set_at f (x ∷ xs) (suc i) old new e =
+    let h = sum_by-cons f x (set xs i new) in
+    let k = sum_by-cons f x xs in
+    let rest = sum_by-set_at f xs i old new e in
+    omega (arith, h, k, rest)
+
+pub sum_by-at : {X : Type 0} (f : X → ℕ) (xs : List X) (i : ℕ) (x : X) → slice_get xs i ≡ Some x → f x ≤ sum_by f xs
+sum_by-at f [] i x e = cc
+sum_by-at f (y ∷ xs) zero x e =
+    let same : f y ≡ f x = (let s : y ≡ x = cc in ap f s) in
+    let k = sum_by-cons f y xs in omega (arith, k, same)
+sum_by-at f (y ∷ xs) (suc i) x e =
+    let k = sum_by-cons f y xs in
+    let rest = sum_by-at f xs i x e in omega (arith, k, rest)
+
+pub marks_from-set : (plan : List PlannedStage) (n : ℕ) (kept : List Kept) (d : ℕ) (old new : Kept) → slice_get kept d ≡ Some old →
+    marks_from plan n (set kept d new) + marks_of plan (n + d) old.stage ≡ marks_from plan n kept + marks_of plan (n + d) new.stage
+marks_from-set plan n [] d old new e = cc
+marks_from-set plan n (k ∷ kept) zero old new e =
+    let here : n + 0 ≡ n = omega arith in
+    let same : k ≡ old = cc in
+    rw (here, same) (omega arith)
+marks_from-set plan n (k ∷ kept) (suc d) old new e =
+    let rest = marks_from-set plan (n + 1) kept d old new e in
+    let next : (n + 1) + d ≡ n + suc d = omega arith in
+    let rest' = rw next at rest in
+    omega (arith, rest')
+
+-- ---- stages that are there
+
+pub kept_there : (kept : List Kept) (d : ℕ) → d < length kept → slice_get kept d ≡ Some (kept_at kept d)
+kept_there [] d l = absurd (omega arith)
+kept_there (k ∷ kept) zero l = refl
+kept_there (k ∷ kept) (suc d) l = kept_there kept d (omega arith)
+
+pub kept_is : (kept : List Kept) (d : ℕ) (k : Kept) → slice_get kept d ≡ Some k → kept_at kept d ≡ k
+kept_is kept d k e = ap (λ x. unwrap_or x (record { stage = Pending; step = 0 })) e
+
+pub list_there : (links : List (List ℕ)) (d : ℕ) → d < length links → slice_get links d ≡ Some (list_at links d)
+list_there [] d l = absurd (omega arith)
+list_there (x ∷ links) zero l = refl
+list_there (x ∷ links) (suc d) l = list_there links d (omega arith)
+
+pub there_within : {X : Type 0} (xs : List X) (i : ℕ) (x : X) → slice_get xs i ≡ Some x → i < length xs
+there_within [] i x e = cc
+there_within (y ∷ xs) zero x e = omega arith
+there_within (y ∷ xs) (suc i) x e = let h = there_within xs i x e in omega arith
+
+-- ---- steps
+
+pub StepsUpTo-set : (n : ℕ) (kept : List Kept) (d : ℕ) (new : Kept) → StepsUpTo n kept → new.step ≤ n → StepsUpTo n (set kept d new)
+StepsUpTo-set n [] d new h l = tt
+StepsUpTo-set n (k ∷ kept) zero new h l = (l, h.1)
+StepsUpTo-set n (k ∷ kept) (suc d) new h l = (h.0, StepsUpTo-set n kept d new h.1 l)
+
+pub StepsUpTo-le : (n m : ℕ) (kept : List Kept) → n ≤ m → StepsUpTo n kept → StepsUpTo m kept
+StepsUpTo-le n m [] l h = tt
+StepsUpTo-le n m (k ∷ kept) l h = (omega (arith, h.0), StepsUpTo-le n m kept l h.1)
+
+pub StepsUpTo-at : (n : ℕ) (kept : List Kept) (d : ℕ) (k : Kept) → StepsUpTo n kept → slice_get kept d ≡ Some k → k.step ≤ n
+StepsUpTo-at n [] d k h e = cc
+StepsUpTo-at n (x ∷ kept) zero k h e = let same : x ≡ k = cc in let s = ap (λ (y : Kept). y.step) same in omega (arith, h.0, s)
+StepsUpTo-at n (x ∷ kept) (suc d) k h e = StepsUpTo-at n kept d k h.1 e

@@ -1,0 +1,56 @@
+use Rattle.std.proofs.Common.{◌≡◌, ◌∙◌, Some, ap, refl, sym, length-set, inl, inr}
+use Rattle.std.specs.Prelude.{slice_get}
+use Rattle.cf_core.specs.declared.stage.Stage.TheVariants.{Pending, Ready, Claimed, Linked, Settled}
+use Rattle.cf_core.specs.declared.replies.Claimed.TheVariants.{Settled as IsSettled, Taken, NotReady}
+use Rattle.cf_core.specs.Keeping.SoundStages.{outlook_of}
+use Rattle.cf_core.proofs.Keeping.GraphLemmas.{AreClaimed-set, AreClaimed-stay, claims_not, claims_now, told_stage}
+use Rattle.cf_core.proofs.graph.Graph.claim.Goals as goal
+
+pub invariant_of-self : goal.invariant_of-self
+invariant_of-self c =
+    let h = c.self.invariant in
+    let t = c.treat_up_to.new.self in
+    record {
+      built = h.built;
+      sound = c.claim.ensures.sound;
+      all_claims = length-set c.self.inside.claims.items c.args.i (Some c.args.who) ∙ h.all_claims;
+      claimed = AreClaimed-set c.self.inside.claims.items t.kept.items c.claim.new.self.kept.items c.args.i c.args.who
+          (AreClaimed-stay c.self.inside.claims.items c.self.inside.stages.kept.items t.kept.items h.claimed c.treat_up_to.ensures.taken) c.claim.ensures.taken c.claim.ensures.here;
+      few_used = h.few_used;
+    }
+
+pub returns-in-Ready : goal.returns-in-Ready
+returns-in-Ready c =
+    let plan = c.self.inside.plan.stages in
+    let t = c.treat_up_to.new.self in
+    let told = told_stage plan t c.args.i c.treat_up_to.ensures.sound (rw (← c.self.view_is) at c.requires) c.treat_up_to.ensures.treated in
+    let is : slice_get (outlook_of plan t) c.args.i ≡ Some (Ready c.in-Ready.args) = told ∙ ap (λ x. Some x) (sym c.stage.ensures ∙ c.in-Ready.is) in
+    rw (← c.self.view_is) (claims_now _ c.args.who c.args.i c.in-Ready.args (outlook_of plan t) (outlook_of plan c.claim.new.self) c.treat_up_to.ensures.same is c.claim.ensures.claimed)
+
+pub returns-in-Settled : goal.returns-in-Settled
+returns-in-Settled c =
+    let plan = c.self.inside.plan.stages in
+    let t = c.treat_up_to.new.self in
+    let told = told_stage plan t c.args.i c.treat_up_to.ensures.sound (rw (← c.self.view_is) at c.requires) c.treat_up_to.ensures.treated in
+    let is : slice_get (outlook_of plan t) c.args.i ≡ Some (Settled c.in-Settled.field-0) = told ∙ ap (λ x. Some x) (sym c.stage.ensures ∙ c.in-Settled.is) in
+    rw (← c.self.view_is) (claims_not _ c.args.who c.args.i (Settled c.in-Settled.field-0) IsSettled (outlook_of plan t) c.treat_up_to.ensures.same is refl)
+
+pub returns-in-Claimed : goal.returns-in-Claimed
+returns-in-Claimed c =
+    let plan = c.self.inside.plan.stages in
+    let t = c.treat_up_to.new.self in
+    let told = told_stage plan t c.args.i c.treat_up_to.ensures.sound (rw (← c.self.view_is) at c.requires) c.treat_up_to.ensures.treated ∙ ap (λ x. Some x) (sym c.stage.ensures) in
+    elim c.in-Claimed.is [
+      | inl e ↦ (let is : slice_get (outlook_of plan t) c.args.i ≡ Some Claimed = told ∙ ap (λ x. Some x) e in
+          rw (← c.self.view_is) (claims_not _ c.args.who c.args.i Claimed Taken (outlook_of plan t) c.treat_up_to.ensures.same is refl))
+      | inr e ↦ (let is : slice_get (outlook_of plan t) c.args.i ≡ Some (Linked e.0) = told ∙ ap (λ x. Some x) e.1 in
+          rw (← c.self.view_is) (claims_not _ c.args.who c.args.i (Linked e.0) Taken (outlook_of plan t) c.treat_up_to.ensures.same is refl))
+    ]
+
+pub returns-in-Pending : goal.returns-in-Pending
+returns-in-Pending c =
+    let plan = c.self.inside.plan.stages in
+    let t = c.treat_up_to.new.self in
+    let told = told_stage plan t c.args.i c.treat_up_to.ensures.sound (rw (← c.self.view_is) at c.requires) c.treat_up_to.ensures.treated in
+    let is : slice_get (outlook_of plan t) c.args.i ≡ Some Pending = told ∙ ap (λ x. Some x) (sym c.stage.ensures ∙ c.in-Pending.is) in
+    rw (← c.self.view_is) (claims_not _ c.args.who c.args.i Pending NotReady (outlook_of plan t) c.treat_up_to.ensures.same is refl)

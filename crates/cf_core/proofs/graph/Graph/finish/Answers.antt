@@ -1,0 +1,75 @@
+use Rattle.std.proofs.Common.{◌≡◌, ◌∙◌, ◌==◌, None, Some, ap, false, length-set, refl, sym, true}
+use Rattle.std.specs.Prelude.{slice_get, unwrap_or}
+use Rattle.std.specs.Option.{option_map_or}
+use Rattle.cf_core.specs.States.{outcome_in}
+use Rattle.cf_core.specs.Keeping.SoundStages.{outlook_of}
+use Rattle.cf_core.proofs.Keeping.GraphLemmas.{AreClaimed-closed, AreClaimed-stay, claim_there, finishes_late, finishes_now, open_claimed, told_outcome}
+use Rattle.cf_core.proofs.graph.Graph.finish.Goals as goal
+
+pub invariant_of-self-in-Some : goal.invariant_of-self-in-Some
+invariant_of-self-in-Some c =
+    let s = c.self.inside.stages in
+    let t = c.treat_up_to.new.self in
+    let plan = c.self.inside.plan.stages in
+    let claims = c.self.inside.claims.items in
+    let h = c.self.invariant in
+    record {
+      built = h.built;
+      sound = c.treat_up_to.ensures.sound;
+      all_claims = length-set claims c.args.i None ∙ h.all_claims;
+      claimed = AreClaimed-closed claims s.kept.items t.kept.items c.args.i h.claimed (λ i ne. c.treat_up_to.ensures.taken i);
+      few_used = h.few_used;
+    }
+
+pub land-requires-clause-claimed : goal.land-requires-clause-claimed
+land-requires-clause-claimed c =
+    let s = c.self.inside.stages in
+    let t = c.treat_up_to.new.self in
+    let plan = c.self.inside.plan.stages in
+    let claims = c.self.inside.claims.items in
+    let h = c.self.invariant in
+    let has : option_map_or (λ w. w == c.args.who) (unwrap_or (slice_get claims c.args.i) None) false ≡ true =
+    ap (λ xs. option_map_or (λ w. w == c.args.who) (unwrap_or (slice_get xs c.args.i) None) false) (sym c.deref.ensures.value) ∙ sym c.has_claim.ensures ∙ c.if-not-has_claim.false in
+    open_claimed _ (c.treat_up_to.ensures.taken c.args.i (h.claimed c.args.i c.args.who (claim_there claims c.args.i c.args.who has))) (sym c.outcome.ensures ∙ c.in-None.is)
+
+pub invariant_of-self-in-None : goal.invariant_of-self-in-None
+invariant_of-self-in-None c =
+    let s = c.self.inside.stages in
+    let t = c.treat_up_to.new.self in
+    let plan = c.self.inside.plan.stages in
+    let claims = c.self.inside.claims.items in
+    let h = c.self.invariant in
+    record {
+      built = h.built;
+      sound = c.land.ensures.sound;
+      all_claims = length-set claims c.args.i None ∙ h.all_claims;
+      claimed = AreClaimed-closed claims t.kept.items c.land.new.self.kept.items c.args.i (AreClaimed-stay claims s.kept.items t.kept.items h.claimed c.treat_up_to.ensures.taken) c.land.ensures.taken;
+      few_used = h.few_used;
+    }
+
+pub returns-in-Some : goal.returns-in-Some
+returns-in-Some c =
+    let s = c.self.inside.stages in
+    let t = c.treat_up_to.new.self in
+    let plan = c.self.inside.plan.stages in
+    let claims = c.self.inside.claims.items in
+    let h = c.self.invariant in
+    let has : option_map_or (λ w. w == c.args.who) (unwrap_or (slice_get claims c.args.i) None) false ≡ true =
+    ap (λ xs. option_map_or (λ w. w == c.args.who) (unwrap_or (slice_get xs c.args.i) None) false) (sym c.deref.ensures.value) ∙ sym c.has_claim.ensures ∙ c.if-not-has_claim.false in
+    let told = told_outcome plan t c.args.i c.treat_up_to.ensures.sound (rw (← c.self.view_is) at c.requires) c.treat_up_to.ensures.treated in
+    let is : outcome_in (outlook_of plan t) c.args.i ≡ Some c.in-Some.field-0 = told ∙ sym c.outcome.ensures ∙ c.in-Some.is in
+    rw (← c.self.view_is) (finishes_late _ c.args.who c.args.i c.args.answer c.in-Some.field-0 (outlook_of plan t) c.treat_up_to.ensures.same has is)
+
+pub returns-in-None : goal.returns-in-None
+returns-in-None c =
+    let s = c.self.inside.stages in
+    let t = c.treat_up_to.new.self in
+    let plan = c.self.inside.plan.stages in
+    let claims = c.self.inside.claims.items in
+    let h = c.self.invariant in
+    let has : option_map_or (λ w. w == c.args.who) (unwrap_or (slice_get claims c.args.i) None) false ≡ true =
+    ap (λ xs. option_map_or (λ w. w == c.args.who) (unwrap_or (slice_get xs c.args.i) None) false) (sym c.deref.ensures.value) ∙ sym c.has_claim.ensures ∙ c.if-not-has_claim.false in
+    let told = told_outcome plan t c.args.i c.treat_up_to.ensures.sound (rw (← c.self.view_is) at c.requires) c.treat_up_to.ensures.treated in
+    let is : outcome_in (outlook_of plan t) c.args.i ≡ None = told ∙ sym c.outcome.ensures ∙ c.in-None.is in
+    rw (← c.self.view_is) (finishes_now _ c.args.who c.args.i c.args.answer _ c.landing_of-at.result (outlook_of plan t) (outlook_of plan c.land.new.self)
+    c.treat_up_to.ensures.same has is refl c.landing_of-at.ensures c.land.ensures.landed)

@@ -1,0 +1,12 @@
+use Rattle.std.proofs.Common.{◌∙◌, ap, sym}
+use Rattle.cf_core.specs.States.{outcome_at, outcome_in}
+use Rattle.cf_core.proofs.Keeping.GraphLemmas.{told_outcome}
+use Rattle.cf_core.proofs.graph.Graph.outcome.Goals as goal
+
+pub returns-clause-told : goal.returns-clause-told
+returns-clause-told c =
+    let plan = c.self.inside.plan.stages in
+    c.outcome.ensures
+    ∙ sym (told_outcome plan c.treat_up_to.new.self c.args.i c.treat_up_to.ensures.sound (rw (← c.self.view_is) at c.requires) c.treat_up_to.ensures.treated)
+    ∙ ap (λ seen. outcome_in seen c.args.i) c.treat_up_to.ensures.same
+    ∙ ap (λ s. outcome_at s c.args.i) c.self.view_is

@@ -1,0 +1,16 @@
+use Rattle.std.proofs.Common.{◌≡◌, length, set, []}
+use Rattle.cf_core.specs.Keeping.Links.{list_at}
+use Rattle.cf_core.specs.Keeping.Sound.{mark_all}
+use Rattle.cf_core.proofs.mark.mark_linked.Given as goal
+
+-- those that are left lead to what all lead to, and the other lists stay
+abbrev pub invariant-loop-i : goal.invariant-loop-i
+invariant-loop-i l = record {
+  marked : mark_all l.kept (list_at l.links l.target) l.marks ≡ mark_all l.kept (list_at l.initial.links l.target) l.initial.marks;
+  emptied : set l.links l.target [] ≡ set l.initial.links l.target [];
+  all : length l.marks ≡ length l.kept;
+  lists : length l.links ≡ length l.kept;
+}
+
+abbrev pub decreases-loop-i : goal.decreases-loop-i
+decreases-loop-i l = length (list_at l.links l.target)

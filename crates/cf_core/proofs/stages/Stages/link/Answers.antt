@@ -1,0 +1,43 @@
+use Rattle.std.proofs.Common.{◌≡◌, ◌+◌, ◌∙◌, None, ap, arith, subst, sym}
+use Rattle.cf_core.specs.declared.stage.Stage.TheVariants.{Linked}
+use Rattle.cf_core.specs.declared.kept.Kept.{Kept}
+use Rattle.cf_core.specs.Keeping.Late.{dated_in}
+use Rattle.cf_core.specs.Keeping.Sound.{StayTakenBut, outlook}
+use Rattle.cf_core.proofs.Keeping.Moves.{is_quiet, link_free, link_room, link_same, link_sound}
+use Rattle.cf_core.proofs.Keeping.Places.{IsSound-same, StayTakenBut-set, undated}
+use Rattle.cf_core.proofs.stages.Stages.link.Goals as goal
+
+pub push-requires-clause-room : goal.push-requires-clause-room
+push-requires-clause-room c =
+    let s = c.args.self.now in
+    link_room c.args.plan.now.stages s.kept.items s.marks s.ready s.links s.steps s.turns c.requires.sound c.args.j (omega (arith, c.requires.target, c.requires.stage))
+
+pub push-requires-clause-free : goal.push-requires-clause-free
+push-requires-clause-free c =
+    let s = c.args.self.now in
+    link_free c.args.plan.now.stages s.kept.items s.marks s.ready s.links s.steps s.turns c.requires.sound c.args.d c.requires.claimed
+
+pub returns-clause-linked : goal.returns-clause-linked
+returns-clause-linked c =
+    let s = c.args.self.now in
+    let plan = c.args.plan.now.stages in
+    let h = c.requires.sound in
+    let quiet = is_quiet plan s.kept.items s.marks s.ready s.links s.steps s.turns h (c.args.d + 1) c.requires.treated in
+    ap (outlook plan) c.put.ensures.kept
+    ∙ link_same plan s.kept.items s.marks s.ready s.links s.steps s.turns h c.args.d c.args.j (s.steps + 1) (c.args.d + 1) c.requires.stage quiet (omega arith) c.requires.target c.requires.claimed c.requires.unsettled
+
+pub returns-clause-taken : goal.returns-clause-taken
+returns-clause-taken c =
+    let s = c.args.self.now in
+    let new : Kept = record { stage = Linked c.args.j; step = s.steps + 1 } in
+    subst (StayTakenBut c.args.d s.kept.items) (sym c.put.ensures.kept) (StayTakenBut-set s.kept.items c.args.d new)
+
+pub returns-clause-sound : goal.returns-clause-sound
+returns-clause-sound c =
+    let s = c.args.self.now in
+    let t = c.put.new.self in
+    let plan = c.args.plan.now.stages in
+    let h = c.requires.sound in
+    let open_target : dated_in s.kept.items c.args.j ≡ None = undated s.kept.items c.args.j (omega (arith, c.requires.target, c.requires.stage, h.all_kept)) c.requires.unsettled in
+    IsSound-same plan t.kept.items _ t.marks _ t.ready _ t.links _ t.steps _ t.turns _ c.put.ensures.kept c.put.ensures.marks c.put.ensures.ready (c.put.ensures.links ∙ c.push.ensures) c.put.ensures.steps c.put.ensures.turns
+    (link_sound plan s.kept.items s.marks s.ready s.links s.steps s.turns h c.args.d c.args.j c.requires.stage c.requires.target c.requires.claimed c.requires.compose open_target)

@@ -1,0 +1,19 @@
+-- How a graph keeps its state.
+use Rattle.std.specs.Prelude.{◌≡◌, ◌≤◌, ℕ, Option, Some, List, length, slice_get, true}
+use Rattle.cf_plan.specs.Plans.{IsBuilt, Planned}
+use Rattle.cf_core.specs.declared.kept.Kept.{Kept}
+use Rattle.cf_core.specs.declared.stages.Stages.{Stages}
+use Rattle.cf_core.specs.Keeping.Sound.{is_taken, kept_at}
+use Rattle.cf_core.specs.Keeping.SoundStages.{AreSound}
+
+-- a stage that someone's claim is open on is claimed or settled
+abbrev pub AreClaimed : List (Option ℕ) → List Kept → Type 0
+AreClaimed claims kept = (i who : ℕ) → slice_get claims i ≡ Some (Some who) → is_taken ((kept_at kept i).stage) ≡ true
+
+-- the plan is one that was built, its stages are sound, there is a claim or none for each of them, and no more limits are used than there are
+pub record IsInStep (plan : Planned) (stages : Stages) (claims : List (Option ℕ)) (used : ℕ) : Type 0 where
+  pub built : IsBuilt plan
+  pub sound : AreSound plan.stages stages
+  pub all_claims : length claims ≡ length plan.stages
+  pub claimed : AreClaimed claims stages.kept.items
+  pub few_used : used ≤ length plan.limits

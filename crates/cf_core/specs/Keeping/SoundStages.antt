@@ -1,0 +1,14 @@
+-- The stages of a graph, as contracts speak of them.
+use Rattle.std.specs.Prelude.{List}
+use Rattle.cf_plan.specs.Plans.{PlannedStage}
+use Rattle.cf_core.specs.declared.stage.Stage.{Stage}
+use Rattle.cf_core.specs.declared.stages.Stages.{Stages}
+use Rattle.cf_core.specs.Keeping.Sound.{IsSound, outlook}
+
+-- what is true of them between any two calls
+abbrev pub AreSound : List PlannedStage → Stages → Type 0
+AreSound plan s = IsSound plan s.kept.items s.marks s.ready s.links s.steps s.turns
+
+-- what treating all of them leads to
+abbrev pub outlook_of : List PlannedStage → Stages → List Stage
+outlook_of plan s = outlook plan s.kept.items

@@ -1,0 +1,358 @@
+//! The stages of a graph, of which some wait for treatment.
+ghost use Rattle.std.specs.Prelude.{◌≡◌, ℕ, ◌+◌, ◌<◌, ◌≤◌, [], IfNone, IfOk, IfSome, None, Some, length, option_and_then, position, replicate, slice_get, slice_set, true, if◌then◌else◌};
+ghost use Rattle.cf_plan.specs.declared.forms.Form.TheVariants.{Compose};
+ghost use Rattle.cf_plan.specs.declared.forms.Landing.TheVariants.{Links as LinksTo};
+ghost use Rattle.cf_plan.specs.Plans.{form_at, sources_at};
+ghost use Rattle.cf_core.specs.declared.stage.Stage.TheVariants.{Claimed, Linked, Pending, Settled};
+ghost use Rattle.cf_core.specs.States.{is_ready, new_states, outcome_in, outcome_of};
+ghost use Rattle.cf_core.specs.Keeping.Landings.{landed_stages};
+ghost use Rattle.cf_core.specs.Keeping.Sound.{AreTreated, ReadyIsTreated, StayTaken, StayTakenBut, is_taken, kept_at, links_after, marks_after};
+ghost use Rattle.cf_core.specs.Keeping.SoundStages.{AreSound, outlook_of};
+ghost use Rattle.cf_core.specs.Keeping.Starts.{mark_starts, starts, untreated};
+
+use crate::kept::Kept;
+use crate::links::Links;
+use crate::mark::{is_waiting, mark_each, mark_linked};
+use crate::treat::treated;
+use cf_bits::BitSet;
+use crate::stage::Stage;
+use cf_outcome::{Outcome, wrap};
+use cf_plan::{Form, Landing, Plan};
+use std::alloc::{AllocError, Global};
+
+/// The stages of a plan: what is kept of each, which of them are marked for treatment, which are ready, which are linked
+/// to each, how many steps settled or linked a stage so far, and how many turns were taken.
+#[derive(Drop)]
+pub struct Stages {
+    kept: Vec<Kept>,
+    marks: BitSet,
+    ready: BitSet,
+    links: Links,
+    steps: u32,
+    turns: u64,
+}
+
+impl Stages {
+    /// The stages of a plan, none of which was treated. Those that have something to take from the start on are marked.
+    pub fn new(alloc: Global, plan: &Plan) -> Result<Stages, AllocError>
+        ensures start { IfOk result (λ s. outlook_of plan.now.stages s ≡ new_states [] plan.now.stages (replicate (length plan.now.stages) Pending)) }
+        ensures turns { IfOk result (λ s. s.turns ≡ 0) }
+        ensures sound { IfOk result (λ s. AreSound plan.now.stages s) }
+    {
+        let count = plan.stages();
+        let kept = untreated(alloc, count)?;
+        let mut marks = BitSet::new(alloc, count)?;
+        let ready = BitSet::new(alloc, count)?;
+        let links = Links::new(alloc, count as usize)?;
+        mark_starts(plan, &mut marks);
+        Ok(Stages {
+            kept,
+            marks,
+            ready,
+            links,
+            steps: 0,
+            turns: 0,
+        })
+    }
+
+    /// Writes one stage. A stage that settles marks its dependents and the stages linked to it.
+    ///
+    /// It stands in each caller's own code, so that a new stage is written part by part and never read back as a whole.
+    #[inline(always)]
+    fn put(&mut self, plan: &Plan, d: u16, new: Kept)
+        requires stage { d < length plan.now.stages }
+        requires all_kept { length self.old.kept.items ≡ length plan.now.stages }
+        requires all_marks { length self.old.marks ≡ length plan.now.stages }
+        requires all_ready { length self.old.ready ≡ length plan.now.stages }
+        requires all_links { length self.old.links ≡ length plan.now.stages }
+        ensures kept { self.new.kept.items ≡ slice_set self.old.kept.items d new }
+        ensures marks { self.new.marks ≡ marks_after plan.now.stages (slice_set self.old.kept.items d new) self.old.links self.old.marks d new.stage }
+        ensures ready { self.new.ready ≡ slice_set self.old.ready d (is_ready new.stage) }
+        ensures links { self.new.links ≡ links_after self.old.links d new.stage }
+        ensures steps { self.new.steps ≡ self.old.steps }
+        ensures turns { self.new.turns ≡ self.old.turns }
+    {
+        self.kept[d as usize] = new;
+        match new.stage {
+            Stage::Settled(_) => {
+                self.ready.remove(d);
+                mark_each(&self.kept, &mut self.marks, plan.dependents(d));
+                mark_linked(&self.kept, &mut self.marks, &mut self.links, d);
+            }
+            Stage::Ready(_) => self.ready.insert(d),
+            _ => self.ready.remove(d),
+        }
+    }
+
+    /// Treats the lowest marked stage: this is a turn. Nothing else is called a turn.
+    fn turn(&mut self, plan: &Plan, m: u16)
+        requires sound { AreSound plan.now.stages self.old }
+        requires lowest { position (λ b. b) self.old.marks ≡ Some m }
+        ensures counted { self.new.turns ≡ self.old.turns + 1 }
+        ensures same { outlook_of plan.now.stages self.new ≡ outlook_of plan.now.stages self.old }
+        ensures taken { StayTaken self.old.kept.items self.new.kept.items }
+        ensures sound { AreSound plan.now.stages self.new }
+    {
+        self.marks.remove(m);
+        self.turns += 1;
+        if is_waiting(self.stage(m)) {
+            let new = treated(&self.kept, plan.form(m), plan.sources(m), m);
+            self.put(plan, m, new);
+        }
+    }
+
+    /// Treats all marked stages up to stage `d`, the lowest first.
+    pub fn treat_up_to(&mut self, plan: &Plan, d: u16)
+        requires sound { AreSound plan.now.stages self.old }
+        requires stage { d < length plan.now.stages }
+        ensures treated { AreTreated (d + 1) self.new.marks }
+        ensures same { outlook_of plan.now.stages self.new ≡ outlook_of plan.now.stages self.old }
+        ensures taken { StayTaken self.old.kept.items self.new.kept.items }
+        ensures counted { self.old.turns ≤ self.new.turns }
+        ensures sound { AreSound plan.now.stages self.new }
+    {
+        while let Some(m) = self.marked_up_to(d) {
+            self.turn(plan, m);
+        }
+    }
+
+    /// The lowest marked stage, if it isn't above stage `d`.
+    fn marked_up_to(&self, d: u16) -> Option<u16>
+        requires { d < length self.now.marks }
+        ensures some { IfSome result (λ m. position (λ b. b) self.now.marks ≡ Some m) }
+        ensures none { IfNone result (AreTreated (d + 1) self.now.marks) }
+    {
+        match self.marks.lowest() {
+            Some(m) if m <= d => Some(m),
+            _ => None,
+        }
+    }
+
+    /// The lowest ready stage. All marked stages below it are treated.
+    pub fn lowest_ready(&mut self, plan: &Plan) -> Option<u16>
+        requires sound { AreSound plan.now.stages self.old }
+        ensures told { result ≡ position is_ready (outlook_of plan.now.stages self.old) }
+        ensures same { outlook_of plan.now.stages self.new ≡ outlook_of plan.now.stages self.old }
+        ensures taken { StayTaken self.old.kept.items self.new.kept.items }
+        ensures counted { self.old.turns ≤ self.new.turns }
+        ensures sound { AreSound plan.now.stages self.new }
+    {
+        while let Some(m) = self.marked_below_ready() {
+            self.turn(plan, m);
+        }
+        self.ready.lowest()
+    }
+
+    /// The lowest marked stage, if it is below all ready ones.
+    fn marked_below_ready(&self) -> Option<u16>
+        requires { length self.now.marks ≡ length self.now.ready }
+        ensures some { IfSome result (λ m. position (λ b. b) self.now.marks ≡ Some m) }
+        ensures none { IfNone result (ReadyIsTreated self.now.marks self.now.ready) }
+    {
+        match self.marks.lowest() {
+            None => None,
+            Some(m) => match self.ready.lowest() {
+                Some(r) if r <= m => None,
+                _ => Some(m),
+            },
+        }
+    }
+
+    /// Takes at most `k` turns, each of the lowest marked stage, and says how many.
+    pub fn nudge(&mut self, plan: &Plan, k: u32) -> u32
+        requires sound { AreSound plan.now.stages self.old }
+        ensures few { result ≤ k }
+        ensures counted { self.new.turns ≡ self.old.turns + result }
+        ensures all { result < k → position (λ b. b) self.new.marks ≡ None }
+        ensures same { outlook_of plan.now.stages self.new ≡ outlook_of plan.now.stages self.old }
+        ensures taken { StayTaken self.old.kept.items self.new.kept.items }
+        ensures sound { AreSound plan.now.stages self.new }
+    {
+        let mut taken = 0;
+        while taken < k {
+            match self.marks.lowest() {
+                Some(m) => self.turn(plan, m),
+                None => return taken,
+            }
+            taken += 1;
+        }
+        taken
+    }
+
+    /// How many turns were taken so far.
+    pub fn turns(&self) -> u64
+        ensures { result ≡ self.now.turns }
+    {
+        self.turns
+    }
+
+    /// A stage as it is kept.
+    pub fn stage(&self, i: u16) -> Stage
+        requires { i < length self.now.kept.items }
+        ensures { result ≡ (kept_at self.now.kept.items i).stage }
+    {
+        self.kept[i as usize].stage
+    }
+
+    /// Settles a stage that isn't settled, in a step of its own. No stage up to it waits for treatment.
+    #[inline(always)]
+    pub fn settle(&mut self, plan: &Plan, d: u16, o: Outcome)
+        requires sound { AreSound plan.now.stages self.old }
+        requires stage { d < length plan.now.stages }
+        requires treated { AreTreated (d + 1) self.old.marks }
+        requires unsettled { outcome_of ((kept_at self.old.kept.items d).stage) ≡ None }
+        ensures after { outlook_of plan.now.stages self.new ≡ new_states [] plan.now.stages (slice_set (outlook_of plan.now.stages self.old) d (Settled o)) }
+        ensures taken { StayTaken self.old.kept.items self.new.kept.items }
+        ensures turns { self.new.turns ≡ self.old.turns }
+        ensures sound { AreSound plan.now.stages self.new }
+    {
+        self.steps += 1;
+        let settled = self.steps;
+        self.put(
+            plan,
+            d,
+            Kept {
+                stage: Stage::Settled(o),
+                step: settled,
+            },
+        );
+    }
+
+    /// Claims a ready stage. No stage up to it waits for treatment.
+    pub fn claim(&mut self, plan: &Plan, d: u16)
+        requires sound { AreSound plan.now.stages self.old }
+        requires stage { d < length plan.now.stages }
+        requires treated { AreTreated (d + 1) self.old.marks }
+        requires ready { is_ready ((kept_at self.old.kept.items d).stage) ≡ true }
+        ensures claimed { outlook_of plan.now.stages self.new ≡ slice_set (outlook_of plan.now.stages self.old) d Claimed }
+        ensures here { is_taken ((kept_at self.new.kept.items d).stage) ≡ true }
+        ensures taken { StayTaken self.old.kept.items self.new.kept.items }
+        ensures turns { self.new.turns ≡ self.old.turns }
+        ensures sound { AreSound plan.now.stages self.new }
+    {
+        let step = self.kept[d as usize].step;
+        self.put(
+            plan,
+            d,
+            Kept {
+                stage: Stage::Claimed,
+                step,
+            },
+        );
+    }
+
+    /// Links a claimed compose to a lower stage that isn't settled, in a step of its own. No stage up to it waits for
+    /// treatment.
+    pub fn link(&mut self, plan: &Plan, d: u16, j: u16)
+        requires sound { AreSound plan.now.stages self.old }
+        requires stage { d < length plan.now.stages }
+        requires target { j < d }
+        requires treated { AreTreated (d + 1) self.old.marks }
+        requires claimed { (kept_at self.old.kept.items d).stage ≡ Claimed }
+        requires compose { form_at plan.now.stages d ≡ Compose }
+        requires unsettled { outcome_of ((kept_at self.old.kept.items j).stage) ≡ None }
+        ensures linked { outlook_of plan.now.stages self.new ≡ slice_set (outlook_of plan.now.stages self.old) d (Linked j) }
+        ensures taken { StayTakenBut d self.old.kept.items self.new.kept.items }
+        ensures turns { self.new.turns ≡ self.old.turns }
+        ensures sound { AreSound plan.now.stages self.new }
+    {
+        self.steps += 1;
+        let step = self.steps;
+        self.links.push(j, d);
+        self.put(
+            plan,
+            d,
+            Kept {
+                stage: Stage::Linked(j),
+                step,
+            },
+        );
+    }
+
+    /// The outcome of a stage, if it is kept as settled.
+    pub fn outcome(&self, i: u16) -> Option<Outcome>
+        requires { i < length self.now.kept.items }
+        ensures { result ≡ outcome_of ((kept_at self.now.kept.items i).stage) }
+    {
+        match self.kept[i as usize].stage {
+            Stage::Settled(o) => Some(o),
+            _ => None,
+        }
+    }
+
+    /// The outcome of a stage's first source. No stage up to it waits for treatment.
+    pub fn source(&self, plan: &Plan, i: u16) -> Option<Outcome>
+        requires sound { AreSound plan.now.stages self.now }
+        requires stage { i < length plan.now.stages }
+        requires treated { AreTreated (i + 1) self.now.marks }
+        ensures { result ≡ option_and_then (outcome_in (outlook_of plan.now.stages self.now)) (slice_get (sources_at plan.now.stages i) 0) }
+    {
+        match plan.sources(i).first() {
+            Some(j) => self.outcome(*j),
+            None => None,
+        }
+    }
+
+    /// A claimed stage lands. No stage up to it waits for treatment.
+    pub fn land(&mut self, plan: &Plan, d: u16, at: Landing)
+        requires sound { AreSound plan.now.stages self.old }
+        requires stage { d < length plan.now.stages }
+        requires treated { AreTreated (d + 1) self.old.marks }
+        requires claimed { (kept_at self.old.kept.items d).stage ≡ Claimed }
+        requires target { (j : ℕ) → at ≡ LinksTo j → j < d }
+        requires compose { (j : ℕ) → at ≡ LinksTo j → form_at plan.now.stages d ≡ Compose }
+        ensures landed { outlook_of plan.now.stages self.new ≡ landed_stages plan.now.stages (outlook_of plan.now.stages self.old) d at }
+        ensures taken { StayTakenBut d self.old.kept.items self.new.kept.items }
+        ensures turns { self.new.turns ≡ self.old.turns }
+        ensures sound { AreSound plan.now.stages self.new }
+    {
+        match at {
+            Landing::Settles(o) => self.settle(plan, d, o),
+            Landing::Links(j) => match self.outcome(j) {
+                Some(o) => self.settle(plan, d, wrap(o)),
+                None => self.link(plan, d, j),
+            },
+        }
+    }
+}
+
+/// So many stages that were never treated.
+fn untreated(alloc: Global, count: u16) -> Result<Vec<Kept>, AllocError>
+    ensures { IfOk result (λ kept. kept.items ≡ replicate count untreated) }
+{
+    vec![in alloc; Kept {
+        stage: Stage::Pending,
+        step: 0
+    }; count as usize]
+}
+
+/// Marks the stages that have something to take from the start on.
+fn mark_starts(plan: &Plan, marks: &mut BitSet)
+    requires { length marks.old ≡ length plan.now.stages }
+    ensures { marks.new ≡ mark_starts 0 plan.now.stages marks.old }
+{
+    for i in 0..plan.stages() {
+        mark_start(plan.form(i), plan.sources(i), marks, i);
+    }
+}
+
+/// Marks a stage, if it has something to take from the start on.
+fn mark_start(form: Form, sources: &[u16], marks: &mut BitSet, i: u16)
+    requires { i < length marks.old }
+    ensures { marks.new ≡ (if starts form sources.now then slice_set marks.old i true else marks.old) }
+{
+    if starts(form, sources) {
+        marks.insert(i);
+    }
+}
+
+/// Whether a stage has something to take from the start on.
+fn starts(form: Form, sources: &[u16]) -> bool
+    ensures { result ≡ starts form sources.now }
+{
+    match form {
+        Form::Supply | Form::RunAsync => true,
+        Form::AllOf => sources.is_empty(),
+        _ => false,
+    }
+}

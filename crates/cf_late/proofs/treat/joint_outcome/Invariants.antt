@@ -1,8 +1,0 @@
-use Rattle.std.proofs.Common.{◌≡◌, drop, map}
-use Rattle.cf_plan.specs.Forms.{first_fault}
-use Rattle.cf_late.specs.Late.{dated_in, outcome_part}
-use Rattle.cf_late.proofs.treat.joint_outcome.Given as goal
-
--- what is left decides
-abbrev pub invariant-loop-j : goal.invariant-loop-j
-invariant-loop-j l = first_fault (map outcome_part (map (dated_in l.kept) (drop l.j-index l.sources))) ≡ first_fault (map outcome_part (map (dated_in l.kept) l.sources))
