@@ -1,12 +1,13 @@
 //! The graph: what it keeps, how it begins, and what it tells.
+mod answering;
 mod claims;
 mod limits;
 mod settling;
 
 ghost use Rattle.std.specs.Prelude.{◌≡◌, ◌+◌, ◌<◌, ◌≤◌, ◌↔◌, IfOk, IsTrue, None, length, nat_lt, replicate};
 ghost use Rattle.cf_outcome.specs.Outcomes.{now_of};
-ghost use Rattle.cf_plan.specs.Plans.{edges_of};
 ghost use Rattle.cf_core.specs.States.{lowest_ready_of, outcome_at, start};
+ghost use Rattle.cf_core.specs.Graphs.{most_turns};
 
 use crate::stages::Stages;
 use cf_outcome::{Now, Outcome, Value, now_of};
@@ -23,8 +24,8 @@ pub enum GraphFault {
 
 /// A graph of stages, of which each is pending, ready, claimed, linked or settled.
 ///
-/// A contract sees it as its `State`, in which all consequences have come to pass, whether they were worked out yet or
-/// not.
+/// A contract sees it as its state, in which all consequences have come to pass, whether they were worked out yet or not,
+/// and how many turns were taken.
 #[derive(Drop)]
 pub struct Graph {
     plan: Plan,
@@ -35,14 +36,14 @@ pub struct Graph {
 }
 
 impl Model for Graph {
-    ghost use Rattle.cf_core.specs.States.{State};
+    ghost use Rattle.cf_core.specs.Graphs.{Graph};
 
-    ghost Value = { State };
+    ghost Value = { Graph };
 
     ghost use Rattle.cf_core.specs.Keeping.SoundStages.{outlook_of};
     ghost use Rattle.cf_core.specs.Keeping.Graphs.{IsInStep};
 
-    ghost view = { λ g. record { plan = g.plan; stages = outlook_of g.plan.stages g.stages; claims = g.claims.items; moment = g.moment; used = g.used } };
+    ghost view = { λ g. record { state = record { plan = g.plan; stages = outlook_of g.plan.stages g.stages; claims = g.claims.items; moment = g.moment; used = g.used }; turns = g.stages.turns } };
 
     ghost invariant = { λ g. IsInStep g.plan g.stages g.claims.items g.used };
 }
@@ -51,7 +52,7 @@ impl Graph {
     /// The graph of a plan, at its start. It takes all the memory that the graph will ever need, and fails only where there
     /// is none.
     pub fn new(alloc: Global, plan: Plan) -> Result<Graph, GraphFault>
-        ensures { IfOk result (λ graph. graph ≡ start plan) }
+        ensures { IfOk result (λ graph. graph ≡ record { state = start plan; turns = 0 }) }
     {
         match graph_of(alloc, plan) {
             Ok(graph) => Ok(graph),
@@ -61,35 +62,39 @@ impl Graph {
 
     /// The plan that it was made of.
     pub fn plan(&self) -> &Plan
-        ensures plan { result.now ≡ self.now.plan }
-        ensures all_stages { length self.now.stages ≡ length self.now.plan.stages }
-        ensures all_claims { length self.now.claims ≡ length self.now.plan.stages }
+        ensures plan { result.now ≡ self.now.state.plan }
+        ensures all_stages { length self.now.state.stages ≡ length self.now.state.plan.stages }
+        ensures all_claims { length self.now.state.claims ≡ length self.now.state.plan.stages }
     {
         &self.plan
     }
 
     /// Whether the plan has such a stage.
     pub fn has(&self, i: u16) -> bool
-        ensures told { result ≡ nat_lt i (length self.now.plan.stages) }
-        ensures has { IsTrue result ↔ (i < length self.now.plan.stages) }
+        ensures told { result ≡ nat_lt i (length self.now.state.plan.stages) }
+        ensures has { IsTrue result ↔ (i < length self.now.state.plan.stages) }
     {
         i < self.plan.stages()
     }
 
     /// What a caller that asks for the present state of a stage is told (`CompletableFuture.getNow`).
     pub fn now(&mut self, i: u16, absent: Value) -> Now
-        requires { i < length self.old.plan.stages }
-        ensures told { result ≡ now_of (outcome_at self.old i) absent }
-        ensures unchanged { self.new ≡ self.old }
+        requires { i < length self.old.state.plan.stages }
+        ensures told { result ≡ now_of (outcome_at self.old.state i) absent }
+        ensures unchanged { self.new.state ≡ self.old.state }
+        ensures counted { self.old.turns ≤ self.new.turns }
+        ensures few { self.new.turns ≤ most_turns self.new.state.plan.stages }
     {
         now_of(self.outcome(i), absent)
     }
 
     /// The outcome of a stage, if it is settled.
     pub fn outcome(&mut self, i: u16) -> Option<Outcome>
-        requires { i < length self.old.plan.stages }
-        ensures told { result ≡ outcome_at self.old i }
-        ensures unchanged { self.new ≡ self.old }
+        requires { i < length self.old.state.plan.stages }
+        ensures told { result ≡ outcome_at self.old.state i }
+        ensures unchanged { self.new.state ≡ self.old.state }
+        ensures counted { self.old.turns ≤ self.new.turns }
+        ensures few { self.new.turns ≤ most_turns self.new.state.plan.stages }
     {
         self.stages.treat_up_to(&self.plan, i);
         self.stages.outcome(i)
@@ -97,23 +102,28 @@ impl Graph {
 
     /// The lowest ready stage, or none where no stage is ready.
     pub fn lowest_ready(&mut self) -> Option<u16>
-        ensures told { result ≡ lowest_ready_of self.old }
-        ensures unchanged { self.new ≡ self.old }
+        ensures told { result ≡ lowest_ready_of self.old.state }
+        ensures unchanged { self.new.state ≡ self.old.state }
+        ensures counted { self.old.turns ≤ self.new.turns }
+        ensures few { self.new.turns ≤ most_turns self.new.state.plan.stages }
     {
         self.stages.lowest_ready(&self.plan)
     }
 
     /// Does at most `k` turns of work that is left over, and says how many. It changes no answer but that of `turns`.
     pub fn nudge(&mut self, k: u32) -> u32
-        ensures few { result ≤ k }
-        ensures unchanged { self.new ≡ self.old }
+        ensures at_most { result ≤ k }
+        ensures unchanged { self.new.state ≡ self.old.state }
+        ensures counted { self.new.turns ≡ self.old.turns + result }
+        ensures few { self.new.turns ≤ most_turns self.new.state.plan.stages }
     {
         self.stages.nudge(&self.plan, k)
     }
 
     /// How many turns were taken so far, over the graph's whole life.
     pub fn turns(&self) -> u64
-        ensures { result ≤ edges_of self.now.plan.stages + length self.now.plan.stages }
+        ensures told { result ≡ self.now.turns }
+        ensures few { result ≤ most_turns self.now.state.plan.stages }
     {
         self.stages.turns()
     }
@@ -121,7 +131,7 @@ impl Graph {
 
 /// The graph of a plan.
 fn graph_of(alloc: Global, plan: Plan) -> Result<Graph, AllocError>
-    ensures { IfOk result (λ graph. graph ≡ start plan) }
+    ensures { IfOk result (λ graph. graph ≡ record { state = start plan; turns = 0 }) }
 {
     let stages = Stages::new(alloc, &plan)?;
     let claims = no_claims(alloc, plan.stages())?;

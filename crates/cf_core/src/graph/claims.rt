@@ -1,5 +1,5 @@
 //! The calls by which a caller takes a stage's function and hands in its answer.
-ghost use Rattle.std.specs.Prelude.{◌≡◌, ◌+◌, ◌<◌, ◌==◌, None, false, length, option_and_then, slice_get, unwrap_or};
+ghost use Rattle.std.specs.Prelude.{◌≡◌, ◌+◌, ◌<◌, ◌≤◌, ◌==◌, None, false, length, option_and_then, slice_get, unwrap_or};
 ghost use Rattle.std.specs.Option.{option_map_or};
 ghost use Rattle.cf_plan.specs.Forms.{landing};
 ghost use Rattle.cf_plan.specs.Plans.{form_at, sources_at};
@@ -7,6 +7,7 @@ ghost use Rattle.cf_core.specs.States.{outcome_in};
 ghost use Rattle.cf_core.specs.Events.{claiming, finishing};
 ghost use Rattle.cf_core.specs.Keeping.Sound.{AreTreated};
 ghost use Rattle.cf_core.specs.Keeping.SoundStages.{AreSound, outlook_of};
+ghost use Rattle.cf_core.specs.Graphs.{most_turns};
 
 use crate::graph::Graph;
 use crate::stages::Stages;
@@ -18,8 +19,10 @@ impl Graph {
     /// Hands a ready stage's arguments to a caller, whose claim is open from then until its first finish of the stage, also
     /// if the stage settles in between.
     pub fn claim(&mut self, who: u8, i: u16) -> Claimed
-        requires { i < length self.old.plan.stages }
-        ensures { (result, self.new) ≡ claiming self.old who i }
+        requires { i < length self.old.state.plan.stages }
+        ensures told { (result, self.new.state) ≡ claiming self.old.state who i }
+        ensures counted { self.old.turns ≤ self.new.turns }
+        ensures few { self.new.turns ≤ most_turns self.new.state.plan.stages }
     {
         self.stages.treat_up_to(&self.plan, i);
         match self.stages.stage(i) {
@@ -36,8 +39,10 @@ impl Graph {
 
     /// Closes a caller's claim, and settles or links the stage by its function's answer, unless it is settled.
     pub fn finish(&mut self, who: u8, i: u16, answer: Answer) -> Finished
-        requires { i < length self.old.plan.stages }
-        ensures { (result, self.new) ≡ finishing self.old who i answer }
+        requires { i < length self.old.state.plan.stages }
+        ensures told { (result, self.new.state) ≡ finishing self.old.state who i answer }
+        ensures counted { self.old.turns ≤ self.new.turns }
+        ensures few { self.new.turns ≤ most_turns self.new.state.plan.stages }
     {
         self.stages.treat_up_to(&self.plan, i);
         if !has_claim(&self.claims, who, i) {

@@ -2,6 +2,7 @@
 ghost use Rattle.std.specs.Prelude.{◌≡◌, ◌+◌, ◌<◌, ◌≤◌, Some, drop, length, nat_le, slice_get, take};
 ghost use Rattle.std.specs.List.{prefix_len};
 ghost use Rattle.cf_core.specs.Events.{due_limits, firing, limit_outcome, settling, ticking};
+ghost use Rattle.cf_core.specs.Graphs.{most_turns};
 
 use crate::graph::Graph;
 use crate::replies::Ticked;
@@ -13,7 +14,9 @@ impl Graph {
     /// used, in firing order, each in a step of its own: it settles its stage, unless that is settled by then
     /// (`CompletableFuture.orTimeout`, `completeOnTimeout`). The answer says how many settled their stage.
     pub fn tick(&mut self, now: u32) -> Ticked
-        ensures { (result, self.new) ≡ ticking self.old now }
+        ensures told { (result, self.new.state) ≡ ticking self.old.state now }
+        ensures counted { self.old.turns ≤ self.new.turns }
+        ensures few { self.new.turns ≤ most_turns self.new.state.plan.stages }
     {
         if now < self.moment {
             return Ticked::Past;
@@ -26,19 +29,20 @@ impl Graph {
 
     /// How many of the unused limits have a moment up to `now`.
     fn due(&self, now: u32) -> usize
-        ensures within { self.now.used + result ≤ length self.now.plan.limits }
-        ensures count { result ≡ length (due_limits self.now now) }
-        ensures first { take result (drop self.now.used self.now.plan.limits) ≡ due_limits self.now now }
+        ensures within { self.now.state.used + result ≤ length self.now.state.plan.limits }
+        ensures count { result ≡ length (due_limits self.now.state now) }
+        ensures first { take result (drop self.now.state.used self.now.state.plan.limits) ≡ due_limits self.now.state now }
     {
         due_count(&self.plan.limits()[self.used..], now)
     }
 
     /// Fires this many limits, from the first unused one on, and says how many settled their stage.
     fn fire_next(&mut self, count: usize) -> u16
-        requires { self.old.used + count ≤ length self.old.plan.limits }
-        ensures fired { (result, self.new) ≡ firing 0 self.old (take count (drop self.old.used self.old.plan.limits)) }
-        ensures plan { self.new.plan ≡ self.old.plan }
-        ensures used { self.new.used ≡ self.old.used }
+        requires { self.old.state.used + count ≤ length self.old.state.plan.limits }
+        ensures fired { (result, self.new.state) ≡ firing 0 self.old.state (take count (drop self.old.state.used self.old.state.plan.limits)) }
+        ensures counted { self.old.turns ≤ self.new.turns }
+        ensures plan { self.new.state.plan ≡ self.old.state.plan }
+        ensures used { self.new.state.used ≡ self.old.state.used }
     {
         let mut fired = 0;
         for k in 0..count {
@@ -52,18 +56,19 @@ impl Graph {
 
     /// The limit that stands so far behind the first unused one.
     fn unused(&self, k: usize) -> Limit
-        requires { self.now.used + k < length self.now.plan.limits }
-        ensures limit { slice_get self.now.plan.limits (self.now.used + k) ≡ Some result }
-        ensures named { result.stage < length self.now.plan.stages }
-        ensures few { length self.now.plan.limits ≤ 4096 }
+        requires { self.now.state.used + k < length self.now.state.plan.limits }
+        ensures limit { slice_get self.now.state.plan.limits (self.now.state.used + k) ≡ Some result }
+        ensures named { result.stage < length self.now.state.plan.stages }
+        ensures few { length self.now.state.plan.limits ≤ 4096 }
     {
         self.plan.limits()[self.used + k]
     }
 
     /// The moment is `now`, and this many more limits are used.
     fn advance(&mut self, now: u32, count: usize)
-        requires { self.old.used + count ≤ length self.old.plan.limits }
-        ensures { self.new ≡ record self.old { moment = now; used = self.old.used + count } }
+        requires { self.old.state.used + count ≤ length self.old.state.plan.limits }
+        ensures advanced { self.new ≡ record self.old { state = record self.old.state { moment = now; used = self.old.state.used + count } } }
+        ensures few { self.new.turns ≤ most_turns self.new.state.plan.stages }
     {
         self.moment = now;
         self.used += count;
@@ -71,8 +76,9 @@ impl Graph {
 
     /// Settles a limit's stage, unless it is settled, and says whether it did.
     fn fire(&mut self, limit: Limit) -> bool
-        requires { limit.stage < length self.old.plan.stages }
-        ensures { (result, self.new) ≡ settling self.old limit.stage (limit_outcome limit.kind) }
+        requires { limit.stage < length self.old.state.plan.stages }
+        ensures told { (result, self.new.state) ≡ settling self.old.state limit.stage (limit_outcome limit.kind) }
+        ensures counted { self.old.turns ≤ self.new.turns }
     {
         self.settle(limit.stage, outcome_of_limit(limit.kind))
     }

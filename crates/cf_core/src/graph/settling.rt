@@ -1,8 +1,9 @@
 //! The calls that settle a stage directly.
-ghost use Rattle.std.specs.Prelude.{◌≡◌, ◌<◌, false, length};
+ghost use Rattle.std.specs.Prelude.{◌≡◌, ◌<◌, ◌≤◌, false, length};
 ghost use Rattle.cf_outcome.specs.declared.outcome.Outcome.TheVariants.{Value as Gives, Fault};
 ghost use Rattle.cf_outcome.specs.declared.outcome.Cause.TheVariants.{Thrown};
 ghost use Rattle.cf_core.specs.Events.{cancelling, settling};
+ghost use Rattle.cf_core.specs.Graphs.{most_turns};
 
 use crate::graph::Graph;
 use cf_outcome::{Cause, Outcome, Value, is_cancelled};
@@ -11,8 +12,10 @@ impl Graph {
     /// Settles a stage of any form with a value, unless it is settled, and says whether it did
     /// (`CompletableFuture.complete`).
     pub fn complete(&mut self, i: u16, v: Value) -> bool
-        requires { i < length self.old.plan.stages }
-        ensures { (result, self.new) ≡ settling self.old i (Gives v) }
+        requires { i < length self.old.state.plan.stages }
+        ensures told { (result, self.new.state) ≡ settling self.old.state i (Gives v) }
+        ensures counted { self.old.turns ≤ self.new.turns }
+        ensures few { self.new.turns ≤ most_turns self.new.state.plan.stages }
     {
         self.settle(i, Outcome::Value(v))
     }
@@ -20,8 +23,10 @@ impl Graph {
     /// Settles a stage of any form with a thrown code, raw, unless it is settled, and says whether it did
     /// (`CompletableFuture.completeExceptionally`).
     pub fn fail(&mut self, i: u16, code: u32) -> bool
-        requires { i < length self.old.plan.stages }
-        ensures { (result, self.new) ≡ settling self.old i (Fault (Thrown code) false) }
+        requires { i < length self.old.state.plan.stages }
+        ensures told { (result, self.new.state) ≡ settling self.old.state i (Fault (Thrown code) false) }
+        ensures counted { self.old.turns ≤ self.new.turns }
+        ensures few { self.new.turns ≤ most_turns self.new.state.plan.stages }
     {
         self.settle(
             i,
@@ -35,8 +40,10 @@ impl Graph {
     /// Cancels a stage of any form, unless it is settled, and says whether it is cancelled then
     /// (`CompletableFuture.cancel`). One that took a cancellation over from another stage isn't cancelled itself.
     pub fn cancel(&mut self, i: u16) -> bool
-        requires { i < length self.old.plan.stages }
-        ensures { (result, self.new) ≡ cancelling self.old i }
+        requires { i < length self.old.state.plan.stages }
+        ensures told { (result, self.new.state) ≡ cancelling self.old.state i }
+        ensures counted { self.old.turns ≤ self.new.turns }
+        ensures few { self.new.turns ≤ most_turns self.new.state.plan.stages }
     {
         match self.outcome(i) {
             Some(old) => is_cancelled(old),
@@ -52,8 +59,10 @@ impl Graph {
 
     /// Settles a stage, unless it is settled, and says whether it did.
     pub(super) fn settle(&mut self, i: u16, o: Outcome) -> bool
-        requires { i < length self.old.plan.stages }
-        ensures { (result, self.new) ≡ settling self.old i o }
+        requires { i < length self.old.state.plan.stages }
+        ensures told { (result, self.new.state) ≡ settling self.old.state i o }
+        ensures counted { self.old.turns ≤ self.new.turns }
+        ensures few { self.new.turns ≤ most_turns self.new.state.plan.stages }
     {
         self.stages.treat_up_to(&self.plan, i);
         match self.stages.outcome(i) {

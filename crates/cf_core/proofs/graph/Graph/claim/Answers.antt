@@ -19,24 +19,24 @@ invariant_of-self c =
       few_used = h.few_used;
     }
 
-pub returns-in-Ready : goal.returns-in-Ready
-returns-in-Ready c =
+pub returns-in-Ready-clause-told : goal.returns-in-Ready-clause-told
+returns-in-Ready-clause-told c =
     let plan = c.self.inside.plan.stages in
     let t = c.treat_up_to.new.self in
     let told = told_stage plan t c.args.i c.treat_up_to.ensures.sound (rw (← c.self.view_is) at c.requires) c.treat_up_to.ensures.treated in
     let is : slice_get (outlook_of plan t) c.args.i ≡ Some (Ready c.in-Ready.args) = told ∙ ap (λ x. Some x) (sym c.stage.ensures ∙ c.in-Ready.is) in
     rw (← c.self.view_is) (claims_now _ c.args.who c.args.i c.in-Ready.args (outlook_of plan t) (outlook_of plan c.claim.new.self) c.treat_up_to.ensures.same is c.claim.ensures.claimed)
 
-pub returns-in-Settled : goal.returns-in-Settled
-returns-in-Settled c =
+pub returns-in-Settled-clause-told : goal.returns-in-Settled-clause-told
+returns-in-Settled-clause-told c =
     let plan = c.self.inside.plan.stages in
     let t = c.treat_up_to.new.self in
     let told = told_stage plan t c.args.i c.treat_up_to.ensures.sound (rw (← c.self.view_is) at c.requires) c.treat_up_to.ensures.treated in
     let is : slice_get (outlook_of plan t) c.args.i ≡ Some (Settled c.in-Settled.field-0) = told ∙ ap (λ x. Some x) (sym c.stage.ensures ∙ c.in-Settled.is) in
     rw (← c.self.view_is) (claims_not _ c.args.who c.args.i (Settled c.in-Settled.field-0) IsSettled (outlook_of plan t) c.treat_up_to.ensures.same is refl)
 
-pub returns-in-Claimed : goal.returns-in-Claimed
-returns-in-Claimed c =
+pub returns-in-Claimed-clause-told : goal.returns-in-Claimed-clause-told
+returns-in-Claimed-clause-told c =
     let plan = c.self.inside.plan.stages in
     let t = c.treat_up_to.new.self in
     let told = told_stage plan t c.args.i c.treat_up_to.ensures.sound (rw (← c.self.view_is) at c.requires) c.treat_up_to.ensures.treated ∙ ap (λ x. Some x) (sym c.stage.ensures) in
@@ -47,8 +47,8 @@ returns-in-Claimed c =
           rw (← c.self.view_is) (claims_not _ c.args.who c.args.i (Linked e.0) Taken (outlook_of plan t) c.treat_up_to.ensures.same is refl))
     ]
 
-pub returns-in-Pending : goal.returns-in-Pending
-returns-in-Pending c =
+pub returns-in-Pending-clause-told : goal.returns-in-Pending-clause-told
+returns-in-Pending-clause-told c =
     let plan = c.self.inside.plan.stages in
     let t = c.treat_up_to.new.self in
     let told = told_stage plan t c.args.i c.treat_up_to.ensures.sound (rw (← c.self.view_is) at c.requires) c.treat_up_to.ensures.treated in

@@ -47,8 +47,8 @@ invariant_of-self-in-None c =
       few_used = h.few_used;
     }
 
-pub returns-in-Some : goal.returns-in-Some
-returns-in-Some c =
+pub returns-in-Some-clause-told : goal.returns-in-Some-clause-told
+returns-in-Some-clause-told c =
     let s = c.self.inside.stages in
     let t = c.treat_up_to.new.self in
     let plan = c.self.inside.plan.stages in
@@ -60,8 +60,8 @@ returns-in-Some c =
     let is : outcome_in (outlook_of plan t) c.args.i ≡ Some c.in-Some.field-0 = told ∙ sym c.outcome.ensures ∙ c.in-Some.is in
     rw (← c.self.view_is) (finishes_late _ c.args.who c.args.i c.args.answer c.in-Some.field-0 (outlook_of plan t) c.treat_up_to.ensures.same has is)
 
-pub returns-in-None : goal.returns-in-None
-returns-in-None c =
+pub returns-in-None-clause-told : goal.returns-in-None-clause-told
+returns-in-None-clause-told c =
     let s = c.self.inside.stages in
     let t = c.treat_up_to.new.self in
     let plan = c.self.inside.plan.stages in

@@ -7,11 +7,11 @@ use Rattle.cf_core.proofs.graph.Graph.fire_next.Goals as goal
 
 pub loop-k-preserved : goal.loop-k-preserved
 loop-k-preserved c =
-    let s0 = c.args.self.now in
-    let s = c.loop-k.self in
-    let r = c.fire.new.self in
+    let s0 = c.args.self.now.state in
+    let s = c.loop-k.self.state in
+    let r = c.fire.new.self.state in
     let limit = c.unused-limit.result in
-    let fired = c.fire.ensures in
+    let fired = c.fire.ensures.told in
     let at : slice_get s0.plan.limits (s0.used + c.loop-k.k) ≡ Some limit =
     rw (← c.loop-k.invariant.plan, ← c.loop-k.invariant.used) c.unused-limit.ensures.limit in
     let all = firing-more s0.plan.limits s0.used c.args.count c.loop-k.k c.loop-k.fired s limit c.fire.result r c.loop-k-test.true at fired
@@ -23,6 +23,7 @@ loop-k-preserved c =
       ];
       plan = settling-plan s limit.stage (limit_outcome limit.kind) c.fire.result r fired ∙ c.loop-k.invariant.plan;
       used = settling-used s limit.stage (limit_outcome limit.kind) c.fire.result r fired ∙ c.loop-k.invariant.used;
+      counted = (let before = c.loop-k.invariant.counted in let more = c.fire.ensures.counted in omega arith);
       few = elim c.if-fire.branch [
         | then-fire w ↦ (let few = c.loop-k.invariant.few in let is = w.fired-is in omega arith)
         | else-fire w ↦ (let few = c.loop-k.invariant.few in let is = w.fired-is in omega arith)

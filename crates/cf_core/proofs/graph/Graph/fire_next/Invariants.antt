@@ -2,11 +2,12 @@ use Rattle.std.proofs.Common.{◌≡◌, ◌+◌, ◌-◌, ◌≤◌, drop, take
 use Rattle.cf_core.specs.Events.{firing}
 use Rattle.cf_core.proofs.graph.Graph.fire_next.Given as goal
 
--- the limits that are left do what all do from the start; the plan and the number of used limits stay
+-- the limits that are left do what all do from the start; the plan and the number of used limits stay, and turns are only added
 abbrev pub invariant-loop-k : goal.invariant-loop-k
 invariant-loop-k l = record {
-  rest : firing l.fired l.self (take (l.count - l.k) (drop (l.initial.self.used + l.k) l.initial.self.plan.limits)) ≡ firing 0 l.initial.self (take l.count (drop l.initial.self.used l.initial.self.plan.limits));
-  plan : l.self.plan ≡ l.initial.self.plan;
-  used : l.self.used ≡ l.initial.self.used;
+  rest : firing l.fired l.self.state (take (l.count - l.k) (drop (l.initial.self.state.used + l.k) l.initial.self.state.plan.limits)) ≡ firing 0 l.initial.self.state (take l.count (drop l.initial.self.state.used l.initial.self.state.plan.limits));
+  plan : l.self.state.plan ≡ l.initial.self.state.plan;
+  used : l.self.state.used ≡ l.initial.self.state.used;
+  counted : l.initial.self.turns ≤ l.self.turns;
   few : l.fired ≤ l.k;
 }

@@ -1,5 +1,6 @@
 use Rattle.std.proofs.Common.{◌∙◌, ap, sym}
 use Rattle.cf_core.specs.States.{outcome_at, outcome_in}
+use Rattle.cf_core.specs.Graphs.{Graph}
 use Rattle.cf_core.proofs.Keeping.GraphLemmas.{told_outcome}
 use Rattle.cf_core.proofs.graph.Graph.outcome.Goals as goal
 
@@ -9,4 +10,4 @@ returns-clause-told c =
     c.outcome.ensures
     ∙ sym (told_outcome plan c.treat_up_to.new.self c.args.i c.treat_up_to.ensures.sound (rw (← c.self.view_is) at c.requires) c.treat_up_to.ensures.treated)
     ∙ ap (λ seen. outcome_in seen c.args.i) c.treat_up_to.ensures.same
-    ∙ ap (λ s. outcome_at s c.args.i) c.self.view_is
+    ∙ ap (λ (g : Graph). outcome_at g.state c.args.i) c.self.view_is

@@ -4,16 +4,16 @@ use Rattle.cf_core.specs.Keeping.SoundStages.{outlook_of}
 use Rattle.cf_core.proofs.Keeping.GraphLemmas.{settles_not, settles_now, told_outcome}
 use Rattle.cf_core.proofs.graph.Graph.settle.Goals as goal
 
-pub returns-in-Some : goal.returns-in-Some
-returns-in-Some c =
+pub returns-in-Some-clause-told : goal.returns-in-Some-clause-told
+returns-in-Some-clause-told c =
     let plan = c.self.inside.plan.stages in
     let t = c.treat_up_to.new.self in
     let told = told_outcome plan t c.args.i c.treat_up_to.ensures.sound (rw (← c.self.view_is) at c.requires) c.treat_up_to.ensures.treated in
     let is : outcome_in (outlook_of plan t) c.args.i ≡ Some c.in-Some.field-0 = told ∙ sym c.outcome.ensures ∙ c.in-Some.is in
     rw (← c.self.view_is) (settles_not _ c.args.i c.args.o c.in-Some.field-0 (outlook_of plan t) c.treat_up_to.ensures.same is)
 
-pub returns-in-None : goal.returns-in-None
-returns-in-None c =
+pub returns-in-None-clause-told : goal.returns-in-None-clause-told
+returns-in-None-clause-told c =
     let plan = c.self.inside.plan.stages in
     let t = c.treat_up_to.new.self in
     let told = told_outcome plan t c.args.i c.treat_up_to.ensures.sound (rw (← c.self.view_is) at c.requires) c.treat_up_to.ensures.treated in

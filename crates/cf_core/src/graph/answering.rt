@@ -1,0 +1,42 @@
+//! Any call, as an event that is answered or a question that is told.
+ghost use Rattle.std.specs.Prelude.{◌≡◌, ◌≤◌, length};
+ghost use Rattle.cf_core.specs.Events.{answered, told};
+ghost use Rattle.cf_core.specs.Graphs.{most_turns};
+ghost use Rattle.cf_core.specs.Ranges.{AskFits, EventFits};
+
+use crate::asks::{Ask, Told};
+use crate::events::{Event, Reply};
+use crate::graph::Graph;
+
+impl Graph {
+    /// Does an event, and gives its reply. The event's stage, if it has one, is in the plan.
+    pub fn answer(&mut self, e: &Event) -> Reply
+        requires { EventFits (length self.old.state.plan.stages) e.now }
+        ensures told { (result, self.new.state) ≡ answered self.old.state e.now }
+        ensures counted { self.old.turns ≤ self.new.turns }
+        ensures few { self.new.turns ≤ most_turns self.new.state.plan.stages }
+    {
+        match *e {
+            Event::Complete { stage, value, .. } => Reply::Flag(self.complete(stage, value)),
+            Event::Fail { stage, code, .. } => Reply::Flag(self.fail(stage, code)),
+            Event::Cancel { stage, .. } => Reply::Flag(self.cancel(stage)),
+            Event::Claim { who, stage } => Reply::Claim(self.claim(who, stage)),
+            Event::Finish { who, stage, answer } => Reply::Finish(self.finish(who, stage, answer)),
+            Event::Tick { now, .. } => Reply::Tick(self.tick(now)),
+        }
+    }
+
+    /// Tells what is asked. The stage that is asked about is in the plan.
+    pub fn tell(&mut self, a: Ask) -> Told
+        requires { AskFits (length self.old.state.plan.stages) a }
+        ensures told { result ≡ told self.old.state a }
+        ensures unchanged { self.new.state ≡ self.old.state }
+        ensures counted { self.old.turns ≤ self.new.turns }
+        ensures few { self.new.turns ≤ most_turns self.new.state.plan.stages }
+    {
+        match a {
+            Ask::Now(i, absent) => Told::Now(self.now(i, absent)),
+            Ask::Outcome(i) => Told::Outcome(self.outcome(i)),
+        }
+    }
+}
