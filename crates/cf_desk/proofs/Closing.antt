@@ -22,8 +22,8 @@ use Rattle.cf_event.specs.Decoding.{decoded, decoded_with, event_of}
 use Rattle.cf_event.proofs.WordLemmas.{decoded_words}
 use Rattle.cf_desk.specs.Log.{own, IsEventOf, Catches, state_from}
 use Rattle.cf_desk.specs.Records.{Fits}
-use Rattle.cf_desk.specs.Rule.{AllStand, weight, count_in, IsRow, Kept, holds, longer_if, longest, with_seen, level, AllCatch, AllShort, blank, fresh, first, head_of, rest_of}
-use Rattle.cf_desk.specs.Views.{Holder, knowns, Closes, IsOneOf, IsLatest, new_pass, known_of}
+use Rattle.cf_desk.specs.Rule.{AllStand, weight, count_in, IsRow, RowKept, holds, longer_if, longest, with_seen, level, AllCatch, AllShort, blank, fresh, first, head_of, rest_of}
+use Rattle.cf_desk.specs.Views.{Pass, knowns, Closes, IsOneOf, IsLatest, new_pass, known_of}
 use Rattle.cf_desk.specs.Keepings.{IsFit, IsKeptFit, AllFit, pass_did}
 use Rattle.std.specs.List.{Contains}
 use Rattle.cf_desk.specs.Desks.{Agrees}
@@ -101,7 +101,7 @@ all_after P [] ys h = h
 all_after P (x ∷ xs) ys h = all_after P xs ys (All-tail P x (xs ++ ys) h)
 
 -- a seat that stands for as many passes as there are callers has seen the whole log
-pub whole : (t : Terms) (words : List ℕ) (views : List (List Known)) (h : Kept t words views) (id : ℕ) (v : List Known) → get_elem? views id ≡ some v → length v ≡ t.setting.callers
+pub whole : (t : Terms) (words : List ℕ) (views : List (List Known)) (h : RowKept t words views) (id : ℕ) (v : List Known) → get_elem? views id ≡ some v → length v ≡ t.setting.callers
     → IsRow t (longest v) words × AllCatch (longest v) v
 whole t words views h id v at all =
     let stand = h.known id v at in
@@ -114,7 +114,7 @@ whole t words views h id v at all =
     let is : h.log ≡ longest v = begins.1 ∙ ap (λ l. longest v ++ l) none ∙ append-nil (longest v) in
     (subst (λ l. IsRow t l words) is h.row, p.0)
 
-pub each_there : (t : Terms) (words : List ℕ) (views : List (List Known)) (h : Kept t words views) (id : ℕ) (v : List Known) → get_elem? views id ≡ some v → length v ≡ t.setting.callers → (c : ℕ) → c < t.setting.callers → count_in c v ≡ 1
+pub each_there : (t : Terms) (words : List ℕ) (views : List (List Known)) (h : RowKept t words views) (id : ℕ) (v : List Known) → get_elem? views id ≡ some v → length v ≡ t.setting.callers → (c : ℕ) → c < t.setting.callers → count_in c v ≡ 1
 each_there t words views h id v at all c lt =
     let once : (c : ℕ) → count_in c v ≤ 1 = λ c. let a = h.apart c in let b = count_at c views id v at in omega arith in
     all_there t.setting.callers v once (below_all t.setting h.log v (h.known id v at) ∙ all) c lt
@@ -134,7 +134,7 @@ fresh_stand : (n : Setting) (c m : ℕ) → c + m ≤ n.callers → AllStand n [
 fresh_stand n c zero h = tt
 fresh_stand n c (suc m) h = (record { terms = refl; caller = omega arith; rest = []; split = refl; none = refl }, fresh_stand n (suc c) m (omega arith))
 
-pub begins : (t : Terms) (words : List ℕ) → words ≡ replicate t.words 0 → Kept t words (first t ∷ [])
+pub begins : (t : Terms) (words : List ℕ) → words ≡ replicate t.words 0 → RowKept t words (first t ∷ [])
 begins t words zeros = record {
   log = [];
   row = record { free = t.words; words_are = zeros; room = ap length zeros ∙ length-replicate {A = ℕ} t.words 0; events = All-nil (IsEventOf t.setting) };
@@ -168,24 +168,24 @@ pub decoded_more : (ws : List ℕ) (i w : ℕ) (e : Event) → get_elem? ws i �
 decoded_more ws i w e at is = ap decoded (drop_at ws i w at) ∙ ap (λ (o : Option Event). decoded_with o (decoded (drop (suc i) ws))) is ∙ ap (λ (x : ℕ). e ∷ decoded (drop x ws)) (let p : suc i ≡ i + 1 = omega arith in p)
 
 -- what the last seat shows of the passes
-begins_all : (history : List Event) (ps : List Holder) → AllCatch history (knowns ps) → All (λ (p : Holder). Catches p.known.caller p.known.seen history) ps
-begins_all history [] h = All-nil (λ (p : Holder). Catches p.known.caller p.known.seen history)
-begins_all history (p ∷ ps) h = All-cons (λ (p : Holder). Catches p.known.caller p.known.seen history) p ps h.0 (begins_all history ps h.1)
+begins_all : (history : List Event) (ps : List Pass) → AllCatch history (knowns ps) → All (λ (p : Pass). Catches p.known.caller p.known.seen history) ps
+begins_all history [] h = All-nil (λ (p : Pass). Catches p.known.caller p.known.seen history)
+begins_all history (p ∷ ps) h = All-cons (λ (p : Pass). Catches p.known.caller p.known.seen history) p ps h.0 (begins_all history ps h.1)
 
-fits_all : (t : Setting) (log history : List Event) (ps : List Holder) → AllStand t log (knowns ps) → AllCatch history (knowns ps) → All IsFit ps → All (IsKeptFit t.plan history) (map pass_did ps)
+fits_all : (t : Setting) (log history : List Event) (ps : List Pass) → AllStand t log (knowns ps) → AllCatch history (knowns ps) → All IsFit ps → All (IsKeptFit t.plan history) (map pass_did ps)
 fits_all t log history [] s h d = All-nil (IsKeptFit t.plan history)
 fits_all t log history (p ∷ ps) s h d = All-cons (IsKeptFit t.plan history) (pass_did p) (map pass_did ps)
     (subst (λ (x : Setting). Fits x.plan p.known.caller history p.records) s.0.terms (fits_more p.known.setting.plan p.known.caller p.known.seen history p.records h.0 (All-head IsFit p ps d)))
     (fits_all t log history ps s.1 h.1 (All-tail IsFit p ps d))
 
 -- a caller of which there is a pass is one of those of the passes
-there : (c : ℕ) (ps : List Holder) → count_in c (knowns ps) ≡ 1 → Contains (map (λ (k : ℕ × List Rec). k.0) (map pass_did ps)) c
+there : (c : ℕ) (ps : List Pass) → count_in c (knowns ps) ≡ 1 → Contains (map (λ (k : ℕ × List Rec). k.0) (map pass_did ps)) c
 there c [] e = absurd (omega arith)
 there c (p ∷ ps) e = dite (ℕ_discrete p.known.caller c)
     (λ (same : p.known.caller ≡ c). (0, omega arith, same))
     (λ (ne : p.known.caller ≢ c). let w : weight (eqb p.known.caller c) ≡ 0 = ap weight (ne_eqb p.known.caller c ne) in let r = there c ps (omega arith) in (suc r.0, (let l = r.1 in omega arith), r.2))
 
-owned_all : (t : Setting) (ps : List Holder) → ((c : ℕ) → c < t.callers → count_in c (knowns ps) ≡ 1) → (ws : List Event) → All (IsEventOf t) ws → All (λ w. Contains (map (λ (k : ℕ × List Rec). k.0) (map pass_did ps)) (who_of w)) ws
+owned_all : (t : Setting) (ps : List Pass) → ((c : ℕ) → c < t.callers → count_in c (knowns ps) ≡ 1) → (ws : List Event) → All (IsEventOf t) ws → All (λ w. Contains (map (λ (k : ℕ × List Rec). k.0) (map pass_did ps)) (who_of w)) ws
 owned_all t ps each [] h = All-nil (λ w. Contains (map (λ (k : ℕ × List Rec). k.0) (map pass_did ps)) (who_of w))
 owned_all t ps each (w ∷ ws) h = All-cons (λ w. Contains (map (λ (k : ℕ × List Rec). k.0) (map pass_did ps)) (who_of w)) w ws
     (there (who_of w) ps (each (who_of w) (All-head (IsEventOf t) w ws h).caller)) (owned_all t ps each ws (All-tail (IsEventOf t) w ws h))
@@ -218,12 +218,12 @@ latest_whole t log most s v stand catch l =
     l.state ∙ (λ i. state_from (b.0 i) (is i))
 
 -- what the last seat shows
-pub record Shown (t : Setting) (ps : List Holder) (most : ℕ) (copy : Copy) (history : List Event) : Type 0 where
+pub record Shown (t : Setting) (ps : List Pass) (most : ℕ) (copy : Copy) (history : List Event) : Type 0 where
   pub closes : Closes t ps history
   pub fit : AllFit t.plan history (map pass_did ps)
   pub latest : copy ≡ state_from t.plan history
 
-pub shows : {S : Type 0} (t : Terms) (words : List ℕ) (slots : List S) (id : ℕ) (ps : List Holder) (most : ℕ) (copy : Copy) → length ps ≡ t.setting.callers → All IsFit ps → IsLatest t.setting.plan most copy (knowns ps)
+pub shows : {S : Type 0} (t : Terms) (words : List ℕ) (slots : List S) (id : ℕ) (ps : List Pass) (most : ℕ) (copy : Copy) → length ps ≡ t.setting.callers → All IsFit ps → IsLatest t.setting.plan most copy (knowns ps)
     → Final (Seen (holds {S = S} t) id (knowns ps)) words slots → Shown t.setting ps most copy (decoded words)
 shows t words slots id ps most copy all fit latest f =
     let s = f.0 in
@@ -231,7 +231,7 @@ shows t words slots id ps most copy all fit latest f =
     let at = f.1.1 in
     let v = knowns ps in
     let stand = h.known id v at in
-    let len : length v ≡ t.setting.callers = length-map ps (λ (p : Holder). p.known) ∙ all in
+    let len : length v ≡ t.setting.callers = length-map ps (λ (p : Pass). p.known) ∙ all in
     let w = whole t s.words s.views h id v at len in
     let each = each_there t s.words s.views h id v at len in
     let is : decoded words ≡ longest v = ap decoded (sym f.2) ∙ decoded_log t (longest v) s.words w.0 in
@@ -241,7 +241,7 @@ shows t words slots id ps most copy all fit latest f =
       latest = latest_whole t.setting h.log most copy v stand w.1 latest;
     })
 
-pub shown_as : (t : Terms) (words : List ℕ) (slots : List ℕ) (id : ℕ) (v : List Known) (ps : List Holder) (setting : Setting) (first : Planned) (most : ℕ) (copy : Copy) (history : List Event) → t.setting ≡ setting → first ≡ setting.plan → v ≡ knowns ps → length ps ≡ setting.callers → All IsFit ps
+pub shown_as : (t : Terms) (words : List ℕ) (slots : List ℕ) (id : ℕ) (v : List Known) (ps : List Pass) (setting : Setting) (first : Planned) (most : ℕ) (copy : Copy) (history : List Event) → t.setting ≡ setting → first ≡ setting.plan → v ≡ knowns ps → length ps ≡ setting.callers → All IsFit ps
     → IsLatest first most copy (knowns ps) → history ≡ decoded words → Final (Seen (holds {S = ℕ} t) id v) words slots → Shown setting ps most copy history
 shown_as t words slots id v ps setting first most copy history key plan is all fit latest read f =
     subst (Shown setting ps most copy) (sym read) (subst (λ (x : Setting). Shown x ps most copy (decoded words)) key
@@ -256,7 +256,7 @@ pub agrees_new : (n : Setting) (c : ℕ) (mine : Me ℕ (List Known)) (copy : Co
 agrees_new n c mine copy records lt few me opening none = subst (λ (m : Me ℕ (List Known)). Agrees (known_of m.0) c 0 copy records) (sym me) (record { caller = refl; one_of = lt; few = few; count = refl; state = opening; fits = subst (Fits n.plan c []) (sym none) (fits_new n.plan c) })
 
 -- one pass more is split off
-pub split_next : (z : TableId) (n : Setting) (c calls : ℕ) (seat new mine : Me ℕ (List Known)) (passes now : List Holder) (pass : Holder) → c < n.callers → seat ≡ (fresh n c (n.callers - c), []) → new ≡ (rest_of seat.0, seat.1) → mine ≡ (head_of seat.0, [])
+pub split_next : (z : TableId) (n : Setting) (c calls : ℕ) (seat new mine : Me ℕ (List Known)) (passes now : List Pass) (pass : Pass) → c < n.callers → seat ≡ (fresh n c (n.callers - c), []) → new ≡ (rest_of seat.0, seat.1) → mine ≡ (head_of seat.0, [])
     → passes ≡ map (new_pass z calls) (fresh n 0 c) → now ≡ passes ++ pass ∷ [] → pass ≡ new_pass z calls (known_of mine.0)
     → (new ≡ (fresh n (c + 1) (n.callers - (c + 1)), [])) × (mine ≡ (blank n c ∷ [], [])) × (now ≡ map (new_pass z calls) (fresh n 0 (c + 1)))
 split_next z n c calls seat new mine passes now pass lt s e m p w is =
@@ -270,9 +270,9 @@ split_next z n c calls seat new mine passes now pass lt s e m p w is =
     )
 
 -- the passes of a new desk are of its table, one for each caller
-pub opened_there : (z : TableId) (calls : ℕ) (ks : List Known) → All (λ (p : Holder). p.table ≡ z) (map (new_pass z calls) ks)
-opened_there z calls [] = All-nil (λ (p : Holder). p.table ≡ z)
-opened_there z calls (k ∷ ks) = All-cons (λ (p : Holder). p.table ≡ z) (new_pass z calls k) (map (new_pass z calls) ks) refl (opened_there z calls ks)
+pub opened_there : (z : TableId) (calls : ℕ) (ks : List Known) → All (λ (p : Pass). p.table ≡ z) (map (new_pass z calls) ks)
+opened_there z calls [] = All-nil (λ (p : Pass). p.table ≡ z)
+opened_there z calls (k ∷ ks) = All-cons (λ (p : Pass). p.table ≡ z) (new_pass z calls k) (map (new_pass z calls) ks) refl (opened_there z calls ks)
 
 length_fresh : (n : Setting) (c m : ℕ) → length (fresh n c m) ≡ m
 length_fresh n c zero = refl
@@ -281,6 +281,6 @@ length_fresh n c (suc m) = let r = length_fresh n (suc c) m in omega arith
 pub opened_count : (z : TableId) (n : Setting) (calls : ℕ) → length (map (new_pass z calls) (fresh n 0 n.callers)) ≡ n.callers
 opened_count z n calls = length-map (fresh n 0 n.callers) (new_pass z calls) ∙ length_fresh n 0 n.callers
 
-pub opened_all : (z : TableId) (n : Setting) (calls callers : ℕ) (items : List Holder) → items ≡ map (new_pass z calls) (fresh n 0 n.callers) → n.callers ≡ callers → All (λ (p : Holder). p.table ≡ z) items × (length items ≡ callers)
+pub opened_all : (z : TableId) (n : Setting) (calls callers : ℕ) (items : List Pass) → items ≡ map (new_pass z calls) (fresh n 0 n.callers) → n.callers ≡ callers → All (λ (p : Pass). p.table ≡ z) items × (length items ≡ callers)
 opened_all z n calls callers items is count =
-    (subst (All (λ (p : Holder). p.table ≡ z)) (sym is) (opened_there z calls (fresh n 0 n.callers)), ap length is ∙ opened_count z n calls ∙ count)
+    (subst (All (λ (p : Pass). p.table ≡ z)) (sym is) (opened_there z calls (fresh n 0 n.callers)), ap length is ∙ opened_count z n calls ∙ count)

@@ -9,7 +9,7 @@ use Rattle.cf_desk.specs.declared.row.Known.{Known}
 use Rattle.cf_desk.specs.declared.calls.Kept.{Kept}
 use Rattle.cf_core.specs.States.{State, start}
 use Rattle.cf_desk.specs.Rule.{AllShort}
-use Rattle.cf_desk.specs.Views.{Holder, knowns, state_of, IsOneOf, IsLatest}
+use Rattle.cf_desk.specs.Views.{Pass, knowns, state_of, IsOneOf, IsLatest}
 use Rattle.cf_desk.proofs.Meets.{short_more}
 use Rattle.cf_desk.specs.Keepings.{AreKept, pass_kept, pass_did}
 
@@ -17,11 +17,11 @@ pub all_at : {A : Type 0} (P : A → Type 0) (xs : List A) (x : A) (ys : List A)
 all_at P [] x ys h = All-head P x ys h
 all_at P (y ∷ xs) x ys h = all_at P xs x ys (All-tail P y (xs ++ x ∷ ys) h)
 
-pub joined_one : (done : List Holder) (p : Holder) (k : Known) (seat other new : Me ℕ (List Known)) → seat ≡ (knowns done, []) → other ≡ (k ∷ [], []) → k ≡ p.known → new ≡ (seat.0 ++ other.0, seat.1) → new ≡ (knowns (done ++ p ∷ []), [])
+pub joined_one : (done : List Pass) (p : Pass) (k : Known) (seat other new : Me ℕ (List Known)) → seat ≡ (knowns done, []) → other ≡ (k ∷ [], []) → k ≡ p.known → new ≡ (seat.0 ++ other.0, seat.1) → new ≡ (knowns (done ++ p ∷ []), [])
 joined_one done p k seat other new s o is n =
-    n ∙ (λ i. ((s i).0 ++ (o i).0, (s i).1)) ∙ (λ i. (knowns done ++ is i ∷ [], [])) ∙ (λ i. (sym (map-append (λ (h : Holder). h.known) done (p ∷ [])) i, []))
+    n ∙ (λ i. ((s i).0 ++ (o i).0, (s i).1)) ∙ (λ i. (knowns done ++ is i ∷ [], [])) ∙ (λ i. (sym (map-append (λ (h : Pass). h.known) done (p ∷ [])) i, []))
 
-pub kept_one : (kept now : List Kept) (done : List Holder) (k : Kept) (p : Holder) → AreKept kept done → now ≡ kept ++ k ∷ [] → pass_kept k ≡ pass_did p → AreKept now (done ++ p ∷ [])
+pub kept_one : (kept now : List Kept) (done : List Pass) (k : Kept) (p : Pass) → AreKept kept done → now ≡ kept ++ k ∷ [] → pass_kept k ≡ pass_did p → AreKept now (done ++ p ∷ [])
 kept_one kept now done k p h n e =
     ap (map pass_kept) n ∙ map-append pass_kept kept (k ∷ []) ∙ (λ i. h i ++ e i ∷ []) ∙ sym (map-append pass_did done (p ∷ []))
 
@@ -38,10 +38,10 @@ short_push : (n : ℕ) (ks : List Known) (k : Known) → AllShort n ks → lengt
 short_push n [] k h le = (le, tt)
 short_push n (l ∷ ks) k h le = (h.0, short_push n ks k h.1 le)
 
-knowns_push : (ps : List Holder) (p : Holder) → knowns (ps ++ p ∷ []) ≡ knowns ps ++ p.known ∷ []
-knowns_push ps p = map-append (λ (h : Holder). h.known) ps (p ∷ [])
+knowns_push : (ps : List Pass) (p : Pass) → knowns (ps ++ p ∷ []) ≡ knowns ps ++ p.known ∷ []
+knowns_push ps p = map-append (λ (h : Pass). h.known) ps (p ∷ [])
 
-pub latest_new : (first : Planned) (most : ℕ) (s : State) (ps : List Holder) (p : Holder) (count : ℕ) (copy : State) → most < count → count ≡ length p.known.seen → copy ≡ state_of p.known → IsLatest first most s (knowns ps) → IsLatest first count copy (knowns (ps ++ p ∷ []))
+pub latest_new : (first : Planned) (most : ℕ) (s : State) (ps : List Pass) (p : Pass) (count : ℕ) (copy : State) → most < count → count ≡ length p.known.seen → copy ≡ state_of p.known → IsLatest first most s (knowns ps) → IsLatest first count copy (knowns (ps ++ p ∷ []))
 latest_new first most s ps p count copy more is state h = subst (IsLatest first count copy) (sym (knowns_push ps p)) (record {
   plan = p.known.setting.plan;
   seen = p.known.seen;
@@ -51,7 +51,7 @@ latest_new first most s ps p count copy more is state h = subst (IsLatest first 
   short = short_push count (knowns ps) p.known (short_more most count (omega arith) (knowns ps) h.short) (omega arith);
 })
 
-pub latest_still : (first : Planned) (most now : ℕ) (s copy : State) (ps : List Holder) (p : Holder) (count : ℕ) → now ≡ most → copy ≡ s → count ≤ most → count ≡ length p.known.seen → IsLatest first most s (knowns ps) → IsLatest first now copy (knowns (ps ++ p ∷ []))
+pub latest_still : (first : Planned) (most now : ℕ) (s copy : State) (ps : List Pass) (p : Pass) (count : ℕ) → now ≡ most → copy ≡ s → count ≤ most → count ≡ length p.known.seen → IsLatest first most s (knowns ps) → IsLatest first now copy (knowns (ps ++ p ∷ []))
 latest_still first most now s copy ps p count same kept less is h = subst (IsLatest first now copy) (sym (knowns_push ps p)) (record {
   plan = h.plan;
   seen = h.seen;
@@ -64,7 +64,7 @@ latest_still first most now s copy ps p count same kept less is h = subst (IsLat
 pub latest_none : (first : Planned) (s : State) → s ≡ start first → IsLatest first 0 s (knowns [])
 latest_none first s is = record { plan = first; seen = []; state = is; count = refl; one = (refl, refl); short = tt }
 
-pub latest_next : (first : Planned) (most now : ℕ) (s mine copy : State) (ps : List Holder) (p : Holder) (count : ℕ) → now ≡ max most count → (most < count → copy ≡ mine) → (count ≤ most → copy ≡ s) → count ≡ length p.known.seen → mine ≡ state_of p.known
+pub latest_next : (first : Planned) (most now : ℕ) (s mine copy : State) (ps : List Pass) (p : Pass) (count : ℕ) → now ≡ max most count → (most < count → copy ≡ mine) → (count ≤ most → copy ≡ s) → count ≡ length p.known.seen → mine ≡ state_of p.known
     → IsLatest first most s (knowns ps) → IsLatest first now copy (knowns (ps ++ p ∷ []))
 latest_next first most now s mine copy ps p count n newer older is state h = go (leb count most) refl
   where

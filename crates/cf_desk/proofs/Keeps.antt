@@ -18,7 +18,7 @@ use Rattle.cf_event.specs.Words.{who_of, word_of}
 use Rattle.cf_event.specs.Decoding.{event_of}
 use Rattle.cf_event.proofs.WordLemmas.{event_of_own_word, event_of_zero, word_of_filled}
 use Rattle.cf_desk.specs.Log.{own, IsEventOf}
-use Rattle.cf_desk.specs.Rule.{Stands, AllStand, weight, count_in, count_all, IsRow, Kept, holds, saw, looked, LooksNext, AddsNext, looks_next, adds_next, SeesOther}
+use Rattle.cf_desk.specs.Rule.{Stands, AllStand, weight, count_in, count_all, IsRow, RowKept, holds, saw, looked, LooksNext, AddsNext, looks_next, adds_next, SeesOther}
 
 -- what lies behind what was seen begins with the event of the next word, if that isn't 0
 abbrev pub Next : List Event → ℕ → Type 0
@@ -63,8 +63,8 @@ count_two c (x ∷ xs) zero (suc j) v w n e f = let is : count_in c x ≡ count_
 count_two c (x ∷ xs) (suc i) zero v w n e f = let is : count_in c x ≡ count_in c w = ap (count_in c) (some-injective x w f) in let r = count_at c xs i v e in omega arith
 count_two c (x ∷ xs) (suc i) (suc j) v w n e f = let r = count_two c xs i j v w (λ h. n (ap suc h)) e f in omega arith
 
-pub keeps_view : (t : Terms) (words : List ℕ) (views : List (List Known)) (h : Kept t words views) (id : ℕ) (v w : List Known) → get_elem? views id ≡ some v → AllStand t.setting h.log w → ((c : ℕ) → count_in c w ≤ count_in c v)
-    → Kept t words (set views id w)
+pub keeps_view : (t : Terms) (words : List ℕ) (views : List (List Known)) (h : RowKept t words views) (id : ℕ) (v w : List Known) → get_elem? views id ≡ some v → AllStand t.setting h.log w → ((c : ℕ) → count_in c w ≤ count_in c v)
+    → RowKept t words (set views id w)
 keeps_view t words views h id v w at stand less = record {
   log = h.log;
   row = h.row;
@@ -89,8 +89,8 @@ pub same_some : (d e : Event) → Some d ≡ Some e → d ≡ e
 same_some d e h = cc
 
 -- a load of the next word
-looks_kept : (t : Terms) (words : List ℕ) (views : List (List Known)) (h : Kept t words views) (id : ℕ) (k : Known) → get_elem? views id ≡ some (k ∷ []) → (st : Stands t.setting h.log k) → (found : ℕ) → Next st.rest found
-    → (w : List Known) × Kept t words (set views id w) × LooksNext k found w
+looks_kept : (t : Terms) (words : List ℕ) (views : List (List Known)) (h : RowKept t words views) (id : ℕ) (k : Known) → get_elem? views id ≡ some (k ∷ []) → (st : Stands t.setting h.log k) → (found : ℕ) → Next st.rest found
+    → (w : List Known) × RowKept t words (set views id w) × LooksNext k found w
 looks_kept t words views h id k at st found next = ⊎_elim
     (λ (p : (found ≡ 0) × (st.rest ≡ [])). (
       looked k ∷ [],
@@ -122,14 +122,14 @@ looks t slots id k c s h len at lt =
     let found : ℕ = slice_index s.words (length k.seen) in
     let did = looks_kept t s.words s.views h id k at st found (at_next t h.log s.words k.seen st.rest h.row st.split) in
     let same : set s.words (length k.seen) found ≡ s.words = set-get_or s.words (length k.seen) 0 in
-    (did.0, keeps, tt, subst (λ ws. Kept t ws (set s.views id did.0)) (sym same) did.1, (refl, λ k' e. subst (λ (x : Known). LooksNext x found did.0) (one_of k k' e) did.2))
+    (did.0, keeps, tt, subst (λ ws. RowKept t ws (set s.views id did.0)) (sym same) did.1, (refl, λ k' e. subst (λ (x : Known). LooksNext x found did.0) (one_of k k' e) did.2))
   where
     one_of : (k k' : Known) → k ∷ [] ≡ k' ∷ [] → k ≡ k'
     one_of k k' e = cc
 
 -- an exchange of the next word that is won
-adds_kept : (t : Terms) (words : List ℕ) (views : List (List Known)) (h : Kept t words views) (id : ℕ) (k : Known) → get_elem? views id ≡ some (k ∷ []) → (st : Stands t.setting h.log k) → st.rest ≡ []
-    → length k.seen < t.words → (e : Event) → IsEventOf t.setting e → who_of e ≡ k.caller → Kept t (set words (length k.seen) (word_of e)) (set views id (saw k e ∷ []))
+adds_kept : (t : Terms) (words : List ℕ) (views : List (List Known)) (h : RowKept t words views) (id : ℕ) (k : Known) → get_elem? views id ≡ some (k ∷ []) → (st : Stands t.setting h.log k) → st.rest ≡ []
+    → length k.seen < t.words → (e : Event) → IsEventOf t.setting e → who_of e ≡ k.caller → RowKept t (set words (length k.seen) (word_of e)) (set views id (saw k e ∷ []))
 adds_kept t words views h id k at st end room e event mine =
     let all : h.log ≡ k.seen = st.split ∙ ap (λ l. k.seen ++ l) end ∙ append-nil k.seen in
     let now : set words (length k.seen) (word_of e) ≡ map word_of (h.log ++ e ∷ []) ++ replicate (h.row.free - 1) 0 = ap (λ l. set l (length k.seen) (word_of e)) h.row.words_are ∙ ap (λ (l : List Event). set (map word_of h.log ++ replicate h.row.free 0) (length l) (word_of e)) (sym all) ∙ put_at h.log h.row.free (some_free h.row all) in record {
@@ -162,7 +162,7 @@ adds {S} t slots id k c e room event mine s h len at lt =
     let found : ℕ = slice_index s.words i in
     let st = (h.known id (k ∷ []) at).0 in
     let next = at_next t h.log s.words k.seen st.rest h.row st.split in
-    let Goal : ℕ → Type 0 = λ n. (w : List Known) × (a : Rattle.atomic_table.specs.Table.Act S) × Rattle.atomic_table.specs.Table.Valid s.homes c a × Kept t (set s.words i n) (set s.views id w) × adds_next (step slots i 0 word none) (k ∷ [], c) found (w, Rattle.atomic_table.specs.Table.carried_after c a) in
+    let Goal : ℕ → Type 0 = λ n. (w : List Known) × (a : Rattle.atomic_table.specs.Table.Act S) × Rattle.atomic_table.specs.Table.Valid s.homes c a × RowKept t (set s.words i n) (set s.views id w) × adds_next (step slots i 0 word none) (k ∷ [], c) found (w, Rattle.atomic_table.specs.Table.carried_after c a) in
     exchanged found 0 word Goal
     (λ zero_there. let end = is_end st.rest found zero_there next in (
       saw k e ∷ [],
@@ -183,7 +183,7 @@ adds {S} t slots id k c e room event mine s h len at lt =
       did.0,
       keeps,
       tt,
-      subst (λ ws. Kept t ws (set s.views id did.0)) (sym same) did.1,
+      subst (λ ws. RowKept t ws (set s.views id did.0)) (sym same) did.1,
       (
         refl,
         λ k' f. subst (λ (x : Known). AddsNext x word found did.0) (one_of k k' f) (record {

@@ -15,7 +15,7 @@ use Rattle.cf_event.specs.Words.{who_of, word_of}
 use Rattle.cf_event.specs.Decoding.{event_of}
 use Rattle.cf_event.proofs.WordLemmas.{event_of_own_word}
 use Rattle.cf_desk.specs.Log.{own, IsEventOf}
-use Rattle.cf_desk.specs.Rule.{AllStand, count_in, count_all, Kept, holds, longer_if, longest, with_seen, level, AllCatch, AllShort, levels, finds, FindsSeen, head_of, rest_of}
+use Rattle.cf_desk.specs.Rule.{AllStand, count_in, count_all, RowKept, holds, longer_if, longest, with_seen, level, AllCatch, AllShort, levels, finds, FindsSeen, head_of, rest_of}
 use Rattle.cf_desk.proofs.Keeps.{count_set, keeps_view, same_some}
 
 count_snoc : (c : ℕ) (views : List (List Known)) (v : List Known) → count_all c (views ++ v ∷ []) ≡ count_all c views + count_in c v
@@ -144,7 +144,7 @@ pub levels_out : {S : Type 0} (t : Terms) (slots id : ℕ) (v : List Known) (c :
 levels_out t slots id v c i s h len at lt =
     let p = stand_levelled t.setting h.log v (h.known id v at) in
     let kept = keeps_view t s.words s.views h id v (level v) at p.1 (λ n. let e = count_level n (longest v) v in omega arith) in
-    (level v, keeps, tt, subst (λ ws. Kept t ws (set s.views id (level v))) (sym (set-get_or s.words i 0)) kept, (refl, refl, p.0))
+    (level v, keeps, tt, subst (λ ws. RowKept t ws (set s.views id (level v))) (sym (set-get_or s.words i 0)) kept, (refl, refl, p.0))
 
 there_at : (xs : List Event) (i : ℕ) → i < length xs → (e : Event) × (slice_get xs i ≡ Some e)
 there_at [] i h = absurd (omega arith)
@@ -172,7 +172,7 @@ found_there t slots id k c i inside s h len at lt =
       k ∷ [],
       keeps,
       tt,
-      subst (λ ws. Kept t ws (set s.views id (k ∷ []))) (sym (set-get_or s.words i 0)) kept,
+      subst (λ ws. RowKept t ws (set s.views id (k ∷ []))) (sym (set-get_or s.words i 0)) kept,
       (refl, λ k' f. subst (λ (x : Known). FindsSeen x i found) (one_of k k' f) (record { event = e.0; there = e.1; is = ap event_of is ∙ event_of_own_word e.0 event.event; logged = subst (λ n. IsEventOf n e.0) (sym st.terms) event })),
     )
   where

@@ -28,7 +28,7 @@ use Rattle.cf_desk.specs.Log.{own, IsEventOf, state_from, Catches}
 use Rattle.cf_desk.specs.Calls.{event_by, joined}
 use Rattle.cf_desk.specs.Records.{Fits}
 use Rattle.cf_desk.specs.Rule.{holds, saw, looked, looks_next, adds_next, finds, longer_if, longest, with_seen, level, AllCatch, head_of, rest_of}
-use Rattle.cf_desk.specs.Views.{known_of, Holder, IsSamePass, state_of, AddedByOther, AddedOwn, Follows, Acts, Reads, Joins, HasLooked, Place, IsOne, Levelled, longer_of}
+use Rattle.cf_desk.specs.Views.{known_of, Pass, IsSamePass, state_of, AddedByOther, AddedOwn, Follows, Acts, Reads, Joins, HasLooked, Desk, IsOne, Levelled, longer_of}
 use Rattle.cf_desk.specs.Desks.{Agrees}
 use Rattle.cf_desk.proofs.Recs.{own_call, state_snoc, plan_stays, fits_more, fits_did, fits_saw}
 use Rattle.cf_desk.proofs.Keeps.{looks, adds, same_some}
@@ -116,36 +116,36 @@ one_new c before now e h other = record {
   none = filter-append (λ x. eqb (who_of x) c) h.others (e ∷ []) ∙ (rw (h.none, other) refl);
 }
 
-pub follows_itself : (p : Holder) → Follows p p
+pub follows_itself : (p : Pass) → Follows p p
 follows_itself p = record { now = p.known.seen; looks = p.known.looks; is = refl; caught = none_new p.known.caller p.known.seen }
 
-pub follows_more : (p q r : Holder) → Follows p q → AddedByOther q r → Follows p r
+pub follows_more : (p q r : Pass) → Follows p q → AddedByOther q r → Follows p r
 follows_more p q r f a =
-    let k : q.known ≡ record p.known { seen = f.now; looks = f.looks } = ap (λ (h : Holder). h.known) f.is in record {
+    let k : q.known ≡ record p.known { seen = f.now; looks = f.looks } = ap (λ (h : Pass). h.known) f.is in record {
       now = f.now ++ a.found ∷ [];
       looks = f.looks;
-      is = a.is ∙ ap (λ (h : Holder). record h { known = saw h.known a.found }) f.is;
+      is = a.is ∙ ap (λ (h : Pass). record h { known = saw h.known a.found }) f.is;
       caught = one_new p.known.caller p.known.seen f.now a.found f.caught (ap (λ (x : Known). own x.caller (a.found ∷ [])) (sym k) ∙ a.other);
     }
 
-pub looks_same : (q r : Holder) → AddedByOther q r → r.known.looks ≡ q.known.looks
-looks_same q r a = ap (λ (h : Holder). h.known.looks) a.is
+pub looks_same : (q r : Pass) → AddedByOther q r → r.known.looks ≡ q.known.looks
+looks_same q r a = ap (λ (h : Pass). h.known.looks) a.is
 
-pub follows_looked : (p q r : Holder) → Follows p q → r ≡ record q { known = looked q.known } → Follows p r
+pub follows_looked : (p q r : Pass) → Follows p q → r ≡ record q { known = looked q.known } → Follows p r
 follows_looked p q r f e = record {
   now = f.now;
   looks = f.looks + 1;
-  is = e ∙ ap (λ (h : Holder). record h { known = looked h.known }) f.is;
+  is = e ∙ ap (λ (h : Pass). record h { known = looked h.known }) f.is;
   caught = f.caught;
 }
 
-pub follows_then : (p q r : Holder) → Follows p q → Follows q r → Follows p r
+pub follows_then : (p q r : Pass) → Follows p q → Follows q r → Follows p r
 follows_then p q r f g =
-    let k : q.known ≡ record p.known { seen = f.now; looks = f.looks } = ap (λ (h : Holder). h.known) f.is in
+    let k : q.known ≡ record p.known { seen = f.now; looks = f.looks } = ap (λ (h : Pass). h.known) f.is in
     let caught : Catches p.known.caller f.now g.now = subst (λ (x : Known). Catches x.caller x.seen g.now) k g.caught in record {
       now = g.now;
       looks = g.looks;
-      is = g.is ∙ ap (λ (h : Holder). record h { known = record h.known { seen = g.now; looks = g.looks } }) f.is;
+      is = g.is ∙ ap (λ (h : Pass). record h { known = record h.known { seen = g.now; looks = g.looks } }) f.is;
       caught = record {
         others = f.caught.others ++ caught.others;
         joined = caught.joined ∙ ap (λ l. l ++ caught.others) f.caught.joined ∙ append_assoc p.known.seen f.caught.others caught.others;
@@ -153,22 +153,22 @@ follows_then p q r f g =
       };
     }
 
-pub acts_then : (p q r : Holder) (call : Call) (reply : Reply) → Follows p q → q.known.looks ≡ p.known.looks → AddedOwn q call reply r → Acts p call reply r
+pub acts_then : (p q r : Pass) (call : Call) (reply : Reply) → Follows p q → q.known.looks ≡ p.known.looks → AddedOwn q call reply r → Acts p call reply r
 acts_then p q r call reply f same a =
-    let k : q.known ≡ record p.known { seen = f.now; looks = f.looks } = ap (λ (h : Holder). h.known) f.is in
+    let k : q.known ≡ record p.known { seen = f.now; looks = f.looks } = ap (λ (h : Pass). h.known) f.is in
     let l : f.looks ≡ p.known.looks = ap (λ (x : Known). x.looks) (sym k) ∙ same in record {
       before = f.now;
       caught = f.caught;
-      is = a.is ∙ ap (λ (h : Holder). record h { known = saw h.known (event_by h.known.caller call); records = h.records ++ Did (length h.known.seen + 1) call reply ∷ [] }) f.is
+      is = a.is ∙ ap (λ (h : Pass). record h { known = saw h.known (event_by h.known.caller call); records = h.records ++ Did (length h.known.seen + 1) call reply ∷ [] }) f.is
           ∙ ap (λ (n : ℕ). record p { known = record p.known { seen = f.now ++ event_by p.known.caller call ∷ []; looks = n }; records = p.records ++ Did (length f.now + 1) call reply ∷ [] }) l;
       replied = a.replied ∙ ap (λ (x : Known). (answered (state_of x) (event_by x.caller call)).0) k;
     }
 
-pub reads_then : (p q r : Holder) (ask : Ask) (answer : Told) → Follows p q → Reads q ask answer r → r.known ≡ q.known → Reads p ask answer r
+pub reads_then : (p q r : Pass) (ask : Ask) (answer : Told) → Follows p q → Reads q ask answer r → r.known ≡ q.known → Reads p ask answer r
 reads_then p q r ask answer f a same =
-    let k : q.known ≡ record p.known { seen = f.now; looks = f.looks } = ap (λ (h : Holder). h.known) f.is in
-    let seen : a.now ≡ f.now = ap (λ (h : Holder). h.known.seen) (sym a.is) ∙ ap (λ (x : Known). x.seen) (same ∙ k) in
-    let looks : a.looks ≡ f.looks = ap (λ (h : Holder). h.known.looks) (sym a.is) ∙ ap (λ (x : Known). x.looks) (same ∙ k) in record {
+    let k : q.known ≡ record p.known { seen = f.now; looks = f.looks } = ap (λ (h : Pass). h.known) f.is in
+    let seen : a.now ≡ f.now = ap (λ (h : Pass). h.known.seen) (sym a.is) ∙ ap (λ (x : Known). x.seen) (same ∙ k) in
+    let looks : a.looks ≡ f.looks = ap (λ (h : Pass). h.known.looks) (sym a.is) ∙ ap (λ (x : Known). x.looks) (same ∙ k) in record {
       now = f.now;
       looks = f.looks;
       caught = f.caught;
@@ -177,36 +177,36 @@ reads_then p q r ask answer f a same =
     }
 
 -- what a read of an outcome is told is the outcome
-pub outcome_told : (p q : Holder) (stage : ℕ) (answer : Told) (outcome : Option Outcome) → Reads p (AsksOutcome stage) answer q → q.known ≡ p.known → outcome ≡ outcome_at (state_of p.known) stage → Reads p (AsksOutcome stage) (ToldOutcome outcome) q
+pub outcome_told : (p q : Pass) (stage : ℕ) (answer : Told) (outcome : Option Outcome) → Reads p (AsksOutcome stage) answer q → q.known ≡ p.known → outcome ≡ outcome_at (state_of p.known) stage → Reads p (AsksOutcome stage) (ToldOutcome outcome) q
 outcome_told p q stage answer outcome r same is =
-    let seen : r.now ≡ p.known.seen = ap (λ (h : Holder). h.known.seen) (sym r.is) ∙ ap (λ (x : Known). x.seen) same in
+    let seen : r.now ≡ p.known.seen = ap (λ (h : Pass). h.known.seen) (sym r.is) ∙ ap (λ (x : Known). x.seen) same in
     let told_so : answer ≡ ToldOutcome outcome = r.told_is ∙ ap (λ (l : List Event). ToldOutcome (outcome_at (state_from p.known.setting.plan l) stage)) seen ∙ ap ToldOutcome (sym is) in
     subst (λ (x : Told). Reads p (AsksOutcome stage) x q) told_so r
 
 -- what a join tells
-pub joins_told : (p q r : Holder) (stage : ℕ) (outcome : Option Outcome) (answer : Told) (told_as : Joined) → outcome ≡ outcome_at (state_of p.known) stage → q ≡ p → Reads q (AsksOutcome stage) answer r → r.known ≡ q.known → told_as ≡ joined outcome
+pub joins_told : (p q r : Pass) (stage : ℕ) (outcome : Option Outcome) (answer : Told) (told_as : Joined) → outcome ≡ outcome_at (state_of p.known) stage → q ≡ p → Reads q (AsksOutcome stage) answer r → r.known ≡ q.known → told_as ≡ joined outcome
     → Joins p stage told_as r × (r.known ≡ p.known)
 joins_told p q r stage outcome answer told_as is same read known as_told =
-    let k : r.known ≡ p.known = known ∙ ap (λ (h : Holder). h.known) same in
-    let from : Reads p (AsksOutcome stage) answer r = subst (λ (h : Holder). Reads h (AsksOutcome stage) answer r) same read in
+    let k : r.known ≡ p.known = known ∙ ap (λ (h : Pass). h.known) same in
+    let from : Reads p (AsksOutcome stage) answer r = subst (λ (h : Pass). Reads h (AsksOutcome stage) answer r) same read in
     (record { outcome = outcome; read = outcome_told p r stage answer outcome from k is; answered_so = as_told }, k)
 
-pub joins_then : (p q r : Holder) (stage : ℕ) (answer : Joined) → Follows p q → Joins q stage answer r → r.known ≡ q.known → Joins p stage answer r
+pub joins_then : (p q r : Pass) (stage : ℕ) (answer : Joined) → Follows p q → Joins q stage answer r → r.known ≡ q.known → Joins p stage answer r
 joins_then p q r stage answer f j same = record { outcome = j.outcome; read = reads_then p q r (AsksOutcome stage) (ToldOutcome j.outcome) f j.read same; answered_so = j.answered_so }
 
 -- looks add up
-pub follows_longer : (p q : Holder) → Follows p q → length p.known.seen ≤ length q.known.seen
+pub follows_longer : (p q : Pass) → Follows p q → length p.known.seen ≤ length q.known.seen
 follows_longer p q f =
-    let now : q.known.seen ≡ p.known.seen ++ f.caught.others = ap (λ (h : Holder). h.known.seen) f.is ∙ f.caught.joined in
+    let now : q.known.seen ≡ p.known.seen ++ f.caught.others = ap (λ (h : Pass). h.known.seen) f.is ∙ f.caught.joined in
     let len = ap length now in
     omega (arith, length-append p.known.seen f.caught.others)
 
-pub looked_more : (n m : ℕ) (p q r : Holder) (d : Place) → Follows q r → HasLooked n p q d → HasLooked m q r d → HasLooked (n + m) p r d
+pub looked_more : (n m : ℕ) (p q r : Pass) (d : Desk) → Follows q r → HasLooked n p q d → HasLooked m q r d → HasLooked (n + m) p r d
 looked_more n m p q r d f (inl a) (inl b) = inl (omega arith)
 looked_more n m p q r d f (inl a) (inr b) = inr b
 looked_more n m p q r d f (inr a) b = inr (let longer = follows_longer q r f in omega arith)
 
-pub looked_less : (n m : ℕ) (p q : Holder) (d : Place) → m ≤ n → HasLooked n p q d → HasLooked m p q d
+pub looked_less : (n m : ℕ) (p q : Pass) (d : Desk) → m ≤ n → HasLooked n p q d → HasLooked m p q d
 looked_less n m p q d le (inl a) = inl (omega arith)
 looked_less n m p q d le (inr a) = inr a
 
@@ -276,11 +276,11 @@ agrees_levelled k all old new caller count to copy copy' records is same catch l
       fits = fits_more k.setting.plan k.caller k.seen all records catch a.fits;
     })
 
-pub same_follows : (p q : Holder) → Follows p q → IsSamePass p q
-same_follows p q f = (ap (λ (h : Holder). h.table) f.is, ap (λ (h : Holder). h.known.setting) f.is, ap (λ (h : Holder). h.known.caller) f.is, ap (λ (h : Holder). h.calls) f.is)
+pub same_follows : (p q : Pass) → Follows p q → IsSamePass p q
+same_follows p q f = (ap (λ (h : Pass). h.table) f.is, ap (λ (h : Pass). h.known.setting) f.is, ap (λ (h : Pass). h.known.caller) f.is, ap (λ (h : Pass). h.calls) f.is)
 
-pub same_reads : (p q : Holder) (ask : Ask) (answer : Told) → Reads p ask answer q → IsSamePass p q
-same_reads p q ask answer f = (ap (λ (h : Holder). h.table) f.is, ap (λ (h : Holder). h.known.setting) f.is, ap (λ (h : Holder). h.known.caller) f.is, ap (λ (h : Holder). h.calls) f.is)
+pub same_reads : (p q : Pass) (ask : Ask) (answer : Told) → Reads p ask answer q → IsSamePass p q
+same_reads p q ask answer f = (ap (λ (h : Pass). h.table) f.is, ap (λ (h : Pass). h.known.setting) f.is, ap (λ (h : Pass). h.known.caller) f.is, ap (λ (h : Pass). h.calls) f.is)
 
-pub same_acts : (p q : Holder) (call : Call) (reply : Reply) → Acts p call reply q → IsSamePass p q
-same_acts p q call reply f = (ap (λ (h : Holder). h.table) f.is, ap (λ (h : Holder). h.known.setting) f.is, ap (λ (h : Holder). h.known.caller) f.is, ap (λ (h : Holder). h.calls) f.is)
+pub same_acts : (p q : Pass) (call : Call) (reply : Reply) → Acts p call reply q → IsSamePass p q
+same_acts p q call reply f = (ap (λ (h : Pass). h.table) f.is, ap (λ (h : Pass). h.known.setting) f.is, ap (λ (h : Pass). h.known.caller) f.is, ap (λ (h : Pass). h.calls) f.is)

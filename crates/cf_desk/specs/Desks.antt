@@ -19,17 +19,17 @@ pub record Agrees (k : Known) (by n : ℕ) (s : State) (records : List Rec) : Ty
 
 pub record PassKept (p : InPass) : Type 0 where
   pub one : p.seat.me ≡ (known_of p.seat.me.0 ∷ [], [])
-  pub agrees : Agrees (known_of p.seat.me.0) p.caller p.count p.copy p.records.items
+  pub agrees : Agrees (known_of p.seat.me.0) p.caller p.count p.copy.state p.records.items
   pub room : p.calls ≤ vec_capacity p.records
   pub within : length p.records.items ≤ p.calls
   pub short : p.count ≤ p.seat.table_id.words
 
 pub record DeskKept (d : InDesk) : Type 0 where
-  pub key : d.table.shared.key ≡ record { setting = record { plan = d.opening.plan; callers = d.callers }; words = d.words }
+  pub key : d.table.shared.key ≡ record { setting = record { plan = d.opening.state.plan; callers = d.callers }; words = d.words }
   pub words : d.words ≡ d.table.shared.table_id.words
   pub some : 0 < d.words
   pub few : d.words < 65536
-  pub opening : d.opening ≡ start d.opening.plan
+  pub opening : d.opening.state ≡ start d.opening.state.plan
   pub history : d.history.items ≡ []
   pub history_room : d.words ≤ vec_capacity d.history
   pub kept : d.kept.items ≡ []

@@ -7,27 +7,27 @@ use Rattle.cf_desk.specs.declared.faults.DeskFault.{DeskFault}
 use Rattle.cf_desk.specs.declared.faults.DeskFault.TheVariants.{NoStage, LogFull, PassFull}
 use Rattle.cf_desk.specs.declared.faults.OpenFault.{OpenFault}
 use Rattle.cf_desk.specs.declared.faults.OpenFault.TheVariants.{Callers, Log, Calls, NoMemory}
-use Rattle.cf_desk.specs.Views.{Holder, Place}
+use Rattle.cf_desk.specs.Views.{Pass, Desk}
 
 -- the stage of an event, or of a question, is one of the pass's plan
-abbrev pub IsOnStage : Holder → Event → Type 0
+abbrev pub IsOnStage : Pass → Event → Type 0
 IsOnStage p e = EventFits (length p.known.setting.plan.stages) e
 
-abbrev pub AsksStage : Holder → Ask → Type 0
+abbrev pub AsksStage : Pass → Ask → Type 0
 AsksStage p ask = AskFits (length p.known.setting.plan.stages) ask
 
 -- a pass has room for a record
-abbrev pub HasRoom : Holder → Type 0
+abbrev pub HasRoom : Pass → Type 0
 HasRoom p = length p.records < p.calls
 
 -- why an event is refused: its stage isn't in the plan, else the pass is full, else what the pass has seen fills the log
-abbrev pub IsDue : Holder → Place → Event → DeskFault → Type 0
+abbrev pub IsDue : Pass → Desk → Event → DeskFault → Type 0
 IsDue p d e NoStage = ¬ IsOnStage p e
 IsDue p d e PassFull = IsOnStage p e × (length p.records ≡ p.calls)
 IsDue p d e LogFull = IsOnStage p e × HasRoom p × (d.words ≤ length p.known.seen)
 
 -- why a question is refused: its stage isn't in the plan, else the pass is full; it meets no full log
-abbrev pub IsDueToRead : Holder → Ask → DeskFault → Type 0
+abbrev pub IsDueToRead : Pass → Ask → DeskFault → Type 0
 IsDueToRead p ask NoStage = ¬ AsksStage p ask
 IsDueToRead p ask PassFull = AsksStage p ask × (length p.records ≡ p.calls)
 IsDueToRead p ask LogFull = ⊥

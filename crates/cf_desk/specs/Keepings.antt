@@ -7,20 +7,20 @@ use Rattle.cf_desk.specs.declared.calls.Rec.{Rec}
 use Rattle.cf_core.specs.declared.events.Event.{Event}
 use Rattle.cf_event.specs.Words.{who_of}
 use Rattle.cf_desk.specs.Records.{Fits}
-use Rattle.cf_desk.specs.Views.{Holder}
+use Rattle.cf_desk.specs.Views.{Pass}
 
 abbrev pub pass_kept : KeptPass → ℕ × List Rec
 pass_kept k = (k.caller, k.records.items)
 
-abbrev pub pass_did : Holder → ℕ × List Rec
+abbrev pub pass_did : Pass → ℕ × List Rec
 pass_did p = (p.known.caller, p.records)
 
 -- each pass is kept with its caller and its records, in this order
-abbrev pub AreKept : List KeptPass → List Holder → Type 0
+abbrev pub AreKept : List KeptPass → List Pass → Type 0
 AreKept kept passes = map pass_kept kept ≡ map pass_did passes
 
 -- the records of a pass fit what it has seen
-abbrev pub IsFit : Holder → Type 0
+abbrev pub IsFit : Pass → Type 0
 IsFit p = Fits p.known.setting.plan p.known.caller p.known.seen p.records
 
 abbrev pub IsKeptFit : Planned → List Event → ℕ × List Rec → Type 0

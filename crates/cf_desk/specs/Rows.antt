@@ -8,7 +8,7 @@ use Rattle.cf_event.specs.Words.{who_of}
 use Rattle.cf_desk.specs.declared.row.Terms.{Terms}
 use Rattle.cf_desk.specs.declared.row.Known.{Known}
 use Rattle.cf_desk.specs.Log.{own}
-use Rattle.cf_desk.specs.Rule.{IsRow, Kept, longest}
+use Rattle.cf_desk.specs.Rule.{IsRow, RowKept, longest}
 
 -- the callers for which a seat stands
 abbrev pub callers_of : List Known → List ℕ
@@ -35,4 +35,4 @@ pub record RowHolds (t : Terms) (words : List ℕ) (views : List (List Known)) :
 
 -- whatever the rule holds of holds this
 abbrev pub RowsHold : Type 0
-RowsHold = (t : Terms) (words : List ℕ) (views : List (List Known)) → Kept t words views → RowHolds t words views
+RowsHold = (t : Terms) (words : List ℕ) (views : List (List Known)) → RowKept t words views → RowHolds t words views

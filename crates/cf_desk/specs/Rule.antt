@@ -46,14 +46,14 @@ count_all c [] = 0
 count_all c (v ∷ vs) = count_in c v + count_all c vs
 
 -- the rule: the row has a log, which each pass's list begins, and no caller has two passes
-pub record Kept (t : Terms) (words : List ℕ) (views : List (List Known)) : Type 0 where
+pub record RowKept (t : Terms) (words : List ℕ) (views : List (List Known)) : Type 0 where
   pub log : List Event
   pub row : IsRow t log words
   pub known : (id : ℕ) (v : List Known) → get_elem? views id ≡ some v → AllStand t.setting log v
   pub apart : (c : ℕ) → count_all c views ≤ 1
 
 abbrev pub holds : {S : Type 0} → Terms → State S (List Known) → Type 0
-holds t s = Kept t s.words s.views
+holds t s = RowKept t s.words s.views
 
 abbrev pub blank : Setting → ℕ → Known
 blank setting c = record { setting = setting; caller = c; seen = []; looks = 0 }

@@ -25,16 +25,22 @@ use Rattle.cf_desk.specs.Rule.{saw, longest, with_seen, fresh, count_in, AllShor
 use Rattle.std.specs.List.{All}
 use Rattle.atomic_table.specs.Table.{Me}
 
--- a pass: its desk, what it knows, its records, and how many it may hold
-pub record Holder : Type 0 where
+pub record Pass : Type 0 where
+  -- the row of its desk
   pub table : TableId
+  -- the desk's plan and number of callers, the pass's caller, the events that it has seen, and how often it looked and found nothing
   pub known : Known
+  -- what it has recorded so far, in order
   pub records : List Rec
+  -- how many records it may hold
   pub calls : ℕ
 
-pub record Place : Type 0 where
+pub record Desk : Type 0 where
+  -- its row
   pub table : TableId
+  -- its plan and the number of its callers
   pub setting : Setting
+  -- how many words the row has, filled or empty
   pub words : ℕ
 
 abbrev pub no_one : Known
@@ -45,14 +51,14 @@ known_of [] = no_one
 known_of (k ∷ ks) = k
 
 -- the next word was that of another caller's event
-pub record AddedByOther (p q : Holder) : Type 0 where
+pub record AddedByOther (p q : Pass) : Type 0 where
   pub found : Event
   pub is : q ≡ record p { known = saw p.known found }
   pub event : IsEventOf p.known.setting found
   pub other : own p.known.caller (found ∷ []) ≡ []
 
 -- the pass has seen more events, of other callers alone
-pub record Follows (p q : Holder) : Type 0 where
+pub record Follows (p q : Pass) : Type 0 where
   pub now : List Event
   pub looks : ℕ
   pub is : q ≡ record p { known = record p.known { seen = now; looks = looks } }
@@ -63,19 +69,19 @@ abbrev pub state_of : Known → State
 state_of k = state_from k.setting.plan k.seen
 
 -- the next event is the pass's own call, which it recorded with its reply
-pub record AddedOwn (p : Holder) (call : Call) (reply : Reply) (q : Holder) : Type 0 where
+pub record AddedOwn (p : Pass) (call : Call) (reply : Reply) (q : Pass) : Type 0 where
   pub is : q ≡ record p { known = saw p.known (event_by p.known.caller call); records = p.records ++ Did (length p.known.seen + 1) call reply ∷ [] }
   pub replied : reply ≡ (answered (state_of p.known) (event_by p.known.caller call)).0
 
 -- the pass has seen more events of other callers and then its own new one, and recorded its reply from the state before it
-pub record Acts (p : Holder) (call : Call) (reply : Reply) (q : Holder) : Type 0 where
+pub record Acts (p : Pass) (call : Call) (reply : Reply) (q : Pass) : Type 0 where
   pub before : List Event
   pub caught : Catches p.known.caller p.known.seen before
   pub is : q ≡ record p { known = record p.known { seen = before ++ event_by p.known.caller call ∷ [] }; records = p.records ++ Did (length before + 1) call reply ∷ [] }
   pub replied : reply ≡ (answered (state_from p.known.setting.plan before) (event_by p.known.caller call)).0
 
 -- the pass has seen more events of other callers, and recorded what it was told of the state after them
-pub record Reads (p : Holder) (ask : Ask) (answer : Told) (q : Holder) : Type 0 where
+pub record Reads (p : Pass) (ask : Ask) (answer : Told) (q : Pass) : Type 0 where
   pub now : List Event
   pub looks : ℕ
   pub caught : Catches p.known.caller p.known.seen now
@@ -83,7 +89,7 @@ pub record Reads (p : Holder) (ask : Ask) (answer : Told) (q : Holder) : Type 0 
   pub told_is : answer ≡ told (state_from p.known.setting.plan now) ask
 
 -- the same of a join, which asks for the stage's outcome
-pub record Joins (p : Holder) (stage : ℕ) (answer : Joined) (q : Holder) : Type 0 where
+pub record Joins (p : Pass) (stage : ℕ) (answer : Joined) (q : Pass) : Type 0 where
   pub outcome : Option Outcome
   pub read : Reads p (AsksOutcome stage) (ToldOutcome outcome) q
   pub answered_so : answer ≡ joined outcome
@@ -104,7 +110,7 @@ pub record Levelled (a b : Me ℕ (List Known)) (a' b' : Me ℕ (List Known)) : 
   pub begins_right : Catches (known_of b.0).caller (known_of b.0).seen (longer_of (known_of a.0) (known_of b.0))
 
 -- two passes have seen the longer of their two lists, which their records fit
-pub record Meets (p q p' q' : Holder) : Type 0 where
+pub record Meets (p q p' q' : Pass) : Type 0 where
   pub all : List Event
   pub either : (all ≡ p.known.seen) ⊎ (all ≡ q.known.seen)
   pub left : p' ≡ record p { known = with_seen all p.known }
@@ -115,24 +121,24 @@ pub record Meets (p q p' q' : Holder) : Type 0 where
   pub fits_right : Fits q.known.setting.plan q.known.caller all q.records
 
 -- passes that have seen and recorded nothing
-abbrev pub new_pass : TableId → ℕ → Known → Holder
+abbrev pub new_pass : TableId → ℕ → Known → Pass
 new_pass z calls k = record { table = z; known = k; records = []; calls = calls }
 
-abbrev pub opened : TableId → Setting → ℕ → List Holder
+abbrev pub opened : TableId → Setting → ℕ → List Pass
 opened z setting calls = map (new_pass z calls) (fresh setting 0 setting.callers)
 
-abbrev pub knowns : List Holder → List Known
-knowns ps = map (λ (p : Holder). p.known) ps
+abbrev pub knowns : List Pass → List Known
+knowns ps = map (λ (p : Pass). p.known) ps
 
 -- the history is the longest list that one of these passes has seen, each other list begins it, and each caller has one of them
-pub record Closes (setting : Setting) (passes : List Holder) (history : List Event) : Type 0 where
+pub record Closes (setting : Setting) (passes : List Pass) (history : List Event) : Type 0 where
   pub longest : history ≡ longest (knowns passes)
-  pub begins : All (λ (p : Holder). Catches p.known.caller p.known.seen history) passes
+  pub begins : All (λ (p : Pass). Catches p.known.caller p.known.seen history) passes
   pub events : All (IsEventOf setting) history
   pub each : (c : ℕ) → c < setting.callers → count_in c (knowns passes) ≡ 1
 
 -- the same pass, of the same desk
-abbrev pub IsSamePass : Holder → Holder → Type 0
+abbrev pub IsSamePass : Pass → Pass → Type 0
 IsSamePass p q = (q.table ≡ p.table) × (q.known.setting ≡ p.known.setting) × (q.known.caller ≡ p.known.caller) × (q.calls ≡ p.calls)
 
 -- a plan and a list are the first ones, or those of one of these
@@ -150,10 +156,10 @@ pub record IsLatest (first : Planned) (most : ℕ) (s : State) (ks : List Known)
   pub short : AllShort most ks
 
 -- of the pass, as many looks more met an empty next word, or what it has seen fills the log
-abbrev pub HasLooked : ℕ → Holder → Holder → Place → Type 0
+abbrev pub HasLooked : ℕ → Pass → Pass → Desk → Type 0
 HasLooked n p q d = (p.known.looks + n ≤ q.known.looks) ⊎ (d.words ≤ length q.known.seen)
 
 -- a join made all its looks where it found the stage unsettled, and one at least
-abbrev pub LookedFor : Joined → ℕ → Holder → Holder → Place → Type 0
+abbrev pub LookedFor : Joined → ℕ → Pass → Pass → Desk → Type 0
 LookedFor NotYet looks p q d = HasLooked looks p q d
 LookedFor answer looks p q d = HasLooked 1 p q d

@@ -34,11 +34,11 @@ pub struct Desk {
 }
 
 impl Model for Desk {
-    ghost use Rattle.cf_desk.specs.Views.{Place};
+    ghost use Rattle.cf_desk.specs.Views.{Desk};
 
-    ghost Value = { Place };
+    ghost Value = { Desk };
 
-    ghost view = { λ d. record { table = d.table.shared.table_id; setting = record { plan = d.opening.plan; callers = d.callers }; words = d.words } };
+    ghost view = { λ d. record { table = d.table.shared.table_id; setting = record { plan = d.opening.state.plan; callers = d.callers }; words = d.words } };
 
     ghost use Rattle.cf_desk.specs.Desks.{DeskKept};
 

@@ -2,17 +2,15 @@
 ghost use Rattle.std.specs.Prelude.{◌≡◌, ◌<◌, ◌≤◌, ◌+◌, ◌↔◌, IsTrue, length};
 ghost use Rattle.std.specs.Bool.{OnTrue};
 ghost use Rattle.cf_core.specs.States.{lowest_ready_of, outcome_at};
-ghost use Rattle.cf_core.specs.Events.{told};
-ghost use Rattle.cf_event.specs.Words.{who_of};
-ghost use Rattle.cf_core.specs.Ranges.{AskFits};
+ghost use Rattle.cf_desk.specs.Calls.{event_by};
 ghost use Rattle.cf_desk.specs.Faults.{AsksStage, IsOnStage};
 ghost use Rattle.cf_desk.specs.Log.{IsEventOf};
 ghost use Rattle.cf_desk.specs.Views.{Joins, Reads, state_of};
 
-use crate::calls::{Joined, Rec, joined_as};
+use crate::calls::{Call, Joined, Rec, joined_as};
 use crate::row::View;
 use atomic_table::Seat;
-use cf_core::{Ask, Event, Graph, Told};
+use cf_core::{Ask, Graph, Told};
 use cf_outcome::Outcome;
 use std::marker::Model;
 
@@ -28,9 +26,9 @@ pub struct Pass {
 }
 
 impl Model for Pass {
-    ghost use Rattle.cf_desk.specs.Views.{Holder, known_of};
+    ghost use Rattle.cf_desk.specs.Views.{Pass, known_of};
 
-    ghost Value = { Holder };
+    ghost Value = { Pass };
 
     ghost use Rattle.cf_desk.specs.Desks.{PassKept};
 
@@ -61,20 +59,19 @@ impl Pass {
         self.calls - self.records.len() as u16
     }
 
-    /// Whether an event of the caller's is on a stage of the plan, if it has a stage. Then it has a word.
-    pub(crate) fn takes(&self, e: Event) -> bool
-        requires { who_of e ≡ self.now.known.caller }
-        ensures fits { IsTrue result ↔ IsOnStage self.now e }
-        ensures event { OnTrue result (IsEventOf self.now.known.setting e) }
+    /// Whether a call is on a stage of the plan, if it has a stage. Then its event has a word.
+    pub(crate) fn takes(&self, call: Call) -> bool
+        ensures fits { IsTrue result ↔ IsOnStage self.now (event_by self.now.known.caller call) }
+        ensures event { OnTrue result (IsEventOf self.now.known.setting (event_by self.now.known.caller call)) }
     {
         let stages = self.stages();
-        match e {
-            Event::Complete { stage, .. } => stage < stages,
-            Event::Fail { stage, .. } => stage < stages,
-            Event::Cancel { stage, .. } => stage < stages,
-            Event::Claim { stage, .. } => stage < stages,
-            Event::Finish { stage, .. } => stage < stages,
-            Event::Tick { .. } => true,
+        match call {
+            Call::Complete(stage, _) => stage < stages,
+            Call::Fail(stage, _) => stage < stages,
+            Call::Cancel(stage) => stage < stages,
+            Call::Claim(stage) => stage < stages,
+            Call::Finish(stage, _) => stage < stages,
+            Call::Tick(_) => true,
         }
     }
 
@@ -82,10 +79,8 @@ impl Pass {
     pub(crate) fn knows(&self, ask: Ask) -> bool
         ensures { IsTrue result ↔ AsksStage self.now ask }
     {
-        match ask {
-            Ask::Now(stage, _) => stage < self.stages(),
-            Ask::Outcome(stage) => stage < self.stages(),
-        }
+        let (Ask::Now(stage, _) | Ask::Outcome(stage)) = ask;
+        stage < self.stages()
     }
 
     /// How many stages the plan has.
@@ -131,7 +126,7 @@ impl Pass {
         requires asked { AsksStage self.old ask }
         ensures { Reads self.old ask result self.new × (self.new.known ≡ self.old.known) }
     {
-        let told = answer(&mut self.copy, ask);
+        let told = self.copy.tell(ask);
         let record = Rec::Saw {
             place: self.count,
             ask,
@@ -141,17 +136,5 @@ impl Pass {
             unreachable!();
         }
         told
-    }
-}
-
-/// What a question is told of a graph.
-fn answer(graph: &mut Graph, ask: Ask) -> Told
-    requires { AskFits (length graph.old.plan.stages) ask }
-    ensures told { result ≡ told graph.old ask }
-    ensures same { graph.new ≡ graph.old }
-{
-    match ask {
-        Ask::Now(i, absent) => Told::Now(graph.now(i, absent)),
-        Ask::Outcome(i) => Told::Outcome(graph.outcome(i)),
     }
 }

@@ -20,9 +20,13 @@ pub struct Terms {
 
 /// What a pass knows of the log. No value of it is made.
 pub struct Known {
+    /// The desk's plan and number of callers.
     pub setting: Setting,
+    /// The pass's caller.
     pub caller: u8,
+    /// The events that it has seen, from the first on.
     pub seen: LinkedList<Event>,
+    /// How often it looked and found the next word empty.
     pub looks: u64,
 }
 

@@ -1,5 +1,5 @@
 ghost use Rattle.std.specs.Prelude.{◌≡◌, ◌<◌, ◌∷◌, [], All, IfOk, length, vec_len};
-ghost use Rattle.cf_desk.specs.Views.{Holder};
+ghost use Rattle.cf_desk.specs.Views.{Pass};
 
 use crate::calls::event_by;
 use crate::{Ask, Call, Closed, Desk, DeskFault, Joined, Kept, OpenFault, Pass, Rec, Told};

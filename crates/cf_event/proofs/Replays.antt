@@ -1,21 +1,49 @@
 -- Events done one after another.
-use Rattle.std.proofs.Common.{◌≡◌, ℕ, ◌+◌, ◌<◌, List, drop, length, get_or, ap, sym, ◌∙◌, add-one, drop-cons}
-use Rattle.cf_plan.specs.Plans.{Planned}
+use Rattle.std.proofs.Common.{◌≡◌, ℕ, ◌+◌, ◌<◌, ◌≤◌, ◌∷◌, [], List, drop, length, get_or, ap, ◌∙◌, add-one, drop-cons, suc, zero, refl}
+use Rattle.std.specs.Prelude.{slice_get, unwrap_or}
+use Rattle.std.proofs.lemmas.List.{drop_all}
 use Rattle.cf_core.specs.declared.events.Event.{Event}
-use Rattle.cf_core.specs.declared.events.Reply.{Reply}
 use Rattle.cf_core.specs.States.{State}
+use Rattle.cf_core.specs.Graphs.{Graph}
 use Rattle.cf_core.specs.Events.{answered, state_after}
 use Rattle.cf_core.proofs.Shape.{answered-shape}
+use Rattle.cf_event.specs.Replays.{Answers, Nudges, Replays}
 
--- once the next event is done, the rest leads to the same state
-pub rest_after : (events : List Event) (i : ℕ) (d : Event) (s before next end : State) (r : Reply) → i < length events → before ≡ s → (r, next) ≡ answered before (get_or events i d) → state_after s (drop i events) ≡ end → state_after next (drop (i + 1) events) ≡ end
-rest_after events i d s before next end r h e a f =
-    let split : state_after s (drop i events) ≡ state_after ((answered s (get_or events i d)).1) (drop (i + 1) events) =
-    rw (add-one, drop-cons events i d) in
-    let same : next ≡ (answered s (get_or events i d)).1 = ap (λ p. p.1) a ∙ ap (λ (s : State). (answered s (get_or events i d)).1) e in
-    ap (λ (s : State). state_after s (drop (i + 1) events)) same ∙ sym split ∙ f
+first_of_rest : (nudges : List ℕ) (i : ℕ) → slice_get (drop i nudges) 0 ≡ slice_get nudges i
+first_of_rest nudges zero = refl
+first_of_rest [] (suc i) = refl
+first_of_rest (k ∷ nudges) (suc i) = first_of_rest nudges i
+
+drop_next : (nudges : List ℕ) (i : ℕ) → drop 1 (drop i nudges) ≡ drop (suc i) nudges
+drop_next nudges zero = refl
+drop_next [] (suc i) = refl
+drop_next (k ∷ nudges) (suc i) = drop_next nudges i
+
+drop_more : (nudges : List ℕ) (i : ℕ) → drop 1 (drop i nudges) ≡ drop (i + 1) nudges
+drop_more nudges i = rw add-one (drop_next nudges i)
+
+-- once the next event is done, the rest leads to what the whole does
+pub rest_after : (nudges : List ℕ) (events : List Event) (i : ℕ) (d : Event) (g nudged done end : Graph) → i < length events →
+    Nudges (unwrap_or (slice_get nudges i) 0) g nudged → Answers (get_or events i d) nudged done →
+    Replays (drop (i + 1) nudges) (drop (i + 1) events) done end → Replays (drop i nudges) (drop i events) g end
+rest_after nudges events i d g nudged done end l n a rest =
+    let split : drop i events ≡ get_or events i d ∷ drop (i + 1) events = rw (add-one, drop-cons events i d) refl in
+    let first : slice_get (drop i nudges) 0 ≡ slice_get nudges i = first_of_rest nudges i in
+    let others : drop 1 (drop i nudges) ≡ drop (i + 1) nudges = drop_more nudges i in
+    rw split (nudged, done, rw first n, a, rw others rest)
 
 -- an event leaves the plan
-pub plan_after : (e : Event) (s before next : State) (r : Reply) (plan : Planned) → before ≡ s → (r, next) ≡ answered before e → s.plan ≡ plan → next.plan ≡ plan
-plan_after e s before next r plan b a f =
-    ap (λ p. p.1.plan) a ∙ (answered-shape before e).plan ∙ ap (λ (s : State). s.plan) b ∙ f
+pub plan_after : (e : Event) (g nudged done : Graph) (k : ℕ) → Nudges k g nudged → Answers e nudged done → done.state.plan ≡ g.state.plan
+plan_after e g nudged done k n a =
+    ap (λ p. p.1.plan) a.told ∙ (answered-shape nudged.state e).plan ∙ ap (λ (s : State). s.plan) n.state
+
+-- events that are done lead to the state after them
+pub replays-state : (nudges : List ℕ) (events : List Event) (old new : Graph) → Replays nudges events old new → new.state ≡ state_after old.state events
+replays-state nudges [] old new e = ap (λ (g : Graph). g.state) e
+replays-state nudges (e ∷ events) old new r =
+    let answered_here : r.1.state ≡ (answered old.state e).1 = ap (λ p. p.1) r.3.told ∙ ap (λ (s : State). (answered s e).1) r.2.state in
+    replays-state (drop 1 nudges) events r.1 new r.4 ∙ ap (λ (s : State). state_after s events) answered_here
+
+-- where no event is left, nothing happens
+pub replays-all : (nudges : List ℕ) (events : List Event) (i : ℕ) (g : Graph) → length events ≤ i → Replays (drop i nudges) (drop i events) g g
+replays-all nudges events i g l = let none : drop i events ≡ [] = drop_all i events l in rw none refl

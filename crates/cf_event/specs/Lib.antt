@@ -1,3 +1,4 @@
 pub mod Words
 pub mod Decoding
 pub mod Laws
+pub mod Replays

@@ -1,8 +1,9 @@
-//! What an event does to a graph.
-ghost use Rattle.std.specs.Prelude.{◌≡◌, ◌≤◌, All, length, sum};
+//! What events do to a graph.
+ghost use Rattle.std.specs.Prelude.{◌≡◌, ◌≤◌, All, length, slice_get, unwrap_or};
 ghost use Rattle.cf_core.specs.Events.{answered, state_after};
 ghost use Rattle.cf_core.specs.Graphs.{most_turns};
 ghost use Rattle.cf_core.specs.Ranges.{EventFits};
+ghost use Rattle.cf_event.specs.Replays.{Replays};
 
 use cf_core::{Event, Graph, Reply};
 
@@ -14,4 +15,25 @@ pub fn apply(g: &mut Graph, e: &Event) -> Reply
     ensures few { g.new.turns ≤ most_turns g.new.state.plan.stages }
 {
     g.answer(e)
+}
+
+/// Does events to a graph one after another. Before each, the graph does as many turns of work that is still to be done
+/// as `nudges` says at that place, and none where it is shorter. The events' stages are in the graph.
+pub fn replay(g: &mut Graph, events: &[Event], nudges: &[u32])
+    requires { All (EventFits (length g.old.state.plan.stages)) events.now }
+    ensures replayed { Replays nudges.now events.now g.old g.new }
+    ensures state { g.new.state ≡ state_after g.old.state events.now }
+    ensures counted { g.old.turns ≤ g.new.turns }
+{
+    for (i, e) in events.iter().enumerate() {
+        g.nudge(nudge_at(nudges, i));
+        g.answer(e);
+    }
+}
+
+/// How many turns to take before the event at this place.
+fn nudge_at(nudges: &[u32], i: usize) -> u32
+    ensures { result ≡ unwrap_or (slice_get nudges.now i) 0 }
+{
+    if i < nudges.len() { nudges[i] } else { 0 }
 }

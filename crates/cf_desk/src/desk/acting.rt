@@ -4,7 +4,7 @@ ghost use Rattle.cf_desk.specs.Calls.{event_by};
 ghost use Rattle.cf_desk.specs.Faults.{HasRoom, IsDue, IsOnStage};
 ghost use Rattle.cf_desk.specs.Views.{Acts, Follows, IsSamePass};
 
-use crate::calls::{Call, event_by};
+use crate::calls::Call;
 use crate::desk::Desk;
 use crate::faults::DeskFault;
 use crate::pass::Pass;
@@ -21,7 +21,7 @@ impl Desk {
         ensures refused { OnErr result (Follows p.old p.new) }
         ensures fault { IfErr result (IsDue p.new self.now (event_by p.old.known.caller c)) }
     {
-        if !p.takes(event_by(p.caller, c)) {
+        if !p.takes(c) {
             return Err(DeskFault::NoStage);
         }
         if p.left() == 0 {

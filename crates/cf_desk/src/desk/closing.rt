@@ -26,7 +26,7 @@ impl Desk {
         ensures history { IsOkAnd result (λ closed. Closes self.setting passes.items closed.history.items) }
         ensures passes { IsOkAnd result (λ closed. AreKept closed.passes.items passes.items) }
         ensures fit { IsOkAnd result (λ closed. AllFit self.setting.plan closed.history.items (map pass_kept closed.passes.items)) }
-        ensures graph { IsOkAnd result (λ closed. closed.graph ≡ state_from self.setting.plan closed.history.items) }
+        ensures graph { IsOkAnd result (λ closed. closed.graph.state ≡ state_from self.setting.plan closed.history.items) }
     {
         let Desk {
             table,
@@ -56,10 +56,10 @@ fn gather(
     mut kept: Vec<Kept>,
 ) -> (Seat<u8, View>, Graph, Vec<Kept>)
     requires table { (0 < row.now.shared.table_id.words) × All (λ p. p.table ≡ row.now.shared.table_id) passes.items }
-    requires opening { opening ≡ start opening.plan }
+    requires opening { opening.state ≡ start opening.state.plan }
     requires kept { (kept.items ≡ []) × (vec_len passes ≤ vec_capacity kept) }
     ensures seat { (result.0.table_id ≡ row.now.shared.table_id) × (result.0.me ≡ (knowns passes.items, [])) }
-    ensures copy { (most : ℕ) × IsLatest opening.plan most result.1 (knowns passes.items) }
+    ensures copy { (most : ℕ) × IsLatest opening.state.plan most result.1.state (knowns passes.items) }
     ensures kept { AreKept result.2.items passes.items }
     ensures fit { All IsFit passes.items }
 {

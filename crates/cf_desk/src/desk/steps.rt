@@ -88,9 +88,9 @@ impl Desk {
         requires table { seat.old.table_id ≡ self.now.table }
         requires one { IsOne seat.old.me }
         requires places { (from ≤ to) × (to ≡ length (known_of seat.old.me.0).seen) × (to ≤ seat.old.table_id.words) }
-        requires copy { copy.old ≡ state_from (known_of seat.old.me.0).setting.plan (take from (known_of seat.old.me.0).seen) }
+        requires copy { copy.old.state ≡ state_from (known_of seat.old.me.0).setting.plan (take from (known_of seat.old.me.0).seen) }
         ensures same { (seat.new.table_id ≡ seat.old.table_id) × (seat.new.me ≡ seat.old.me) }
-        ensures copy { copy.new ≡ state_of (known_of seat.old.me.0) }
+        ensures copy { copy.new.state ≡ state_of (known_of seat.old.me.0) }
     {
         for place in from..to {
             let word = self.table.shared.load::<Finds>(seat, place as usize);

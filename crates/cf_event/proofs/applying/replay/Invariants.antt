@@ -1,6 +1,12 @@
-use Rattle.std.proofs.Common.{◌≡◌, drop}
-use Rattle.cf_core.specs.Events.{state_after}
+use Rattle.std.proofs.Common.{◌≡◌, ◌≤◌, drop}
+use Rattle.cf_core.specs.Graphs.{Graph}
+use Rattle.cf_event.specs.Replays.{Replays}
 use Rattle.cf_event.proofs.applying.replay.Given as goal
 
-abbrev pub invariant-loop-e : goal.invariant-loop-e
-invariant-loop-e l = (state_after l.g (drop l.e-index l.events) ≡ state_after l.fn.g l.events) × (l.g.plan ≡ l.fn.g.plan)
+-- whatever the rest leads to from here, the whole leads to from the start; the plan stays, and turns are only added
+abbrev pub invariant-loop-i : goal.invariant-loop-i
+invariant-loop-i l = record {
+  rest : (end : Graph) → Replays (drop l.i l.nudges) (drop l.i l.events) l.g end → Replays l.nudges l.events l.fn.g end;
+  plan : l.g.state.plan ≡ l.fn.g.state.plan;
+  counted : l.fn.g.turns ≤ l.g.turns;
+}

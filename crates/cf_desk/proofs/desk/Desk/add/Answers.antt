@@ -10,7 +10,7 @@ use Rattle.cf_desk.specs.Calls.{event_by}
 use Rattle.cf_desk.specs.Log.{IsEventOf}
 use Rattle.cf_desk.specs.Rule.{saw, AddsNext}
 use Rattle.cf_desk.specs.declared.calls.Rec.TheVariants.{Did}
-use Rattle.cf_desk.specs.Views.{Holder, Place, known_of}
+use Rattle.cf_desk.specs.Views.{Pass, Desk, known_of}
 use Rattle.cf_desk.proofs.Recs.{own_call}
 use Rattle.cf_desk.proofs.Passes.{adds_at, one_known, short_more, agrees_own, agrees_other, on_plan}
 use Rattle.cf_desk.proofs.desk.Desk.add.Goals as goal
@@ -22,7 +22,7 @@ event_is c = c.event_by-event.ensures ∙ ap (λ (n : ℕ). event_by n c.args.ca
 
 of_desk : (c : After-event_by-event) → IsEventOf (known_of c.p.inside.seat.me.0).setting c.event_by-event.result
 of_desk c =
-    let known = ap (λ (h : Holder). h.known) c.p.view_is in
+    let known = ap (λ (h : Pass). h.known) c.p.view_is in
     subst (IsEventOf (known_of c.p.inside.seat.me.0).setting) (sym (event_is c))
     (subst (λ (x : Known). IsEventOf x.setting (event_by x.caller c.args.call)) (sym known) c.requires.event)
 
@@ -35,10 +35,10 @@ compare_exchange-found-requires c =
     let p = c.p.inside in
     let k = known_of p.seat.me.0 in
     let a = c.p.invariant.agrees in
-    let seen = ap (λ (h : Holder). length h.known.seen) c.p.view_is in
-    let words = ap (λ (h : Place). h.words) c.self.view_is in
+    let seen = ap (λ (h : Pass). length h.known.seen) c.p.view_is in
+    let words = ap (λ (h : Desk). h.words) c.self.view_is in
     let room : p.count < c.self.inside.table.shared.key.words = rw c.self.invariant.key (omega arith) in (
-      ap (λ (h : Holder). h.table) c.p.view_is ∙ c.requires.table ∙ sym (ap (λ (h : Place). h.table) c.self.view_is),
+      ap (λ (h : Pass). h.table) c.p.view_is ∙ c.requires.table ∙ sym (ap (λ (h : Desk). h.table) c.self.view_is),
       (omega arith),
       adds_at _ _ _ _ k p.count c.encode-word.result c.event_by-event.result c.p.invariant.one a.count room c.encode-word.ensures.word (of_desk at) (ap who_of (event_is at) ∙ own_call k.caller c.args.call),
     )
@@ -48,10 +48,10 @@ told c = c.compare_exchange-found.ensures.2.1 (known_of c.p.inside.seat.me.0) (a
 
 left_over : (c : After-compare_exchange-found) → c.p.inside.count < c.p.inside.seat.table_id.words
 left_over c =
-    let seen = ap (λ (h : Holder). length h.known.seen) c.p.view_is in
-    let words = ap (λ (h : Place). h.words) c.self.view_is in
+    let seen = ap (λ (h : Pass). length h.known.seen) c.p.view_is in
+    let words = ap (λ (h : Desk). h.words) c.self.view_is in
     let a = c.p.invariant.agrees in
-    let same : c.p.inside.seat.table_id.words ≡ c.self.inside.table.shared.table_id.words = ap (λ (z : TableId). z.words) (ap (λ (h : Holder). h.table) c.p.view_is ∙ c.requires.table ∙ sym (ap (λ (h : Place). h.table) c.self.view_is)) in
+    let same : c.p.inside.seat.table_id.words ≡ c.self.inside.table.shared.table_id.words = ap (λ (z : TableId). z.words) (ap (λ (h : Pass). h.table) c.p.view_is ∙ c.requires.table ∙ sym (ap (λ (h : Desk). h.table) c.self.view_is)) in
     omega arith
 
 none_held : (c : After-compare_exchange-found) → c.compare_exchange-found.new.seat.me.1 ≡ []
@@ -59,8 +59,8 @@ none_held c = c.compare_exchange-found.ensures.2.0 ∙ ap (λ m. m.1) c.p.invari
 
 pub overflow_add-p : goal.overflow_add-p
 overflow_add-p c =
-    let seen = ap (λ (h : Holder). length h.known.seen) c.p.view_is in
-    let words = ap (λ (h : Place). h.words) c.self.view_is in
+    let seen = ap (λ (h : Pass). length h.known.seen) c.p.view_is in
+    let words = ap (λ (h : Desk). h.words) c.self.view_is in
     omega arith
 
 more : (c : Else-is_err) → c.push.new.self.items ≡ c.p.inside.records.items ++ Did (c.p.inside.count + 1) c.args.call c.apply-reply.result ∷ []
@@ -81,8 +81,8 @@ won c =
     (told (goal.at.Else-is_err c).After-compare_exchange-found).won c.event_by-event.result c.encode-word.ensures.back (sym c.in-None.ensures.value)
     ∙ ap (λ (e : Event). saw (known_of c.p.inside.seat.me.0) e ∷ []) (event_is (goal.at.Else-is_err c).After-event_by-event)
 
-now : (c : Else-is_err) → (c.apply-reply.result, c.apply-reply.new.g) ≡ answered c.p.inside.copy (event_by (known_of c.p.inside.seat.me.0).caller c.args.call)
-now c = c.apply-reply.ensures ∙ ap (answered c.p.inside.copy) (event_is (goal.at.Else-is_err c).After-event_by-event)
+now : (c : Else-is_err) → (c.apply-reply.result, c.apply-reply.new.g.state) ≡ answered c.p.inside.copy.state (event_by (known_of c.p.inside.seat.me.0).caller c.args.call)
+now c = c.apply-reply.ensures.told ∙ ap (answered c.p.inside.copy.state) (event_is (goal.at.Else-is_err c).After-event_by-event)
 
 pub invariant_of-p : goal.invariant_of-p
 invariant_of-p c =
@@ -90,8 +90,8 @@ invariant_of-p c =
     let won_at = (goal.at.invariant_of-p c).Else-is_err in
     let i = c.p.invariant in
     let is = won won_at in
-    let calls = ap (λ (h : Holder). h.calls) c.p.view_is in
-    let did = ap (λ (h : Holder). length h.records) c.p.view_is in
+    let calls = ap (λ (h : Pass). h.calls) c.p.view_is in
+    let did = ap (λ (h : Pass). length h.records) c.p.view_is in
     let longer = ap length (more won_at) in record {
       one = one_known _ _ is (none_held at);
       agrees = agrees_own _ _ _ _ _ _ _ _ c.args.call c.apply-reply.result (ap known_of is) (now won_at) (more won_at) i.agrees;
@@ -118,7 +118,7 @@ invariant_of-p-in-Some c =
     let i = c.p.invariant in
     let t = (told at).lost c.in-Some.theirs (sym c.in-Some.ensures.value) in record {
       one = one_known _ _ t.0 (none_held at);
-      agrees = agrees_other _ _ _ _ _ _ _ c.in-Some.theirs (ap known_of t.0) t.2 (ap (λ (x : Reply × State). x.1) c.apply.ensures) i.agrees;
+      agrees = agrees_other _ _ _ _ _ _ _ c.in-Some.theirs (ap known_of t.0) t.2 (ap (λ (x : Reply × State). x.1) c.apply.ensures.told) i.agrees;
       room = i.room;
       within = i.within;
       short = short_more _ _ _ c.compare_exchange-found.ensures.0 (left_over at);

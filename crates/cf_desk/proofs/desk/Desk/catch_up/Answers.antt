@@ -5,7 +5,7 @@ use Rattle.cf_core.specs.declared.events.Reply.{Reply}
 use Rattle.cf_core.specs.States.{State}
 use Rattle.cf_desk.specs.Log.{IsEventOf}
 use Rattle.cf_desk.specs.Rule.{FindsSeen}
-use Rattle.cf_desk.specs.Views.{Place, known_of}
+use Rattle.cf_desk.specs.Views.{Desk, known_of}
 use Rattle.cf_desk.proofs.Keeps.{same_some}
 use Rattle.cf_desk.proofs.Passes.{finds_at, state_more, on_plan_at}
 use Rattle.cf_desk.proofs.desk.Desk.catch_up.Goals as goal
@@ -14,8 +14,8 @@ use Rattle.cf_desk.proofs.desk.Desk.catch_up.Goals.{After-load-word, In-Some}
 pub load-word-requires : goal.load-word-requires
 load-word-requires c =
     let i = c.loop-place.invariant in
-    let z = i.0 ∙ c.requires.table ∙ sym (ap (λ (h : Place). h.table) c.self.view_is) in
-    let words = ap (λ (z : TableId). z.words) (c.requires.table ∙ sym (ap (λ (h : Place). h.table) c.self.view_is)) in
+    let z = i.0 ∙ c.requires.table ∙ sym (ap (λ (h : Desk). h.table) c.self.view_is) in
+    let words = ap (λ (z : TableId). z.words) (c.requires.table ∙ sym (ap (λ (h : Desk). h.table) c.self.view_is)) in
     (z, (omega arith), finds_at _ _ _ _ (known_of c.args.seat.now.me.0) c.loop-place.place (i.1 ∙ c.requires.one) (omega arith))
 
 told : (c : After-load-word) → FindsSeen (known_of c.args.seat.now.me.0) c.loop-place.place c.load-word.result
@@ -41,7 +41,7 @@ loop-place-preserved c =
     let k = known_of c.args.seat.now.me.0 in (
       c.load-word.ensures.0 ∙ i.0,
       c.load-word.ensures.2.0 ∙ i.1,
-      state_more k.setting.plan k.seen c.loop-place.place _ _ _ (ap (λ (x : Reply × State). x.1) c.apply.ensures) i.2 (t.there ∙ ap (λ (x : Event). Some x) e),
+      state_more k.setting.plan k.seen c.loop-place.place _ _ _ (ap (λ (x : Reply × State). x.1) c.apply.ensures.told) i.2 (t.there ∙ ap (λ (x : Event). Some x) e),
     )
 
 pub unreachable-requires : goal.unreachable-requires

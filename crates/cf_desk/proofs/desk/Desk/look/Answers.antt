@@ -3,7 +3,7 @@ use Rattle.atomic_table.specs.Seated.{TableId}
 use Rattle.cf_desk.specs.Rule.{LooksNext}
 use Rattle.cf_core.specs.declared.events.Reply.{Reply}
 use Rattle.cf_core.specs.States.{State}
-use Rattle.cf_desk.specs.Views.{Holder, Place, known_of}
+use Rattle.cf_desk.specs.Views.{Pass, Desk, known_of}
 use Rattle.cf_desk.proofs.Passes.{looks_at, one_known, short_same, short_more, agrees_looked, agrees_other, on_plan}
 use Rattle.cf_desk.proofs.desk.Desk.look.Goals as goal
 use Rattle.cf_desk.proofs.desk.Desk.look.Goals.{After-load-word}
@@ -13,19 +13,19 @@ load-word-requires c =
     let p = c.p.inside in
     let k = known_of p.seat.me.0 in
     let a = c.p.invariant.agrees in
-    let seen = ap (λ (h : Holder). length h.known.seen) c.p.view_is in
-    let words = ap (λ (h : Place). h.words) c.self.view_is in
-    (ap (λ (h : Holder). h.table) c.p.view_is ∙ c.requires.table ∙ sym (ap (λ (h : Place). h.table) c.self.view_is), (omega arith), looks_at _ _ _ _ k p.count c.p.invariant.one a.count)
+    let seen = ap (λ (h : Pass). length h.known.seen) c.p.view_is in
+    let words = ap (λ (h : Desk). h.words) c.self.view_is in
+    (ap (λ (h : Pass). h.table) c.p.view_is ∙ c.requires.table ∙ sym (ap (λ (h : Desk). h.table) c.self.view_is), (omega arith), looks_at _ _ _ _ k p.count c.p.invariant.one a.count)
 
 told : (c : After-load-word) → LooksNext (known_of c.p.inside.seat.me.0) c.load-word.result c.load-word.new.seat.me.0
 told c = c.load-word.ensures.2.1 (known_of c.p.inside.seat.me.0) (ap (λ m. m.0) c.p.invariant.one)
 
 left_over : (c : After-load-word) → c.p.inside.count < c.p.inside.seat.table_id.words
 left_over c =
-    let seen = ap (λ (h : Holder). length h.known.seen) c.p.view_is in
-    let words = ap (λ (h : Place). h.words) c.self.view_is in
+    let seen = ap (λ (h : Pass). length h.known.seen) c.p.view_is in
+    let words = ap (λ (h : Desk). h.words) c.self.view_is in
     let a = c.p.invariant.agrees in
-    let same : c.p.inside.seat.table_id.words ≡ c.self.inside.table.shared.table_id.words = ap (λ (z : TableId). z.words) (ap (λ (h : Holder). h.table) c.p.view_is ∙ c.requires.table ∙ sym (ap (λ (h : Place). h.table) c.self.view_is)) in
+    let same : c.p.inside.seat.table_id.words ≡ c.self.inside.table.shared.table_id.words = ap (λ (z : TableId). z.words) (ap (λ (h : Pass). h.table) c.p.view_is ∙ c.requires.table ∙ sym (ap (λ (h : Desk). h.table) c.self.view_is)) in
     omega arith
 
 none_held : (c : After-load-word) → c.load-word.new.seat.me.1 ≡ []
@@ -51,8 +51,8 @@ returns-in-None c =
 
 pub overflow_add-p : goal.overflow_add-p
 overflow_add-p c =
-    let seen = ap (λ (h : Holder). length h.known.seen) c.p.view_is in
-    let words = ap (λ (h : Place). h.words) c.self.view_is in
+    let seen = ap (λ (h : Pass). length h.known.seen) c.p.view_is in
+    let words = ap (λ (h : Desk). h.words) c.self.view_is in
     omega arith
 
 pub apply-requires : goal.apply-requires
@@ -66,7 +66,7 @@ invariant_of-p-in-Some c =
     let i = c.p.invariant in
     let t = (told at).taken c.in-Some.next (sym c.in-Some.ensures.value) in record {
       one = one_known _ _ t.0 (none_held at);
-      agrees = agrees_other _ _ _ _ _ _ _ c.in-Some.next (ap known_of t.0) t.2 (ap (λ (x : Reply × State). x.1) c.apply.ensures) i.agrees;
+      agrees = agrees_other _ _ _ _ _ _ _ c.in-Some.next (ap known_of t.0) t.2 (ap (λ (x : Reply × State). x.1) c.apply.ensures.told) i.agrees;
       room = i.room;
       within = i.within;
       short = short_more _ _ _ c.load-word.ensures.0 (left_over at);

@@ -1,5 +1,5 @@
 use Rattle.std.proofs.Common.{sym, ap, ◌∙◌, rules}
-use Rattle.cf_desk.specs.Views.{Holder, known_of, longer_of}
+use Rattle.cf_desk.specs.Views.{Pass, known_of, longer_of}
 use Rattle.cf_desk.proofs.Recs.{fits_more}
 use Rattle.cf_desk.proofs.Passes.{longer_either, longest_count, one_known, agrees_levelled}
 use Rattle.cf_desk.proofs.desk.Desk.meet.Goals as goal
@@ -38,8 +38,8 @@ returns-clause-level c =
     let lv = v.level in
     let s = c.catch_up.ensures.same in
     let r = c.catch_up-2.ensures.same in
-    let tp = s.0 ∙ v.table.0 ∙ sym (ap (λ (h : Holder). h.table) c.p.view_is ∙ c.requires.table.0) in
-    let tq = r.0 ∙ v.table.1 ∙ sym (ap (λ (h : Holder). h.table) c.q.view_is ∙ c.requires.table.1) in
+    let tp = s.0 ∙ v.table.0 ∙ sym (ap (λ (h : Pass). h.table) c.p.view_is ∙ c.requires.table.0) in
+    let tq = r.0 ∙ v.table.1 ∙ sym (ap (λ (h : Pass). h.table) c.q.view_is ∙ c.requires.table.1) in
     rw (← c.p.view_is, ← c.q.view_is) (record {
       all = longer_of k l;
       either = longer_either k l;

@@ -2,7 +2,8 @@ use Rattle.std.proofs.Common.{List, map, append-nil, ◌≡◌, ◌++◌, ◌∷
 use Rattle.std.proofs.lemmas.List.Elements.{All-nil, All-push}
 use Rattle.std.specs.List.{All}
 use Rattle.std.specs.Vec.Iter.{into_iter_items}
-use Rattle.cf_desk.specs.Views.{Holder, known_of, knowns, state_of, IsLatest}
+use Rattle.cf_core.specs.Graphs.{Graph}
+use Rattle.cf_desk.specs.Views.{Pass, known_of, knowns, state_of, IsLatest}
 use Rattle.cf_desk.specs.Keepings.{IsFit, pass_kept}
 use Rattle.cf_desk.proofs.Meets.{sits_down, joins}
 use Rattle.cf_desk.proofs.Gathers.{all_at, joined_one, kept_one, latest_next, latest_none}
@@ -18,9 +19,9 @@ parts c = c.next.invariant.parts ∙ ap (λ l. c.next.invariant.done ++ l) c.in-
 pub join_seat-requires : goal.join_seat-requires
 join_seat-requires c =
     let i = c.next.invariant in
-    let there = all_at (λ (p : Holder). p.table ≡ c.args.row.now.shared.table_id) i.done c.in-Some.pass (into_iter_items c.next-in-next.new.self)
-    (subst (All (λ (p : Holder). p.table ≡ c.args.row.now.shared.table_id)) (parts (goal.at.join_seat-requires c).In-Some) c.requires.table.1) in
-    (i.table, ap (λ (h : Holder). h.table) c.pass.view_is ∙ there, ap (λ m. m.1) c.pass.invariant.one, c.requires.table.0, joins _ _ _ _ _)
+    let there = all_at (λ (p : Pass). p.table ≡ c.args.row.now.shared.table_id) i.done c.in-Some.pass (into_iter_items c.next-in-next.new.self)
+    (subst (All (λ (p : Pass). p.table ≡ c.args.row.now.shared.table_id)) (parts (goal.at.join_seat-requires c).In-Some) c.requires.table.1) in
+    (i.table, ap (λ (h : Pass). h.table) c.pass.view_is ∙ there, ap (λ m. m.1) c.pass.invariant.one, c.requires.table.0, joins _ _ _ _ _)
 
 pub next-preserved : goal.next-preserved
 next-preserved c =
@@ -35,9 +36,9 @@ next-preserved c =
       parts = parts at ∙ sym (append_assoc i.done (c.in-Some.pass ∷ []) (into_iter_items c.next-in-next.new.self));
       left = (let l = i.left in let r = c.in-Some.ensures.cases.1 in omega (arith, c.push.ensures.capacity));
       table = c.join_seat.ensures.0 ∙ i.table;
-      seat = joined_one i.done c.in-Some.pass (known_of c.pass.inside.seat.me.0) _ _ _ i.seat c.pass.invariant.one (ap (λ (h : Holder). h.known) v) c.join_seat.ensures.2;
-      kept = kept_one _ _ _ _ _ i.kept items (λ j. ((a.caller ∙ ap (λ (h : Holder). h.known.caller) v) j, ap (λ (h : Holder). h.records) v j));
-      copy = latest_next _ _ _ _ _ _ i.done c.in-Some.pass _ c.max-most.ensures c.later-copy.ensures.newer c.later-copy.ensures.older (a.count ∙ ap (λ (h : Holder). length h.known.seen) v) (a.state ∙ ap (λ (h : Holder). state_of h.known) v) i.copy;
+      seat = joined_one i.done c.in-Some.pass (known_of c.pass.inside.seat.me.0) _ _ _ i.seat c.pass.invariant.one (ap (λ (h : Pass). h.known) v) c.join_seat.ensures.2;
+      kept = kept_one _ _ _ _ _ i.kept items (λ j. ((a.caller ∙ ap (λ (h : Pass). h.known.caller) v) j, ap (λ (h : Pass). h.records) v j));
+      copy = latest_next _ _ _ _ _ _ i.done c.in-Some.pass _ c.max-most.ensures (λ h. ap (λ (g : Graph). g.state) (c.later-copy.ensures.newer h)) (λ h. ap (λ (g : Graph). g.state) (c.later-copy.ensures.older h)) (a.count ∙ ap (λ (h : Pass). length h.known.seen) v) (a.state ∙ ap (λ (h : Pass). state_of h.known) v) i.copy;
       fit = All-push IsFit i.done c.in-Some.pass i.fit (subst IsFit v a.fits);
     }
 
@@ -53,7 +54,7 @@ next-init c = record {
   fit = All-nil IsFit;
 }
 
-none_left : (xs : List Holder) → length xs ≡ 0 → xs ≡ []
+none_left : (xs : List Pass) → length xs ≡ 0 → xs ≡ []
 none_left [] e = refl
 none_left (x ∷ xs) e = absurd (omega arith)
 
@@ -67,7 +68,7 @@ all_done c =
     sym (i.parts ∙ ap (λ l. i.done ++ l) empty ∙ append-nil i.done)
 
 pub returns-clause-copy : goal.returns-clause-copy
-returns-clause-copy c = (c.next.most, subst (λ (l : List Holder). IsLatest c.args.opening.plan c.next.most c.next.copy (knowns l)) (all_done (goal.at.returns-clause-copy c).After-drop-rest) c.next.invariant.copy)
+returns-clause-copy c = (c.next.most, subst (λ (l : List Pass). IsLatest c.args.opening.state.plan c.next.most c.next.copy.state (knowns l)) (all_done (goal.at.returns-clause-copy c).After-drop-rest) c.next.invariant.copy)
 
 pub returns-clause-fit : goal.returns-clause-fit
 returns-clause-fit c = subst (All IsFit) (all_done (goal.at.returns-clause-fit c).After-drop-rest) c.next.invariant.fit

@@ -1,18 +1,18 @@
 use Rattle.std.proofs.Common.{◌≡◌, ◌≤◌, ◌+◌, ◌++◌, [], List, All, vec_len, vec_capacity}
 use Rattle.std.specs.Vec.Iter.{into_iter_items, into_iter_len}
-use Rattle.cf_desk.specs.Views.{Holder, knowns, IsLatest}
+use Rattle.cf_desk.specs.Views.{Pass, knowns, IsLatest}
 use Rattle.cf_desk.specs.Keepings.{AreKept, IsFit}
 use Rattle.cf_desk.proofs.desk.closing.gather.Given as goal
 
 abbrev pub invariant-next : goal.invariant-next
 invariant-next l = record {
-  done : List Holder;
+  done : List Pass;
   parts : l.fn.passes.items ≡ done ++ into_iter_items l.rest;
   left : vec_len l.kept + into_iter_len l.rest ≤ vec_capacity l.kept;
   table : l.seat.table_id ≡ l.row.shared.table_id;
   seat : l.seat.me ≡ (knowns done, []);
   kept : AreKept l.kept.items done;
-  copy : IsLatest l.fn.opening.plan l.most l.copy (knowns done);
+  copy : IsLatest l.fn.opening.state.plan l.most l.copy.state (knowns done);
   fit : All IsFit done;
 }
 

@@ -4,30 +4,30 @@ use Rattle.cf_core.specs.States.{State}
 use Rattle.cf_core.specs.Events.{told}
 use Rattle.cf_core.specs.Ranges.{AskFits}
 use Rattle.cf_desk.specs.declared.row.Known.{Known}
-use Rattle.cf_desk.specs.Views.{Holder, known_of}
+use Rattle.cf_desk.specs.Views.{Pass, known_of}
 use Rattle.cf_desk.proofs.Passes.{agrees_told, none_new, asked_there}
 use Rattle.cf_desk.proofs.pass.Pass.tell.Goals as goal
 use Rattle.cf_desk.proofs.pass.Pass.tell.Goals.{Else-is_err}
 
-more : (c : Else-is_err) → c.push.new.self.items ≡ c.self.inside.records.items ++ Saw c.self.inside.count c.args.ask c.answer-told.result ∷ []
+more : (c : Else-is_err) → c.push.new.self.items ≡ c.self.inside.records.items ++ Saw c.self.inside.count c.args.ask c.tell-told.result ∷ []
 more c = let ok : is_ok c.push.result ≡ true = c.is_err.ensures.negation ∙ ap not c.if-is_err.false in rw ok at c.push.ensures.items
 
-pub answer-told-requires : goal.answer-told-requires
-answer-told-requires c =
-    let known = ap (λ (h : Holder). h.known) c.self.view_is in
+pub tell-told-requires : goal.tell-told-requires
+tell-told-requires c =
+    let known = ap (λ (h : Pass). h.known) c.self.view_is in
     asked_there (known_of c.self.inside.seat.me.0) _ c.args.ask c.self.invariant.agrees.state (subst (λ (x : Known). AskFits (length x.setting.plan.stages) c.args.ask) (sym known) c.requires.asked)
 
 pub invariant_of-self : goal.invariant_of-self
 invariant_of-self c =
     let i = c.self.invariant in
     let m = more (goal.at.invariant_of-self c).Else-is_err in
-    let v = ap (λ (h : Holder). length h.records) c.self.view_is in
-    let calls = ap (λ (h : Holder). h.calls) c.self.view_is in
+    let v = ap (λ (h : Pass). length h.records) c.self.view_is in
+    let calls = ap (λ (h : Pass). h.calls) c.self.view_is in
     let longer = ap length m in record {
       one = i.one;
-      agrees = agrees_told _ _ _ _ _ _ _ c.args.ask c.answer-told.result c.answer-told.ensures.same c.answer-told.ensures.told m i.agrees;
+      agrees = agrees_told _ _ _ _ _ _ _ c.args.ask c.tell-told.result c.tell-told.ensures.unchanged c.tell-told.ensures.told m i.agrees;
       room = (let r = i.room in omega (arith, c.push.ensures.capacity));
-      within = omega (arith, length-append c.self.inside.records.items (Saw c.self.inside.count c.args.ask c.answer-told.result ∷ []));
+      within = omega (arith, length-append c.self.inside.records.items (Saw c.self.inside.count c.args.ask c.tell-told.result ∷ []));
       short = i.short;
     }
 
@@ -42,8 +42,8 @@ returns c =
         looks = k.looks;
         caught = none_new k.caller k.seen;
         is = (λ i. record { table = c.self.inside.seat.table_id; known = k; records = m i; calls = c.self.inside.calls })
-            ∙ ap (λ (n : ℕ). record { table = c.self.inside.seat.table_id; known = k; records = c.self.inside.records.items ++ Saw n c.args.ask c.answer-told.result ∷ []; calls = c.self.inside.calls }) a.count;
-        told_is = c.answer-told.ensures.told ∙ ap (λ (s : State). told s c.args.ask) a.state;
+            ∙ ap (λ (n : ℕ). record { table = c.self.inside.seat.table_id; known = k; records = c.self.inside.records.items ++ Saw n c.args.ask c.tell-told.result ∷ []; calls = c.self.inside.calls }) a.count;
+        told_is = c.tell-told.ensures.told ∙ ap (λ (s : State). told s c.args.ask) a.state;
       },
       refl,
     )
