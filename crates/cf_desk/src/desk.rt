@@ -107,7 +107,7 @@ impl Desk {
 
 /// The graph of a plan, at its start.
 fn graph_of(alloc: Global, plan: &Plan) -> Result<Graph, AllocError>
-    ensures { IfOk result (λ g. g ≡ start plan.now) }
+    ensures { IfOk result (λ g. g.state ≡ start plan.now) }
 {
     let plan = match plan.copy() {
         Ok(plan) => plan,

@@ -1,5 +1,4 @@
 use Rattle.std.proofs.Common.{◌≡◌, ◌∷◌, [], length, ap, ◌∙◌, arith}
-use Rattle.cf_core.specs.Graphs.{Graph}
 use Rattle.cf_desk.specs.Views.{known_of}
 use Rattle.cf_desk.proofs.Meets.{gives_first}
 use Rattle.cf_desk.proofs.Closing.{begins, split_next, new_one, agrees_new}
@@ -26,7 +25,7 @@ invariant_of-pass c =
     let me = mine (goal.at.invariant_of-pass c).After-split_seat-mine in
     let none = c.in_ok-records.ensures.items in record {
       one = one_known _ (blank (setting (goal.at.invariant_of-pass c).After-split_seat-mine) c.loop-caller.caller) (ap (λ m. m.0) me) (ap (λ m. m.1) me);
-      agrees = agrees_new _ _ _ _ _ c.loop-caller-test.true c.requires.counts.1 me (ap (λ (g : Graph). g.state) c.in_ok-copy.ensures) none;
+      agrees = agrees_new _ _ _ _ _ c.loop-caller-test.true c.requires.counts.1 me c.in_ok-copy.ensures none;
       room = (let r = c.in_ok-records.ensures.capacity in omega arith);
       within = (let e = ap length none in omega arith);
       short = omega arith;
