@@ -15,3 +15,4 @@ pub mod Places
 pub mod Lowest
 pub mod StartSound
 pub mod GraphLemmas
+pub mod TurnLemmas

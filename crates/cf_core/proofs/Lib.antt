@@ -5,3 +5,5 @@ pub mod Shape
 pub mod Firing
 pub mod LowestReady
 pub mod Keeping
+pub mod Stable
+pub mod Closed

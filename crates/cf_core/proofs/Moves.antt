@@ -19,7 +19,7 @@ use Rattle.cf_plan.specs.Forms.{landing}
 use Rattle.cf_plan.specs.Plans.{PlannedStage, form_at}
 use Rattle.cf_core.specs.declared.stage.Stage.{Stage}
 use Rattle.cf_core.specs.declared.stage.Stage.TheVariants.{Pending, Ready, Claimed, Linked, Settled}
-use Rattle.cf_core.specs.States.{State, outcome_of, outcome_in, outcome_at, stage_at, claim_at, linked_state, next_of, new_states}
+use Rattle.cf_core.specs.States.{State, after, stages_after, outcome_of, outcome_in, outcome_at, stage_at, claim_at, linked_state, next_of, new_states}
 use Rattle.cf_core.specs.declared.events.Event.{Event}
 use Rattle.cf_core.specs.declared.events.Event.TheVariants.{Complete as Completes, Fail as Fails, Cancel as Cancels, Claim as Claims, Finish as Finishes, Tick as Ticks}
 use Rattle.cf_core.specs.declared.events.Reply.TheVariants.{Claim as ToldClaim}
@@ -34,13 +34,20 @@ pub record IsKept (R : List Stage → List Stage → Type 0) : Type 0 where
   pub claims : (xs : List Stage) (i : ℕ) (args : Args) → slice_get xs i ≡ Some (Ready args) → R xs (set xs i Claimed)
   pub links : (xs : List Stage) (i j : ℕ) → outcome_in xs i ≡ None → R xs (set xs i (Linked j))
 
+stages_after-kept : (R : List Stage → List Stage → Type 0) → IsKept R → (x : Option Outcome) (s : State) (d : ℕ) (o : Outcome) → outcome_at s d ≡ x → R s.stages (stages_after x s.plan.stages s.stages d o)
+stages_after-kept R k (Some old) s d o e = k.same s.stages
+stages_after-kept R k None s d o e = k.settles s.plan.stages s.stages d o e
+
+after-kept : (R : List Stage → List Stage → Type 0) → IsKept R → (s : State) (d : ℕ) (o : Outcome) → R s.stages ((after s d o).stages)
+after-kept R k s d o = stages_after-kept R k (outcome_at s d) s d o refl
+
 settled_by-kept : (R : List Stage → List Stage → Type 0) → IsKept R → (x : Option Outcome) (s : State) (i : ℕ) (o : Outcome) → outcome_at s i ≡ x → R s.stages ((settled_by x s i o).1.stages)
 settled_by-kept R k (Some old) s i o e = k.same s.stages
-settled_by-kept R k None s i o e = k.settles s.plan.stages s.stages i o e
+settled_by-kept R k None s i o e = after-kept R k s i o
 
 cancelled_by-kept : (R : List Stage → List Stage → Type 0) → IsKept R → (x : Option Outcome) (s : State) (i : ℕ) → outcome_at s i ≡ x → R s.stages ((cancelled_by x s i).1.stages)
 cancelled_by-kept R k (Some old) s i e = k.same s.stages
-cancelled_by-kept R k None s i e = k.settles s.plan.stages s.stages i (Fault Cancelled false) e
+cancelled_by-kept R k None s i e = after-kept R k s i (Fault Cancelled false)
 
 -- a stage that isn't pending is there
 pub there : (x : Option Stage) (y : Stage) → unwrap_or x Pending ≡ y → y ≢ Pending → x ≡ Some y
@@ -55,11 +62,11 @@ claimed_by-kept R k (Linked j) s who i e = k.same s.stages
 claimed_by-kept R k Pending s who i e = k.same s.stages
 
 linked_to-kept : (R : List Stage → List Stage → Type 0) → IsKept R → (x : Option Outcome) (s : State) (i j : ℕ) → outcome_at s i ≡ None → R s.stages ((linked_to x s i j).stages)
-linked_to-kept R k (Some o) s i j e = k.settles s.plan.stages s.stages i (wrap o) e
+linked_to-kept R k (Some o) s i j e = after-kept R k s i (wrap o)
 linked_to-kept R k None s i j e = k.links s.stages i j e
 
 landed-kept : (R : List Stage → List Stage → Type 0) → IsKept R → (at : Landing) (s : State) (i : ℕ) → outcome_at s i ≡ None → R s.stages ((landed s i at).stages)
-landed-kept R k (Lands o) s i e = k.settles s.plan.stages s.stages i o e
+landed-kept R k (Lands o) s i e = after-kept R k s i o
 landed-kept R k (Links j) s i e = linked_to-kept R k (outcome_at s j) s i j e
 
 finished_by-kept : (R : List Stage → List Stage → Type 0) → IsKept R → (x : Option Outcome) (s : State) (i : ℕ) (answer : Answer) → outcome_at s i ≡ x → R s.stages ((finished_by x s i answer).1.stages)

@@ -7,3 +7,4 @@ pub mod Sound
 pub mod SoundStages
 pub mod Landings
 pub mod Graphs
+pub mod Turns

@@ -1,9 +1,14 @@
 -- Laws of whole runs.
-use Rattle.std.specs.Prelude.{◌≡◌, ℕ, ◌+◌, ◌<◌, ◌≤◌, ◌==◌, Bool, false, length, Some, List, [], ◌∷◌, if◌then◌else◌}
+use Rattle.std.specs.Prelude.{◌≡◌, ℕ, ◌+◌, ◌<◌, ◌≤◌, ◌==◌, Bool, true, false, length, None, Some, List, [], ◌∷◌, if◌then◌else◌, All, slice_get}
 use Rattle.cf_outcome.specs.declared.outcome.Outcome.{Outcome}
 use Rattle.cf_core.specs.declared.replies.Claimed.TheVariants.{Granted}
 use Rattle.cf_plan.specs.declared.forms.Args.{Args}
-use Rattle.cf_core.specs.States.{State, is_ready, outcome_at, stage_at}
+use Rattle.cf_plan.specs.declared.forms.Form.{Form}
+use Rattle.cf_plan.specs.declared.forms.Form.TheVariants.{Source, Supply, RunAsync, Combine, AcceptBoth, RunBoth, AllOf}
+use Rattle.cf_plan.specs.Plans.{Planned, IsBuilt, form_at, sources_at}
+use Rattle.cf_core.specs.declared.stage.Stage.{Stage}
+use Rattle.cf_core.specs.declared.stage.Stage.TheVariants.{Linked, Pending}
+use Rattle.cf_core.specs.States.{State, is_ready, new_states, outcome_at, stage_at, start}
 use Rattle.cf_core.specs.Claims.{is_claimable, claimable_count}
 use Rattle.cf_core.specs.declared.events.Event.{Event}
 use Rattle.cf_core.specs.declared.events.Event.TheVariants.{Claim as Claims}
@@ -56,3 +61,41 @@ pub record SameShape (s r : State) : Type 0 where
 
 abbrev pub KeepsShape : Type 0
 KeepsShape = (s : State) (events : List Event) → SameShape s (state_after s events)
+
+-- each stage has taken what its sources give: treated once more, each stays as it is
+abbrev pub IsClosed : State → Type 0
+IsClosed s = new_states [] s.plan.stages s.stages ≡ s.stages
+
+-- a closed state stays closed, whatever events come
+abbrev pub KeepsClosed : Type 0
+KeepsClosed = (s : State) (events : List Event) → IsClosed s → IsClosed (state_after s events)
+
+-- each state that events reach from the opening is closed
+abbrev pub ReachedAreClosed : Type 0
+ReachedAreClosed = (plan : Planned) (events : List Event) → IsClosed (state_after (start plan) events)
+
+-- each linked stage is linked to a lower one
+abbrev pub AreLinkedLower : List Stage → Type 0
+AreLinkedLower stages = (i j : ℕ) → slice_get stages i ≡ Some (Linked j) → j < i
+
+-- so it is in each state that events reach from the opening
+abbrev pub ReachedLinkLower : Type 0
+ReachedLinkLower = (plan : Planned) (events : List Event) → AreLinkedLower ((state_after (start plan) events).stages)
+
+-- whether the first source that settles decides a form
+abbrev pub is_decided_by_first : Form → Bool
+is_decided_by_first Source = false
+is_decided_by_first Supply = false
+is_decided_by_first RunAsync = false
+is_decided_by_first Combine = false
+is_decided_by_first AcceptBoth = false
+is_decided_by_first RunBoth = false
+is_decided_by_first AllOf = false
+is_decided_by_first form = true
+
+-- While a stage whose first settled source decides it is pending, none of its sources has settled.
+abbrev pub PendingHasNoneSettled : Type 0
+PendingHasNoneSettled =
+    (plan : Planned) (events : List Event) (i : ℕ) → let s = state_after (start plan) events in
+    IsBuilt plan → i < length plan.stages → is_decided_by_first (form_at plan.stages i) ≡ true → stage_at s i ≡ Pending →
+    All (λ j. outcome_at s j ≡ None) (sources_at plan.stages i)

@@ -1,7 +1,9 @@
+-- What a graph means.
 pub mod States
 pub mod Events
 pub mod Ranges
 pub mod Claims
 pub mod Laws
 pub mod Graphs
+-- How the code keeps it.
 pub mod Keeping

@@ -50,9 +50,14 @@ new_states below (p ∷ plan) [] = []
 new_states below (p ∷ plan) (stage ∷ stages) =
     let new = next_of below p.form p.sources stage in new ∷ new_states (below ++ new ∷ []) plan stages
 
--- The state once stage d, which isn't settled, is settled with o, and each stage has taken what its sources then give.
+-- the stages once stage d is settled with o, unless it is settled already
+abbrev pub stages_after : Option Outcome → List PlannedStage → List Stage → ℕ → Outcome → List Stage
+stages_after (Some old) plan stages d o = stages
+stages_after None plan stages d o = new_states [] plan (slice_set stages d (Settled o))
+
+-- The state once stage d is settled with o, and each stage has taken what its sources then give. A settled stage d stays as it is.
 abbrev pub after : State → ℕ → Outcome → State
-after s d o = record s { stages = new_states [] s.plan.stages (slice_set s.stages d (Settled o)) }
+after s d o = record s { stages = stages_after (outcome_in s.stages d) s.plan.stages s.stages d o }
 
 -- the state at the opening
 abbrev pub start : Planned → State

@@ -1,5 +1,5 @@
 //! Laws of whole runs of events.
-ghost use Rattle.cf_core.specs.Laws.{GrantsLeaveFewer, GrantsOnce, KeepsOutcomes, KeepsShape, NeverMoreClaimable, NeverReadyAgain};
+ghost use Rattle.cf_core.specs.Laws.{GrantsLeaveFewer, GrantsOnce, KeepsClosed, KeepsOutcomes, KeepsShape, NeverMoreClaimable, NeverReadyAgain, PendingHasNoneSettled, ReachedAreClosed, ReachedLinkLower};
 
 /// A settled stage keeps its outcome, whatever events come.
 pub fn settled_stages_keep_their_outcomes()
@@ -30,4 +30,25 @@ pub fn granted_claims_leave_fewer_claimable()
 /// The plan, and how many stages and claims there are, stay the same, whatever events come.
 pub fn events_keep_the_shape()
     ensures { KeepsShape }
+{}
+
+/// A state in which nothing is due any more stays so, whatever events come.
+pub fn events_keep_states_closed()
+    ensures { KeepsClosed }
+{}
+
+/// In each state that events reach from the opening of a plan nothing is due any more.
+pub fn reached_states_are_closed()
+    ensures { ReachedAreClosed }
+{}
+
+/// In each state that events reach from the opening of a plan links are to lower stages.
+pub fn reached_states_link_lower()
+    ensures { ReachedLinkLower }
+{}
+
+/// While an either form, an anyOf or a form of one source is pending, none of its sources has settled. So it is decided by
+/// the first source that settles.
+pub fn pending_stages_have_no_settled_source()
+    ensures { PendingHasNoneSettled }
 {}

@@ -1,20 +1,50 @@
-//! What the graph of a plan answers to one call, and what it is then.
+//! The graph of a plan: what it answers to each call, and what it is then.
 //!
-//! Each stage of a `Graph` is pending, ready with its arguments, claimed, linked to a lower stage, or settled. A call
-//! that settles a stage finishes all that follows before it returns: the stages are gone over once, in rising number, and
-//! each takes what its sources, which are lower, give by then (`settle`). A stage with a function isn't run here. It
-//! becomes ready, a caller claims it and is handed the arguments, and later finishes it with the function's answer. In
-//! between the stage may be settled by any other call; the late finish then closes the claim and changes nothing. Once
-//! settled, a stage keeps its outcome.
+//! Each stage of a `Graph` is pending, ready with its arguments, claimed, linked to a lower stage, or settled. A stage
+//! with a function isn't run here: it becomes ready, a caller claims it and is handed the arguments, and later finishes it
+//! with the function's answer. In between any other call may settle the stage; the late finish then closes the claim and
+//! changes nothing. Once settled, a stage keeps its outcome. `Graph::answer` does any call, as an `Event`, and
+//! `Graph::tell` answers any question, as an `Ask`. The forms and their rules are those of Java SE 17's
+//! `CompletableFuture` and `CompletionStage`.
 //!
-//! Only `Graph::new` takes memory. The ready stages stand in a set of bits beside the stages, so the lowest is found
-//! without a walk.
+//! # What it means
 //!
-//! The meaning of all this stands in `specs/`. `State` is what a contract sees of a graph. `after` is the state once a
-//! stage is settled and all consequences have come to pass, `start` the state at the opening, and `answered` the reply and
-//! the state of one `Event`, whose cases (`settling`, `cancelling`, `claiming`, `finishing`, `ticking`) the contracts of
-//! the calls cite. The laws of whole runs, in `laws`, are about these very definitions. The forms and their rules are
-//! those of Java SE 17's `CompletableFuture` and `CompletionStage`.
+//! A contract sees a graph as its `State`, in which all consequences have come to pass: `start` is the state at the
+//! opening, `after` that once a stage is settled and each stage, in rising number, has taken what its sources then give,
+//! and `answered` the reply and the state of one event. These definitions know no marks and no work that waits. They
+//! stand first in `specs/` (`States`, `Events`, `Laws`), and a reader can stop there. `laws` has what is true of all runs
+//! of events, by these very definitions.
+//!
+//! # How it is kept
+//!
+//! The graph itself does only what a question needs (`specs/Keeping` and `propagation` have this part).
+//!
+//! What waits: a stage that settles marks the pending stages that name it as a source and the stages that are linked to
+//! it, and does no more. A stage without a mark, if it is pending or linked, waits by what its sources or its target hold
+//! now. So where nothing is marked, nothing is due.
+//!
+//! A turn is the treatment of the lowest marked stage: it takes what the stages below it hold by then, and if that
+//! settles it, marks in its own turn. A call on a stage first treats the marked stages up to that one, the lowest first;
+//! `Graph::lowest_ready` those below the lowest ready stage; `Graph::nudge` takes turns ahead of time.
+//!
+//! The marks don't matter to the meaning: the state that a contract sees is what treating every stage, in rising number,
+//! leads to (`outlook`), whether it is marked or not. A turn changes nothing of it, a stage that settles leads to what
+//! settling it at once does, and a claim, or a link to a stage that isn't settled, changes nothing else. As sources and
+//! targets are lower, a stage whose lower stages have no mark is as it will be, so the answers of a call on it are those
+//! of the state.
+//!
+//! Why an either form that is treated late still takes its first source: each settled stage keeps the step at which it
+//! settled. Steps are counted by the calls that settle or link a stage, and a consequence takes the step of what it comes
+//! from: the later of two, the latest of all of an allOf, the earliest of an either form or an anyOf. Of sources that
+//! settled in one step the first in argument order is taken. That a pending either form has no settled source, so that
+//! the first to settle decides it, is a law (`laws::pending_stages_have_no_settled_source`).
+//!
+//! What bounds the work: each mark comes from an edge of the plan whose source settles, from a link whose target settles,
+//! or from the start, each once. So over a graph's whole life there are at most as many turns as the plan has edges and
+//! stages, which a contract sees as `turns`.
+//!
+//! No call but `Graph::new` takes memory: the marks and the ready stages are sets of bits (`cf_bits`), and the stages
+//! linked to a stage are a list threaded through arrays (`Links`), so that none is searched for.
 #![tactic(auto)]
 
 mod asks;

@@ -3,7 +3,7 @@ ghost use Rattle.std.specs.Prelude.{◌≡◌, ◌<◌, All, [], length, slice_s
 ghost use Rattle.cf_core.specs.Keeping.Links.{list_at};
 ghost use Rattle.cf_core.specs.Keeping.Sound.{is_waiting, mark_all, mark_one};
 
-use crate::kept::Kept;
+use crate::kept::KeptStage;
 use crate::links::Links;
 use cf_bits::BitSet;
 use crate::stage::Stage;
@@ -16,7 +16,7 @@ pub fn is_waiting(stage: Stage) -> bool
 }
 
 /// Marks a stage, if it waits.
-pub fn mark(kept: &[Kept], marks: &mut BitSet, i: u16)
+pub fn mark(kept: &[KeptStage], marks: &mut BitSet, i: u16)
     requires stage { i < length kept.now }
     requires all { length marks.old ≡ length kept.now }
     ensures { marks.new ≡ mark_one kept.now i marks.old }
@@ -27,7 +27,7 @@ pub fn mark(kept: &[Kept], marks: &mut BitSet, i: u16)
 }
 
 /// Marks those of these stages that wait.
-pub fn mark_each(kept: &[Kept], marks: &mut BitSet, stages: &[u16])
+pub fn mark_each(kept: &[KeptStage], marks: &mut BitSet, stages: &[u16])
     requires stages { All (λ i. i < length kept.now) stages.now }
     requires all { length marks.old ≡ length kept.now }
     ensures marks { marks.new ≡ mark_all kept.now stages.now marks.old }
@@ -39,7 +39,7 @@ pub fn mark_each(kept: &[Kept], marks: &mut BitSet, stages: &[u16])
 }
 
 /// Marks those of the stages linked to `target` that wait, and empties its list.
-pub fn mark_linked(kept: &[Kept], marks: &mut BitSet, links: &mut Links, target: u16)
+pub fn mark_linked(kept: &[KeptStage], marks: &mut BitSet, links: &mut Links, target: u16)
     requires target { target < length kept.now }
     requires all { length marks.old ≡ length kept.now }
     requires lists { length links.old ≡ length kept.now }

@@ -1,6 +1,6 @@
 //! The laws of late propagation: what may be left for later, and that nobody can tell.
 ghost use Rattle.cf_core.specs.Keeping.Late.{SettlingIsAfter, TurnsChangeNothing};
-ghost use Rattle.cf_core.specs.Keeping.Marks.{OthersWait, QuietByStage};
+ghost use Rattle.cf_core.specs.Keeping.Marks.{OthersWait, SteadyByStage};
 ghost use Rattle.cf_core.specs.Keeping.Writes.{ClaimingIsAlone, LinkingIsAlone};
 
 /// Treating the lowest stage that waits for treatment leaves what all treatments lead to.
@@ -18,9 +18,9 @@ pub fn claiming_is_alone()
     ensures { ClaimingIsAlone }
 {}
 
-/// Stages that wait by the stages below them are quiet.
-pub fn waiting_stages_are_quiet()
-    ensures { QuietByStage }
+/// Stages that wait by the stages below them are steady.
+pub fn waiting_stages_are_steady()
+    ensures { SteadyByStage }
 {}
 
 /// A stage that doesn't name a written stage waits as before.

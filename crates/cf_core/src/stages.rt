@@ -8,9 +8,10 @@ ghost use Rattle.cf_core.specs.States.{is_ready, new_states, outcome_in, outcome
 ghost use Rattle.cf_core.specs.Keeping.Landings.{landed_stages};
 ghost use Rattle.cf_core.specs.Keeping.Sound.{AreTreated, ReadyIsTreated, StayTaken, StayTakenBut, is_taken, kept_at, links_after, marks_after};
 ghost use Rattle.cf_core.specs.Keeping.SoundStages.{AreSound, outlook_of};
+ghost use Rattle.cf_core.specs.Keeping.Turns.{TurnsBelowReady, TurnsUpTo, turned};
 ghost use Rattle.cf_core.specs.Keeping.Starts.{mark_starts, starts, untreated};
 
-use crate::kept::Kept;
+use crate::kept::KeptStage;
 use crate::links::Links;
 use crate::mark::{is_waiting, mark_each, mark_linked};
 use crate::treat::treated;
@@ -24,7 +25,7 @@ use std::alloc::{AllocError, Global};
 /// to each, how many steps settled or linked a stage so far, and how many turns were taken.
 #[derive(Drop)]
 pub struct Stages {
-    kept: Vec<Kept>,
+    kept: Vec<KeptStage>,
     marks: BitSet,
     ready: BitSet,
     links: Links,
@@ -59,7 +60,7 @@ impl Stages {
     ///
     /// It stands in each caller's own code, so that a new stage is written part by part and never read back as a whole.
     #[inline(always)]
-    fn put(&mut self, plan: &Plan, d: u16, new: Kept)
+    fn put(&mut self, plan: &Plan, d: u16, new: KeptStage)
         requires stage { d < length plan.now.stages }
         requires all_kept { length self.old.kept.items ≡ length plan.now.stages }
         requires all_marks { length self.old.marks ≡ length plan.now.stages }
@@ -88,6 +89,7 @@ impl Stages {
     fn turn(&mut self, plan: &Plan, m: u16)
         requires sound { AreSound plan.now.stages self.old }
         requires lowest { position (λ b. b) self.old.marks ≡ Some m }
+        ensures turned { self.new.kept.items ≡ turned plan.now.stages self.old.kept.items m }
         ensures counted { self.new.turns ≡ self.old.turns + 1 }
         ensures same { outlook_of plan.now.stages self.new ≡ outlook_of plan.now.stages self.old }
         ensures taken { StayTaken self.old.kept.items self.new.kept.items }
@@ -108,7 +110,7 @@ impl Stages {
         ensures treated { AreTreated (d + 1) self.new.marks }
         ensures same { outlook_of plan.now.stages self.new ≡ outlook_of plan.now.stages self.old }
         ensures taken { StayTaken self.old.kept.items self.new.kept.items }
-        ensures counted { self.old.turns ≤ self.new.turns }
+        ensures turns { TurnsUpTo plan.now.stages d self.old self.new }
         ensures sound { AreSound plan.now.stages self.new }
     {
         while let Some(m) = self.marked_up_to(d) {
@@ -120,6 +122,7 @@ impl Stages {
     fn marked_up_to(&self, d: u16) -> Option<u16>
         requires { d < length self.now.marks }
         ensures some { IfSome result (λ m. position (λ b. b) self.now.marks ≡ Some m) }
+        ensures within { IfSome result (λ m. m ≤ d) }
         ensures none { IfNone result (AreTreated (d + 1) self.now.marks) }
     {
         match self.marks.lowest() {
@@ -134,7 +137,7 @@ impl Stages {
         ensures told { result ≡ position is_ready (outlook_of plan.now.stages self.old) }
         ensures same { outlook_of plan.now.stages self.new ≡ outlook_of plan.now.stages self.old }
         ensures taken { StayTaken self.old.kept.items self.new.kept.items }
-        ensures counted { self.old.turns ≤ self.new.turns }
+        ensures turns { TurnsBelowReady plan.now.stages self.old self.new }
         ensures sound { AreSound plan.now.stages self.new }
     {
         while let Some(m) = self.marked_below_ready() {
@@ -147,6 +150,7 @@ impl Stages {
     fn marked_below_ready(&self) -> Option<u16>
         requires { length self.now.marks ≡ length self.now.ready }
         ensures some { IfSome result (λ m. position (λ b. b) self.now.marks ≡ Some m) }
+        ensures below { IfSome result (λ m. AreTreated (m + 1) self.now.ready) }
         ensures none { IfNone result (ReadyIsTreated self.now.marks self.now.ready) }
     {
         match self.marks.lowest() {
@@ -211,7 +215,7 @@ impl Stages {
         self.put(
             plan,
             d,
-            Kept {
+            KeptStage {
                 stage: Stage::Settled(o),
                 step: settled,
             },
@@ -234,7 +238,7 @@ impl Stages {
         self.put(
             plan,
             d,
-            Kept {
+            KeptStage {
                 stage: Stage::Claimed,
                 step,
             },
@@ -262,7 +266,7 @@ impl Stages {
         self.put(
             plan,
             d,
-            Kept {
+            KeptStage {
                 stage: Stage::Linked(j),
                 step,
             },
@@ -317,10 +321,10 @@ impl Stages {
 }
 
 /// So many stages that were never treated.
-fn untreated(alloc: Global, count: u16) -> Result<Vec<Kept>, AllocError>
+fn untreated(alloc: Global, count: u16) -> Result<Vec<KeptStage>, AllocError>
     ensures { IfOk result (λ kept. kept.items ≡ replicate count untreated) }
 {
-    vec![in alloc; Kept {
+    vec![in alloc; KeptStage {
         stage: Stage::Pending,
         step: 0
     }; count as usize]

@@ -6,13 +6,13 @@ ghost use Rattle.cf_core.specs.States.{outcome_of};
 ghost use Rattle.cf_core.specs.Keeping.Sound.{kept_at};
 ghost use Rattle.cf_core.specs.Keeping.Late.{dated_in, due_kept, earlier, earliest, late_due, latest, linked_kept, outcome_part, treated};
 
-use crate::kept::Kept;
+use crate::kept::KeptStage;
 use crate::stage::Stage;
 use cf_outcome::{Outcome, Value, is_exceptional, wrap};
 use cf_plan::{Args, Due, Form, due_one, due_two};
 
 /// What becomes of stage `m` when it is treated, by its form and its sources.
-pub fn treated(kept: &[Kept], form: Form, sources: &[u16], m: u16) -> Kept
+pub fn treated(kept: &[KeptStage], form: Form, sources: &[u16], m: u16) -> KeptStage
     requires stage { m < length kept.now }
     requires sources { All (λ j. j < length kept.now) sources.now }
     ensures { (function : Option ℕ) → result ≡ treated kept.now (record { form = form; sources = sources.now; function = function }) (kept_at kept.now m) }
@@ -26,7 +26,7 @@ pub fn treated(kept: &[Kept], form: Form, sources: &[u16], m: u16) -> Kept
 }
 
 /// The outcome of a settled stage, with the step at which it settled.
-fn dated(kept: &[Kept], j: u16) -> Option<(Outcome, u32)>
+fn dated(kept: &[KeptStage], j: u16) -> Option<(Outcome, u32)>
     requires { j < length kept.now }
     ensures { result ≡ dated_in kept.now j }
 {
@@ -38,20 +38,20 @@ fn dated(kept: &[Kept], j: u16) -> Option<(Outcome, u32)>
 }
 
 /// What becomes of a stage that is linked to a stage below.
-fn linked(kept: &[Kept], j: u16, step: u32) -> Kept
+fn linked(kept: &[KeptStage], j: u16, step: u32) -> KeptStage
     ensures { result ≡ linked_kept j step (dated_in kept.now j) }
 {
     match kept.get(j as usize) {
         Some(
-            Kept {
+            KeptStage {
                 stage: Stage::Settled(o),
                 step: settled,
             },
-        ) => Kept {
+        ) => KeptStage {
             stage: Stage::Settled(wrap(*o)),
             step: step.max(*settled),
         },
-        _ => Kept {
+        _ => KeptStage {
             stage: Stage::Linked(j),
             step,
         },
@@ -59,7 +59,7 @@ fn linked(kept: &[Kept], j: u16, step: u32) -> Kept
 }
 
 /// What becomes of a pending stage.
-fn due(kept: &[Kept], form: Form, sources: &[u16], step: u32) -> Kept
+fn due(kept: &[KeptStage], form: Form, sources: &[u16], step: u32) -> KeptStage
     requires { All (λ j. j < length kept.now) sources.now }
     ensures { let due = late_due form (map (dated_in kept.now) sources.now) in result ≡ due_kept due.0 due.1 step }
 {
@@ -89,19 +89,19 @@ fn due(kept: &[Kept], form: Form, sources: &[u16], step: u32) -> Kept
 }
 
 /// A pending stage by what is due, and by the step at which it settles.
-fn keep(due: Due, at: u32, step: u32) -> Kept
+fn keep(due: Due, at: u32, step: u32) -> KeptStage
     ensures { result ≡ due_kept due at step }
 {
     match due {
-        Due::Waits => Kept {
+        Due::Waits => KeptStage {
             stage: Stage::Pending,
             step,
         },
-        Due::Settles(o) => Kept {
+        Due::Settles(o) => KeptStage {
             stage: Stage::Settled(o),
             step: at,
         },
-        Due::Needs(args) => Kept {
+        Due::Needs(args) => KeptStage {
             stage: Stage::Ready(args),
             step,
         },
@@ -120,7 +120,7 @@ fn earlier(x: Option<(Outcome, u32)>, y: Option<(Outcome, u32)>) -> Option<(Outc
 }
 
 /// The source that settled first. Most forms have one.
-fn earliest(kept: &[Kept], sources: &[u16]) -> Option<(Outcome, u32)>
+fn earliest(kept: &[KeptStage], sources: &[u16]) -> Option<(Outcome, u32)>
     requires { All (λ j. j < length kept.now) sources.now }
     ensures { result ≡ earliest (map (dated_in kept.now) sources.now) }
 {
@@ -135,7 +135,7 @@ fn earliest(kept: &[Kept], sources: &[u16]) -> Option<(Outcome, u32)>
 }
 
 /// The greatest step of the sources.
-fn latest(kept: &[Kept], sources: &[u16]) -> u32
+fn latest(kept: &[KeptStage], sources: &[u16]) -> u32
     requires { All (λ j. j < length kept.now) sources.now }
     ensures { result ≡ latest (map (dated_in kept.now) sources.now) }
 {
@@ -149,7 +149,7 @@ fn latest(kept: &[Kept], sources: &[u16]) -> u32
 }
 
 /// The outcome of a source.
-fn outcome_below(kept: &[Kept], j: u16) -> Option<Outcome>
+fn outcome_below(kept: &[KeptStage], j: u16) -> Option<Outcome>
     requires { j < length kept.now }
     ensures { result ≡ outcome_part (dated_in kept.now j) }
 {
@@ -160,7 +160,7 @@ fn outcome_below(kept: &[Kept], j: u16) -> Option<Outcome>
 }
 
 /// What a form of two sources that waits for both does.
-fn due_both(kept: &[Kept], form: Form, sources: &[u16]) -> Due
+fn due_both(kept: &[KeptStage], form: Form, sources: &[u16]) -> Due
     requires { All (λ j. j < length kept.now) sources.now }
     ensures { result ≡ due_of_both form (map outcome_part (map (dated_in kept.now) sources.now)) }
 {
@@ -184,7 +184,7 @@ fn due_if_both(form: Form, first: Option<Outcome>, second: Option<Outcome>) -> D
 }
 
 /// Whether all sources are settled.
-fn all_settled(kept: &[Kept], sources: &[u16]) -> bool
+fn all_settled(kept: &[KeptStage], sources: &[u16]) -> bool
     requires { All (λ j. j < length kept.now) sources.now }
     ensures { result ≡ list_all is_some (map outcome_part (map (dated_in kept.now) sources.now)) }
 {
@@ -197,7 +197,7 @@ fn all_settled(kept: &[Kept], sources: &[u16]) -> bool
 }
 
 /// The fault at the lowest place, wrapped, or nil where none has failed.
-fn joint_outcome(kept: &[Kept], sources: &[u16]) -> Outcome
+fn joint_outcome(kept: &[KeptStage], sources: &[u16]) -> Outcome
     requires { All (λ j. j < length kept.now) sources.now }
     ensures { result ≡ first_fault (map outcome_part (map (dated_in kept.now) sources.now)) }
 {

@@ -9,7 +9,8 @@ use Rattle.cf_plan.specs.declared.forms.Form.{Form}
 use Rattle.cf_plan.specs.declared.forms.Form.TheVariants.{Source, Supply, RunAsync, Apply, Accept, ThenRun, Combine, AcceptBoth, RunBoth, ApplyEither, AcceptEither, RunEither, Compose, Handle, WhenComplete, Exceptionally, AllOf, AnyOf}
 use Rattle.cf_plan.specs.declared.forms.Due.{Due}
 use Rattle.cf_plan.specs.declared.forms.Due.TheVariants.{Waits, Settles}
-use Rattle.cf_plan.specs.Forms.{follows, due_of_first, due_of_both, due_one, due_two, first_there, first_fault}
+use Rattle.cf_plan.specs.Forms.{follows, due_of_first, due_of_both, due_two, first_there, first_fault}
+use Rattle.cf_core.proofs.StateLemmas.{due_one-decides}
 use Rattle.cf_core.specs.Keeping.Late.{earlier, earliest, latest, late_due, outcome_part, step_part}
 
 -- what was there stays, and what is new is of the next step
@@ -40,15 +41,6 @@ abbrev pub DueGrows : ℕ → Due × ℕ → Due × ℕ → Due → Type 0
 DueGrows step old new now = Stays step old new ⊎ Moves step old new now
 
 -- ---- tables always decide
-due_one-decides : (form : Form) (o : Outcome) → due_one form o ≢ Waits
-due_one-decides Handle o e = cc
-due_one-decides WhenComplete o e = cc
-due_one-decides AnyOf o e = cc
-due_one-decides Exceptionally (Gives v) e = cc
-due_one-decides Exceptionally (Fault cause wrapped) e = cc
-due_one-decides form (Gives v) e = cc
-due_one-decides form (Fault cause wrapped) e = cc
-
 due_two-decides : (form : Form) (a b : Outcome) → due_two form a b ≢ Waits
 due_two-decides form (Fault cause wrapped) b e = cc
 due_two-decides form (Gives v) (Fault cause wrapped) e = cc

@@ -5,6 +5,7 @@ use Rattle.std.specs.Option.{option_map_or}
 use Rattle.std.proofs.lemmas.List.Elements.{All-head}
 use Rattle.std.proofs.lemmas.Bool.Decides.{eqb_tells, nat_tests}
 use Rattle.cf_outcome.specs.declared.outcome.Outcome.{Outcome}
+use Rattle.cf_outcome.specs.Outcomes.{wrap}
 use Rattle.cf_plan.specs.declared.forms.Args.{Args}
 use Rattle.cf_plan.specs.declared.forms.Answer.{Answer}
 use Rattle.cf_plan.specs.declared.forms.Landing.{Landing}
@@ -15,30 +16,30 @@ use Rattle.cf_core.specs.declared.stage.Stage.{Stage}
 use Rattle.cf_core.specs.declared.stage.Stage.TheVariants.{Pending, Ready, Claimed, Linked, Settled}
 use Rattle.cf_core.specs.declared.replies.Claimed.{Claimed as ClaimReply}
 use Rattle.cf_core.specs.declared.replies.Claimed.TheVariants.{Granted}
-use Rattle.cf_core.specs.States.{State, outcome_of, outcome_in, outcome_at, stage_at, claim_at, new_states}
+use Rattle.cf_core.specs.States.{State, outcome_of, outcome_in, outcome_at, stage_at, claim_at, new_states, after, stages_after}
 use Rattle.cf_core.specs.Events.{settled_by, settling, claimed_by, claiming, finished_by, finishing, landed, linked_to, source_outcome}
 use Rattle.cf_core.specs.declared.replies.Finished.TheVariants.{Won, Late, NotYours}
-use Rattle.cf_core.specs.declared.kept.Kept.{Kept}
+use Rattle.cf_core.specs.declared.kept.KeptStage.{KeptStage}
 use Rattle.cf_core.specs.declared.stages.Stages.{Stages}
 use Rattle.cf_core.specs.Keeping.Sound.{AreTreated, StayTaken, StayTakenBut, is_taken, kept_at}
 use Rattle.cf_core.specs.Keeping.SoundStages.{AreSound, outlook_of}
 use Rattle.cf_core.specs.Keeping.Landings.{linked_stages, landed_stages}
 use Rattle.cf_core.specs.Keeping.Graphs.{AreClaimed}
 use Rattle.cf_core.proofs.Keeping.Marking.{get-set_other}
-use Rattle.cf_core.proofs.Keeping.Moves.{is_quiet, outcome_there, outlook_at}
+use Rattle.cf_core.proofs.Keeping.Moves.{is_steady, outcome_there, outlook_at}
 
 -- ---- treated stages are seen as they are kept
 
 pub told_stage : (plan : List PlannedStage) (s : Stages) (i : ℕ) → AreSound plan s → i < length plan → AreTreated (i + 1) s.marks → slice_get (outlook_of plan s) i ≡ Some ((kept_at s.kept.items i).stage)
 told_stage plan s i h l treated =
-    outlook_at plan s.kept.items s.marks s.ready s.links s.steps s.turns h i (i + 1) l (is_quiet plan s.kept.items s.marks s.ready s.links s.steps s.turns h (i + 1) treated) (omega arith)
+    outlook_at plan s.kept.items s.marks s.ready s.links s.steps s.turns h i (i + 1) l (is_steady plan s.kept.items s.marks s.ready s.links s.steps s.turns h (i + 1) treated) (omega arith)
 
 pub told_outcome : (plan : List PlannedStage) (s : Stages) (i : ℕ) → AreSound plan s → i < length plan → AreTreated (i + 1) s.marks → outcome_in (outlook_of plan s) i ≡ outcome_of ((kept_at s.kept.items i).stage)
 told_outcome plan s i h l treated = ap (option_and_then outcome_of) (told_stage plan s i h l treated)
 
 pub told_below : (plan : List PlannedStage) (s : Stages) (i j : ℕ) → AreSound plan s → i < length plan → AreTreated (i + 1) s.marks → j < i → outcome_in (outlook_of plan s) j ≡ outcome_of ((kept_at s.kept.items j).stage)
 told_below plan s i j h l treated below =
-    outcome_there plan s.kept.items s.marks s.ready s.links s.steps s.turns h j (i + 1) (omega arith) (is_quiet plan s.kept.items s.marks s.ready s.links s.steps s.turns h (i + 1) treated) (omega arith)
+    outcome_there plan s.kept.items s.marks s.ready s.links s.steps s.turns h j (i + 1) (omega arith) (is_steady plan s.kept.items s.marks s.ready s.links s.steps s.turns h (i + 1) treated) (omega arith)
 
 -- ---- settling
 
@@ -49,8 +50,9 @@ settles_not s i o old seen same e =
 pub settles_now : (s : State) (i : ℕ) (o : Outcome) (seen new : List Stage) → seen ≡ s.stages → outcome_in seen i ≡ None → new ≡ new_states [] s.plan.stages (set seen i (Settled o)) →
     (true, record s { stages = new }) ≡ settling s i o
 settles_now s i o seen new same e is =
-    ap (λ xs. (true, record s { stages = xs })) (is ∙ ap (λ xs. new_states [] s.plan.stages (set xs i (Settled o))) same)
-    ∙ ap (λ y. settled_by y s i o) (sym (ap (λ xs. outcome_in xs i) (sym same) ∙ e))
+    let none : outcome_at s i ≡ None = ap (λ xs. outcome_in xs i) (sym same) ∙ e in
+    ap (λ xs. (true, record s { stages = xs })) (is ∙ ap (λ xs. new_states [] s.plan.stages (set xs i (Settled o))) same ∙ ap (λ y. stages_after y s.plan.stages s.stages i o) (sym none))
+    ∙ ap (λ y. settled_by y s i o) (sym none)
 
 -- ---- claiming
 
@@ -67,20 +69,24 @@ claims_now s who i args seen new same e is =
 
 -- ---- landing
 
-pub landed_is : (s : State) (i : ℕ) (at : Landing) → record s { stages = landed_stages s.plan.stages s.stages i at } ≡ landed s i at
-landed_is s i (Lands o) = refl
-landed_is s i (Links j) = by_target (outcome_at s j)
+-- a stage that isn't settled is settled
+settled_is : (s : State) (i : ℕ) (o : Outcome) → outcome_at s i ≡ None → record s { stages = new_states [] s.plan.stages (set s.stages i (Settled o)) } ≡ after s i o
+settled_is s i o none = ap (λ y. record s { stages = stages_after y s.plan.stages s.stages i o }) (sym none)
+
+pub landed_is : (s : State) (i : ℕ) (at : Landing) → outcome_at s i ≡ None → record s { stages = landed_stages s.plan.stages s.stages i at } ≡ landed s i at
+landed_is s i (Lands o) none = settled_is s i o none
+landed_is s i (Links j) none = by_target (outcome_at s j)
   where
     by_target : (y : Option Outcome) → record s { stages = linked_stages y s.plan.stages s.stages i j } ≡ linked_to y s i j
-    by_target (Some o) = refl
+    by_target (Some o) = settled_is s i (wrap o) none
     by_target None = refl
 
 -- ---- claims
 
-pub AreClaimed-stay : (claims : List (Option ℕ)) (old new : List Kept) → AreClaimed claims old → StayTaken old new → AreClaimed claims new
+pub AreClaimed-stay : (claims : List (Option ℕ)) (old new : List KeptStage) → AreClaimed claims old → StayTaken old new → AreClaimed claims new
 AreClaimed-stay claims old new h stay i who e = stay i (h i who e)
 
-pub AreClaimed-set : (claims : List (Option ℕ)) (old new : List Kept) (d w : ℕ) → AreClaimed claims old → StayTaken old new → is_taken ((kept_at new d).stage) ≡ true → AreClaimed (set claims d (Some w)) new
+pub AreClaimed-set : (claims : List (Option ℕ)) (old new : List KeptStage) (d w : ℕ) → AreClaimed claims old → StayTaken old new → is_taken ((kept_at new d).stage) ≡ true → AreClaimed (set claims d (Some w)) new
 AreClaimed-set claims old new d w h stay here i who e = elim (eqb_tells i d) [
   | inl s ↦ ap (λ n. is_taken ((kept_at new n).stage)) s.1 ∙ here
   | inr s ↦ stay i (h i who (sym (get-set_other claims d i (Some w) s.1) ∙ e))
@@ -91,7 +97,7 @@ closed [] d who e = cc
 closed (x ∷ claims) zero who e = cc
 closed (x ∷ claims) (suc d) who e = closed claims d who e
 
-pub AreClaimed-closed : (claims : List (Option ℕ)) (old new : List Kept) (d : ℕ) → AreClaimed claims old → StayTakenBut d old new → AreClaimed (set claims d None) new
+pub AreClaimed-closed : (claims : List (Option ℕ)) (old new : List KeptStage) (d : ℕ) → AreClaimed claims old → StayTakenBut d old new → AreClaimed (set claims d None) new
 AreClaimed-closed claims old new d h stay i who e = elim (eqb_tells i d) [
   | inl s ↦ absurd (closed claims d who (ap (slice_get (set claims d None)) (sym s.1) ∙ e))
   | inr s ↦ stay i s.1 (h i who (sym (get-set_other claims d i None s.1) ∙ e))
@@ -114,7 +120,7 @@ none_open zero i who e = cc
 none_open (suc n) zero who e = cc
 none_open (suc n) (suc i) who e = none_open n i who e
 
-pub no_claims : (n : ℕ) (kept : List Kept) → AreClaimed (replicate n None) kept
+pub no_claims : (n : ℕ) (kept : List KeptStage) → AreClaimed (replicate n None) kept
 no_claims n kept i who e = absurd (none_open n i who e)
 
 -- ---- the first of a list
@@ -148,5 +154,5 @@ finishes_now s who i answer source at seen new same has e from lands is =
     let source_is : source ≡ source_outcome before i = from ∙ ap (λ xs. option_and_then (outcome_in xs) (slice_get (sources_at s.plan.stages i) 0)) same in
     let at_is : at ≡ landing (form_at s.plan.stages i) i (source_outcome before i) answer = lands ∙ ap (λ x. landing (form_at s.plan.stages i) i x answer) source_is in
     ap (λ xs. (Won, record s { stages = xs; claims = set s.claims i None })) (is ∙ ap (λ xs. landed_stages s.plan.stages xs i at) same)
-    ∙ ap (λ r. (Won, r)) (landed_is before i at ∙ ap (landed before i) at_is)
+    ∙ ap (λ r. (Won, r)) (landed_is before i at none ∙ ap (landed before i) at_is)
     ∙ sym (ap (λ b. cond b (finished_by (outcome_at s i) before i answer) (NotYours, s)) has ∙ ap (λ y. finished_by y before i answer) none)

@@ -12,13 +12,13 @@ use Rattle.cf_plan.specs.Plans.{PlannedStage}
 use Rattle.cf_core.specs.declared.stage.Stage.{Stage}
 use Rattle.cf_core.specs.declared.stage.Stage.TheVariants.{Pending, Ready, Claimed, Linked, Settled}
 use Rattle.cf_core.specs.States.{is_ready}
-use Rattle.cf_core.specs.declared.kept.Kept.{Kept}
-use Rattle.cf_core.specs.Keeping.Late.{IsQuiet, all_treated, treated}
+use Rattle.cf_core.specs.declared.kept.KeptStage.{KeptStage}
+use Rattle.cf_core.specs.Keeping.Late.{IsSteady, all_treated, treated}
 use Rattle.cf_core.specs.Keeping.Sound.{AreTreated, IsSound, ReadyIsTreated, is_waiting, kept_at, outlook}
 use Rattle.cf_core.proofs.Keeping.Sums.{kept_is, kept_there}
 use Rattle.cf_core.proofs.Keeping.Waiting.{sources_below, stays, treated-take}
-use Rattle.cf_core.proofs.Keeping.Marks.{quiet_by_stage}
-use Rattle.cf_core.proofs.Keeping.Moves.{get-map, is_quiet, outlook_at}
+use Rattle.cf_core.proofs.Keeping.Marks.{steady_by_stage}
+use Rattle.cf_core.proofs.Keeping.Moves.{get-map, is_steady, outlook_at}
 use Rattle.cf_core.proofs.Keeping.Places.{lowest_below, lowest_within}
 
 -- ---- where no flag is set
@@ -77,13 +77,13 @@ get_is [] i x d e = cc
 get_is (y ∷ xs) zero x d e = cc
 get_is (y ∷ xs) (suc i) x d e = get_is xs i x d e
 
-length-all_treated : (below : List Kept) (plan : List PlannedStage) (kept : List Kept) → length (all_treated below plan kept) ≡ length kept
+length-all_treated : (below : List KeptStage) (plan : List PlannedStage) (kept : List KeptStage) → length (all_treated below plan kept) ≡ length kept
 length-all_treated below [] kept = refl
 length-all_treated below (p ∷ plan) [] = refl
 length-all_treated below (p ∷ plan) (k ∷ kept) = ap suc (length-all_treated (below ++ treated below p k ∷ []) plan kept)
 
-pub length-outlook : (plan : List PlannedStage) (kept : List Kept) → length (outlook plan kept) ≡ length kept
-length-outlook plan kept = length-map (all_treated [] plan kept) (λ (k : Kept). k.stage) ∙ length-all_treated [] plan kept
+pub length-outlook : (plan : List PlannedStage) (kept : List KeptStage) → length (outlook plan kept) ≡ length kept
+length-outlook plan kept = length-map (all_treated [] plan kept) (λ (k : KeptStage). k.stage) ∙ length-all_treated [] plan kept
 
 -- ---- the lowest ready stage
 
@@ -94,29 +94,29 @@ ready_idle Claimed e = cc
 ready_idle (Linked j) e = cc
 ready_idle (Settled o) e = cc
 
-module _ (plan : List PlannedStage) (kept : List Kept) (marks ready : List Bool) (links : List (List ℕ)) (steps turns : ℕ) (h : IsSound plan kept marks ready links steps turns) where
+module _ (plan : List PlannedStage) (kept : List KeptStage) (marks ready : List Bool) (links : List (List ℕ)) (steps turns : ℕ) (h : IsSound plan kept marks ready links steps turns) where
   flag_at : (i : ℕ) → i < length kept → slice_get ready i ≡ Some (is_ready ((kept_at kept i).stage))
-  flag_at i l = ap (λ xs. slice_get xs i) h.ready_are ∙ get-map (λ (k : Kept). is_ready k.stage) kept i ∙ ap (option_map (λ (k : Kept). is_ready k.stage)) (kept_there kept i l)
+  flag_at i l = ap (λ xs. slice_get xs i) h.ready_are ∙ get-map (λ (k : KeptStage). is_ready k.stage) kept i ∙ ap (option_map (λ (k : KeptStage). is_ready k.stage)) (kept_there kept i l)
 
-  -- the stages up to a ready one are quiet where none below it is marked
-  quiet_to : (r : ℕ) → AreTreated r marks → is_ready ((kept_at kept r).stage) ≡ true → IsQuiet [] plan kept (r + 1)
-  quiet_to r treated is = quiet_by_stage plan kept (r + 1) (λ i p k l ep ek. elim (eqb_tells i r) [
+  -- the stages up to a ready one are steady where none below it is marked
+  steady_to : (r : ℕ) → AreTreated r marks → is_ready ((kept_at kept r).stage) ≡ true → IsSteady [] plan kept (r + 1)
+  steady_to r treated is = steady_by_stage plan kept (r + 1) (λ i p k l ep ek. elim (eqb_tells i r) [
     | inl s ↦ (let same = s.1 in
         let at : k ≡ kept_at kept r = sym (kept_is kept i k ek) ∙ ap (kept_at kept) same in
-        stays (take i kept) p k.stage k.step (ready_idle k.stage (ap (λ (x : Kept). is_ready x.stage) at ∙ is)))
+        stays (take i kept) p k.stage k.step (ready_idle k.stage (ap (λ (x : KeptStage). is_ready x.stage) at ∙ is)))
     | inr s ↦ (let ne = s.1 in
         treated-take kept i p k.stage k.step (sources_below plan i p h.sources_lower ep) (λ j e. (let b = h.listed i j k ek e in b.lower))
         ∙ h.waits i p k ep ek (treated i (omega arith)))
   ])
 
-  stage_at : (i n : ℕ) → i < length plan → IsQuiet [] plan kept n → i < n → is_ready (get_or (outlook plan kept) i Pending) ≡ is_ready ((kept_at kept i).stage)
-  stage_at i n l quiet below = ap is_ready (get_is (outlook plan kept) i ((kept_at kept i).stage) Pending (outlook_at plan kept marks ready links steps turns h i n l quiet below))
+  stage_at : (i n : ℕ) → i < length plan → IsSteady [] plan kept n → i < n → is_ready (get_or (outlook plan kept) i Pending) ≡ is_ready ((kept_at kept i).stage)
+  stage_at i n l steady below = ap is_ready (get_is (outlook plan kept) i ((kept_at kept i).stage) Pending (outlook_at plan kept marks ready links steps turns h i n l steady below))
 
   flag_is : (i : ℕ) → i < length kept → is_ready ((kept_at kept i).stage) ≡ get_or ready i false
   flag_is i l = sym (get_is ready i (is_ready ((kept_at kept i).stage)) false (flag_at i l))
 
   all_flags : length ready ≡ length kept
-  all_flags = ap length h.ready_are ∙ length-map kept (λ (k : Kept). is_ready k.stage)
+  all_flags = ap length h.ready_are ∙ length-map kept (λ (k : KeptStage). is_ready k.stage)
 
   pub ready_first : (r : ℕ) → position (λ b. b) ready ≡ Some r → AreTreated r marks → position is_ready (outlook plan kept) ≡ Some r
   ready_first r lowest treated =
@@ -125,22 +125,22 @@ module _ (plan : List PlannedStage) (kept : List Kept) (marks ready : List Bool)
       let in_kept : r < length kept = omega (arith, first.0, all) in
       let in_plan : r < length plan = omega (arith, h.all_kept) in
       let is = flag_is r in_kept ∙ first.1 in
-      let quiet = quiet_to r treated is in
+      let steady = steady_to r treated is in
       let count = length-outlook plan kept in
       position_is is_ready (outlook plan kept) r Pending (omega (arith, count))
-      (λ j l. stage_at j (r + 1) (omega arith) quiet (omega arith) ∙ flag_is j (omega arith) ∙ first.2 j l)
-      (stage_at r (r + 1) in_plan quiet (omega arith) ∙ is)
+      (λ j l. stage_at j (r + 1) (omega arith) steady (omega arith) ∙ flag_is j (omega arith) ∙ first.2 j l)
+      (stage_at r (r + 1) in_plan steady (omega arith) ∙ is)
 
   pub ready_none : position (λ b. b) ready ≡ None → position (λ b. b) marks ≡ None → position is_ready (outlook plan kept) ≡ None
   ready_none lowest unmarked =
       let all = all_flags in
       let count = length-outlook plan kept in
-      let quiet = is_quiet plan kept marks ready links steps turns h (length plan) (none_marked marks (length plan) unmarked (omega (arith, h.all_marks))) in
+      let steady = is_steady plan kept marks ready links steps turns h (length plan) (none_marked marks (length plan) unmarked (omega (arith, h.all_marks))) in
       let flags = none_marked ready (length ready) lowest (omega arith) in
       position_is_none is_ready (outlook plan kept) Pending
       (λ j l. (let in_kept : j < length kept = omega (arith, count) in
       let in_plan : j < length plan = omega (arith, h.all_kept) in
-      stage_at j (length plan) in_plan quiet in_plan ∙ flag_is j in_kept ∙ get_is ready j false false (flags j (omega (arith, all)))))
+      stage_at j (length plan) in_plan steady in_plan ∙ flag_is j in_kept ∙ get_is ready j false false (flags j (omega (arith, all)))))
 
   pub lowest_ready_is : (x : Option ℕ) → position (λ b. b) ready ≡ x → MatchOption x (position (λ b. b) marks ≡ None) (λ r. AreTreated r marks) → position is_ready (outlook plan kept) ≡ x
   lowest_ready_is None e h = ready_none e h

@@ -1,7 +1,7 @@
 -- A stage is taken out of the list of linked stages, and marked.
 use Rattle.std.proofs.Common.{◌≡◌, ℕ, ◌<◌, ◌∷◌, [], List, Bool, Some, None, length, suc, zero, arith, ap, ◌∙◌, refl, set, drop, length-set}
 use Rattle.std.specs.Prelude.{slice_get, unwrap_or}
-use Rattle.cf_core.specs.declared.kept.Kept.{Kept}
+use Rattle.cf_core.specs.declared.kept.KeptStage.{KeptStage}
 use Rattle.cf_core.specs.Keeping.Links.{list_at}
 use Rattle.cf_core.specs.Keeping.Sound.{mark_one, mark_all}
 use Rattle.cf_core.proofs.Keeping.Marking.{get-set_same}
@@ -11,7 +11,7 @@ set-twice [] i a b = refl
 set-twice (x ∷ xs) zero a b = refl
 set-twice (x ∷ xs) (suc i) a b = ap (λ r. x ∷ r) (set-twice xs i a b)
 
-first_marked : (kept : List Kept) (stages : List ℕ) (marks : List Bool) (i : ℕ) → Some i ≡ slice_get stages 0 → mark_all kept (drop 1 stages) (mark_one kept i marks) ≡ mark_all kept stages marks
+first_marked : (kept : List KeptStage) (stages : List ℕ) (marks : List Bool) (i : ℕ) → Some i ≡ slice_get stages 0 → mark_all kept (drop 1 stages) (mark_one kept i marks) ≡ mark_all kept stages marks
 first_marked kept [] marks i e = cc
 first_marked kept (j ∷ stages) marks i e = let same : i ≡ j = cc in ap (λ n. mark_all kept stages (mark_one kept n marks)) same
 
@@ -26,7 +26,7 @@ nothing_left (j ∷ stages) e = cc
 list_is : (lists : List (List ℕ)) (t : ℕ) → t < length lists → list_at (set lists t (drop 1 (list_at lists t))) t ≡ drop 1 (list_at lists t)
 list_is lists t l = ap (λ x. unwrap_or x []) (get-set_same lists t (drop 1 (list_at lists t)) l)
 
-pub pop_marks : (kept : List Kept) (lists new : List (List ℕ)) (t : ℕ) (marks : List Bool) (i : ℕ) → t < length lists → Some i ≡ slice_get (list_at lists t) 0 → new ≡ set lists t (drop 1 (list_at lists t)) →
+pub pop_marks : (kept : List KeptStage) (lists new : List (List ℕ)) (t : ℕ) (marks : List Bool) (i : ℕ) → t < length lists → Some i ≡ slice_get (list_at lists t) 0 → new ≡ set lists t (drop 1 (list_at lists t)) →
     mark_all kept (list_at new t) (mark_one kept i marks) ≡ mark_all kept (list_at lists t) marks
 pop_marks kept lists new t marks i l e is =
     ap (λ xs. mark_all kept (list_at xs t) (mark_one kept i marks)) is

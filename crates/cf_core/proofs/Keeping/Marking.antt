@@ -4,7 +4,7 @@ use Rattle.std.specs.Prelude.{slice_get, count_by, ◌==◌}
 use Rattle.std.proofs.lemmas.Bool.Decides.{eqb_tells, nat_tests}
 use Rattle.std.proofs.lemmas.List.Sums.{sum_by-cons}
 use Rattle.cf_plan.specs.Plans.{mentions}
-use Rattle.cf_core.specs.declared.kept.Kept.{Kept}
+use Rattle.cf_core.specs.declared.kept.KeptStage.{KeptStage}
 use Rattle.cf_core.specs.Keeping.Sound.{is_waiting, kept_at, mark_one, mark_all}
 
 -- ---- lists with one element written
@@ -55,7 +55,7 @@ mark_one-stays true marks i j e = elim (eqb_tells j i) [
     within (x ∷ marks) (suc i) zero s e = absurd (omega arith)
     within (x ∷ marks) (suc i) (suc j) s e = let t : j ≡ i = omega arith in let l = within marks i j t e in omega arith
 
-pub mark_all-stays : (kept : List Kept) (stages : List ℕ) (marks : List Bool) (j : ℕ) → slice_get marks j ≡ Some true → slice_get (mark_all kept stages marks) j ≡ Some true
+pub mark_all-stays : (kept : List KeptStage) (stages : List ℕ) (marks : List Bool) (j : ℕ) → slice_get marks j ≡ Some true → slice_get (mark_all kept stages marks) j ≡ Some true
 mark_all-stays kept [] marks j e = e
 mark_all-stays kept (i ∷ stages) marks j e =
     mark_all-stays kept stages (mark_one kept i marks) j (mark_one-stays (is_waiting ((kept_at kept i).stage)) marks i j e)
@@ -64,12 +64,12 @@ pub length-mark_one : (b : Bool) (marks : List Bool) (i : ℕ) → length (cond 
 length-mark_one true marks i = length-set marks i true
 length-mark_one false marks i = refl
 
-pub length-mark_all : (kept : List Kept) (stages : List ℕ) (marks : List Bool) → length (mark_all kept stages marks) ≡ length marks
+pub length-mark_all : (kept : List KeptStage) (stages : List ℕ) (marks : List Bool) → length (mark_all kept stages marks) ≡ length marks
 length-mark_all kept [] marks = refl
 length-mark_all kept (i ∷ stages) marks = length-mark_all kept stages (mark_one kept i marks) ∙ length-mark_one (is_waiting ((kept_at kept i).stage)) marks i
 
 -- a stage that waits and is named is marked
-pub mark_all-marks : (kept : List Kept) (stages : List ℕ) (marks : List Bool) (j : ℕ) → j < length marks → is_waiting ((kept_at kept j).stage) ≡ true → 0 < mentions j stages →
+pub mark_all-marks : (kept : List KeptStage) (stages : List ℕ) (marks : List Bool) (j : ℕ) → j < length marks → is_waiting ((kept_at kept j).stage) ≡ true → 0 < mentions j stages →
     slice_get (mark_all kept stages marks) j ≡ Some true
 mark_all-marks kept [] marks j l w h = absurd (omega arith)
 mark_all-marks kept (i ∷ stages) marks j l w h = elim (eqb_tells i j) [
@@ -84,7 +84,7 @@ mark_all-marks kept (i ∷ stages) marks j l w h = elim (eqb_tells i j) [
 ]
 
 -- what isn't marked afterwards wasn't before
-pub mark_all-unmarked : (kept : List Kept) (stages : List ℕ) (marks : List Bool) (j : ℕ) → slice_get (mark_all kept stages marks) j ≡ Some false → slice_get marks j ≡ Some false
+pub mark_all-unmarked : (kept : List KeptStage) (stages : List ℕ) (marks : List Bool) (j : ℕ) → slice_get (mark_all kept stages marks) j ≡ Some false → slice_get marks j ≡ Some false
 mark_all-unmarked kept stages marks j e = by_mark (slice_get marks j) refl
   where
     none : (marks : List Bool) (j : ℕ) → slice_get marks j ≡ None → length marks ≤ j
@@ -126,7 +126,7 @@ count-mark_one : (b : Bool) (marks : List Bool) (i : ℕ) → count_by (λ b. b)
 count-mark_one true marks i = count-set_true marks i
 count-mark_one false marks i = omega arith
 
-pub count-mark_all : (kept : List Kept) (stages : List ℕ) (marks : List Bool) → count_by (λ b. b) (mark_all kept stages marks) ≤ count_by (λ b. b) marks + length stages
+pub count-mark_all : (kept : List KeptStage) (stages : List ℕ) (marks : List Bool) → count_by (λ b. b) (mark_all kept stages marks) ≤ count_by (λ b. b) marks + length stages
 count-mark_all kept [] marks = omega arith
 count-mark_all kept (i ∷ stages) marks =
     let rest = count-mark_all kept stages (mark_one kept i marks) in

@@ -1,45 +1,45 @@
--- Quiet stages, one by one.
+-- Steady stages, one by one.
 use Rattle.std.proofs.Common.{◌≡◌, ◌≢◌, ℕ, ◌<◌, ◌∷◌, ◌++◌, [], List, Some, Contains, suc, zero, arith, ap, sym, ◌∙◌, refl, set, map, take, append_assoc, append-nil}
 use Rattle.std.specs.Prelude.{slice_get, option_and_then}
 use Rattle.cf_plan.specs.Plans.{PlannedStage}
 use Rattle.cf_core.specs.declared.stage.Stage.{Stage}
 use Rattle.cf_core.specs.declared.stage.Stage.TheVariants.{Pending, Ready, Claimed, Linked, Settled}
-use Rattle.cf_core.specs.declared.kept.Kept.{Kept}
-use Rattle.cf_core.specs.Keeping.Late.{treated, treated_by, due_kept, late_due, dated_in, dated_of, linked_kept, IsQuiet}
-use Rattle.cf_core.specs.Keeping.Marks.{QuietByStage, OthersWait}
+use Rattle.cf_core.specs.declared.kept.KeptStage.{KeptStage}
+use Rattle.cf_core.specs.Keeping.Late.{treated, treated_by, due_kept, late_due, dated_in, dated_of, linked_kept, IsSteady}
+use Rattle.cf_core.specs.Keeping.Marks.{SteadyByStage, OthersWait}
 
-quiet : (below : List Kept) (plan : List PlannedStage) (kept : List Kept) (m : ℕ) →
-    ((i : ℕ) (p : PlannedStage) (k : Kept) → i < m → slice_get plan i ≡ Some p → slice_get kept i ≡ Some k → treated (below ++ take i kept) p k ≡ k) →
-    IsQuiet below plan kept m
-quiet below plan kept zero h = refl
-quiet below [] kept (suc m) h = refl
-quiet below (p ∷ plan) [] (suc m) h = refl
-quiet below (p ∷ plan) (k ∷ kept) (suc m) h =
+steady : (below : List KeptStage) (plan : List PlannedStage) (kept : List KeptStage) (m : ℕ) →
+    ((i : ℕ) (p : PlannedStage) (k : KeptStage) → i < m → slice_get plan i ≡ Some p → slice_get kept i ≡ Some k → treated (below ++ take i kept) p k ≡ k) →
+    IsSteady below plan kept m
+steady below plan kept zero h = refl
+steady below [] kept (suc m) h = refl
+steady below (p ∷ plan) [] (suc m) h = refl
+steady below (p ∷ plan) (k ∷ kept) (suc m) h =
     let here : treated below p k ≡ k = ap (λ b. treated b p k) (sym (append-nil below)) ∙ h zero p k (omega arith) refl refl in
-    let rest = quiet (below ++ k ∷ []) plan kept m (λ i q l lt eq el.
+    let rest = steady (below ++ k ∷ []) plan kept m (λ i q l lt eq el.
     ap (λ b. treated b q l) (append_assoc below (k ∷ []) (take i kept)) ∙ h (suc i) q l (omega arith) eq el) in
     rw here (ap (λ r. k ∷ r) rest)
 
-pub quiet_by_stage : QuietByStage
-quiet_by_stage plan kept m h = quiet [] plan kept m h
+pub steady_by_stage : SteadyByStage
+steady_by_stage plan kept m h = steady [] plan kept m h
 
-slice_get-set_other : (xs : List Kept) (i j : ℕ) (y : Kept) → j ≢ i → slice_get (set xs i y) j ≡ slice_get xs j
+slice_get-set_other : (xs : List KeptStage) (i j : ℕ) (y : KeptStage) → j ≢ i → slice_get (set xs i y) j ≡ slice_get xs j
 slice_get-set_other [] i j y ne = refl
 slice_get-set_other (x ∷ xs) zero zero y ne = absurd (ne refl)
 slice_get-set_other (x ∷ xs) zero (suc j) y ne = refl
 slice_get-set_other (x ∷ xs) (suc i) zero y ne = refl
 slice_get-set_other (x ∷ xs) (suc i) (suc j) y ne = slice_get-set_other xs i j y (λ e. ne (ap suc e))
 
-pub dated_in-set : (kept : List Kept) (d j : ℕ) (new : Kept) → j ≢ d → dated_in (set kept d new) j ≡ dated_in kept j
+pub dated_in-set : (kept : List KeptStage) (d j : ℕ) (new : KeptStage) → j ≢ d → dated_in (set kept d new) j ≡ dated_in kept j
 dated_in-set kept d j new ne = ap (option_and_then dated_of) (slice_get-set_other kept d j new ne)
 
-map-dated_in-set : (kept : List Kept) (d : ℕ) (new : Kept) (sources : List ℕ) → ((j : ℕ) → Contains sources j → j ≢ d) → map (dated_in (set kept d new)) sources ≡ map (dated_in kept) sources
+map-dated_in-set : (kept : List KeptStage) (d : ℕ) (new : KeptStage) (sources : List ℕ) → ((j : ℕ) → Contains sources j → j ≢ d) → map (dated_in (set kept d new)) sources ≡ map (dated_in kept) sources
 map-dated_in-set kept d new [] h = refl
 map-dated_in-set kept d new (j ∷ sources) h =
     let here = dated_in-set kept d j new (h j (0, omega arith, refl)) in
     let rest = map-dated_in-set kept d new sources (λ k c. h k (suc c.0, omega (arith, c.1), c.2)) in cc
 
-pub treated-set : (kept : List Kept) (d : ℕ) (new : Kept) (p : PlannedStage) (stage : Stage) (step : ℕ) →
+pub treated-set : (kept : List KeptStage) (d : ℕ) (new : KeptStage) (p : PlannedStage) (stage : Stage) (step : ℕ) →
     ((j : ℕ) → Contains p.sources j → j ≢ d) → ((j : ℕ) → stage ≡ Linked j → j ≢ d) → treated_by (set kept d new) p stage step ≡ treated_by kept p stage step
 treated-set kept d new p Pending step h l = ap (λ q. let due = late_due p.form q in due_kept due.0 due.1 step) (map-dated_in-set kept d new p.sources h)
 treated-set kept d new p (Linked j) step h l = ap (linked_kept j step) (dated_in-set kept d j new (l j refl))

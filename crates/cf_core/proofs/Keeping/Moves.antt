@@ -10,13 +10,13 @@ use Rattle.cf_plan.specs.declared.forms.Form.TheVariants.{Compose}
 use Rattle.cf_plan.specs.Plans.{PlannedStage, form_at, dependents_of}
 use Rattle.cf_core.specs.declared.stage.Stage.TheVariants.{Ready, Claimed, Linked, Settled}
 use Rattle.cf_core.specs.States.{outcome_of, outcome_in, new_states}
-use Rattle.cf_core.specs.declared.kept.Kept.{Kept}
-use Rattle.cf_core.specs.Keeping.Late.{IsQuiet, all_treated, dated_in, linked_kept, stages_of, treated}
+use Rattle.cf_core.specs.declared.kept.KeptStage.{KeptStage}
+use Rattle.cf_core.specs.Keeping.Late.{IsSteady, all_treated, dated_in, linked_kept, stages_of, treated}
 use Rattle.cf_core.specs.Keeping.Links.{list_at}
 use Rattle.cf_core.specs.Keeping.Sound.{IsSound, is_bound, kept_at, mark_all, marks_of, link_marks, outlook, steps_of}
 use Rattle.cf_core.proofs.Keeping.Marking.{get-set_same, get-set_other}
 use Rattle.cf_core.proofs.Keeping.Sums.{sum_by-set_at, sum_by-at, kept_there, kept_is, list_there, there_within}
-use Rattle.cf_core.proofs.Keeping.Waiting.{quiet_below, quiet_at, treated-take, sources_below}
+use Rattle.cf_core.proofs.Keeping.Waiting.{steady_below, steady_at, treated-take, sources_below}
 use Rattle.cf_core.proofs.Keeping.Turns.{turns_change_nothing}
 use Rattle.cf_core.proofs.Keeping.Settling.{settling_is_after}
 use Rattle.cf_core.proofs.Keeping.Writes.{claiming_is_alone, linking_is_alone}
@@ -34,28 +34,28 @@ list_all_at P [] j l a = absurd (omega arith)
 list_all_at P (x ∷ links) zero l a = All-head P x links a
 list_all_at P (x ∷ links) (suc j) l a = list_all_at P links j (omega arith) (All-tail P x links a)
 
-module _ (plan : List PlannedStage) (kept : List Kept) (marks ready : List Bool) (links : List (List ℕ)) (steps turns : ℕ) (h : IsSound plan kept marks ready links steps turns) where
-  pub is_quiet : (m : ℕ) → ((i : ℕ) → i < m → slice_get marks i ≡ Some false) → IsQuiet [] plan kept m
-  is_quiet m none = quiet_below plan kept marks links m h.sources_lower h.waits h.listed none
+module _ (plan : List PlannedStage) (kept : List KeptStage) (marks ready : List Bool) (links : List (List ℕ)) (steps turns : ℕ) (h : IsSound plan kept marks ready links steps turns) where
+  pub is_steady : (m : ℕ) → ((i : ℕ) → i < m → slice_get marks i ≡ Some false) → IsSteady [] plan kept m
+  is_steady m none = steady_below plan kept marks links m h.sources_lower h.waits h.listed none
 
   -- a stage below all marks is as it is kept
-  pub outlook_at : (d m : ℕ) → d < length plan → IsQuiet [] plan kept m → d < m → slice_get (outlook plan kept) d ≡ Some ((kept_at kept d).stage)
-  outlook_at d m l quiet below =
-      get-map (λ (k : Kept). k.stage) (all_treated [] plan kept) d
-      ∙ ap (option_map (λ (k : Kept). k.stage)) (quiet_at plan kept m d quiet below ∙ kept_there kept d (omega (arith, h.all_kept)))
+  pub outlook_at : (d m : ℕ) → d < length plan → IsSteady [] plan kept m → d < m → slice_get (outlook plan kept) d ≡ Some ((kept_at kept d).stage)
+  outlook_at d m l steady below =
+      get-map (λ (k : KeptStage). k.stage) (all_treated [] plan kept) d
+      ∙ ap (option_map (λ (k : KeptStage). k.stage)) (steady_at plan kept m d steady below ∙ kept_there kept d (omega (arith, h.all_kept)))
 
-  pub outcome_there : (d m : ℕ) → d < length plan → IsQuiet [] plan kept m → d < m → outcome_in (outlook plan kept) d ≡ outcome_of ((kept_at kept d).stage)
-  outcome_there d m l quiet below = ap (option_and_then outcome_of) (outlook_at d m l quiet below)
+  pub outcome_there : (d m : ℕ) → d < length plan → IsSteady [] plan kept m → d < m → outcome_in (outlook plan kept) d ≡ outcome_of ((kept_at kept d).stage)
+  outcome_there d m l steady below = ap (option_and_then outcome_of) (outlook_at d m l steady below)
 
   -- ---- a turn
 
-  pub turn_same : (m : ℕ) (p : PlannedStage) → slice_get plan m ≡ Some p → IsQuiet [] plan kept m → outlook plan (set kept m (treated kept p (kept_at kept m))) ≡ outlook plan kept
-  turn_same m p planned quiet =
+  pub turn_same : (m : ℕ) (p : PlannedStage) → slice_get plan m ≡ Some p → IsSteady [] plan kept m → outlook plan (set kept m (treated kept p (kept_at kept m))) ≡ outlook plan kept
+  turn_same m p planned steady =
       let k = kept_at kept m in
       let l = there_within plan m p planned in
       let there = kept_there kept m (omega (arith, h.all_kept, l)) in
       let same = treated-take kept m p k.stage k.step (sources_below plan m p h.sources_lower planned) (λ j e. (let b = h.listed m j k there e in b.lower)) in
-      ap stages_of (ap (λ new. all_treated [] plan (set kept m new)) (sym same) ∙ turns_change_nothing plan kept m p k planned there quiet)
+      ap stages_of (ap (λ new. all_treated [] plan (set kept m new)) (sym same) ∙ turns_change_nothing plan kept m p k planned there steady)
 
   -- ---- a stage is settled by a call
 
@@ -65,16 +65,16 @@ module _ (plan : List PlannedStage) (kept : List Kept) (marks ready : List Bool)
       (set ready d false) (set links d []) (steps + 1) turns
   settle_sound d o l e = settled_sound plan kept marks ready links steps turns (names_dependents plan) h d o (steps + 1) (steps + 1) turns marks l e (omega arith) (omega arith) (omega arith) refl (λ i ne. refl) (omega arith)
 
-  pub settle_same : (d m : ℕ) (o : Outcome) → d < length plan → IsQuiet [] plan kept m → d < m → outcome_of ((kept_at kept d).stage) ≡ None →
+  pub settle_same : (d m : ℕ) (o : Outcome) → d < length plan → IsSteady [] plan kept m → d < m → outcome_of ((kept_at kept d).stage) ≡ None →
       outlook plan (set kept d (record { stage = Settled o; step = steps + 1 })) ≡ new_states [] plan (set (outlook plan kept) d (Settled o))
-  settle_same d m o l quiet below e = settling_is_after plan kept d steps o h.kept_steps (outcome_there d m l quiet below ∙ e)
+  settle_same d m o l steady below e = settling_is_after plan kept d steps o h.kept_steps (outcome_there d m l steady below ∙ e)
 
   -- ---- a ready stage is claimed
 
   pub claim_sound : (d step : ℕ) (args : Args) → d < length plan → (kept_at kept d).stage ≡ Ready args → step ≤ steps →
       IsSound plan (set kept d (record { stage = Claimed; step = step })) marks (set ready d false) links steps turns
   claim_sound d step args l e few =
-      let new : Kept = record { stage = Claimed; step = step } in
+      let new : KeptStage = record { stage = Claimed; step = step } in
       let k = kept_at kept d in
       let there = kept_there kept d (omega (arith, h.all_kept)) in
       let before : outcome_of k.stage ≡ None = ap outcome_of e in
@@ -85,9 +85,9 @@ module _ (plan : List PlannedStage) (kept : List Kept) (marks ready : List Bool)
       (bound_more kept links d new (there_within kept d k there) (λ b. (let f = ap is_bound e in cc)) h.bound)
       (omega (arith, budget))
 
-  pub claim_same : (d step m : ℕ) (args : Args) → d < length plan → IsQuiet [] plan kept m → d < m → (kept_at kept d).stage ≡ Ready args →
+  pub claim_same : (d step m : ℕ) (args : Args) → d < length plan → IsSteady [] plan kept m → d < m → (kept_at kept d).stage ≡ Ready args →
       outlook plan (set kept d (record { stage = Claimed; step = step })) ≡ set (outlook plan kept) d Claimed
-  claim_same d step m args l quiet below e = claiming_is_alone plan kept d step (outcome_there d m l quiet below ∙ ap outcome_of e)
+  claim_same d step m args l steady below e = claiming_is_alone plan kept d step (outcome_there d m l steady below ∙ ap outcome_of e)
 
   -- ---- a claimed stage is linked to a lower one
 
@@ -105,7 +105,7 @@ module _ (plan : List PlannedStage) (kept : List Kept) (marks ready : List Bool)
   pub link_sound : (d j : ℕ) → d < length plan → j < d → (kept_at kept d).stage ≡ Claimed → form_at plan d ≡ Compose → dated_in kept j ≡ None →
       IsSound plan (set kept d (record { stage = Linked j; step = steps + 1 })) marks (set ready d false) (set links j (d ∷ list_at links j)) (steps + 1) turns
   link_sound d j l lower e compose open_target =
-      let new : Kept = record { stage = Linked j; step = steps + 1 } in
+      let new : KeptStage = record { stage = Linked j; step = steps + 1 } in
       let k = kept_at kept d in
       let there = kept_there kept d (omega (arith, h.all_kept)) in
       let before : outcome_of k.stage ≡ None = ap outcome_of e in
@@ -115,7 +115,7 @@ module _ (plan : List PlannedStage) (kept : List Kept) (marks ready : List Bool)
       let one = ap link_marks compose in
       let longer = sum_by-set_at {X = List ℕ} length links j (list_at links j) (d ∷ list_at links j) (list_there links j in_links) in
       let P : ℕ → Type 0 = λ i. is_bound ((kept_at (set kept d new) i).stage) ≡ true in
-      let here : P d = ap (λ (x : Kept). is_bound x.stage) (kept_is (set kept d new) d new (get-set_same kept d new (there_within kept d k there))) in
+      let here : P d = ap (λ (x : KeptStage). is_bound x.stage) (kept_is (set kept d new) d new (get-set_same kept d new (there_within kept d k there))) in
       let others = bound_more kept links d new (there_within kept d k there) (λ b. refl) h.bound in
       let at_j = list_all_at (All P) links j in_links others in
       unsettled_sound plan kept marks ready links steps turns h d new (steps + 1) turns marks (set links j (d ∷ list_at links j)) l before refl (omega arith) (omega arith) (omega (arith, two)) refl (λ i ne. refl)
@@ -142,7 +142,7 @@ module _ (plan : List PlannedStage) (kept : List Kept) (marks ready : List Bool)
             subst (λ xs. Contains xs i) (sym same) c)
       ]
 
-  pub link_same : (d j step m : ℕ) → d < length plan → IsQuiet [] plan kept m → d < m → j < d → (kept_at kept d).stage ≡ Claimed → outcome_of ((kept_at kept j).stage) ≡ None →
+  pub link_same : (d j step m : ℕ) → d < length plan → IsSteady [] plan kept m → d < m → j < d → (kept_at kept d).stage ≡ Claimed → outcome_of ((kept_at kept j).stage) ≡ None →
       outlook plan (set kept d (record { stage = Linked j; step = step })) ≡ set (outlook plan kept) d (Linked j)
-  link_same d j step m l quiet below lower e open_target =
-      linking_is_alone plan kept d j step lower (outcome_there d m l quiet below ∙ ap outcome_of e) (outcome_there j m (omega arith) quiet (omega arith) ∙ open_target)
+  link_same d j step m l steady below lower e open_target =
+      linking_is_alone plan kept d j step lower (outcome_there d m l steady below ∙ ap outcome_of e) (outcome_there j m (omega arith) steady (omega arith) ∙ open_target)

@@ -6,21 +6,19 @@ use Rattle.cf_plan.specs.declared.forms.Args.{Args}
 use Rattle.std.proofs.lemmas.Bool.Decides.{eqb_tells}
 use Rattle.std.proofs.lemmas.List.Quantifiers.{position-Some}
 use Rattle.std.proofs.lemmas.Option.{slice_get-get_or}
-use Rattle.cf_plan.specs.Plans.{PlannedStage, form_at, function_at, sources_at}
+use Rattle.cf_plan.specs.Plans.{PlannedStage}
 use Rattle.cf_core.specs.declared.stage.Stage.{Stage}
 use Rattle.cf_core.specs.declared.stage.Stage.TheVariants.{Pending, Ready, Claimed, Linked, Settled}
 use Rattle.cf_core.specs.States.{is_ready, outcome_of}
-use Rattle.cf_core.specs.declared.kept.Kept.{Kept}
-use Rattle.cf_core.specs.Keeping.Late.{dated_in, dated_of, treated}
+use Rattle.cf_core.specs.declared.kept.KeptStage.{KeptStage}
+use Rattle.cf_core.specs.Keeping.Late.{dated_in, dated_of, treated, treated_by}
+use Rattle.cf_core.specs.Keeping.Turns.{planned_at, turned}
+use Rattle.std.proofs.lemmas.List.{set-get_or}
 use Rattle.cf_core.specs.Keeping.Sound.{AreTreated, IsSound, StayTaken, StayTakenBut, is_taken, is_waiting, kept_at, links_after, marks_after, outlook}
 use Rattle.cf_core.proofs.Keeping.Marking.{get-set_same, get-set_other}
 use Rattle.cf_core.proofs.Keeping.Sums.{kept_is, kept_there}
 use Rattle.cf_core.proofs.Keeping.Soundness.{idle_sound, turn_sound}
-use Rattle.cf_core.proofs.Keeping.Moves.{is_quiet, turn_same}
-
--- the planned stage at a place
-abbrev pub planned_at : List PlannedStage → ℕ → PlannedStage
-planned_at plan i = record { form = form_at plan i; sources = sources_at plan i; function = function_at plan i }
+use Rattle.cf_core.proofs.Keeping.Moves.{is_steady, turn_same}
 
 pub planned_there : (plan : List PlannedStage) (i : ℕ) → i < length plan → slice_get plan i ≡ Some (planned_at plan i)
 planned_there [] i l = absurd (omega arith)
@@ -28,8 +26,21 @@ planned_there (p ∷ plan) zero l = refl
 planned_there (p ∷ plan) (suc i) l = planned_there plan i (omega arith)
 
 -- a stage that was read
-pub kept_read : (kept : List Kept) (i : ℕ) (k : Kept) → i < length kept → k ≡ get_or kept i k → kept_at kept i ≡ k
+pub kept_read : (kept : List KeptStage) (i : ℕ) (k : KeptStage) → i < length kept → k ≡ get_or kept i k → kept_at kept i ≡ k
 kept_read kept i k l e = kept_is kept i k (slice_get-get_or kept i k l ∙ ap (λ x. Some x) (sym e))
+
+kept_as_read : (kept : List KeptStage) (i : ℕ) → i < length kept → kept_at kept i ≡ get_or kept i (kept_at kept i)
+kept_as_read kept i l = kept_is kept i (get_or kept i (kept_at kept i)) (slice_get-get_or kept i (kept_at kept i) l)
+
+treated_idle : (below : List KeptStage) (p : PlannedStage) (k : KeptStage) → is_waiting k.stage ≡ false → treated below p k ≡ k
+treated_idle below p k idle = by_stage k.stage k.step idle
+  where
+    by_stage : (stage : Stage) (step : ℕ) → is_waiting stage ≡ false → treated_by below p stage step ≡ record { stage = stage; step = step }
+    by_stage Pending step e = cc
+    by_stage (Linked j) step e = cc
+    by_stage (Ready args) step e = refl
+    by_stage Claimed step e = refl
+    by_stage (Settled o) step e = refl
 
 -- ---- the lowest mark
 
@@ -46,13 +57,13 @@ lowest_below marks m e i l =
 
 -- ---- stages that are taken
 
-pub StayTaken-set : (kept : List Kept) (d : ℕ) (new : Kept) → d < length kept → (is_taken ((kept_at kept d).stage) ≡ true → is_taken new.stage ≡ true) → StayTaken kept (set kept d new)
+pub StayTaken-set : (kept : List KeptStage) (d : ℕ) (new : KeptStage) → d < length kept → (is_taken ((kept_at kept d).stage) ≡ true → is_taken new.stage ≡ true) → StayTaken kept (set kept d new)
 StayTaken-set kept d new l h i b = elim (eqb_tells i d) [
   | inl s ↦ (let same = s.1 in
       let is : kept_at (set kept d new) i ≡ new = kept_is (set kept d new) i new (ap (slice_get (set kept d new)) same ∙ get-set_same kept d new l) in
-      ap (λ (k : Kept). is_taken k.stage) is ∙ h (ap (λ n. is_taken ((kept_at kept n).stage)) (sym same) ∙ b))
+      ap (λ (k : KeptStage). is_taken k.stage) is ∙ h (ap (λ n. is_taken ((kept_at kept n).stage)) (sym same) ∙ b))
   | inr s ↦ (let is : kept_at (set kept d new) i ≡ kept_at kept i = ap (λ x. unwrap_or x (record { stage = Pending; step = 0 })) (get-set_other kept d i new s.1) in
-      ap (λ (k : Kept). is_taken k.stage) is ∙ b)
+      ap (λ (k : KeptStage). is_taken k.stage) is ∙ b)
 ]
 
 pub waiting_untaken : (stage : Stage) → is_waiting stage ≡ true → is_taken stage ≡ true → ⊥
@@ -64,13 +75,13 @@ waiting_untaken (Settled o) e f = cc
 
 -- ---- what is true, under other names
 
-pub IsSound-same : (plan : List PlannedStage) (k1 k2 : List Kept) (m1 m2 r1 r2 : List Bool) (l1 l2 : List (List ℕ)) (s1 s2 t1 t2 : ℕ) →
+pub IsSound-same : (plan : List PlannedStage) (k1 k2 : List KeptStage) (m1 m2 r1 r2 : List Bool) (l1 l2 : List (List ℕ)) (s1 s2 t1 t2 : ℕ) →
     k1 ≡ k2 → m1 ≡ m2 → r1 ≡ r2 → l1 ≡ l2 → s1 ≡ s2 → t1 ≡ t2 → IsSound plan k2 m2 r2 l2 s2 t2 → IsSound plan k1 m1 r1 l1 s1 t1
 IsSound-same plan k1 k2 m1 m2 r1 r2 l1 l2 s1 s2 t1 t2 a b c d e f h = rw (a, b, c, d, e, f) h
 
 -- ---- a turn, of the lowest mark
 
-module _ (plan : List PlannedStage) (kept : List Kept) (marks ready : List Bool) (links : List (List ℕ)) (steps turns : ℕ) (h : IsSound plan kept marks ready links steps turns)
+module _ (plan : List PlannedStage) (kept : List KeptStage) (marks ready : List Bool) (links : List (List ℕ)) (steps turns : ℕ) (h : IsSound plan kept marks ready links steps turns)
     (m : ℕ) (lowest : position (λ b. b) marks ≡ Some m) where
   pub turn_within : m < length plan
   turn_within = let l = lowest_within marks m lowest in omega (arith, h.all_marks, l)
@@ -78,17 +89,23 @@ module _ (plan : List PlannedStage) (kept : List Kept) (marks ready : List Bool)
   pub turn_idle : is_waiting ((kept_at kept m).stage) ≡ false → IsSound plan kept (set marks m false) ready links steps (turns + 1)
   turn_idle idle = idle_sound plan kept marks ready links steps turns h m (planned_at plan m) (planned_there plan m turn_within) (lowest_marked marks m lowest) idle
 
-  pub turn_kept : (new : Kept) → new ≡ treated kept (planned_at plan m) (kept_at kept m) → is_waiting ((kept_at kept m).stage) ≡ true →
+  -- a stage that doesn't wait is its own treatment
+  pub turn_idly : is_waiting ((kept_at kept m).stage) ≡ false → kept ≡ turned plan kept m
+  turn_idly idle =
+      let there : m < length kept = let l = turn_within in omega (arith, h.all_kept) in
+      sym (ap (set kept m) (treated_idle kept (planned_at plan m) (kept_at kept m) idle ∙ kept_as_read kept m there) ∙ set-get_or kept m (kept_at kept m))
+
+  pub turn_kept : (new : KeptStage) → new ≡ treated kept (planned_at plan m) (kept_at kept m) → is_waiting ((kept_at kept m).stage) ≡ true →
       IsSound plan (set kept m new) (marks_after plan (set kept m new) links (set marks m false) m new.stage) (set ready m (is_ready new.stage)) (links_after links m new.stage) steps (turns + 1)
   turn_kept new is waiting =
       rw is (turn_sound plan kept marks ready links steps turns h m (planned_at plan m) (planned_there plan m turn_within) (lowest_marked marks m lowest) waiting)
 
-  pub turn_outlook : (new : Kept) → new ≡ treated kept (planned_at plan m) (kept_at kept m) → outlook plan (set kept m new) ≡ outlook plan kept
+  pub turn_outlook : (new : KeptStage) → new ≡ treated kept (planned_at plan m) (kept_at kept m) → outlook plan (set kept m new) ≡ outlook plan kept
   turn_outlook new is =
       ap (λ k. outlook plan (set kept m k)) is
-      ∙ turn_same plan kept marks ready links steps turns h m (planned_at plan m) (planned_there plan m turn_within) (is_quiet plan kept marks ready links steps turns h m (lowest_below marks m lowest))
+      ∙ turn_same plan kept marks ready links steps turns h m (planned_at plan m) (planned_there plan m turn_within) (is_steady plan kept marks ready links steps turns h m (lowest_below marks m lowest))
 
-  pub turn_taken : (new : Kept) → is_waiting ((kept_at kept m).stage) ≡ true → StayTaken kept (set kept m new)
+  pub turn_taken : (new : KeptStage) → is_waiting ((kept_at kept m).stage) ≡ true → StayTaken kept (set kept m new)
   turn_taken new waiting = StayTaken-set kept m new (let l = turn_within in omega (arith, h.all_kept, l)) (λ taken. absurd (waiting_untaken ((kept_at kept m).stage) waiting taken))
 
 -- ---- a stage that is ready, and one that isn't settled
@@ -100,10 +117,10 @@ ready_args Claimed e = cc
 ready_args (Linked j) e = cc
 ready_args (Settled o) e = cc
 
-pub undated : (kept : List Kept) (j : ℕ) → j < length kept → outcome_of ((kept_at kept j).stage) ≡ None → dated_in kept j ≡ None
+pub undated : (kept : List KeptStage) (j : ℕ) → j < length kept → outcome_of ((kept_at kept j).stage) ≡ None → dated_in kept j ≡ None
 undated kept j l e = ap (option_and_then dated_of) (kept_there kept j l) ∙ ap (option_map (λ o. (o, (kept_at kept j).step))) e
 
-pub StayTakenBut-set : (kept : List Kept) (d : ℕ) (new : Kept) → StayTakenBut d kept (set kept d new)
+pub StayTakenBut-set : (kept : List KeptStage) (d : ℕ) (new : KeptStage) → StayTakenBut d kept (set kept d new)
 StayTakenBut-set kept d new i ne b =
     let is : kept_at (set kept d new) i ≡ kept_at kept i = ap (λ x. unwrap_or x (record { stage = Pending; step = 0 })) (get-set_other kept d i new ne) in
-    ap (λ (k : Kept). is_taken k.stage) is ∙ b
+    ap (λ (k : KeptStage). is_taken k.stage) is ∙ b

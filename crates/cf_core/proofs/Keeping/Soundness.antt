@@ -15,7 +15,7 @@ use Rattle.cf_plan.proofs.DependentLemmas.{dependents_converse}
 use Rattle.cf_core.specs.declared.stage.Stage.{Stage}
 use Rattle.cf_core.specs.declared.stage.Stage.TheVariants.{Pending, Ready, Claimed, Linked, Settled}
 use Rattle.cf_core.specs.States.{outcome_of, is_ready}
-use Rattle.cf_core.specs.declared.kept.Kept.{Kept}
+use Rattle.cf_core.specs.declared.kept.KeptStage.{KeptStage}
 use Rattle.cf_core.specs.Keeping.Late.{dated_in, dated_of, treated, treated_by, due_kept, late_due, linked_kept}
 use Rattle.cf_core.specs.Keeping.Marks.{WaitsNow}
 use Rattle.cf_core.specs.Keeping.Links.{list_at, IsFree}
@@ -42,21 +42,21 @@ some_marks plan d (Settled o) e = cc
 
 -- ---- stages in lists were linked
 
-bound_at : (kept : List Kept) (d : ℕ) (new : Kept) → d < length kept → (is_bound ((kept_at kept d).stage) ≡ true → is_bound new.stage ≡ true) →
+bound_at : (kept : List KeptStage) (d : ℕ) (new : KeptStage) → d < length kept → (is_bound ((kept_at kept d).stage) ≡ true → is_bound new.stage ≡ true) →
     (i : ℕ) → is_bound ((kept_at kept i).stage) ≡ true → is_bound ((kept_at (set kept d new) i).stage) ≡ true
 bound_at kept d new l h i b = elim (eqb_tells i d) [
   | inl s ↦ (let same = s.1 in
       let is : kept_at (set kept d new) i ≡ new = kept_is (set kept d new) i new (ap (slice_get (set kept d new)) same ∙ get-set_same kept d new l) in
-      ap (λ (k : Kept). is_bound k.stage) is ∙ h (ap (λ n. is_bound ((kept_at kept n).stage)) (sym same) ∙ b))
+      ap (λ (k : KeptStage). is_bound k.stage) is ∙ h (ap (λ n. is_bound ((kept_at kept n).stage)) (sym same) ∙ b))
   | inr s ↦ (let is : kept_at (set kept d new) i ≡ kept_at kept i = ap (λ x. unwrap_or x (record { stage = Pending; step = 0 })) (get-set_other kept d i new s.1) in
-      ap (λ (k : Kept). is_bound k.stage) is ∙ b)
+      ap (λ (k : KeptStage). is_bound k.stage) is ∙ b)
 ]
 
 All-more : {X : Type 0} (P Q : X → Type 0) (xs : List X) → ((x : X) → P x → Q x) → All P xs → All Q xs
 All-more P Q [] h a = All-nil Q
 All-more P Q (x ∷ xs) h a = All-cons Q x xs (h x (All-head P x xs a)) (All-more P Q xs h (All-tail P x xs a))
 
-pub bound_more : (kept : List Kept) (links : List (List ℕ)) (d : ℕ) (new : Kept) → d < length kept → (is_bound ((kept_at kept d).stage) ≡ true → is_bound new.stage ≡ true) →
+pub bound_more : (kept : List KeptStage) (links : List (List ℕ)) (d : ℕ) (new : KeptStage) → d < length kept → (is_bound ((kept_at kept d).stage) ≡ true → is_bound new.stage ≡ true) →
     AreBound kept links → AreBound (set kept d new) links
 bound_more kept links d new l h =
     let P : ℕ → Type 0 = λ i. is_bound ((kept_at kept i).stage) ≡ true in
@@ -64,14 +64,14 @@ bound_more kept links d new l h =
     All-more (All P) (All Q) links (λ xs a. All-more P Q xs (bound_at kept d new l h) a)
 
 -- a stage that wasn't linked stands in no list
-pub bound_free : (kept : List Kept) (links : List (List ℕ)) (d : ℕ) → is_bound ((kept_at kept d).stage) ≡ false → AreBound kept links → IsFree links d
+pub bound_free : (kept : List KeptStage) (links : List (List ℕ)) (d : ℕ) → is_bound ((kept_at kept d).stage) ≡ false → AreBound kept links → IsFree links d
 bound_free kept links d e =
     let P : ℕ → Type 0 = λ i. is_bound ((kept_at kept i).stage) ≡ true in
     All-more (All P) (All (λ i. i ≢ d)) links (λ xs a. All-more P (λ i. i ≢ d) xs (λ i b s. (let f = ap (λ n. is_bound ((kept_at kept n).stage)) s in cc)) a)
 
 -- ---- links once a stage is written
 
-pub listed_settled : (kept : List Kept) (links : List (List ℕ)) (d step : ℕ) (o : Outcome) → d < length kept → AreListed kept links →
+pub listed_settled : (kept : List KeptStage) (links : List (List ℕ)) (d step : ℕ) (o : Outcome) → d < length kept → AreListed kept links →
     AreListed (set kept d (record { stage = Settled o; step = step })) (set links d [])
 listed_settled kept links d step o l h i j k there linked = elim (eqb_tells i d) [
   | inl s ↦ (let same = s.1 in
@@ -81,8 +81,8 @@ listed_settled kept links d step o l h i j k there linked = elim (eqb_tells i d)
       record { lower = b.lower; listed = still b })
 ]
   where
-    not_linked : (k n : Kept) (o : Outcome) → Some k ≡ Some n → n.stage ≡ Settled o → k.stage ≡ Linked j → ⊥
-    not_linked k n o e f g = let same : k ≡ n = cc in let t = ap (λ (x : Kept). x.stage) same in cc
+    not_linked : (k n : KeptStage) (o : Outcome) → Some k ≡ Some n → n.stage ≡ Settled o → k.stage ≡ Linked j → ⊥
+    not_linked k n o e f g = let same : k ≡ n = cc in let t = ap (λ (x : KeptStage). x.stage) same in cc
 
     still : IsListed kept links i j → dated_in (set kept d (record { stage = Settled o; step = step })) j ≡ None → Contains (list_at (set links d []) j) i
     still b none = elim (eqb_tells j d) [
@@ -95,13 +95,13 @@ listed_settled kept links d step o l h i j k there linked = elim (eqb_tells i d)
     ]
 
 -- the stage is settled neither before nor then, and no list is shorter
-pub listed_unsettled : (kept : List Kept) (links more : List (List ℕ)) (d : ℕ) (new old : Kept) → slice_get kept d ≡ Some old → outcome_of old.stage ≡ None → outcome_of new.stage ≡ None → AreListed kept links →
+pub listed_unsettled : (kept : List KeptStage) (links more : List (List ℕ)) (d : ℕ) (new old : KeptStage) → slice_get kept d ≡ Some old → outcome_of old.stage ≡ None → outcome_of new.stage ≡ None → AreListed kept links →
     ((i j : ℕ) → Contains (list_at links j) i → Contains (list_at more j) i) → ((j : ℕ) → new.stage ≡ Linked j → IsListed (set kept d new) more d j) → AreListed (set kept d new) more
 listed_unsettled kept links more d new old at e f h longer here i j k there linked = elim (eqb_tells i d) [
   | inl s ↦ (let same = s.1 in
       let is : Some k ≡ Some new = sym there ∙ ap (slice_get (set kept d new)) same ∙ get-set_same kept d new (there_within kept d old at) in
       let same_k : k ≡ new = cc in
-      subst (λ n. IsListed (set kept d new) more n j) (sym same) (here j (ap (λ (x : Kept). x.stage) (sym same_k) ∙ linked)))
+      subst (λ n. IsListed (set kept d new) more n j) (sym same) (here j (ap (λ (x : KeptStage). x.stage) (sym same_k) ∙ linked)))
   | inr s ↦ (let b = h i j k (sym (get-set_other kept d i new s.1) ∙ there) linked in
       record { lower = b.lower; listed = λ none. longer i j (b.listed (undated none)) })
 ]
@@ -114,13 +114,13 @@ listed_unsettled kept links more d new old at e f h longer here i j k there link
 
 -- ---- a stage settles
 
-pub settled_sound : (plan : List PlannedStage) (kept : List Kept) (marks ready : List Bool) (links : List (List ℕ)) (steps turns : ℕ) → NamesDependents plan → IsSound plan kept marks ready links steps turns →
+pub settled_sound : (plan : List PlannedStage) (kept : List KeptStage) (marks ready : List Bool) (links : List (List ℕ)) (steps turns : ℕ) → NamesDependents plan → IsSound plan kept marks ready links steps turns →
     (d : ℕ) (o : Outcome) (step steps2 turns2 : ℕ) (first : List Bool) → d < length plan → outcome_of ((kept_at kept d).stage) ≡ None → step ≤ steps2 → steps ≤ steps2 → steps2 ≤ steps + 1 →
     length first ≡ length marks → ((i : ℕ) → i ≢ d → slice_get first i ≡ slice_get marks i) → turns2 + count_by (λ b. b) first ≤ turns + count_by (λ b. b) marks →
     IsSound plan (set kept d (record { stage = Settled o; step = step })) (mark_all (set kept d (record { stage = Settled o; step = step })) (list_at links d) (mark_all (set kept d (record { stage = Settled o; step = step })) (dependents_of plan d) first))
     (set ready d false) (set links d []) steps2 turns2
 settled_sound plan kept marks ready links steps turns named h d o step steps2 turns2 first l unsettled step_few more next count others fewer =
-    let new : Kept = record { stage = Settled o; step = step } in
+    let new : KeptStage = record { stage = Settled o; step = step } in
     let old = kept_at kept d in
     let in_kept : d < length kept = omega (arith, h.all_kept) in
     let in_links : d < length links = omega (arith, h.all_links) in
@@ -128,7 +128,7 @@ settled_sound plan kept marks ready links steps turns named h d o step steps2 tu
     let marked = mark_all (set kept d new) (dependents_of plan d) first in
     let settles = some_step old.stage unsettled in
     let frees = some_marks plan d old.stage unsettled in
-    let steps_sum = sum_by-set_at (λ (k : Kept). steps_of k.stage) kept d old new there in
+    let steps_sum = sum_by-set_at (λ (k : KeptStage). steps_of k.stage) kept d old new there in
     let marks_sum = marks_from-set plan 0 kept d old new there in
     let zero_plus : 0 + d ≡ d = omega arith in
     let marks_sum2 = rw zero_plus at marks_sum in
@@ -142,7 +142,7 @@ settled_sound plan kept marks ready links steps turns named h d o step steps2 tu
       all_kept = length-set kept d new ∙ h.all_kept;
       all_marks = length-mark_all (set kept d new) (list_at links d) marked ∙ length-mark_all (set kept d new) (dependents_of plan d) first ∙ count ∙ h.all_marks;
       all_links = length-set links d [] ∙ h.all_links;
-      ready_are = ap (λ xs. set xs d false) h.ready_are ∙ sym (map-set (λ (k : Kept). is_ready k.stage) kept d new);
+      ready_are = ap (λ xs. set xs d false) h.ready_are ∙ sym (map-set (λ (k : KeptStage). is_ready k.stage) kept d new);
       waits = but_closed plan (set kept d new) (mark_all (set kept d new) (list_at links d) marked) d
           (but_settled plan kept links first d new old there unsettled (count ∙ h.all_marks) named h.listed (but_marks plan kept marks first d others h.waits))
           (λ p k ep ek em. (let is : Some k ≡ Some new = sym ek ∙ get-set_same kept d new in_kept in let same : k ≡ new = cc in rw same refl));
@@ -155,8 +155,8 @@ settled_sound plan kept marks ready links steps turns named h d o step steps2 tu
 
 -- ---- a stage is written that is settled neither before nor then
 
-pub unsettled_sound : (plan : List PlannedStage) (kept : List Kept) (marks ready : List Bool) (links : List (List ℕ)) (steps turns : ℕ) → IsSound plan kept marks ready links steps turns →
-    (d : ℕ) (new : Kept) (steps2 turns2 : ℕ) (first : List Bool) (more : List (List ℕ)) → d < length plan → outcome_of ((kept_at kept d).stage) ≡ None → outcome_of new.stage ≡ None →
+pub unsettled_sound : (plan : List PlannedStage) (kept : List KeptStage) (marks ready : List Bool) (links : List (List ℕ)) (steps turns : ℕ) → IsSound plan kept marks ready links steps turns →
+    (d : ℕ) (new : KeptStage) (steps2 turns2 : ℕ) (first : List Bool) (more : List (List ℕ)) → d < length plan → outcome_of ((kept_at kept d).stage) ≡ None → outcome_of new.stage ≡ None →
     steps ≤ steps2 → new.step ≤ steps2 → steps2 + steps_of new.stage ≤ steps + steps_of ((kept_at kept d).stage) →
     length first ≡ length marks → ((i : ℕ) → i ≢ d → slice_get first i ≡ slice_get marks i) →
     ((p : PlannedStage) → slice_get plan d ≡ Some p → slice_get first d ≡ Some false → WaitsNow (set kept d new) p new) →
@@ -167,7 +167,7 @@ unsettled_sound plan kept marks ready links steps turns h d new steps2 turns2 fi
     let old = kept_at kept d in
     let in_kept : d < length kept = omega (arith, h.all_kept) in
     let there = kept_there kept d in_kept in
-    let steps_sum = sum_by-set_at (λ (k : Kept). steps_of k.stage) kept d old new there in
+    let steps_sum = sum_by-set_at (λ (k : KeptStage). steps_of k.stage) kept d old new there in
     let marks_sum = marks_from-set plan 0 kept d old new there in
     let zero_plus : 0 + d ≡ d = omega arith in
     let marks_sum2 = rw zero_plus at marks_sum in
@@ -178,7 +178,7 @@ unsettled_sound plan kept marks ready links steps turns h d new steps2 turns2 fi
       all_kept = length-set kept d new ∙ h.all_kept;
       all_marks = count ∙ h.all_marks;
       all_links = same_links ∙ h.all_links;
-      ready_are = ap (λ xs. set xs d (is_ready new.stage)) h.ready_are ∙ sym (map-set (λ (k : Kept). is_ready k.stage) kept d new);
+      ready_are = ap (λ xs. set xs d (is_ready new.stage)) h.ready_are ∙ sym (map-set (λ (k : KeptStage). is_ready k.stage) kept d new);
       waits = but_closed plan (set kept d new) first d (but_unsettled plan kept first d old new there before then (but_marks plan kept marks first d others h.waits))
           (λ p k ep ek em. (let is : Some k ≡ Some new = sym ek ∙ get-set_same kept d new in_kept in let same : k ≡ new = cc in subst (WaitsNow (set kept d new) p) (sym same) (waits p ep em)));
       listed = listed;
@@ -200,7 +200,7 @@ names_dependents plan i d p e c =
 -- ---- a marked stage is treated
 
 -- the lists stay, and each stage that is linked now was linked before
-pub kept_lists : (kept : List Kept) (links : List (List ℕ)) (d : ℕ) (new old : Kept) → slice_get kept d ≡ Some old → outcome_of old.stage ≡ None → outcome_of new.stage ≡ None → AreListed kept links →
+pub kept_lists : (kept : List KeptStage) (links : List (List ℕ)) (d : ℕ) (new old : KeptStage) → slice_get kept d ≡ Some old → outcome_of old.stage ≡ None → outcome_of new.stage ≡ None → AreListed kept links →
     ((j : ℕ) → new.stage ≡ Linked j → old.stage ≡ Linked j) → AreListed (set kept d new) links
 kept_lists kept links d new old at e f h back =
     listed_unsettled kept links links d new old at e f h (λ i j c. c) (λ j l. (let b = h d j old at (back j l) in
@@ -229,7 +229,7 @@ link_steps : (j step : ℕ) (x : Option (Outcome × ℕ)) → steps_of ((linked_
 link_steps j step None = omega arith
 link_steps j step (Some x) = omega arith
 
-treated_steps : (kept : List Kept) (p : PlannedStage) (stage : Stage) (step : ℕ) → is_waiting stage ≡ true → steps_of ((treated_by kept p stage step).stage) ≤ steps_of stage
+treated_steps : (kept : List KeptStage) (p : PlannedStage) (stage : Stage) (step : ℕ) → is_waiting stage ≡ true → steps_of ((treated_by kept p stage step).stage) ≤ steps_of stage
 treated_steps kept p Pending step e = let due = late_due p.form (map (dated_in kept) p.sources) in due_steps due.0 due.1 step
 treated_steps kept p (Linked j) step e = link_steps j step (dated_in kept j)
 treated_steps kept p (Ready args) step e = cc
@@ -245,7 +245,7 @@ linked_marks : (plan : List PlannedStage) (d j step : ℕ) (x : Option (Outcome 
 linked_marks plan d j step None = omega arith
 linked_marks plan d j step (Some x) = omega arith
 
-treated_marks : (plan : List PlannedStage) (d : ℕ) (kept : List Kept) (p : PlannedStage) (stage : Stage) (step : ℕ) → is_waiting stage ≡ true → marks_of plan d ((treated_by kept p stage step).stage) ≤ marks_of plan d stage
+treated_marks : (plan : List PlannedStage) (d : ℕ) (kept : List KeptStage) (p : PlannedStage) (stage : Stage) (step : ℕ) → is_waiting stage ≡ true → marks_of plan d ((treated_by kept p stage step).stage) ≤ marks_of plan d stage
 treated_marks plan d kept p Pending step e = let due = late_due p.form (map (dated_in kept) p.sources) in due_marks plan d due.0 due.1 step
 treated_marks plan d kept p (Linked j) step e = linked_marks plan d j step (dated_in kept j)
 treated_marks plan d kept p (Ready args) step e = cc
@@ -253,14 +253,14 @@ treated_marks plan d kept p Claimed step e = cc
 treated_marks plan d kept p (Settled o) step e = cc
 
 -- a stage that is linked once it was treated was linked before
-treated_linked : (kept : List Kept) (p : PlannedStage) (stage : Stage) (step j : ℕ) → (treated_by kept p stage step).stage ≡ Linked j → stage ≡ Linked j
+treated_linked : (kept : List KeptStage) (p : PlannedStage) (stage : Stage) (step j : ℕ) → (treated_by kept p stage step).stage ≡ Linked j → stage ≡ Linked j
 treated_linked kept p Pending step j e = let due = late_due p.form (map (dated_in kept) p.sources) in absurd (never_linked due.0 due.1 step j e)
 treated_linked kept p (Linked i) step j e = ap (λ n. Linked n) (sym (links_same i step (dated_in kept i) j e))
 treated_linked kept p (Ready args) step j e = cc
 treated_linked kept p Claimed step j e = cc
 treated_linked kept p (Settled o) step j e = cc
 
-treated_bound : (kept : List Kept) (p : PlannedStage) (stage : Stage) (step : ℕ) → is_bound stage ≡ true → is_bound ((treated_by kept p stage step).stage) ≡ true
+treated_bound : (kept : List KeptStage) (p : PlannedStage) (stage : Stage) (step : ℕ) → is_bound stage ≡ true → is_bound ((treated_by kept p stage step).stage) ≡ true
 treated_bound kept p Pending step e = cc
 treated_bound kept p (Linked j) step e = by_target (dated_in kept j)
   where
@@ -271,7 +271,7 @@ treated_bound kept p (Ready args) step e = cc
 treated_bound kept p Claimed step e = cc
 treated_bound kept p (Settled o) step e = refl
 
-module _ (plan : List PlannedStage) (kept : List Kept) (marks ready : List Bool) (links : List (List ℕ)) (steps turns : ℕ) (h : IsSound plan kept marks ready links steps turns)
+module _ (plan : List PlannedStage) (kept : List KeptStage) (marks ready : List Bool) (links : List (List ℕ)) (steps turns : ℕ) (h : IsSound plan kept marks ready links steps turns)
     (m : ℕ) (p : PlannedStage) (planned : slice_get plan m ≡ Some p) (marked : slice_get marks m ≡ Some true) where
   fewer : (turns + 1) + count_by (λ b. b) (set marks m false) ≡ turns + count_by (λ b. b) marks
   fewer = let e = count-set_false marks m marked in omega (arith, e)
@@ -287,7 +287,7 @@ module _ (plan : List PlannedStage) (kept : List Kept) (marks ready : List Bool)
     all_links = h.all_links;
     ready_are = h.ready_are;
     waits = but_closed plan kept (set marks m false) m (but_marks plan kept marks (set marks m false) m (λ i ne. get-set_other marks m i false ne) h.waits)
-        (λ q k eq ek em. (let is = kept_is kept m k ek in stays kept q k.stage k.step (ap (λ (x : Kept). is_waiting x.stage) (sym is) ∙ idle)));
+        (λ q k eq ek em. (let is = kept_is kept m k ek in stays kept q k.stage k.step (ap (λ (x : KeptStage). is_waiting x.stage) (sym is) ∙ idle)));
     listed = h.listed;
     bound = h.bound;
     kept_steps = h.kept_steps;
@@ -316,15 +316,15 @@ module _ (plan : List PlannedStage) (kept : List Kept) (marks ready : List Bool)
     unfolding within there lower linked_lower few fewer
     unsettled_turn x step e none =
         let k = kept_at kept m in
-        let new : Kept = record { stage = x; step = step } in
-        let s : step ≤ steps = subst (λ (k : Kept). k.step ≤ steps) e few in
+        let new : KeptStage = record { stage = x; step = step } in
+        let s : step ≤ steps = subst (λ (k : KeptStage). k.step ≤ steps) e few in
         let before = waiting_unsettled k.stage waiting in
         let f = fewer in
-        let P : Kept → Type 0 = λ n. steps_of n.stage ≤ steps_of k.stage in
-        let Q : Kept → Type 0 = λ n. marks_of plan m n.stage ≤ marks_of plan m k.stage in
-        let R : Kept → Type 0 = λ n. treated (set kept m n) p n ≡ n in
-        let S : Kept → Type 0 = λ n. (j : ℕ) → n.stage ≡ Linked j → k.stage ≡ Linked j in
-        let B : Kept → Type 0 = λ n. is_bound k.stage ≡ true → is_bound n.stage ≡ true in
+        let P : KeptStage → Type 0 = λ n. steps_of n.stage ≤ steps_of k.stage in
+        let Q : KeptStage → Type 0 = λ n. marks_of plan m n.stage ≤ marks_of plan m k.stage in
+        let R : KeptStage → Type 0 = λ n. treated (set kept m n) p n ≡ n in
+        let S : KeptStage → Type 0 = λ n. (j : ℕ) → n.stage ≡ Linked j → k.stage ≡ Linked j in
+        let B : KeptStage → Type 0 = λ n. is_bound k.stage ≡ true → is_bound n.stage ≡ true in
         let fewer_steps = subst P e (treated_steps kept p k.stage k.step waiting) in
         let fewer_marks = subst Q e (treated_marks plan m kept p k.stage k.step waiting) in
         let again : treated (set kept m new) p new ≡ new = subst R e (treated_again kept m p k.stage k.step lower linked_lower) in
@@ -340,7 +340,7 @@ module _ (plan : List PlannedStage) (kept : List Kept) (marks ready : List Bool)
         IsSound plan (set kept m (record { stage = x; step = step })) (marks_after plan (set kept m (record { stage = x; step = step })) links (set marks m false) m x) (set ready m (is_ready x)) (links_after links m x) steps (turns + 1)
     unfolding within there lower linked_lower few fewer
     by_stage (Settled o) step e =
-        let s : step ≤ steps = subst (λ (k : Kept). k.step ≤ steps) e few in
+        let s : step ≤ steps = subst (λ (k : KeptStage). k.step ≤ steps) e few in
         let f = fewer in
         settled_sound plan kept marks ready links steps turns (names_dependents plan) h m o step steps (turns + 1) (set marks m false) within (waiting_unsettled ((kept_at kept m).stage) waiting) s (omega arith) (omega arith)
         (length-set marks m false) (λ i ne. get-set_other marks m i false ne) (omega (arith, f))

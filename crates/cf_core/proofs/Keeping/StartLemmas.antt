@@ -13,7 +13,7 @@ use Rattle.cf_plan.specs.Forms.{follows, due_of_first, first_there}
 use Rattle.cf_plan.specs.Plans.{PlannedStage}
 use Rattle.cf_core.specs.declared.stage.Stage.TheVariants.{Pending}
 use Rattle.cf_core.specs.States.{outcome_of, outcome_in, due_state, new_states}
-use Rattle.cf_core.specs.declared.kept.Kept.{Kept}
+use Rattle.cf_core.specs.declared.kept.KeptStage.{KeptStage}
 use Rattle.cf_core.specs.Keeping.Late.{StepsUpTo, all_treated, stages_of, treated, due_kept, late_due, dated_in, earlier, earliest, step_part, outcome_part}
 use Rattle.cf_core.specs.Keeping.Starts.{TreatingStarts, untreated}
 use Rattle.cf_core.proofs.Keeping.Settling.{outcome_in-stages_of}
@@ -54,7 +54,7 @@ due_at_start WhenComplete q h = ap (due_of_first WhenComplete) (earliest-first q
 due_at_start Exceptionally q h = ap (due_of_first Exceptionally) (earliest-first q h)
 due_at_start AnyOf q h = ap (due_of_first AnyOf) (earliest-first q h)
 
-dated-new : (below : List Kept) (j : ℕ) → StepsUpTo 0 below → step_part (dated_in below j) ≤ 0
+dated-new : (below : List KeptStage) (j : ℕ) → StepsUpTo 0 below → step_part (dated_in below j) ≤ 0
 dated-new [] j h = omega arith
 dated-new (k ∷ below) zero h = by_stage (outcome_of k.stage)
   where
@@ -63,11 +63,11 @@ dated-new (k ∷ below) zero h = by_stage (outcome_of k.stage)
     by_stage (Some o) = h.0
 dated-new (k ∷ below) (suc j) h = dated-new below j h.1
 
-map-new : (below : List Kept) (sources : List ℕ) → StepsUpTo 0 below → AllNew (map (dated_in below) sources)
+map-new : (below : List KeptStage) (sources : List ℕ) → StepsUpTo 0 below → AllNew (map (dated_in below) sources)
 map-new below [] h = tt
 map-new below (j ∷ sources) h = (dated-new below j h, map-new below sources h)
 
-map-parts : (below : List Kept) (sources : List ℕ) → map outcome_part (map (dated_in below) sources) ≡ map (outcome_in (stages_of below)) sources
+map-parts : (below : List KeptStage) (sources : List ℕ) → map outcome_part (map (dated_in below) sources) ≡ map (outcome_in (stages_of below)) sources
 map-parts below [] = refl
 map-parts below (j ∷ sources) =
     let here = outcome_in-stages_of below j in
@@ -78,11 +78,11 @@ kept_state Waits at = refl
 kept_state (Settles o) at = refl
 kept_state (Needs args) at = refl
 
-StepsUpTo-push : (n : ℕ) (below : List Kept) (k : Kept) → StepsUpTo n below → k.step ≤ n → StepsUpTo n (below ++ k ∷ [])
+StepsUpTo-push : (n : ℕ) (below : List KeptStage) (k : KeptStage) → StepsUpTo n below → k.step ≤ n → StepsUpTo n (below ++ k ∷ [])
 StepsUpTo-push n [] k h l = (l, tt)
 StepsUpTo-push n (x ∷ below) k h l = (h.0, StepsUpTo-push n below k h.1 l)
 
-from_start : (below : List Kept) (plan : List PlannedStage) (n : ℕ) → StepsUpTo 0 below →
+from_start : (below : List KeptStage) (plan : List PlannedStage) (n : ℕ) → StepsUpTo 0 below →
     stages_of (all_treated below plan (replicate n untreated)) ≡ new_states (stages_of below) plan (replicate n Pending)
 from_start below [] n h = stages_new n
   where
@@ -97,7 +97,7 @@ from_start below (p ∷ plan) (suc n) h =
     kept_state due.0 due.1 ∙ ap due_state (due_at_start p.form (map (dated_in below) p.sources) (map-new below p.sources h)) ∙ ap (λ q. due_state (follows p.form q)) (map-parts below p.sources) in
     let few = treated-few 0 below p Pending 0 h (omega arith) in
     let rest = from_start (below ++ new ∷ []) plan n (StepsUpTo-push 0 below new h few) in
-    let longer : stages_of (below ++ new ∷ []) ≡ stages_of below ++ new.stage ∷ [] = map-append (λ (k : Kept). k.stage) below (new ∷ []) in
+    let longer : stages_of (below ++ new ∷ []) ≡ stages_of below ++ new.stage ∷ [] = map-append (λ (k : KeptStage). k.stage) below (new ∷ []) in
     ap (λ r. new.stage ∷ r) (rest ∙ ap (λ b. new_states b plan (replicate n Pending)) longer)
     ∙ ap (λ x. x ∷ new_states (stages_of below ++ x ∷ []) plan (replicate n Pending)) same
 

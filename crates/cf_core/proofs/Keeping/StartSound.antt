@@ -16,7 +16,7 @@ use Rattle.cf_plan.specs.Plans.{PlannedStage, HasLowerSources, dependents_of, ed
 use Rattle.cf_plan.proofs.DependentLemmas.{all_dependents}
 use Rattle.cf_core.specs.States.{is_ready}
 use Rattle.cf_core.proofs.StateLemmas.{form_at-within, sources_at-within}
-use Rattle.cf_core.specs.declared.kept.Kept.{Kept}
+use Rattle.cf_core.specs.declared.kept.KeptStage.{KeptStage}
 use Rattle.cf_core.specs.Keeping.Late.{StepsUpTo, dated_in, due_kept, earliest, late_due, outcome_part, treated}
 use Rattle.cf_core.specs.Keeping.Sound.{IsSound, is_bound, kept_at, link_marks, marks_from, steps_of}
 use Rattle.cf_core.specs.Keeping.Starts.{mark_starts, starts, untreated}
@@ -166,11 +166,11 @@ no_lists : (n : ℕ) → sum_by length (replicate {A = List ℕ} n []) ≡ 0
 no_lists zero = refl
 no_lists (suc n) = let h = sum_by-cons {X = List ℕ} length [] (replicate n []) in let rest = no_lists n in omega (arith, h, rest)
 
-two_each : (n : ℕ) → sum_by (λ (k : Kept). steps_of k.stage) (replicate n untreated) ≡ 2 * n
+two_each : (n : ℕ) → sum_by (λ (k : KeptStage). steps_of k.stage) (replicate n untreated) ≡ 2 * n
 two_each zero = refl
-two_each (suc n) = let h = sum_by-cons (λ (k : Kept). steps_of k.stage) untreated (replicate n untreated) in let rest = two_each n in omega (arith, h, rest)
+two_each (suc n) = let h = sum_by-cons (λ (k : KeptStage). steps_of k.stage) untreated (replicate n untreated) in let rest = two_each n in omega (arith, h, rest)
 
-none_ready : (n : ℕ) → replicate n false ≡ map (λ (k : Kept). is_ready k.stage) (replicate n untreated)
+none_ready : (n : ℕ) → replicate n false ≡ map (λ (k : KeptStage). is_ready k.stage) (replicate n untreated)
 none_ready zero = refl
 none_ready (suc n) = ap (λ r. false ∷ r) (none_ready n)
 
@@ -202,7 +202,7 @@ start_sound plan few edges lower =
           let at : 0 + i ≡ i = omega arith in
           let first = unmarked_unstarted 0 plan none i p (omega (arith, m)) ep (ap (slice_get (mark_starts 0 plan none)) at ∙ em) in
           rw is (unstarted n p first));
-      listed = λ i j k ek linked. (let is = get-replicate n i untreated k ek in let stage = ap (λ (x : Kept). x.stage) is in cc);
+      listed = λ i j k ek linked. (let is = get-replicate n i untreated k ek in let stage = ap (λ (x : KeptStage). x.stage) is in cc);
       bound = All-replicate (All P) n [] (All-nil P);
       kept_steps = no_steps n;
       steps_left = omega (arith, steps);

@@ -5,7 +5,7 @@ use Rattle.std.specs.List.{sum_by}
 use Rattle.std.proofs.lemmas.List.Sums.{sum_by-cons}
 use Rattle.cf_plan.specs.Plans.{PlannedStage}
 use Rattle.cf_core.specs.declared.stage.Stage.TheVariants.{Pending}
-use Rattle.cf_core.specs.declared.kept.Kept.{Kept}
+use Rattle.cf_core.specs.declared.kept.KeptStage.{KeptStage}
 use Rattle.cf_core.specs.Keeping.Late.{StepsUpTo}
 use Rattle.cf_core.specs.Keeping.Links.{list_at}
 use Rattle.cf_core.specs.Keeping.Sound.{kept_at, marks_of, marks_from}
@@ -32,7 +32,7 @@ sum_by-at f (y ∷ xs) (suc i) x e =
     let k = sum_by-cons f y xs in
     let rest = sum_by-at f xs i x e in omega (arith, k, rest)
 
-pub marks_from-set : (plan : List PlannedStage) (n : ℕ) (kept : List Kept) (d : ℕ) (old new : Kept) → slice_get kept d ≡ Some old →
+pub marks_from-set : (plan : List PlannedStage) (n : ℕ) (kept : List KeptStage) (d : ℕ) (old new : KeptStage) → slice_get kept d ≡ Some old →
     marks_from plan n (set kept d new) + marks_of plan (n + d) old.stage ≡ marks_from plan n kept + marks_of plan (n + d) new.stage
 marks_from-set plan n [] d old new e = cc
 marks_from-set plan n (k ∷ kept) zero old new e =
@@ -47,12 +47,12 @@ marks_from-set plan n (k ∷ kept) (suc d) old new e =
 
 -- ---- stages that are there
 
-pub kept_there : (kept : List Kept) (d : ℕ) → d < length kept → slice_get kept d ≡ Some (kept_at kept d)
+pub kept_there : (kept : List KeptStage) (d : ℕ) → d < length kept → slice_get kept d ≡ Some (kept_at kept d)
 kept_there [] d l = absurd (omega arith)
 kept_there (k ∷ kept) zero l = refl
 kept_there (k ∷ kept) (suc d) l = kept_there kept d (omega arith)
 
-pub kept_is : (kept : List Kept) (d : ℕ) (k : Kept) → slice_get kept d ≡ Some k → kept_at kept d ≡ k
+pub kept_is : (kept : List KeptStage) (d : ℕ) (k : KeptStage) → slice_get kept d ≡ Some k → kept_at kept d ≡ k
 kept_is kept d k e = ap (λ x. unwrap_or x (record { stage = Pending; step = 0 })) e
 
 pub list_there : (links : List (List ℕ)) (d : ℕ) → d < length links → slice_get links d ≡ Some (list_at links d)
@@ -67,16 +67,16 @@ there_within (y ∷ xs) (suc i) x e = let h = there_within xs i x e in omega ari
 
 -- ---- steps
 
-pub StepsUpTo-set : (n : ℕ) (kept : List Kept) (d : ℕ) (new : Kept) → StepsUpTo n kept → new.step ≤ n → StepsUpTo n (set kept d new)
+pub StepsUpTo-set : (n : ℕ) (kept : List KeptStage) (d : ℕ) (new : KeptStage) → StepsUpTo n kept → new.step ≤ n → StepsUpTo n (set kept d new)
 StepsUpTo-set n [] d new h l = tt
 StepsUpTo-set n (k ∷ kept) zero new h l = (l, h.1)
 StepsUpTo-set n (k ∷ kept) (suc d) new h l = (h.0, StepsUpTo-set n kept d new h.1 l)
 
-pub StepsUpTo-le : (n m : ℕ) (kept : List Kept) → n ≤ m → StepsUpTo n kept → StepsUpTo m kept
+pub StepsUpTo-le : (n m : ℕ) (kept : List KeptStage) → n ≤ m → StepsUpTo n kept → StepsUpTo m kept
 StepsUpTo-le n m [] l h = tt
 StepsUpTo-le n m (k ∷ kept) l h = (omega (arith, h.0), StepsUpTo-le n m kept l h.1)
 
-pub StepsUpTo-at : (n : ℕ) (kept : List Kept) (d : ℕ) (k : Kept) → StepsUpTo n kept → slice_get kept d ≡ Some k → k.step ≤ n
+pub StepsUpTo-at : (n : ℕ) (kept : List KeptStage) (d : ℕ) (k : KeptStage) → StepsUpTo n kept → slice_get kept d ≡ Some k → k.step ≤ n
 StepsUpTo-at n [] d k h e = cc
-StepsUpTo-at n (x ∷ kept) zero k h e = let same : x ≡ k = cc in let s = ap (λ (y : Kept). y.step) same in omega (arith, h.0, s)
+StepsUpTo-at n (x ∷ kept) zero k h e = let same : x ≡ k = cc in let s = ap (λ (y : KeptStage). y.step) same in omega (arith, h.0, s)
 StepsUpTo-at n (x ∷ kept) (suc d) k h e = StepsUpTo-at n kept d k h.1 e

@@ -7,22 +7,22 @@ use Rattle.cf_plan.specs.declared.forms.Due.TheVariants.{Waits, Settles, Needs}
 use Rattle.cf_plan.specs.Plans.{PlannedStage}
 use Rattle.cf_core.specs.declared.stage.Stage.{Stage}
 use Rattle.cf_core.specs.declared.stage.Stage.TheVariants.{Pending, Ready, Claimed, Linked, Settled}
-use Rattle.cf_core.specs.declared.kept.Kept.{Kept}
-use Rattle.cf_core.specs.Keeping.Late.{TurnsChangeNothing, IsQuiet, all_treated, treated, treated_by, due_kept, late_due, dated_in, linked_kept}
+use Rattle.cf_core.specs.declared.kept.KeptStage.{KeptStage}
+use Rattle.cf_core.specs.Keeping.Late.{TurnsChangeNothing, IsSteady, all_treated, treated, treated_by, due_kept, late_due, dated_in, linked_kept}
 
 -- to treat a stage twice is to treat it once
-due_twice : (below : List Kept) (p : PlannedStage) (step : ℕ) (due : Due) (at : ℕ) → late_due p.form (map (dated_in below) p.sources) ≡ (due, at) →
+due_twice : (below : List KeptStage) (p : PlannedStage) (step : ℕ) (due : Due) (at : ℕ) → late_due p.form (map (dated_in below) p.sources) ≡ (due, at) →
     treated below p (due_kept due at step) ≡ due_kept due at step
 due_twice below p step Waits at e = rw e refl
 due_twice below p step (Settles o) at e = refl
 due_twice below p step (Needs args) at e = refl
 
-linked_twice : (below : List Kept) (p : PlannedStage) (j step : ℕ) (x : Option (Outcome × ℕ)) → dated_in below j ≡ x →
+linked_twice : (below : List KeptStage) (p : PlannedStage) (j step : ℕ) (x : Option (Outcome × ℕ)) → dated_in below j ≡ x →
     treated below p (linked_kept j step x) ≡ linked_kept j step x
 linked_twice below p j step None e = rw e refl
 linked_twice below p j step (Some x) e = refl
 
-pub stage_twice : (below : List Kept) (p : PlannedStage) (stage : Stage) (step : ℕ) → treated below p (treated_by below p stage step) ≡ treated_by below p stage step
+pub stage_twice : (below : List KeptStage) (p : PlannedStage) (stage : Stage) (step : ℕ) → treated below p (treated_by below p stage step) ≡ treated_by below p stage step
 stage_twice below p Pending step =
     let due = late_due p.form (map (dated_in below) p.sources) in due_twice below p step due.0 due.1 refl
 stage_twice below p (Linked j) step = linked_twice below p j step (dated_in below j) refl
@@ -30,8 +30,8 @@ stage_twice below p (Ready args) step = refl
 stage_twice below p Claimed step = refl
 stage_twice below p (Settled o) step = refl
 
-turn : (below : List Kept) (plan : List PlannedStage) (kept : List Kept) (m : ℕ) (p : PlannedStage) (k : Kept) →
-    slice_get plan m ≡ Some p → slice_get kept m ≡ Some k → IsQuiet below plan kept m →
+turn : (below : List KeptStage) (plan : List PlannedStage) (kept : List KeptStage) (m : ℕ) (p : PlannedStage) (k : KeptStage) →
+    slice_get plan m ≡ Some p → slice_get kept m ≡ Some k → IsSteady below plan kept m →
     all_treated below plan (set kept m (treated (below ++ take m kept) p k)) ≡ all_treated below plan kept
 turn below [] kept m p k ep ek q = cc
 turn below (p0 ∷ plan) [] m p k ep ek q = refl

@@ -14,34 +14,35 @@ use Rattle.cf_plan.proofs.PlanLemmas.{lower_at}
 use Rattle.cf_core.specs.declared.stage.Stage.{Stage}
 use Rattle.cf_core.specs.declared.stage.Stage.TheVariants.{Pending, Ready, Claimed, Linked, Settled}
 use Rattle.cf_core.specs.States.{outcome_of}
-use Rattle.cf_core.specs.declared.kept.Kept.{Kept}
-use Rattle.cf_core.specs.Keeping.Late.{StepsUpTo, IsQuiet, all_treated, treated, treated_by, due_kept, late_due, dated_in, dated_of, linked_kept, earlier, earliest, latest, step_part, outcome_part, takes_first}
+use Rattle.cf_core.specs.declared.kept.KeptStage.{KeptStage}
+use Rattle.cf_core.specs.Laws.{is_decided_by_first}
+use Rattle.cf_core.specs.Keeping.Late.{StepsUpTo, IsSteady, all_treated, treated, treated_by, due_kept, late_due, dated_in, dated_of, linked_kept, earlier, earliest, latest, step_part, outcome_part}
 use Rattle.cf_core.specs.Keeping.Marks.{WaitsNow}
 use Rattle.cf_core.specs.Keeping.Links.{list_at}
 use Rattle.cf_core.specs.Keeping.Sound.{Waits, AreListed, is_waiting, kept_at, mark_all}
 use Rattle.cf_core.proofs.Keeping.Marking.{get-set_other, mentioned, mark_all-marks, mark_all-unmarked, length-mark_all}
-use Rattle.cf_core.proofs.Keeping.Marks.{treated-set, others_wait, quiet_by_stage}
+use Rattle.cf_core.proofs.Keeping.Marks.{treated-set, others_wait, steady_by_stage}
 use Rattle.cf_core.proofs.Keeping.Turns.{stage_twice}
 use Rattle.cf_core.proofs.Keeping.Sums.{kept_is, there_within}
 use Rattle.cf_core.proofs.Keeping.Writes.{Alike, treated-alike, unsettled}
 
 -- all but stage d
-abbrev pub WaitsBut : List PlannedStage → List Kept → List Bool → ℕ → Type 0
+abbrev pub WaitsBut : List PlannedStage → List KeptStage → List Bool → ℕ → Type 0
 WaitsBut plan kept marks d =
-    (i : ℕ) (p : PlannedStage) (k : Kept) → i ≢ d → slice_get plan i ≡ Some p → slice_get kept i ≡ Some k → slice_get marks i ≡ Some false → WaitsNow kept p k
+    (i : ℕ) (p : PlannedStage) (k : KeptStage) → i ≢ d → slice_get plan i ≡ Some p → slice_get kept i ≡ Some k → slice_get marks i ≡ Some false → WaitsNow kept p k
 
-pub but_marks : (plan : List PlannedStage) (kept : List Kept) (marks new : List Bool) (d : ℕ) → ((i : ℕ) → i ≢ d → slice_get new i ≡ slice_get marks i) → Waits plan kept marks → WaitsBut plan kept new d
+pub but_marks : (plan : List PlannedStage) (kept : List KeptStage) (marks new : List Bool) (d : ℕ) → ((i : ℕ) → i ≢ d → slice_get new i ≡ slice_get marks i) → Waits plan kept marks → WaitsBut plan kept new d
 but_marks plan kept marks new d same h i p k ne ep ek em = h i p k ep ek (sym (same i ne) ∙ em)
 
-pub but_closed : (plan : List PlannedStage) (kept : List Kept) (marks : List Bool) (d : ℕ) → WaitsBut plan kept marks d →
-    ((p : PlannedStage) (k : Kept) → slice_get plan d ≡ Some p → slice_get kept d ≡ Some k → slice_get marks d ≡ Some false → WaitsNow kept p k) → Waits plan kept marks
+pub but_closed : (plan : List PlannedStage) (kept : List KeptStage) (marks : List Bool) (d : ℕ) → WaitsBut plan kept marks d →
+    ((p : PlannedStage) (k : KeptStage) → slice_get plan d ≡ Some p → slice_get kept d ≡ Some k → slice_get marks d ≡ Some false → WaitsNow kept p k) → Waits plan kept marks
 but_closed plan kept marks d h here i p k ep ek em = elim (eqb_tells i d) [
   | inl s ↦ (let same = s.1 in here p k (ap (slice_get plan) (sym same) ∙ ep) (ap (slice_get kept) (sym same) ∙ ek) (ap (slice_get marks) (sym same) ∙ em))
   | inr s ↦ h i p k s.1 ep ek em
 ]
 
 -- a stage that doesn't wait stays as it is when it is treated
-pub stays : (below : List Kept) (p : PlannedStage) (stage : Stage) (step : ℕ) → is_waiting stage ≡ false → treated_by below p stage step ≡ record { stage = stage; step = step }
+pub stays : (below : List KeptStage) (p : PlannedStage) (stage : Stage) (step : ℕ) → is_waiting stage ≡ false → treated_by below p stage step ≡ record { stage = stage; step = step }
 stays below p Pending step e = cc
 stays below p (Linked j) step e = cc
 stays below p (Ready args) step e = refl
@@ -50,16 +51,16 @@ stays below p (Settled o) step e = refl
 
 -- ---- a write of a stage that is settled neither before nor then
 
-Alike-same : (kept : List Kept) → Alike kept kept
+Alike-same : (kept : List KeptStage) → Alike kept kept
 Alike-same [] = tt
 Alike-same (k ∷ kept) = (refl, Alike-same kept)
 
-Alike-set : (kept : List Kept) (d : ℕ) (old new : Kept) → slice_get kept d ≡ Some old → dated_of new ≡ dated_of old → Alike kept (set kept d new)
+Alike-set : (kept : List KeptStage) (d : ℕ) (old new : KeptStage) → slice_get kept d ≡ Some old → dated_of new ≡ dated_of old → Alike kept (set kept d new)
 Alike-set [] d old new e s = tt
 Alike-set (k ∷ kept) zero old new e s = (s ∙ ap dated_of (let same : old ≡ k = cc in same), Alike-same kept)
 Alike-set (k ∷ kept) (suc d) old new e s = (refl, Alike-set kept d old new e s)
 
-pub but_unsettled : (plan : List PlannedStage) (kept : List Kept) (marks : List Bool) (d : ℕ) (old new : Kept) → slice_get kept d ≡ Some old → outcome_of old.stage ≡ None → outcome_of new.stage ≡ None →
+pub but_unsettled : (plan : List PlannedStage) (kept : List KeptStage) (marks : List Bool) (d : ℕ) (old new : KeptStage) → slice_get kept d ≡ Some old → outcome_of old.stage ≡ None → outcome_of new.stage ≡ None →
     WaitsBut plan kept marks d → WaitsBut plan (set kept d new) marks d
 but_unsettled plan kept marks d old new there e f h i p k ne ep ek em =
     treated-alike kept (set kept d new) p k.stage k.step (Alike-set kept d old new there (unsettled old new e f))
@@ -71,18 +72,18 @@ but_unsettled plan kept marks d old new there e f h i p k ne ep ek em =
 abbrev pub NamesDependents : List PlannedStage → Type 0
 NamesDependents plan = (i d : ℕ) (p : PlannedStage) → slice_get plan i ≡ Some p → Contains p.sources d → 0 < mentions i (dependents_of plan d)
 
-module _ (plan : List PlannedStage) (kept : List Kept) (links : List (List ℕ)) (marks : List Bool) (d : ℕ) (new old : Kept)
+module _ (plan : List PlannedStage) (kept : List KeptStage) (links : List (List ℕ)) (marks : List Bool) (d : ℕ) (new old : KeptStage)
     (there : slice_get kept d ≡ Some old) (waited : outcome_of old.stage ≡ None) (count : length marks ≡ length plan)
     (named : NamesDependents plan) (listed : AreListed kept links) where
   dated_none : dated_in kept d ≡ None
   dated_none = ap (option_and_then dated_of) there ∙ ap (option_map (λ o. (o, old.step))) waited
 
-  others : (i : ℕ) (p : PlannedStage) (k : Kept) → i ≢ d → slice_get plan i ≡ Some p → slice_get (set kept d new) i ≡ Some k →
+  others : (i : ℕ) (p : PlannedStage) (k : KeptStage) → i ≢ d → slice_get plan i ≡ Some p → slice_get (set kept d new) i ≡ Some k →
       slice_get (mark_all (set kept d new) (list_at links d) (mark_all (set kept d new) (dependents_of plan d) marks)) i ≡ Some false → (b : Bool) → is_waiting k.stage ≡ b → WaitsNow kept p k → WaitsNow (set kept d new) p k
   others i p k ne ep ek em false w h = stays (set kept d new) p k.stage k.step w
   others i p k ne ep ek em true w h =
       let is : kept_at (set kept d new) i ≡ k = kept_is (set kept d new) i k ek in
-      let waits : is_waiting ((kept_at (set kept d new) i).stage) ≡ true = ap (λ (x : Kept). is_waiting x.stage) is ∙ w in
+      let waits : is_waiting ((kept_at (set kept d new) i).stage) ≡ true = ap (λ (x : KeptStage). is_waiting x.stage) is ∙ w in
       let before : slice_get kept i ≡ Some k = sym (get-set_other kept d i new ne) ∙ ek in
       let within : i < length marks = (let l = there_within plan i p ep in omega (arith, count)) in
       let within2 : i < length (mark_all (set kept d new) (dependents_of plan d) marks) = omega (arith, length-mark_all (set kept d new) (dependents_of plan d) marks) in
@@ -116,7 +117,7 @@ lower_differs d [] h j c e = absurd (omega (arith, c.1))
 lower_differs d (x ∷ sources) h j (zero, l, s) e = let f : x ≡ j = s in let k = All-head (λ n. n < d) x sources h in absurd (omega arith)
 lower_differs d (x ∷ sources) h j (suc n, l, s) e = lower_differs d sources (All-tail (λ n. n < d) x sources h) j (n, omega arith, s) e
 
-pub treated_again : (kept : List Kept) (d : ℕ) (p : PlannedStage) (stage : Stage) (step : ℕ) → All (λ j. j < d) p.sources → ((j : ℕ) → stage ≡ Linked j → j < d) →
+pub treated_again : (kept : List KeptStage) (d : ℕ) (p : PlannedStage) (stage : Stage) (step : ℕ) → All (λ j. j < d) p.sources → ((j : ℕ) → stage ≡ Linked j → j < d) →
     treated (set kept d (treated_by kept p stage step)) p (treated_by kept p stage step) ≡ treated_by kept p stage step
 treated_again kept d p Pending step lower l =
     let due = late_due p.form (map (dated_in kept) p.sources) in
@@ -131,7 +132,7 @@ treated_again kept d p (Settled o) step lower l = refl
 
 -- ---- the step of a stage that was treated
 
-step_part-few : (n : ℕ) (kept : List Kept) (j : ℕ) → StepsUpTo n kept → step_part (dated_in kept j) ≤ n
+step_part-few : (n : ℕ) (kept : List KeptStage) (j : ℕ) → StepsUpTo n kept → step_part (dated_in kept j) ≤ n
 step_part-few n [] j h = omega arith
 step_part-few n (k ∷ kept) zero h = by_stage (outcome_of k.stage)
   where
@@ -149,26 +150,26 @@ earlier-few n (Some x) (Some y) l m = chosen (nat_le (x.1) (y.1))
     chosen true = l
     chosen false = m
 
-earliest-few : (n : ℕ) (kept : List Kept) (sources : List ℕ) → StepsUpTo n kept → step_part (earliest (map (dated_in kept) sources)) ≤ n
+earliest-few : (n : ℕ) (kept : List KeptStage) (sources : List ℕ) → StepsUpTo n kept → step_part (earliest (map (dated_in kept) sources)) ≤ n
 earliest-few n kept [] h = omega arith
 earliest-few n kept (j ∷ sources) h = earlier-few n (dated_in kept j) (earliest (map (dated_in kept) sources)) (step_part-few n kept j h) (earliest-few n kept sources h)
 
-latest-few : (n : ℕ) (kept : List Kept) (sources : List ℕ) → StepsUpTo n kept → latest (map (dated_in kept) sources) ≤ n
+latest-few : (n : ℕ) (kept : List KeptStage) (sources : List ℕ) → StepsUpTo n kept → latest (map (dated_in kept) sources) ≤ n
 latest-few n kept [] h = omega arith
 latest-few n kept (j ∷ sources) h =
     let here = step_part-few n kept j h in
     let rest = latest-few n kept sources h in
     omega (arith, here, rest)
 
-late_due-few : (n : ℕ) (kept : List Kept) (form : Form) (sources : List ℕ) → StepsUpTo n kept → (late_due form (map (dated_in kept) sources)).1 ≤ n
-late_due-few n kept form sources h = by_form (takes_first form)
+late_due-few : (n : ℕ) (kept : List KeptStage) (form : Form) (sources : List ℕ) → StepsUpTo n kept → (late_due form (map (dated_in kept) sources)).1 ≤ n
+late_due-few n kept form sources h = by_form (is_decided_by_first form)
   where
     by_form : (b : Bool) → (cond {A = Due × ℕ} b (due_of_first form (outcome_part (earliest (map (dated_in kept) sources))), step_part (earliest (map (dated_in kept) sources)))
         (follows form (map outcome_part (map (dated_in kept) sources)), latest (map (dated_in kept) sources))).1 ≤ n
     by_form true = earliest-few n kept sources h
     by_form false = latest-few n kept sources h
 
-pub treated-few : (n : ℕ) (kept : List Kept) (p : PlannedStage) (stage : Stage) (step : ℕ) → StepsUpTo n kept → step ≤ n → (treated_by kept p stage step).step ≤ n
+pub treated-few : (n : ℕ) (kept : List KeptStage) (p : PlannedStage) (stage : Stage) (step : ℕ) → StepsUpTo n kept → step ≤ n → (treated_by kept p stage step).step ≤ n
 treated-few n kept p Pending step h l = by_due (late_due p.form (map (dated_in kept) p.sources)) (late_due-few n kept p.form p.sources h)
   where
     by_due : (due : Due × ℕ) → due.1 ≤ n → (due_kept due.0 due.1 step).step ≤ n
@@ -184,21 +185,21 @@ treated-few n kept p (Ready args) step h l = l
 treated-few n kept p Claimed step h l = l
 treated-few n kept p (Settled o) step h l = l
 
--- ---- the stages below the lowest mark are quiet
+-- ---- the stages below the lowest mark are steady
 
-dated_in-take : (kept : List Kept) (i j : ℕ) → j < i → dated_in (take i kept) j ≡ dated_in kept j
+dated_in-take : (kept : List KeptStage) (i j : ℕ) → j < i → dated_in (take i kept) j ≡ dated_in kept j
 dated_in-take kept zero j l = absurd (omega arith)
 dated_in-take [] (suc i) j l = refl
 dated_in-take (k ∷ kept) (suc i) zero l = refl
 dated_in-take (k ∷ kept) (suc i) (suc j) l = dated_in-take kept i j (omega arith)
 
-map-take : (kept : List Kept) (i : ℕ) (sources : List ℕ) → All (λ j. j < i) sources → map (dated_in (take i kept)) sources ≡ map (dated_in kept) sources
+map-take : (kept : List KeptStage) (i : ℕ) (sources : List ℕ) → All (λ j. j < i) sources → map (dated_in (take i kept)) sources ≡ map (dated_in kept) sources
 map-take kept i [] h = refl
 map-take kept i (j ∷ sources) h =
     let here = dated_in-take kept i j (All-head (λ k. k < i) j sources h) in
     let rest = map-take kept i sources (All-tail (λ k. k < i) j sources h) in cc
 
-pub treated-take : (kept : List Kept) (i : ℕ) (p : PlannedStage) (stage : Stage) (step : ℕ) → All (λ j. j < i) p.sources → ((j : ℕ) → stage ≡ Linked j → j < i) →
+pub treated-take : (kept : List KeptStage) (i : ℕ) (p : PlannedStage) (stage : Stage) (step : ℕ) → All (λ j. j < i) p.sources → ((j : ℕ) → stage ≡ Linked j → j < i) →
     treated_by (take i kept) p stage step ≡ treated_by kept p stage step
 treated-take kept i p Pending step h l = ap (λ q. let due = late_due p.form q in due_kept due.0 due.1 step) (map-take kept i p.sources h)
 treated-take kept i p (Linked j) step h l = ap (linked_kept j step) (dated_in-take kept i j (l j refl))
@@ -209,9 +210,9 @@ treated-take kept i p (Settled o) step h l = refl
 pub sources_below : (plan : List PlannedStage) (i : ℕ) (p : PlannedStage) → HasLowerSources 0 plan → slice_get plan i ≡ Some p → All (λ j. j < i) p.sources
 sources_below plan i p h e = let b = lower_at 0 plan i p h e in λ k d l. let c = b k d l in omega arith
 
-pub quiet_below : (plan : List PlannedStage) (kept : List Kept) (marks : List Bool) (links : List (List ℕ)) (m : ℕ) → HasLowerSources 0 plan → Waits plan kept marks → AreListed kept links →
-    ((i : ℕ) → i < m → slice_get marks i ≡ Some false) → IsQuiet [] plan kept m
-quiet_below plan kept marks links m lower waits listed none = quiet_by_stage plan kept m (λ i p k l ep ek.
+pub steady_below : (plan : List PlannedStage) (kept : List KeptStage) (marks : List Bool) (links : List (List ℕ)) (m : ℕ) → HasLowerSources 0 plan → Waits plan kept marks → AreListed kept links →
+    ((i : ℕ) → i < m → slice_get marks i ≡ Some false) → IsSteady [] plan kept m
+steady_below plan kept marks links m lower waits listed none = steady_by_stage plan kept m (λ i p k l ep ek.
     treated-take kept i p k.stage k.step (sources_below plan i p lower ep) (λ j e. (let b = listed i j k ek e in b.lower))
     ∙ waits i p k ep ek (none i l))
 
@@ -221,5 +222,5 @@ get-take [] (suc m) i l = refl
 get-take (x ∷ xs) (suc m) zero l = refl
 get-take (x ∷ xs) (suc m) (suc i) l = get-take xs m i (omega arith)
 
-pub quiet_at : (plan : List PlannedStage) (kept : List Kept) (m i : ℕ) → IsQuiet [] plan kept m → i < m → slice_get (all_treated [] plan kept) i ≡ slice_get kept i
-quiet_at plan kept m i q l = sym (get-take (all_treated [] plan kept) m i l) ∙ ap (λ xs. slice_get xs i) q ∙ get-take kept m i l
+pub steady_at : (plan : List PlannedStage) (kept : List KeptStage) (m i : ℕ) → IsSteady [] plan kept m → i < m → slice_get (all_treated [] plan kept) i ≡ slice_get kept i
+steady_at plan kept m i q l = sym (get-take (all_treated [] plan kept) m i l) ∙ ap (λ xs. slice_get xs i) q ∙ get-take kept m i l

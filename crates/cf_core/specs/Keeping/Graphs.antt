@@ -1,13 +1,13 @@
 -- How a graph keeps its state.
 use Rattle.std.specs.Prelude.{◌≡◌, ◌≤◌, ℕ, Option, Some, List, length, slice_get, true}
 use Rattle.cf_plan.specs.Plans.{IsBuilt, Planned}
-use Rattle.cf_core.specs.declared.kept.Kept.{Kept}
+use Rattle.cf_core.specs.declared.kept.KeptStage.{KeptStage}
 use Rattle.cf_core.specs.declared.stages.Stages.{Stages}
 use Rattle.cf_core.specs.Keeping.Sound.{is_taken, kept_at}
 use Rattle.cf_core.specs.Keeping.SoundStages.{AreSound}
 
 -- a stage that someone's claim is open on is claimed or settled
-abbrev pub AreClaimed : List (Option ℕ) → List Kept → Type 0
+abbrev pub AreClaimed : List (Option ℕ) → List KeptStage → Type 0
 AreClaimed claims kept = (i who : ℕ) → slice_get claims i ≡ Some (Some who) → is_taken ((kept_at kept i).stage) ≡ true
 
 -- the plan is one that was built, its stages are sound, there is a claim or none for each of them, and no more limits are used than there are

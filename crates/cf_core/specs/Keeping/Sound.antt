@@ -7,17 +7,17 @@ use Rattle.cf_plan.specs.Plans.{PlannedStage, HasLowerSources, dependents_of, ed
 use Rattle.cf_core.specs.declared.stage.Stage.{Stage}
 use Rattle.cf_core.specs.declared.stage.Stage.TheVariants.{Pending, Claimed, Linked, Settled}
 use Rattle.cf_core.specs.States.{is_ready}
-use Rattle.cf_core.specs.declared.kept.Kept.{Kept}
+use Rattle.cf_core.specs.declared.kept.KeptStage.{KeptStage}
 use Rattle.cf_core.specs.Keeping.Late.{StepsUpTo, all_treated, dated_in, stages_of}
 use Rattle.cf_core.specs.Keeping.Marks.{WaitsNow}
 use Rattle.cf_core.specs.Keeping.Links.{list_at}
 
 -- what treating all stages, in rising number, leads to
-abbrev pub outlook : List PlannedStage → List Kept → List Stage
+abbrev pub outlook : List PlannedStage → List KeptStage → List Stage
 outlook plan kept = stages_of (all_treated [] plan kept)
 
 -- stage i as it is kept
-abbrev pub kept_at : List Kept → ℕ → Kept
+abbrev pub kept_at : List KeptStage → ℕ → KeptStage
 kept_at kept i = unwrap_or (slice_get kept i) (record { stage = Pending; step = 0 })
 
 -- whether a stage waits, for its sources or for the stage that it is linked to
@@ -33,15 +33,15 @@ is_bound (Settled o) = true
 is_bound stage = false
 
 -- a stage that waits is marked
-abbrev pub mark_one : List Kept → ℕ → List Bool → List Bool
+abbrev pub mark_one : List KeptStage → ℕ → List Bool → List Bool
 mark_one kept i marks = if is_waiting ((kept_at kept i).stage) then slice_set marks i true else marks
 
-abbrev pub mark_all : List Kept → List ℕ → List Bool → List Bool
+abbrev pub mark_all : List KeptStage → List ℕ → List Bool → List Bool
 mark_all kept [] marks = marks
 mark_all kept (i ∷ stages) marks = mark_all kept stages (mark_one kept i marks)
 
 -- the marks once stage d is written: a settled stage marks its dependents and the stages linked to it
-abbrev pub marks_after : List PlannedStage → List Kept → List (List ℕ) → List Bool → ℕ → Stage → List Bool
+abbrev pub marks_after : List PlannedStage → List KeptStage → List (List ℕ) → List Bool → ℕ → Stage → List Bool
 marks_after plan kept links marks d (Settled o) = mark_all kept (list_at links d) (mark_all kept (dependents_of plan d) marks)
 marks_after plan kept links marks d stage = marks
 
@@ -51,20 +51,20 @@ links_after links d (Settled o) = slice_set links d []
 links_after links d stage = links
 
 -- a stage without a mark waits by what its sources, or the stage that it is linked to, have now
-abbrev pub Waits : List PlannedStage → List Kept → List Bool → Type 0
+abbrev pub Waits : List PlannedStage → List KeptStage → List Bool → Type 0
 Waits plan kept marks =
-    (i : ℕ) (p : PlannedStage) (k : Kept) → slice_get plan i ≡ Some p → slice_get kept i ≡ Some k → slice_get marks i ≡ Some false → WaitsNow kept p k
+    (i : ℕ) (p : PlannedStage) (k : KeptStage) → slice_get plan i ≡ Some p → slice_get kept i ≡ Some k → slice_get marks i ≡ Some false → WaitsNow kept p k
 
 -- a linked stage is linked to a lower one, in whose list it stands until that one settles
-pub record IsListed (kept : List Kept) (links : List (List ℕ)) (i j : ℕ) : Type 0 where
+pub record IsListed (kept : List KeptStage) (links : List (List ℕ)) (i j : ℕ) : Type 0 where
   pub lower : j < i
   pub listed : dated_in kept j ≡ None → Contains (list_at links j) i
 
-abbrev pub AreListed : List Kept → List (List ℕ) → Type 0
-AreListed kept links = (i j : ℕ) (k : Kept) → slice_get kept i ≡ Some k → k.stage ≡ Linked j → IsListed kept links i j
+abbrev pub AreListed : List KeptStage → List (List ℕ) → Type 0
+AreListed kept links = (i j : ℕ) (k : KeptStage) → slice_get kept i ≡ Some k → k.stage ≡ Linked j → IsListed kept links i j
 
 -- the stages that stand in lists were linked
-abbrev pub AreBound : List Kept → List (List ℕ) → Type 0
+abbrev pub AreBound : List KeptStage → List (List ℕ) → Type 0
 AreBound kept links = All (λ stages. All (λ i. is_bound ((kept_at kept i).stage) ≡ true) stages) links
 
 -- how many steps a stage can still make: to link it, and to settle it
@@ -84,16 +84,16 @@ marks_of plan i (Linked j) = length (dependents_of plan i)
 marks_of plan i stage = length (dependents_of plan i) + link_marks (form_at plan i)
 
 -- and of all of these stages, the first of them being stage i
-abbrev pub marks_from : List PlannedStage → ℕ → List Kept → ℕ
+abbrev pub marks_from : List PlannedStage → ℕ → List KeptStage → ℕ
 marks_from plan i [] = 0
 marks_from plan i (k ∷ kept) = marks_of plan i k.stage + marks_from plan (i + 1) kept
 
 -- how many turns there can be in all, by those that were taken, the marks, and the marks that can still come
-abbrev pub turns_in_all : List PlannedStage → List Kept → List Bool → List (List ℕ) → ℕ → ℕ
+abbrev pub turns_in_all : List PlannedStage → List KeptStage → List Bool → List (List ℕ) → ℕ → ℕ
 turns_in_all plan kept marks links turns = turns + count_by (λ b. b) marks + marks_from plan 0 kept + sum_by length links
 
 -- what is true of the stages between any two calls
-pub record IsSound (plan : List PlannedStage) (kept : List Kept) (marks ready : List Bool) (links : List (List ℕ)) (steps turns : ℕ) : Type 0 where
+pub record IsSound (plan : List PlannedStage) (kept : List KeptStage) (marks ready : List Bool) (links : List (List ℕ)) (steps turns : ℕ) : Type 0 where
   pub few_stages : length plan ≤ 4096
   pub few_edges : edges_of plan ≤ 16384
   pub sources_lower : HasLowerSources 0 plan
@@ -115,7 +115,7 @@ is_taken (Settled o) = true
 is_taken stage = false
 
 -- stages that are taken stay so
-abbrev pub StayTaken : List Kept → List Kept → Type 0
+abbrev pub StayTaken : List KeptStage → List KeptStage → Type 0
 StayTaken old new = (i : ℕ) → is_taken ((kept_at old i).stage) ≡ true → is_taken ((kept_at new i).stage) ≡ true
 
 -- none of the first n stages is marked
@@ -123,7 +123,7 @@ abbrev pub AreTreated : ℕ → List Bool → Type 0
 AreTreated n marks = (i : ℕ) → i < n → slice_get marks i ≡ Some false
 
 -- all but stage d
-abbrev pub StayTakenBut : ℕ → List Kept → List Kept → Type 0
+abbrev pub StayTakenBut : ℕ → List KeptStage → List KeptStage → Type 0
 StayTakenBut d old new = (i : ℕ) → i ≢ d → is_taken ((kept_at old i).stage) ≡ true → is_taken ((kept_at new i).stage) ≡ true
 
 -- none of the stages below the lowest ready one is marked, and none at all where no stage is ready

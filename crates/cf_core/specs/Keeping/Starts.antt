@@ -5,11 +5,11 @@ use Rattle.cf_plan.specs.declared.forms.Form.TheVariants.{Supply, RunAsync, AllO
 use Rattle.cf_plan.specs.Plans.{PlannedStage}
 use Rattle.cf_core.specs.declared.stage.Stage.TheVariants.{Pending}
 use Rattle.cf_core.specs.States.{new_states}
-use Rattle.cf_core.specs.declared.kept.Kept.{Kept}
+use Rattle.cf_core.specs.declared.kept.KeptStage.{KeptStage}
 use Rattle.cf_core.specs.Keeping.Late.{all_treated, stages_of}
 
 -- a stage that was never treated
-abbrev pub untreated : Kept
+abbrev pub untreated : KeptStage
 untreated = record { stage = Pending; step = 0 }
 
 -- Treating all stages of a new graph leads to what settling all at once does.

@@ -1,9 +1,9 @@
 use Rattle.std.proofs.Common.{◌≡◌, ◌+◌, ◌∙◌, None, ap, arith, subst, sym}
 use Rattle.cf_core.specs.declared.stage.Stage.TheVariants.{Linked}
-use Rattle.cf_core.specs.declared.kept.Kept.{Kept}
+use Rattle.cf_core.specs.declared.kept.KeptStage.{KeptStage}
 use Rattle.cf_core.specs.Keeping.Late.{dated_in}
 use Rattle.cf_core.specs.Keeping.Sound.{StayTakenBut, outlook}
-use Rattle.cf_core.proofs.Keeping.Moves.{is_quiet, link_free, link_room, link_same, link_sound}
+use Rattle.cf_core.proofs.Keeping.Moves.{is_steady, link_free, link_room, link_same, link_sound}
 use Rattle.cf_core.proofs.Keeping.Places.{IsSound-same, StayTakenBut-set, undated}
 use Rattle.cf_core.proofs.stages.Stages.link.Goals as goal
 
@@ -22,14 +22,14 @@ returns-clause-linked c =
     let s = c.args.self.now in
     let plan = c.args.plan.now.stages in
     let h = c.requires.sound in
-    let quiet = is_quiet plan s.kept.items s.marks s.ready s.links s.steps s.turns h (c.args.d + 1) c.requires.treated in
+    let steady = is_steady plan s.kept.items s.marks s.ready s.links s.steps s.turns h (c.args.d + 1) c.requires.treated in
     ap (outlook plan) c.put.ensures.kept
-    ∙ link_same plan s.kept.items s.marks s.ready s.links s.steps s.turns h c.args.d c.args.j (s.steps + 1) (c.args.d + 1) c.requires.stage quiet (omega arith) c.requires.target c.requires.claimed c.requires.unsettled
+    ∙ link_same plan s.kept.items s.marks s.ready s.links s.steps s.turns h c.args.d c.args.j (s.steps + 1) (c.args.d + 1) c.requires.stage steady (omega arith) c.requires.target c.requires.claimed c.requires.unsettled
 
 pub returns-clause-taken : goal.returns-clause-taken
 returns-clause-taken c =
     let s = c.args.self.now in
-    let new : Kept = record { stage = Linked c.args.j; step = s.steps + 1 } in
+    let new : KeptStage = record { stage = Linked c.args.j; step = s.steps + 1 } in
     subst (StayTakenBut c.args.d s.kept.items) (sym c.put.ensures.kept) (StayTakenBut-set s.kept.items c.args.d new)
 
 pub returns-clause-sound : goal.returns-clause-sound

@@ -1,8 +1,9 @@
 use Rattle.std.proofs.Common.{◌≡◌, ◌∙◌, ap, false, set, subst, sym, true}
 use Rattle.cf_plan.specs.Plans.{function_at}
 use Rattle.cf_core.specs.Keeping.Late.{treated}
+use Rattle.cf_core.specs.Keeping.Turns.{planned_at}
 use Rattle.cf_core.specs.Keeping.Sound.{StayTaken, is_waiting, kept_at, marks_after, outlook}
-use Rattle.cf_core.proofs.Keeping.Places.{IsSound-same, planned_at, turn_idle, turn_kept, turn_outlook, turn_taken}
+use Rattle.cf_core.proofs.Keeping.Places.{IsSound-same, turn_idle, turn_idly, turn_kept, turn_outlook, turn_taken}
 use Rattle.cf_core.proofs.stages.Stages.turn.Goals as goal
 
 pub returns-then-is_waiting-clause-same : goal.returns-then-is_waiting-clause-same
@@ -41,3 +42,10 @@ returns-else-is_waiting-clause-sound c =
     let plan = c.args.plan.now.stages in
     let idle : is_waiting ((kept_at s.kept.items c.args.m).stage) ≡ false = ap is_waiting (sym c.stage.ensures) ∙ sym c.is_waiting.ensures ∙ c.if-is_waiting.false in
     rw c.remove.ensures (turn_idle plan s.kept.items s.marks s.ready s.links s.steps s.turns c.requires.sound c.args.m c.requires.lowest idle)
+
+pub returns-else-is_waiting-clause-turned : goal.returns-else-is_waiting-clause-turned
+returns-else-is_waiting-clause-turned c =
+    let s = c.args.self.now in
+    let plan = c.args.plan.now.stages in
+    let idle : is_waiting ((kept_at s.kept.items c.args.m).stage) ≡ false = ap is_waiting (sym c.stage.ensures) ∙ sym c.is_waiting.ensures ∙ c.if-is_waiting.false in
+    turn_idly plan s.kept.items s.marks s.ready s.links s.steps s.turns c.requires.sound c.args.m c.requires.lowest idle
