@@ -1,7 +1,10 @@
-//! The graph against the plain graph, on small plans and event lists that are made by rule.
+//! The graph against the plain graph, on plans and calls that are made by rule, with turns taken between the calls.
+ghost use Rattle.std.specs.Prelude.{length};
+ghost use Rattle.cf_core.specs.Ranges.{EventFits};
+
 use crate::graph::Plain;
 use cf_core::{Event, Graph, Reply};
-use cf_outcome::Value;
+use cf_outcome::{Cause, Outcome, Value};
 use cf_plan::{Answer, Form, LimitKind, Plan, PlanBuilder};
 use std::alloc::Global;
 use std::process::Abort;
@@ -38,10 +41,15 @@ const FORMS: [(Form, Takes, bool); 18] = [
     (Form::AnyOf, Takes::Any, false),
 ];
 
-/// How many event lists are run on each plan, and how many events each has.
+/// How many lists of calls are run on each small plan, and how many calls each has.
 const LISTS: u32 = 4;
 
-const EVENTS: u32 = 16;
+const CALLS: u32 = 16;
+
+/// How many larger plans there are, and how many calls are done on each.
+const LARGER_PLANS: u32 = 4000;
+
+const LARGER_CALLS: u32 = 32;
 
 /// Adds a stage whose sources are the choice with this number among `k` lower stages, if there is such a choice.
 fn add_choice(
@@ -106,59 +114,185 @@ fn next_number(x: u32) -> u32 {
     x.wrapping_mul(1664525).wrapping_add(1013904223)
 }
 
-/// The event of a number, on a plan of so many stages.
-fn event_of(x: u32, stages: u16) -> Event {
+/// The larger plan of a number: two sources, 6 to 14 stages of all forms over lower ones, and three limits.
+fn larger_plan(alloc: Global, number: u32) -> Result<Plan, Fail> {
+    let mut builder = PlanBuilder::new(alloc);
+    builder.stage(Form::Source, &[], None)?;
+    builder.stage(Form::Source, &[], None)?;
+    let mut x = next_number(number);
+    for k in 2..8 + (number % 9) as u16 {
+        x = next_number(x);
+        let (form, takes, called) = FORMS[(x >> 8) as usize % 18];
+        let below = if k == 0 { 1 } else { k };
+        let of = [
+            (x >> 20) as u16 % below,
+            (x >> 24) as u16 % below,
+            (x >> 28) as u16 % below,
+        ];
+        let count = match takes {
+            Takes::None => 0,
+            Takes::One => 1,
+            Takes::Two => 2,
+            Takes::Any => 3,
+        };
+        let function = if called { Some(0) } else { None };
+        builder.stage(form, &of[..count], function)?;
+    }
+    builder.limit(2, 2, LimitKind::Timeout)?;
+    builder.limit(0, 1, LimitKind::Give(Value::Int(9)))?;
+    builder.limit(4, 2, LimitKind::Timeout)?;
+    Ok(builder.build()?)
+}
+
+/// The graph answers an event as wanted.
+fn answers(rt: &impl Abort, graph: &mut Graph, event: Event, wanted: Reply)
+    requires { EventFits (length graph.old.state.plan.stages) event }
+{
+    let reply = graph.answer(&event);
+    assert_eq!(rt; reply, wanted, "{event:?}");
+}
+
+/// Completes, fails or cancels a stage on both, or lets it be a moment, by the upper bits of a number.
+fn settle_on_both(
+    rt: &impl Abort,
+    alloc: Global,
+    graph: &mut Graph,
+    plain: &mut Plain,
+    who: u8,
+    stage: u16,
+    x: u32,
+) -> Result<(), Fail> {
+    assert!(rt; graph.has(stage) && plain.has(stage));
+    let value = Value::Int((x >> 14 & 3) as i32);
+    let code = x >> 14 & 3;
+    match x >> 20 & 3 {
+        0 => {
+            let wanted = plain.settle(alloc, stage, Outcome::Value(value))?;
+            answers(
+                rt,
+                graph,
+                Event::Complete { who, stage, value },
+                Reply::Flag(wanted),
+            );
+        }
+        1 => {
+            let thrown = Outcome::Fault {
+                cause: Cause::Thrown(code),
+                wrapped: false,
+            };
+            let wanted = plain.settle(alloc, stage, thrown)?;
+            answers(
+                rt,
+                graph,
+                Event::Fail { who, stage, code },
+                Reply::Flag(wanted),
+            );
+        }
+        2 => {
+            let wanted = plain.cancel(alloc, stage)?;
+            answers(rt, graph, Event::Cancel { who, stage }, Reply::Flag(wanted));
+        }
+        _ => {
+            let wanted = plain.tick(alloc, code)?;
+            answers(
+                rt,
+                graph,
+                Event::Tick { who, now: code },
+                Reply::Tick(wanted),
+            );
+        }
+    }
+    Ok(())
+}
+
+/// Claims a stage on both.
+fn claim_on_both(rt: &impl Abort, graph: &mut Graph, plain: &mut Plain, who: u8, stage: u16) {
+    assert!(rt; graph.has(stage) && plain.has(stage));
+    let wanted = plain.claim(who, stage);
+    answers(rt, graph, Event::Claim { who, stage }, Reply::Claim(wanted));
+}
+
+/// Finishes a stage on both, with an answer by the bits of a number.
+fn finish_on_both(
+    rt: &impl Abort,
+    alloc: Global,
+    graph: &mut Graph,
+    plain: &mut Plain,
+    who: u8,
+    stage: u16,
+    x: u32,
+) -> Result<(), Fail> {
+    assert!(rt; graph.has(stage) && plain.has(stage));
+    let answer = match x >> 12 & 3 {
+        0 => Answer::Throw(x >> 14 & 3),
+        1 | 2 => Answer::Link((x >> 14 & 3) as u16),
+        _ => Answer::Give(Value::Int((x >> 14 & 3) as i32)),
+    };
+    let wanted = plain.finish(alloc, who, stage, answer)?;
+    answers(
+        rt,
+        graph,
+        Event::Finish { who, stage, answer },
+        Reply::Finish(wanted),
+    );
+    Ok(())
+}
+
+/// Does the call of a number on both.
+fn call_on_both(
+    rt: &impl Abort,
+    alloc: Global,
+    graph: &mut Graph,
+    plain: &mut Plain,
+    stages: u16,
+    x: u32,
+) -> Result<(), Fail> {
     let who = (x >> 11 & 1) as u8;
     let stage = if stages == 0 {
         0
     } else {
         (x >> 24) as u16 % stages
     };
-    let value = Value::Int((x >> 14 & 3) as i32);
-    let code = x >> 14 & 3;
-    match x >> 20 & 15 {
-        0 | 1 => Event::Complete { who, stage, value },
-        2 => Event::Fail { who, stage, code },
-        3 => Event::Cancel { who, stage },
-        4 => Event::Tick { who, now: code },
-        5..=9 => Event::Claim { who, stage },
-        _ => Event::Finish {
-            who,
-            stage,
-            answer: match x >> 12 & 3 {
-                0 => Answer::Throw(code),
-                1 => Answer::Link(code as u16),
-                _ => Answer::Give(value),
-            },
-        },
+    match x >> 16 & 15 {
+        0..=4 => settle_on_both(rt, alloc, graph, plain, who, stage, x)?,
+        5..=9 => claim_on_both(rt, graph, plain, who, stage),
+        _ => finish_on_both(rt, alloc, graph, plain, who, stage, x)?,
     }
+    Ok(())
 }
 
-/// What the graph answers to an event.
-fn graph_answer(rt: &impl Abort, graph: &mut Graph, event: Event) -> Reply {
-    match event {
-        Event::Complete { stage, value, .. } => {
-            assert!(rt; graph.has(stage));
-            Reply::Flag(graph.complete(stage, value))
+/// Lets the graph take up to three turns, which it counts.
+fn nudge(rt: &impl Abort, graph: &mut Graph, turns: u32) {
+    let before = graph.turns();
+    let taken = graph.nudge(turns);
+    assert_eq!(rt; graph.turns(), before.wrapping_add(taken as u64));
+}
+
+/// Does one list of calls on both, counts the replies that were compared, and looks at all stages now and then and at the
+/// end.
+fn compare(
+    rt: &impl Abort,
+    alloc: Global,
+    plan: &Plan,
+    list: u32,
+    calls: u32,
+) -> Result<u32, Fail> {
+    let stages = plan.stages();
+    let bound = plan.edges() as u64 + stages as u64;
+    let mut graph = Graph::new(alloc, plan.copy()?)?;
+    let mut plain = Plain::start(alloc, plan.copy()?)?;
+    let mut x = next_number(list);
+    for _ in 0..calls {
+        x = next_number(x);
+        nudge(rt, &mut graph, x >> 9 & 3);
+        call_on_both(rt, alloc, &mut graph, &mut plain, stages, x)?;
+        if x >> 30 == 0 {
+            assert_alike(rt, &mut graph, &plain, stages);
         }
-        Event::Fail { stage, code, .. } => {
-            assert!(rt; graph.has(stage));
-            Reply::Flag(graph.fail(stage, code))
-        }
-        Event::Cancel { stage, .. } => {
-            assert!(rt; graph.has(stage));
-            Reply::Flag(graph.cancel(stage))
-        }
-        Event::Claim { who, stage } => {
-            assert!(rt; graph.has(stage));
-            Reply::Claim(graph.claim(who, stage))
-        }
-        Event::Finish { who, stage, answer } => {
-            assert!(rt; graph.has(stage));
-            Reply::Finish(graph.finish(who, stage, answer))
-        }
-        Event::Tick { now, .. } => Reply::Tick(graph.tick(now)),
     }
+    assert_alike(rt, &mut graph, &plain, stages);
+    assert!(rt; graph.turns() <= bound);
+    Ok(calls)
 }
 
 /// Both tell the same of each stage, and of which is ready.
@@ -170,28 +304,6 @@ fn assert_alike(rt: &impl Abort, graph: &mut Graph, plain: &Plain, stages: u16) 
     }
 }
 
-/// Runs one list of events on both, and counts the replies that were compared.
-fn compare(rt: &impl Abort, alloc: Global, plan: &Plan, list: u32) -> Result<u32, Fail> {
-    let stages = plan.stages();
-    let mut graph = Graph::new(alloc, plan.copy()?)?;
-    let mut plain = Plain::start(alloc, plan.copy()?)?;
-    assert_alike(rt, &mut graph, &plain, stages);
-    let mut x = next_number(list);
-    for _ in 0..EVENTS {
-        x = next_number(x);
-        let event = event_of(x, stages);
-        assert!(rt; plain.names(event));
-        let reply = graph_answer(rt, &mut graph, event);
-        assert_eq!(rt;
-            reply,
-            plain.answer(alloc, event)?,
-            "list {list} at {event:?}"
-        );
-        assert_alike(rt, &mut graph, &plain, stages);
-    }
-    Ok(EVENTS)
-}
-
 /// Runs all lists on one plan, each plan with lists of its own.
 fn compare_all(rt: &impl Abort, alloc: Global, plan: &Plan, number: u32) -> Result<u32, Fail> {
     let mut replies: u32 = 0;
@@ -201,6 +313,7 @@ fn compare_all(rt: &impl Abort, alloc: Global, plan: &Plan, number: u32) -> Resu
             alloc,
             plan,
             number.wrapping_mul(LISTS).wrapping_add(list),
+            CALLS,
         )?);
     }
     Ok(replies)
@@ -245,5 +358,14 @@ fn two_stages_over_two_sources(rt: HostRuntime) -> Result<(), Fail> {
     }
     assert_eq!(rt; plans, 5720);
     assert_eq!(rt; replies, 366080);
+    Ok(())
+}
+
+#[test]
+fn larger_plans(rt: HostRuntime) -> Result<(), Fail> {
+    for number in 0..LARGER_PLANS {
+        let plan = larger_plan(rt.alloc(), number)?;
+        compare(&rt, rt.alloc(), &plan, number, LARGER_CALLS)?;
+    }
     Ok(())
 }

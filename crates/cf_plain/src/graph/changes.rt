@@ -1,66 +1,19 @@
-//! The answers to events.
-ghost use Rattle.std.specs.Prelude.{◌≡◌, ◌<◌, ◌↔◌, IfOk, IsTrue, length};
-ghost use Rattle.std.specs.Prelude.{false};
+//! The calls that change the graph. Each fails only where there is no memory, and the graph isn't to be used any more then.
+ghost use Rattle.std.specs.Prelude.{◌≡◌, ◌<◌, IfOk, None, false, length};
 ghost use Rattle.cf_outcome.specs.declared.outcome.Outcome.TheVariants.{Fault};
-ghost use Rattle.cf_core.specs.States.{after};
-ghost use Rattle.cf_core.specs.Events.{answered, cancelling, claiming, finishing, landed, settling, source_outcome};
-ghost use Rattle.cf_plain.specs.Plains.{NamesStage};
+ghost use Rattle.cf_core.specs.States.{after, outcome_at};
+ghost use Rattle.cf_core.specs.Events.{cancelling, claiming, finishing, landed, settling, source_outcome};
 
 use crate::graph::Plain;
 use crate::stages::{new_stages, outcome};
-use cf_core::{Claimed, Event, Finished, Reply, Stage};
+use cf_core::{Claimed, Finished, Stage};
 use cf_outcome::{Cause, Outcome, is_cancelled, wrap};
 use cf_plan::{Answer, Landing, landing};
 use std::alloc::{AllocError, Global};
 
 impl Plain {
-    /// Whether the stage that an event names is there.
-    pub fn names(&self, event: Event) -> bool
-        ensures { IsTrue result ↔ NamesStage self.now event }
-    {
-        match event {
-            Event::Complete { stage, .. } => self.has(stage),
-            Event::Fail { stage, .. } => self.has(stage),
-            Event::Cancel { stage, .. } => self.has(stage),
-            Event::Claim { stage, .. } => self.has(stage),
-            Event::Finish { stage, .. } => self.has(stage),
-            Event::Tick { .. } => true,
-        }
-    }
-
-    /// Does what an event asks for, and answers it. It fails only where there is no memory, and the graph isn't to be used
-    /// any more then.
-    pub fn answer(&mut self, alloc: Global, event: Event) -> Result<Reply, AllocError>
-        requires { NamesStage self.old event }
-        ensures { IfOk result (λ reply. (reply, self.new) ≡ answered self.old event) }
-    {
-        match event {
-            Event::Complete { stage, value, .. } => {
-                let done = self.settle(alloc, stage, Outcome::Value(value))?;
-                Ok(Reply::Flag(done))
-            }
-            Event::Fail { stage, code, .. } => {
-                let done = self.settle(alloc, stage, raw(Cause::Thrown(code)))?;
-                Ok(Reply::Flag(done))
-            }
-            Event::Cancel { stage, .. } => {
-                let done = self.cancel(alloc, stage)?;
-                Ok(Reply::Flag(done))
-            }
-            Event::Claim { who, stage } => Ok(Reply::Claim(self.claim(who, stage))),
-            Event::Finish { who, stage, answer } => {
-                let done = self.finish(alloc, who, stage, answer)?;
-                Ok(Reply::Finish(done))
-            }
-            Event::Tick { now, .. } => {
-                let done = self.tick(alloc, now)?;
-                Ok(Reply::Tick(done))
-            }
-        }
-    }
-
     /// Settles a stage, unless it is settled, and says whether it did.
-    pub(super) fn settle(&mut self, alloc: Global, i: u16, o: Outcome) -> Result<bool, AllocError>
+    pub fn settle(&mut self, alloc: Global, i: u16, o: Outcome) -> Result<bool, AllocError>
         requires { i < length self.old.plan.stages }
         ensures { IfOk result (λ done. (done, self.new) ≡ settling self.old i o) }
     {
@@ -74,7 +27,7 @@ impl Plain {
     }
 
     /// Cancels a stage, unless it is settled, and says whether it is cancelled then.
-    fn cancel(&mut self, alloc: Global, i: u16) -> Result<bool, AllocError>
+    pub fn cancel(&mut self, alloc: Global, i: u16) -> Result<bool, AllocError>
         requires { i < length self.old.plan.stages }
         ensures { IfOk result (λ done. (done, self.new) ≡ cancelling self.old i) }
     {
@@ -88,7 +41,7 @@ impl Plain {
     }
 
     /// Hands a ready stage's arguments to a caller.
-    fn claim(&mut self, who: u8, i: u16) -> Claimed
+    pub fn claim(&mut self, who: u8, i: u16) -> Claimed
         requires { i < length self.old.plan.stages }
         ensures { (result, self.new) ≡ claiming self.old who i }
     {
@@ -106,7 +59,7 @@ impl Plain {
     }
 
     /// Closes a caller's claim, and lets the stage land by its function's answer, unless it is settled.
-    fn finish(
+    pub fn finish(
         &mut self,
         alloc: Global,
         who: u8,
@@ -142,7 +95,8 @@ impl Plain {
 
     /// A stage lands.
     fn land(&mut self, alloc: Global, i: u16, at: Landing) -> Result<(), AllocError>
-        requires { i < length self.old.plan.stages }
+        requires stage { i < length self.old.plan.stages }
+        requires open { outcome_at self.old i ≡ None }
         ensures { IfOk result (λ _. self.new ≡ landed self.old i at) }
     {
         match at {
@@ -162,7 +116,8 @@ impl Plain {
 
     /// Settles a stage, and makes all stages anew.
     fn take(&mut self, alloc: Global, i: u16, o: Outcome) -> Result<(), AllocError>
-        requires { i < length self.old.plan.stages }
+        requires stage { i < length self.old.plan.stages }
+        requires open { outcome_at self.old i ≡ None }
         ensures { IfOk result (λ _. self.new ≡ after self.old i o) }
     {
         self.stages[i as usize] = Stage::Settled(o);

@@ -11,7 +11,7 @@ use std::alloc::{AllocError, Global};
 
 impl Plain {
     /// Lets each unused limit with a moment up to `now` settle its stage, one after another, unless it was later already.
-    pub(super) fn tick(&mut self, alloc: Global, now: u32) -> Result<Ticked, AllocError>
+    pub fn tick(&mut self, alloc: Global, now: u32) -> Result<Ticked, AllocError>
         ensures { IfOk result (λ done. (done, self.new) ≡ ticking self.old now) }
     {
         if now < self.moment {
@@ -49,6 +49,7 @@ impl Plain {
         }
         Ok(fired)
     }
+
     /// The limit that stands so far behind the first unused one.
     fn unused(&self, k: usize) -> Limit
         requires { self.now.used + k < length self.now.plan.limits }
