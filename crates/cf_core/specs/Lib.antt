@@ -2,6 +2,7 @@
 pub mod States
 pub mod Events
 pub mod Ranges
+pub mod Calls
 pub mod Claims
 pub mod Laws
 pub mod Graphs

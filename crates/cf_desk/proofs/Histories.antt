@@ -11,8 +11,8 @@ use Rattle.cf_desk.specs.declared.calls.Rec.{Rec}
 use Rattle.cf_desk.specs.declared.calls.Rec.TheVariants.{Did, Saw}
 use Rattle.cf_core.specs.States.{State, outcome_at, start}
 use Rattle.cf_core.proofs.Moves.{grants_once, keeps_outcomes}
-use Rattle.cf_laws.specs.Histories.{IsQuiet}
-use Rattle.cf_laws.proofs.Runs.{quiet_is_expression}
+use Rattle.cf_expr.specs.Histories.{IsQuiet}
+use Rattle.cf_expr.proofs.Runs.{quiet_is_expression}
 use Rattle.cf_core.specs.Events.{answered}
 use Rattle.cf_event.specs.Words.{who_of}
 use Rattle.cf_core.specs.Events.{state_after, state_at}

@@ -9,8 +9,9 @@ use Rattle.cf_core.specs.declared.events.Reply.{Reply}
 use Rattle.cf_core.specs.Events.{answered, state_at, told}
 use Rattle.cf_core.specs.Laws.{grants_of}
 use Rattle.cf_event.specs.Words.{who_of}
-use Rattle.cf_laws.specs.Expressions.{Meanings, expr}
-use Rattle.cf_laws.specs.Histories.{IsPlain, IsPlainPlan, IsQuiet, nothing_granted}
+use Rattle.cf_plan.specs.Meanings.{Meanings}
+use Rattle.cf_expr.specs.Expressions.{expr}
+use Rattle.cf_expr.specs.Histories.{IsPlain, IsPlainPlan, IsQuiet, nothing_granted}
 use Rattle.cf_desk.specs.declared.calls.Rec.{Rec}
 use Rattle.cf_desk.specs.declared.calls.Rec.TheVariants.{Did, Saw}
 use Rattle.cf_desk.specs.Log.{own, state_from}

@@ -1,4 +1,5 @@
 pub mod Forms
 pub mod Laws
+pub mod Meanings
 pub mod Plans
 pub mod Rows

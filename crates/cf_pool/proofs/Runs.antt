@@ -16,7 +16,7 @@ use Rattle.cf_desk.specs.Log.{Catches, state_from}
 use Rattle.cf_desk.specs.Rule.{AllShort, longer_if, longest}
 use Rattle.cf_desk.specs.Views.{Closes, Holder, Place, knowns, state_of}
 use Rattle.cf_desk.proofs.Gathers.{all_at}
-use Rattle.cf_laws.specs.Expressions.{Meanings}
+use Rattle.cf_plan.specs.Meanings.{Meanings}
 use Rattle.cf_pool.specs.declared.pool.Met.{Met}
 use Rattle.cf_pool.specs.declared.pool.Worked.{Worked}
 use Rattle.cf_pool.specs.Runs.{EndsBelow, EndsIf, HasWorked, IsFirst, IsLowest, IsMet, IsTold, IsWork, SeesMore, SeesOn, Stop, first_with, stop_of}

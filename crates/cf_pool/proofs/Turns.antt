@@ -22,7 +22,7 @@ use Rattle.cf_core.proofs.Moves.{IsKept, state_after-kept, there}
 use Rattle.cf_core.proofs.Claimable.{state_after-not_claimable}
 use Rattle.cf_core.proofs.LowestReady.{lowest_ready-within, lowest_ready-is_ready}
 use Rattle.cf_core.proofs.Shape.{length-new_states, state_after-shape}
-use Rattle.cf_laws.specs.Expressions.{Meanings}
+use Rattle.cf_plan.specs.Meanings.{Meanings}
 use Rattle.cf_desk.specs.declared.calls.Call.{Call}
 use Rattle.cf_desk.specs.declared.calls.Call.TheVariants.{Claim, Finish}
 use Rattle.cf_desk.specs.declared.calls.Rec.{Rec}

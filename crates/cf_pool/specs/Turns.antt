@@ -9,7 +9,7 @@ use Rattle.cf_core.specs.declared.events.Reply.TheVariants.{Claim as ToldClaim}
 use Rattle.cf_core.specs.declared.replies.Claimed.TheVariants.{Granted}
 use Rattle.cf_core.specs.Claims.{is_claimable}
 use Rattle.cf_core.specs.States.{stage_at}
-use Rattle.cf_laws.specs.Expressions.{Meanings}
+use Rattle.cf_plan.specs.Meanings.{Meanings}
 use Rattle.cf_desk.specs.declared.calls.Rec.{Rec}
 use Rattle.cf_desk.specs.Views.{Holder, IsSamePass, state_of}
 use Rattle.cf_pool.specs.declared.worker.Done.{Done}

@@ -11,7 +11,7 @@ use Rattle.cf_core.specs.declared.events.Event.{Event}
 use Rattle.cf_core.specs.declared.events.Reply.TheVariants.{Claim as ToldClaim}
 use Rattle.cf_core.specs.declared.replies.Claimed.TheVariants.{Granted}
 use Rattle.cf_core.specs.States.{State, lowest_ready_of}
-use Rattle.cf_laws.specs.Expressions.{Meanings}
+use Rattle.cf_plan.specs.Meanings.{Meanings}
 use Rattle.cf_desk.specs.declared.calls.Call.TheVariants.{Claim, Finish}
 use Rattle.cf_desk.specs.declared.calls.Kept.{Kept}
 use Rattle.cf_desk.specs.declared.calls.Rec.{Rec}

@@ -23,7 +23,7 @@ use Rattle.cf_core.specs.declared.events.Event.{Event}
 use Rattle.cf_core.specs.declared.events.Event.TheVariants.{Complete as Completes, Fail as Fails, Cancel as Cancels, Claim as Claims, Finish as Finishes, Tick as Ticks}
 use Rattle.cf_core.specs.States.{State, start, outcome_in, outcome_at, stage_at, is_ready, due_state, linked_state, next_of, new_states}
 use Rattle.cf_core.specs.Events.{answered, state_after, settled_by, settling, cancelled_by, landed, linked_to, firing, due_limits, limit_outcome}
-use Rattle.cf_laws.specs.Histories.{IsQuiet, is_at_rest}
+use Rattle.cf_expr.specs.Histories.{IsQuiet, is_at_rest}
 use Rattle.cf_race.specs.Races.{IsStep, is_step}
 
 abbrev pub is_claimed : Stage → Bool

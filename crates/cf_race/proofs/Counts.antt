@@ -17,7 +17,7 @@ use Rattle.cf_core.specs.Events.{answered, claiming, state_after}
 use Rattle.cf_core.specs.Ranges.{EventFits}
 use Rattle.cf_core.proofs.Claimable.{answered-claimable, claiming-claimable}
 use Rattle.cf_event.specs.Words.{who_of}
-use Rattle.cf_laws.specs.Expressions.{Meanings}
+use Rattle.cf_plan.specs.Meanings.{Meanings}
 use Rattle.cf_desk.specs.declared.calls.Call.TheVariants.{Complete, Fail, Cancel, Claim, Finish, Tick}
 use Rattle.cf_desk.specs.declared.calls.Rec.{Rec}
 use Rattle.cf_desk.specs.declared.calls.Rec.TheVariants.{Did, Saw}

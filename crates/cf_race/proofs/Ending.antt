@@ -6,7 +6,7 @@ use Rattle.std.proofs.lemmas.List.Elements.{All-nil, All-cons, All-head, All-tai
 use Rattle.cf_plan.specs.Plans.{Planned}
 use Rattle.cf_core.specs.declared.events.Event.{Event}
 use Rattle.cf_event.specs.Words.{who_of}
-use Rattle.cf_laws.specs.Expressions.{Meanings}
+use Rattle.cf_plan.specs.Meanings.{Meanings}
 use Rattle.cf_desk.specs.declared.row.Setting.{Setting}
 use Rattle.cf_desk.specs.Keepings.{IsKeptFit, pass_did}
 use Rattle.cf_desk.specs.Laws.{call_of}

@@ -7,10 +7,10 @@ use Rattle.cf_core.specs.declared.events.Event.{Event}
 use Rattle.cf_core.specs.declared.events.Event.TheVariants.{Complete as Completes, Fail as Fails, Cancel as Cancels, Claim as Claims, Finish as Finishes, Tick as Ticks}
 use Rattle.cf_core.specs.States.{State, start, outcome_at}
 use Rattle.cf_core.specs.Events.{answered, state_after}
-use Rattle.cf_laws.specs.Expressions.{Meanings}
-use Rattle.cf_laws.specs.Histories.{Grants, IsPlain, IsPlainEvent, IsQuiet, grants_after, granted_with, is_work, nothing_granted}
-use Rattle.cf_laws.proofs.Parts.{plain_append, work_keeps_expressions}
-use Rattle.cf_laws.proofs.Runs.{quiet_is_expression}
+use Rattle.cf_plan.specs.Meanings.{Meanings}
+use Rattle.cf_expr.specs.Histories.{Grants, IsPlain, IsPlainEvent, IsQuiet, grants_after, granted_with, is_work, nothing_granted}
+use Rattle.cf_expr.proofs.Parts.{plain_append, work_keeps_expressions}
+use Rattle.cf_expr.proofs.Runs.{quiet_is_expression}
 use Rattle.cf_race.specs.Races.{IsWork, IsWorkEvent, RacedIsExpression, RacesEndAlike}
 
 plain_event : (meanings : Meanings) (granted : Grants) (s : State) (e : Event) → IsWorkEvent meanings granted s e → IsPlainEvent meanings granted s e

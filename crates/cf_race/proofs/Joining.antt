@@ -9,7 +9,7 @@ use Rattle.cf_core.specs.declared.events.Event.{Event}
 use Rattle.cf_core.specs.States.{State, start}
 use Rattle.cf_core.specs.Events.{answered}
 use Rattle.cf_event.specs.Words.{who_of}
-use Rattle.cf_laws.specs.Expressions.{Meanings}
+use Rattle.cf_plan.specs.Meanings.{Meanings}
 use Rattle.cf_desk.specs.declared.calls.Rec.{Rec}
 use Rattle.cf_desk.specs.declared.row.Setting.{Setting}
 use Rattle.cf_desk.specs.Keepings.{IsKeptFit, pass_did}

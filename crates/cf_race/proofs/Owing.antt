@@ -15,9 +15,9 @@ use Rattle.cf_core.specs.States.{State}
 use Rattle.cf_core.specs.Events.{answered}
 use Rattle.cf_core.proofs.Shape.{answered-shape}
 use Rattle.cf_event.specs.Words.{who_of}
-use Rattle.cf_laws.specs.Expressions.{Meanings}
-use Rattle.cf_laws.specs.Histories.{Grants, granted_with}
-use Rattle.cf_laws.proofs.Parts.{granted_with-other}
+use Rattle.cf_plan.specs.Meanings.{Meanings}
+use Rattle.cf_expr.specs.Histories.{Grants, granted_with}
+use Rattle.cf_expr.proofs.Parts.{granted_with-other}
 use Rattle.cf_desk.specs.declared.calls.Rec.{Rec}
 use Rattle.cf_desk.specs.declared.calls.Rec.TheVariants.{Did}
 use Rattle.cf_pool.specs.Works.{Owed, owed_by, IsNext, AreWork}

@@ -22,7 +22,7 @@ use Rattle.cf_core.specs.States.{State, outcome_of, outcome_at, stage_at, claim_
 use Rattle.cf_core.specs.Events.{answered, state_after, claimed_by, finished_by, landed, linked_to, source_outcome}
 use Rattle.cf_core.proofs.Shape.{answered-shape}
 use Rattle.cf_event.specs.Words.{who_of}
-use Rattle.cf_laws.specs.Expressions.{Meanings}
+use Rattle.cf_plan.specs.Meanings.{Meanings}
 use Rattle.cf_desk.specs.declared.calls.Rec.{Rec}
 use Rattle.cf_pool.specs.Works.{Owed, owed_by, owed_after, IsNext}
 use Rattle.cf_race.specs.Records.{recorded}

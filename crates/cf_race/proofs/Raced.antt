@@ -16,8 +16,8 @@ use Rattle.cf_core.specs.Events.{answered, state_after}
 use Rattle.cf_core.specs.Ranges.{EventFits}
 use Rattle.cf_core.proofs.LowestReady.{lowest_ready-none}
 use Rattle.cf_core.proofs.Shape.{length-new_states, state_after-shape}
-use Rattle.cf_laws.specs.Expressions.{Meanings}
-use Rattle.cf_laws.specs.Histories.{grants_after, nothing_granted}
+use Rattle.cf_plan.specs.Meanings.{Meanings}
+use Rattle.cf_expr.specs.Histories.{grants_after, nothing_granted}
 use Rattle.cf_desk.specs.declared.calls.Kept.{Kept}
 use Rattle.cf_desk.specs.declared.faults.DeskFault.{DeskFault}
 use Rattle.cf_desk.specs.declared.faults.DeskFault.TheVariants.{LogFull, NoStage, PassFull}

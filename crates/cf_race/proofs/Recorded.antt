@@ -9,7 +9,7 @@ use Rattle.cf_core.specs.declared.events.Reply.{Reply}
 use Rattle.cf_core.specs.States.{State, start}
 use Rattle.cf_core.specs.Events.{answered, state_after, state_at}
 use Rattle.cf_event.specs.Words.{who_of}
-use Rattle.cf_laws.specs.Expressions.{Meanings}
+use Rattle.cf_plan.specs.Meanings.{Meanings}
 use Rattle.cf_desk.specs.declared.calls.Call.{Call}
 use Rattle.cf_desk.specs.declared.calls.Call.TheVariants.{Complete, Fail, Cancel, Claim, Finish, Tick}
 use Rattle.cf_desk.specs.declared.calls.Rec.{Rec}

@@ -9,8 +9,9 @@ use Rattle.cf_core.specs.Ranges.{EventFits}
 use Rattle.cf_plan.specs.declared.forms.Args.{Args}
 use Rattle.cf_race.specs.declared.RaceFault.{RaceFault}
 use Rattle.cf_race.specs.declared.RaceFault.TheVariants.{Size, NoMemory}
-use Rattle.cf_laws.specs.Expressions.{Meanings, expr}
-use Rattle.cf_laws.specs.Histories.{Grants, IsPlain, IsPlainPlan, IsQuiet, grants_after, granted_with, nothing_granted}
+use Rattle.cf_plan.specs.Meanings.{Meanings}
+use Rattle.cf_expr.specs.Expressions.{expr}
+use Rattle.cf_expr.specs.Histories.{Grants, IsPlain, IsPlainPlan, IsQuiet, grants_after, granted_with, nothing_granted}
 
 -- how many words the log of a race has: one more than its events can be
 abbrev pub log_words : ℕ → ℕ → ℕ → ℕ

@@ -20,7 +20,7 @@ use Rattle.cf_core.specs.States.{State, outcome_at, start}
 use Rattle.cf_core.proofs.Shape.{state_after-shape}
 use Rattle.cf_plan.specs.Plans.{Planned, PlannedStage}
 use Rattle.cf_outcome.specs.declared.outcome.Outcome.{Outcome}
-use Rattle.cf_laws.specs.Expressions.{expr}
+use Rattle.cf_expr.specs.Expressions.{expr}
 use Rattle.std.specs.Fmt.{decimal}
 use Rattle.cf_script.specs.Reports.{stage_lines}
 use Rattle.cf_script.specs.Texts.{line, settled_text}

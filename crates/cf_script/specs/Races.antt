@@ -8,8 +8,8 @@ use Rattle.cf_outcome.specs.Output.{AppendsFront}
 use Rattle.cf_plan.specs.Plans.{PlannedStage}
 use Rattle.cf_core.specs.declared.events.Event.{Event}
 use Rattle.cf_core.specs.States.{State, start}
-use Rattle.cf_laws.specs.Expressions.{expr}
-use Rattle.cf_laws.specs.Histories.{IsPlain, IsPlainPlan, nothing_granted}
+use Rattle.cf_expr.specs.Expressions.{expr}
+use Rattle.cf_expr.specs.Histories.{IsPlain, IsPlainPlan, nothing_granted}
 use Rattle.cf_reading.specs.declared.fault.ScriptFault.{ScriptFault}
 use Rattle.cf_reading.specs.declared.fault.ScriptFault.TheVariants as faults
 use Rattle.cf_reading.specs.declared.script.Step.{Step}

@@ -12,8 +12,9 @@ use Rattle.cf_plan.specs.declared.forms.Landing.TheVariants.{Settles as Lands, L
 use Rattle.cf_plan.specs.Forms.{follows, landing}
 use Rattle.cf_plan.specs.Plans.{PlannedStage, HasLowerSources}
 use Rattle.cf_plan.proofs.PlanLemmas.{lower_at}
-use Rattle.cf_laws.specs.Expressions.{Meanings, is_source, stage_expr, due_expr, landing_expr, expr_in, exprs_from}
-use Rattle.cf_laws.proofs.Forms.{first_same, links_lower}
+use Rattle.cf_plan.specs.Meanings.{Meanings}
+use Rattle.cf_expr.specs.Expressions.{is_source, stage_expr, due_expr, landing_expr, expr_in, exprs_from}
+use Rattle.cf_expr.proofs.Forms.{first_same, links_lower}
 
 exprs_from-at : (meanings : Meanings) (named : ℕ → Option Outcome) (n : ℕ) (below : List (Option Outcome)) (plan : List PlannedStage) (i : ℕ) (p : PlannedStage) → slice_get plan i ≡ Some p →
     expr_in (exprs_from meanings named n below plan) i ≡ stage_expr meanings named (expr_in (below ++ take i (exprs_from meanings named n below plan))) (n + i) p

@@ -5,13 +5,15 @@ use Rattle.cf_outcome.specs.declared.outcome.Outcome.TheVariants.{Fault}
 use Rattle.cf_outcome.specs.declared.outcome.Cause.TheVariants.{Thrown}
 use Rattle.cf_plan.specs.declared.forms.Form.TheVariants.{Source, Apply, Compose, RunEither}
 use Rattle.cf_plan.specs.declared.forms.Answer.TheVariants.{Throw, Link}
+use Rattle.cf_plan.specs.declared.limits.LimitKind.TheVariants.{Timeout}
 use Rattle.cf_plan.specs.Plans.{Planned, IsBuilt}
 use Rattle.cf_core.specs.declared.events.Event.{Event}
-use Rattle.cf_core.specs.declared.events.Event.TheVariants.{Complete as Completes, Fail as Fails, Claim as Claims, Finish as Finishes}
+use Rattle.cf_core.specs.declared.events.Event.TheVariants.{Complete as Completes, Fail as Fails, Claim as Claims, Finish as Finishes, Tick as Ticks}
 use Rattle.cf_core.specs.States.{start, outcome_at}
 use Rattle.cf_core.specs.Events.{state_after}
-use Rattle.cf_laws.specs.Expressions.{Meanings, expr}
-use Rattle.cf_laws.specs.Histories.{IsPlain, IsPlainPlan, IsQuiet, nothing_granted}
+use Rattle.cf_plan.specs.Meanings.{Meanings}
+use Rattle.cf_expr.specs.Expressions.{expr}
+use Rattle.cf_expr.specs.Histories.{IsPlain, IsPlainPlan, IsQuiet, nothing_granted}
 
 -- a source, a compose over it, and an apply over the compose
 abbrev pub chain : Planned
@@ -43,6 +45,24 @@ forked = record {
 abbrev pub second_first : List Event
 second_first = Fails 0 1 4 ∷ Completes 0 0 Nil ∷ []
 
+-- the compose's function isn't called
+abbrev pub left_ready : List Event
+left_ready = Completes 0 0 Nil ∷ []
+
+-- the apply is settled from outside
+abbrev pub settled_from_outside : List Event
+settled_from_outside = Fails 0 2 4 ∷ Completes 0 0 Nil ∷ Claims 3 1 ∷ Finishes 3 1 (Link 0) ∷ []
+
+-- a source with a limit, whose moment comes
+abbrev pub limited : Planned
+limited = record {
+  stages = record { form = Source; sources = []; function = None } ∷ [];
+  limits = record { stage = 0; at = 5; kind = Timeout } ∷ [];
+}
+
+abbrev pub too_late : List Event
+too_late = Ticks 0 5 ∷ []
+
 -- The premises of the law of expressions can be met, by a history in which stages settle.
 pub record PremisesAreMet : Type 0 where
   pub built : IsBuilt chain
@@ -52,10 +72,18 @@ pub record PremisesAreMet : Type 0 where
   pub settled : outcome_at (state_after (start chain) worked) 2 ≡ Some (Fault (Thrown 7) true)
   pub expressed : expr chain worked meant 2 ≡ Some (Fault (Thrown 7) true)
 
--- Without plain answers, or with an either form, the law would be false.
+-- Without any one of its premises on plans and histories the law would be false: plain answers, plain forms, a quiet end,
+-- nothing but sources settled from outside, and no limit whose moment comes.
 pub record PremisesAreNeeded : Type 0 where
   pub wrong_answer_quiet : IsQuiet (state_after (start chain) answered_wrongly)
   pub wrong_answer : outcome_at (state_after (start chain) answered_wrongly) 2 ≢ expr chain answered_wrongly meant 2
   pub either_plain : IsPlain meant nothing_granted (start forked) second_first
   pub either_quiet : IsQuiet (state_after (start forked) second_first)
   pub either : outcome_at (state_after (start forked) second_first) 2 ≢ expr forked second_first meant 2
+  pub ready_plain : IsPlain meant nothing_granted (start chain) left_ready
+  pub ready : outcome_at (state_after (start chain) left_ready) 2 ≢ expr chain left_ready meant 2
+  pub outside_quiet : IsQuiet (state_after (start chain) settled_from_outside)
+  pub outside : outcome_at (state_after (start chain) settled_from_outside) 2 ≢ expr chain settled_from_outside meant 2
+  pub limit_plain_plan : IsPlainPlan limited
+  pub limit_quiet : IsQuiet (state_after (start limited) too_late)
+  pub limit : outcome_at (state_after (start limited) too_late) 0 ≢ expr limited too_late meant 0

@@ -13,11 +13,10 @@ use Rattle.cf_plan.specs.declared.forms.Form.TheVariants.{Source}
 use Rattle.cf_plan.specs.declared.forms.Args.{Args}
 use Rattle.cf_plan.specs.declared.forms.Answer.{Answer}
 use Rattle.cf_plan.specs.declared.forms.Due.TheVariants.{Waits, Needs}
-use Rattle.cf_plan.specs.declared.forms.Landing.{Landing}
-use Rattle.cf_plan.specs.declared.forms.Landing.TheVariants.{Settles as Lands, Links}
 use Rattle.cf_plan.specs.declared.limits.Limit.{Limit}
 use Rattle.cf_plan.specs.Forms.{follows, landing}
-use Rattle.cf_plan.specs.Plans.{Planned, PlannedStage, form_at, sources_at, function_at, fits_count}
+use Rattle.cf_plan.specs.Meanings.{Meanings, stage_answer}
+use Rattle.cf_plan.specs.Plans.{Planned, PlannedStage, form_at, sources_at, fits_count}
 use Rattle.cf_core.specs.declared.stage.Stage.{Stage}
 use Rattle.cf_core.specs.declared.stage.Stage.TheVariants.{Pending, Ready, Claimed, Linked, Settled}
 use Rattle.cf_core.specs.declared.replies.Finished.TheVariants.{Won, NotYours}
@@ -27,16 +26,17 @@ use Rattle.cf_core.specs.States.{State, outcome_of, outcome_in, outcome_at, stag
 use Rattle.cf_core.specs.declared.events.Event.{Event}
 use Rattle.cf_core.specs.declared.events.Event.TheVariants.{Complete as Completes, Fail as Fails, Cancel as Cancels, Claim as Claims, Finish as Finishes, Tick as Ticks}
 use Rattle.cf_core.specs.declared.events.Reply.TheVariants.{Claim as ToldClaim}
-use Rattle.cf_core.specs.Events.{answered, state_after, settled_by, cancelled_by, claimed_by, finished_by, landed, linked_to, firing, due_limits, source_outcome, settling, limit_outcome}
+use Rattle.cf_core.specs.Events.{answered, state_after, settled_by, cancelled_by, claimed_by, finished_by, firing, due_limits, source_outcome}
 use Rattle.cf_core.proofs.Moves.{new_states-settled, keeps_outcomes}
+use Rattle.cf_core.proofs.Shape.{answered-frame}
 use Rattle.cf_plan.specs.Plans.{IsBuilt}
-use Rattle.cf_laws.specs.Expressions.{Meanings, named_for, first_named, landing_expr, due_expr, is_source, expr}
-use Rattle.cf_laws.specs.Histories.{Grants, is_plain_form, IsPlainPlan, granted_with, IsPlainEvent, IsPlain, nothing_granted, is_at_rest, IsQuiet}
-use Rattle.cf_laws.specs.Laws.{QuietIsExpression}
-use Rattle.cf_laws.proofs.Forms.{first_same, links_lower}
-use Rattle.cf_laws.proofs.Exprs.{expr_by_stage}
-use Rattle.cf_laws.proofs.Settles.{IsSet, Owes, Waiting, sound_settled, below_there, all_sound, expr_due, more_same, sources_lower}
-use Rattle.cf_laws.proofs.Writes.{Stands, settled_by_stands, closed_stands, landed_stands, claim_stands, claim_closed}
+use Rattle.cf_expr.specs.Expressions.{named_for, first_named, landing_expr, due_expr, is_source, expr}
+use Rattle.cf_expr.specs.Histories.{Grants, is_plain_form, IsPlainPlan, granted_with, IsPlainEvent, IsPlain, nothing_granted, is_at_rest, IsQuiet}
+use Rattle.cf_expr.specs.Laws.{QuietIsExpression}
+use Rattle.cf_expr.proofs.Forms.{first_same, links_lower}
+use Rattle.cf_expr.proofs.Exprs.{expr_by_stage}
+use Rattle.cf_expr.proofs.Settles.{IsSet, Owes, Waiting, sound_settled, below_there, all_sound, expr_due, more_same, sources_lower}
+use Rattle.cf_expr.proofs.Writes.{Stands, settled_by_stands, closed_stands, landed_stands, claim_stands, claim_closed}
 
 -- what stands before the events that are left: of a source that isn't settled, the first outcome that they name is the one of the whole history
 pub record Good (meanings : Meanings) (named exprs : ℕ → Option Outcome) (granted : Grants) (s : State) (events : List Event) : Type 0 where
@@ -61,7 +61,7 @@ is_open (Some w) who e = let same : w ≡ who = grind (arith, nat_tests) in ap (
 
 -- where the answer that is meant lands
 landing_is : (meanings : Meanings) (plan : List PlannedStage) (i : ℕ) (p : PlannedStage) (outs : ℕ → Option Outcome) (args : Args) (answer : Answer) → slice_get plan i ≡ Some p →
-    answer ≡ meanings (unwrap_or (function_at plan i) 0) args →
+    answer ≡ stage_answer meanings plan i args →
     landing (form_at plan i) i (option_and_then outs (slice_get (sources_at plan i) 0)) answer
     ≡ landing p.form i (option_and_then outs (slice_get p.sources 0)) (meanings (unwrap_or p.function 0) args)
 landing_is meanings plan i p outs args answer e said = rw (said, e) refl
@@ -114,64 +114,11 @@ was_unsettled : (y : Option Outcome) (s : State) (e : Event) (i : ℕ) → outco
 was_unsettled None s e i h unsettled = h
 was_unsettled (Some o) s e i h unsettled = let k = keeps_outcomes s (e ∷ []) i o h in cc
 
--- ---- the plan stays
-
-settled_by_plan : (y : Option Outcome) (s : State) (i : ℕ) (o : Outcome) → (settled_by y s i o).1.plan ≡ s.plan
-settled_by_plan (Some old) s i o = refl
-settled_by_plan None s i o = refl
-
-cancelled_by_plan : (y : Option Outcome) (s : State) (i : ℕ) → (cancelled_by y s i).1.plan ≡ s.plan
-cancelled_by_plan (Some old) s i = refl
-cancelled_by_plan None s i = refl
-
-claimed_by_plan : (x : Stage) (s : State) (who i : ℕ) → (claimed_by x s who i).1.plan ≡ s.plan
-claimed_by_plan (Ready args) s who i = refl
-claimed_by_plan (Settled o) s who i = refl
-claimed_by_plan Claimed s who i = refl
-claimed_by_plan (Linked j) s who i = refl
-claimed_by_plan Pending s who i = refl
-
-linked_to_plan : (y : Option Outcome) (s : State) (i j : ℕ) → (linked_to y s i j).plan ≡ s.plan
-linked_to_plan (Some o) s i j = refl
-linked_to_plan None s i j = refl
-
-landed_plan : (at : Landing) (s : State) (i : ℕ) → (landed s i at).plan ≡ s.plan
-landed_plan (Lands o) s i = refl
-landed_plan (Links j) s i = linked_to_plan (outcome_at s j) s i j
-
-finished_by_plan : (y : Option Outcome) (s : State) (i : ℕ) (answer : Answer) → (finished_by y s i answer).1.plan ≡ s.plan
-finished_by_plan (Some old) s i answer = refl
-finished_by_plan None s i answer = landed_plan (landing (form_at s.plan.stages i) i (source_outcome s i) answer) s i
-
-finishing_plan : (b : Bool) (s : State) (i : ℕ) (answer : Answer) →
-    (cond b (finished_by (outcome_at s i) (record s { claims = set s.claims i None }) i answer) (NotYours, s)).1.plan ≡ s.plan
-finishing_plan true s i answer = finished_by_plan (outcome_at s i) (record s { claims = set s.claims i None }) i answer
-finishing_plan false s i answer = refl
-
-firing_plan : (limits : List Limit) (count : ℕ) (s : State) → (firing count s limits).1.plan ≡ s.plan
-firing_plan [] count s = refl
-firing_plan (l ∷ limits) count s =
-    let done = settling s l.stage (limit_outcome l.kind) in
-    firing_plan limits (cond done.0 (count + 1) count) done.1 ∙ settled_by_plan (outcome_at s l.stage) s l.stage (limit_outcome l.kind)
-
 -- a tick, by whether it is past
 abbrev ticked : Bool → State → ℕ → Ticked × State
 ticked b s now =
     let fired = firing 0 s (due_limits s now) in
     cond b (Past, s) (Fired fired.0, record fired.1 { moment = now; used = s.used + length (due_limits s now) })
-
-ticking_plan : (b : Bool) (s : State) (now : ℕ) →
-    (ticked b s now).1.plan ≡ s.plan
-ticking_plan true s now = refl
-ticking_plan false s now = firing_plan (due_limits s now) 0 s
-
-answered_plan : (e : Event) (s : State) → (answered s e).1.plan ≡ s.plan
-answered_plan (Completes who i v) s = settled_by_plan (outcome_at s i) s i (Gives v)
-answered_plan (Fails who i code) s = settled_by_plan (outcome_at s i) s i (Fault (Thrown code) false)
-answered_plan (Cancels who i) s = cancelled_by_plan (outcome_at s i) s i
-answered_plan (Claims who i) s = claimed_by_plan (stage_at s i) s who i
-answered_plan (Finishes who i answer) s = finishing_plan (option_map_or (λ w. w == who) (claim_at s i) false) s i answer
-answered_plan (Ticks who now) s = ticking_plan (nat_lt now s.moment) s now
 
 -- ---- no limit comes due
 
@@ -221,7 +168,7 @@ module _ (meanings : Meanings) (named exprs : ℕ → Option Outcome) where
 
   -- ---- finishes
   lands_meant : (granted : Grants) (s : State) (who i : ℕ) (answer : Answer) → Stands meanings named exprs granted s → outcome_at s i ≡ None → claim_at s i ≡ Some who →
-      ((args : Args) → granted who i ≡ Some args → answer ≡ meanings (unwrap_or (function_at s.plan.stages i) 0) args) →
+      ((args : Args) → granted who i ≡ Some args → answer ≡ stage_answer meanings s.plan.stages i args) →
       (p : PlannedStage) → slice_get s.plan.stages i ≡ Some p → exprs i ≡ landing_expr exprs (landing (form_at s.plan.stages i) i (source_outcome s i) answer)
   lands_meant granted s who i answer h unsettled held meant p there =
       let f = h.sound i p there in
@@ -236,7 +183,7 @@ module _ (meanings : Meanings) (named exprs : ℕ → Option Outcome) where
       (ap (λ x. landing p.form i x (meanings (unwrap_or p.function 0) was.0)) same ∙ sym (landing_is meanings s.plan.stages i p (outcome_in s.stages) was.0 answer there said))
 
   finished_by_stands : (granted : Grants) (y : Option Outcome) (s : State) (who i : ℕ) (answer : Answer) → outcome_at s i ≡ y → Stands meanings named exprs granted s → claim_at s i ≡ Some who →
-      ((finished_by y (record s { claims = set s.claims i None }) i answer).0 ≡ Won → (args : Args) → granted who i ≡ Some args → answer ≡ meanings (unwrap_or (function_at s.plan.stages i) 0) args) →
+      ((finished_by y (record s { claims = set s.claims i None }) i answer).0 ≡ Won → (args : Args) → granted who i ≡ Some args → answer ≡ stage_answer meanings s.plan.stages i args) →
       Stands meanings named exprs granted ((finished_by y (record s { claims = set s.claims i None }) i answer).1)
   finished_by_stands granted (Some old) s who i answer e h held meant = closed_stands meanings named exprs granted s i h
   finished_by_stands granted None s who i answer e h held meant =
@@ -247,7 +194,7 @@ module _ (meanings : Meanings) (named exprs : ℕ → Option Outcome) where
 
   finishing_stands : (granted : Grants) (b : Bool) (s : State) (who i : ℕ) (answer : Answer) → option_map_or (λ w. w == who) (claim_at s i) false ≡ b → Stands meanings named exprs granted s →
       ((cond b (finished_by (outcome_at s i) (record s { claims = set s.claims i None }) i answer) (NotYours, s)).0 ≡ Won → (args : Args) → granted who i ≡ Some args →
-      answer ≡ meanings (unwrap_or (function_at s.plan.stages i) 0) args) →
+      answer ≡ stage_answer meanings s.plan.stages i args) →
       Stands meanings named exprs granted ((cond b (finished_by (outcome_at s i) (record s { claims = set s.claims i None }) i answer) (NotYours, s)).1)
   finishing_stands granted true s who i answer e h meant = finished_by_stands granted (outcome_at s i) s who i answer refl h (is_open (claim_at s i) who e) meant
   finishing_stands granted false s who i answer e h meant = h
@@ -287,7 +234,7 @@ module _ (meanings : Meanings) (named exprs : ℕ → Option Outcome) where
   event_good granted e s events good plain = record {
     stands = event_stands granted e s events good plain;
     left = λ i p is source unsettled.
-        (let here : slice_get s.plan.stages i ≡ Some p = ap (λ (q : Planned). slice_get q.stages i) (sym (answered_plan e s)) ∙ is in
+        (let here : slice_get s.plan.stages i ≡ Some p = ap (λ (q : Planned). slice_get q.stages i) (sym ((answered-frame s e).plan)) ∙ is in
         let f = good.stands.sound i p here in
         let before = good.left i p here source (was_unsettled (outcome_at s i) s e i refl unsettled) in
         ap (λ x. option_or x (first_named events i)) (sym (not_named e s i f.stage f.there unsettled)) ∙ before);
@@ -315,7 +262,7 @@ module _ (meanings : Meanings) (named exprs : ℕ → Option Outcome) where
   run_is [] s granted i p good plain quiet e = rest_below s granted good quiet (suc i) i p (omega arith) e
   run_is (event ∷ events) s granted i p good plain quiet e =
       run_is events ((answered s event).1) (granted_with granted event ((answered s event).0)) i p (event_good granted event s events good plain.0) plain.1 quiet
-      (ap (λ (q : Planned). slice_get q.stages i) (answered_plan event s) ∙ e)
+      (ap (λ (q : Planned). slice_get q.stages i) ((answered-frame s event).plan) ∙ e)
 
 -- ---- the start
 

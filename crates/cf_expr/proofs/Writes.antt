@@ -16,9 +16,10 @@ use Rattle.cf_core.specs.declared.stage.Stage.TheVariants.{Pending, Ready, Claim
 use Rattle.cf_core.specs.States.{State, outcome_of, outcome_in, outcome_at, claim_at, after}
 use Rattle.cf_core.specs.Events.{settled_by, landed, linked_to}
 use Rattle.cf_core.proofs.Moves.{new_states-settled, set-settled}
-use Rattle.cf_laws.specs.Expressions.{Meanings, landing_expr}
-use Rattle.cf_laws.specs.Histories.{Grants}
-use Rattle.cf_laws.proofs.Settles.{IsSet, Owes, Waiting, Fair, Sound, sound_settled, below_there, all_sound}
+use Rattle.cf_plan.specs.Meanings.{Meanings}
+use Rattle.cf_expr.specs.Expressions.{landing_expr}
+use Rattle.cf_expr.specs.Histories.{Grants}
+use Rattle.cf_expr.proofs.Settles.{IsSet, Owes, Waiting, Fair, Sound, sound_settled, below_there, all_sound}
 
 -- ---- a write to one stage
 

@@ -1,10 +1,11 @@
 -- Plain histories, whose outcomes the expressions tell, and quiet states.
-use Rattle.std.specs.Prelude.{◌≡◌, ℕ, ◌<◌, ◌==◌, ◌&&◌, Bool, true, false, Option, Some, None, List, [], ◌∷◌, unwrap_or, if◌then◌else◌, All}
+use Rattle.std.specs.Prelude.{◌≡◌, ℕ, ◌<◌, ◌==◌, ◌&&◌, Bool, true, false, Option, Some, None, List, [], ◌∷◌, if◌then◌else◌, All}
 use Rattle.cf_plan.specs.declared.forms.Form.{Form}
 use Rattle.cf_plan.specs.declared.forms.Form.TheVariants.{Source, ApplyEither, AcceptEither, RunEither, AnyOf}
 use Rattle.cf_plan.specs.declared.forms.Args.{Args}
 use Rattle.cf_plan.specs.declared.limits.Limit.{Limit}
-use Rattle.cf_plan.specs.Plans.{Planned, PlannedStage, form_at, function_at}
+use Rattle.cf_plan.specs.Meanings.{Meanings, stage_answer}
+use Rattle.cf_plan.specs.Plans.{Planned, PlannedStage, form_at}
 use Rattle.cf_core.specs.declared.stage.Stage.{Stage}
 use Rattle.cf_core.specs.declared.stage.Stage.TheVariants.{Ready, Claimed}
 use Rattle.cf_core.specs.declared.replies.Claimed.TheVariants.{Granted}
@@ -15,7 +16,6 @@ use Rattle.cf_core.specs.declared.events.Reply.{Reply}
 use Rattle.cf_core.specs.declared.events.Reply.TheVariants.{Claim as ToldClaim}
 use Rattle.cf_core.specs.States.{State}
 use Rattle.cf_core.specs.Events.{answered, finishing}
-use Rattle.cf_laws.specs.Expressions.{Meanings}
 
 -- whether a form waits for all of its sources
 abbrev pub is_plain_form : Form → Bool
@@ -55,7 +55,7 @@ IsPlainEvent meanings granted s (Cancels who i) = form_at s.plan.stages i ≡ So
 IsPlainEvent meanings granted s (Claims who i) = Unit {0}
 IsPlainEvent meanings granted s (Finishes who i answer) =
     (finishing s who i answer).0 ≡ Won → (args : Args) → granted who i ≡ Some args →
-    answer ≡ meanings (unwrap_or (function_at s.plan.stages i) 0) args
+    answer ≡ stage_answer meanings s.plan.stages i args
 IsPlainEvent meanings granted s (Ticks who now) = All (λ (l : Limit). now < l.at) s.plan.limits
 
 -- each of these events is plain where it stands
@@ -74,8 +74,13 @@ is_at_rest stage = true
 abbrev pub IsQuiet : State → Type 0
 IsQuiet s = All (λ x. is_at_rest x ≡ true) s.stages
 
--- whether it is a claim or a finish
+-- whether it is work: a claim or a finish
 abbrev pub is_work : Event → Bool
 is_work (Claims who i) = true
 is_work (Finishes who i answer) = true
 is_work event = false
+
+-- these events without the claims and finishes among them
+abbrev pub without_work : List Event → List Event
+without_work [] = []
+without_work (e ∷ events) = if is_work e then without_work events else e ∷ without_work events

@@ -14,10 +14,11 @@ use Rattle.cf_plan.proofs.PlanLemmas.{lower_at}
 use Rattle.cf_core.specs.declared.stage.Stage.{Stage}
 use Rattle.cf_core.specs.declared.stage.Stage.TheVariants.{Pending, Ready, Claimed, Linked, Settled}
 use Rattle.cf_core.specs.States.{outcome_of, outcome_in, due_state, linked_state, next_of, new_states}
-use Rattle.cf_laws.proofs.Stagewise.{new_states_by_stage}
-use Rattle.cf_laws.specs.Expressions.{Meanings, stage_expr, due_expr}
-use Rattle.cf_laws.specs.Histories.{is_plain_form}
-use Rattle.cf_laws.proofs.Forms.{all_there, sources_same, no_source}
+use Rattle.cf_expr.proofs.Stagewise.{new_states_by_stage}
+use Rattle.cf_plan.specs.Meanings.{Meanings}
+use Rattle.cf_expr.specs.Expressions.{stage_expr, due_expr}
+use Rattle.cf_expr.specs.Histories.{is_plain_form}
+use Rattle.cf_expr.proofs.Forms.{all_there, sources_same, no_source}
 
 -- what stands throughout: the plan, and what each stage's expression is by those of the others
 pub record IsSet (meanings : Meanings) (named exprs : ℕ → Option Outcome) (plan : List PlannedStage) : Type 0 where

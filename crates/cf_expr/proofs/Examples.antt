@@ -1,6 +1,6 @@
 -- The example histories, worked out.
 use Rattle.std.proofs.Common.{refl, rules}
-use Rattle.cf_laws.specs.Examples.{PremisesAreMet, PremisesAreNeeded}
+use Rattle.cf_expr.specs.Examples.{PremisesAreMet, PremisesAreNeeded}
 
 pub premises_met : PremisesAreMet
 premises_met = record {
@@ -19,4 +19,11 @@ premises_needed = record {
   either_plain = (refl, (refl, tt));
   either_quiet = search rules;
   either = λ e. cc;
+  ready_plain = (refl, tt);
+  ready = λ e. cc;
+  outside_quiet = search rules;
+  outside = λ e. cc;
+  limit_plain_plan = search rules;
+  limit_quiet = search rules;
+  limit = λ e. cc;
 }

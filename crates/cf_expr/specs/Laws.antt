@@ -1,11 +1,12 @@
 -- The laws of plain histories.
-use Rattle.std.specs.Prelude.{◌≡◌, ℕ, ◌<◌, true, List, ◌++◌, length, All}
+use Rattle.std.specs.Prelude.{◌≡◌, ℕ, ◌<◌, List, ◌++◌, length}
 use Rattle.cf_plan.specs.Plans.{Planned, IsBuilt}
 use Rattle.cf_core.specs.declared.events.Event.{Event}
 use Rattle.cf_core.specs.States.{State, start, outcome_at}
 use Rattle.cf_core.specs.Events.{state_after}
-use Rattle.cf_laws.specs.Expressions.{Meanings, expr}
-use Rattle.cf_laws.specs.Histories.{Grants, IsPlain, IsPlainPlan, IsQuiet, grants_after, is_work, nothing_granted}
+use Rattle.cf_plan.specs.Meanings.{Meanings}
+use Rattle.cf_expr.specs.Expressions.{expr}
+use Rattle.cf_expr.specs.Histories.{Grants, IsPlain, IsPlainPlan, IsQuiet, grants_after, nothing_granted, without_work}
 
 -- After a plain history that ends quiet, the outcome of each stage is its expression's.
 abbrev pub QuietIsExpression : Type 0
@@ -14,11 +15,12 @@ QuietIsExpression =
     IsBuilt plan → IsPlainPlan plan → IsPlain meanings nothing_granted (start plan) events → IsQuiet (state_after (start plan) events) →
     i < length plan.stages → outcome_at (state_after (start plan) events) i ≡ expr plan events meanings i
 
--- Claims and finishes change no expression, whoever does them and in whatever order.
+-- Claims and finishes change no expression, whoever does them, in whatever order and wherever they stand among the other
+-- events: two histories that differ in them alone have the same expressions.
 abbrev pub WorkKeepsExpressions : Type 0
 WorkKeepsExpressions =
-    (plan : Planned) (events work : List Event) (meanings : Meanings) (i : ℕ) →
-    All (λ e. is_work e ≡ true) work → expr plan (events ++ work) meanings i ≡ expr plan events meanings i
+    (plan : Planned) (events others : List Event) (meanings : Meanings) (i : ℕ) →
+    without_work events ≡ without_work others → expr plan events meanings i ≡ expr plan others meanings i
 
 -- A plain history goes on plainly where what comes next is plain by what was granted before.
 abbrev pub PlainPartsJoin : Type 0

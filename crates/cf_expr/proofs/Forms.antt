@@ -15,8 +15,8 @@ use Rattle.cf_plan.specs.declared.forms.Due.TheVariants.{Waits, Settles}
 use Rattle.cf_plan.specs.declared.forms.Landing.TheVariants.{Links}
 use Rattle.cf_plan.specs.Forms.{follows, due_of_first, due_of_both, first_there, first_fault, landing, bad_answer}
 use Rattle.cf_plan.specs.Plans.{fits_count}
-use Rattle.cf_laws.specs.Expressions.{is_source}
-use Rattle.cf_laws.specs.Histories.{is_plain_form}
+use Rattle.cf_expr.specs.Expressions.{is_source}
+use Rattle.cf_expr.specs.Histories.{is_plain_form}
 
 -- ---- a plain form waits for all of its sources
 

@@ -9,19 +9,15 @@ use Rattle.cf_outcome.specs.Outcomes.{wrap}
 use Rattle.cf_plan.specs.declared.forms.Form.{Form}
 use Rattle.cf_plan.specs.declared.forms.Form.TheVariants.{Source}
 use Rattle.cf_plan.specs.declared.forms.Args.{Args}
-use Rattle.cf_plan.specs.declared.forms.Answer.{Answer}
 use Rattle.cf_plan.specs.declared.forms.Due.{Due}
 use Rattle.cf_plan.specs.declared.forms.Due.TheVariants.{Waits, Settles, Needs}
 use Rattle.cf_plan.specs.declared.forms.Landing.{Landing}
 use Rattle.cf_plan.specs.declared.forms.Landing.TheVariants.{Settles as Lands, Links}
 use Rattle.cf_plan.specs.Forms.{follows, landing}
+use Rattle.cf_plan.specs.Meanings.{Meanings}
 use Rattle.cf_plan.specs.Plans.{Planned, PlannedStage}
 use Rattle.cf_core.specs.declared.events.Event.{Event}
 use Rattle.cf_core.specs.declared.events.Event.TheVariants.{Complete as Completes, Fail as Fails, Cancel as Cancels}
-
--- what the functions answer to their arguments, by the functions' numbers
-abbrev pub Meanings : Type 0
-Meanings = ℕ → Args → Answer
 
 -- the outcome that an event names for stage i: those of complete, fail and cancel do
 abbrev pub named_for : ℕ → Event → Option Outcome

@@ -9,7 +9,7 @@ use Rattle.cf_core.specs.declared.stage.Stage.{Stage}
 use Rattle.cf_core.specs.declared.stage.Stage.TheVariants.{Pending, Ready, Claimed, Linked, Settled}
 use Rattle.cf_core.specs.States.{outcome_in, due_state, linked_state, next_of, new_states}
 use Rattle.cf_plan.specs.Forms.{follows}
-use Rattle.cf_laws.specs.Stagewise.{NewStatesByStage}
+use Rattle.cf_expr.specs.Stagewise.{NewStatesByStage}
 
 new_states-at : (below : List Stage) (plan : List PlannedStage) (stages : List Stage) (i : ℕ) (p : PlannedStage) (s : Stage) → slice_get plan i ≡ Some p → slice_get stages i ≡ Some s →
     slice_get (new_states below plan stages) i ≡ Some (next_of (below ++ take i (new_states below plan stages)) p.form p.sources s)

@@ -1,0 +1,12 @@
+-- Whose calls events are.
+use Rattle.std.specs.Prelude.{ℕ, ◌==◌, Bool, false}
+use Rattle.cf_core.specs.declared.events.Event.{Event}
+use Rattle.cf_core.specs.declared.events.Event.TheVariants.{Complete as Completes, Fail as Fails, Cancel as Cancels, Tick as Ticks}
+
+-- whether it comes from outside, and is no work: what caller 0 completes, fails and cancels, and its ticks
+abbrev pub is_from_outside : Event → Bool
+is_from_outside (Completes who i v) = who == 0
+is_from_outside (Fails who i code) = who == 0
+is_from_outside (Cancels who i) = who == 0
+is_from_outside (Ticks who now) = who == 0
+is_from_outside event = false

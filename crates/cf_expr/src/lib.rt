@@ -1,0 +1,49 @@
+//! What a quiet plain graph holds: the expression of each stage.
+//!
+//! The expression of a stage (`expr`) is what the stage ends as by the meanings of the functions and by what the sources
+//! are settled with. It knows no states, no claims and no order of work. The theorem here is about plain histories that
+//! end quiet, and not about every history: where each answer is what the stage's function means, no stage is an either
+//! form or an anyOf, sources alone are settled from outside, no limit comes due (`IsPlain`, `IsPlainPlan`), and nothing
+//! is ready or claimed any more (`IsQuiet`), the outcome of each stage is its expression's. So it is the same for every
+//! order in which the work was done, and for any number of workers.
+//!
+//! Each function here is a law: it does nothing, and its contract is the statement. The statements speak of the same
+//! definitions as the contracts of `cf_core`'s calls, so they are about these calls: a graph answers each call, and is
+//! left in the state, that `answered` says.
+#![tactic(auto)]
+
+ghost use Rattle.cf_expr.specs.Examples.{PremisesAreMet, PremisesAreNeeded};
+ghost use Rattle.cf_expr.specs.Laws.{PlainPartsJoin, QuietIsExpression, WorkKeepsExpressions};
+ghost use Rattle.cf_expr.specs.Stagewise.{NewStatesByStage};
+
+/// After a plain history that ends quiet, the outcome of each stage is its expression's.
+pub fn quiet_stages_hold_their_expressions()
+    ensures { QuietIsExpression }
+{}
+
+/// Claims and finishes change no expression, whoever does them, in whatever order and wherever they stand: two histories
+/// that differ in them alone have the same expressions.
+pub fn work_keeps_expressions()
+    ensures { WorkKeepsExpressions }
+{}
+
+/// A plain history goes on plainly where what comes next is plain by what was granted before.
+pub fn plain_parts_join()
+    ensures { PlainPartsJoin }
+{}
+
+/// Once a stage is settled, each stage has taken what its sources then have, or the stage that it is linked to.
+pub fn new_states_are_by_stage()
+    ensures { NewStatesByStage }
+{}
+
+/// The premises of the law of expressions can be met, by a history in which stages settle.
+pub fn quiet_plain_histories_exist()
+    ensures { PremisesAreMet }
+{}
+
+/// Outcomes can differ from the expressions where a function answers what it doesn't mean, in a plan with an either form,
+/// before the history is quiet, where another stage than a source is settled from outside, and where a limit comes due.
+pub fn other_histories_leave_their_expressions()
+    ensures { PremisesAreNeeded }
+{}

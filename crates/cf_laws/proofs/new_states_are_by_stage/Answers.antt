@@ -1,5 +1,0 @@
-use Rattle.cf_laws.proofs.Stagewise.{new_states_by_stage}
-use Rattle.cf_laws.proofs.new_states_are_by_stage.Goals as goal
-
-pub returns : goal.returns
-returns c = new_states_by_stage

@@ -1,5 +1,0 @@
-use Rattle.cf_laws.proofs.Examples.{premises_needed}
-use Rattle.cf_laws.proofs.other_histories_leave_their_expressions.Goals as goal
-
-pub returns : goal.returns
-returns c = premises_needed

@@ -1,5 +1,0 @@
-use Rattle.cf_laws.proofs.Parts.{plain_append}
-use Rattle.cf_laws.proofs.plain_parts_join.Goals as goal
-
-pub returns : goal.returns
-returns c = plain_append

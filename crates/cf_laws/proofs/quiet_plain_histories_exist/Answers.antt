@@ -1,5 +1,0 @@
-use Rattle.cf_laws.proofs.Examples.{premises_met}
-use Rattle.cf_laws.proofs.quiet_plain_histories_exist.Goals as goal
-
-pub returns : goal.returns
-returns c = premises_met

@@ -1,5 +1,0 @@
-use Rattle.cf_laws.proofs.Parts.{work_keeps_expressions}
-use Rattle.cf_laws.proofs.work_keeps_expressions.Goals as goal
-
-pub returns : goal.returns
-returns c = work_keeps_expressions
