@@ -16,6 +16,7 @@ use Rattle.cf_core.specs.declared.stage.Stage.TheVariants.{Pending, Ready, Claim
 use Rattle.cf_core.specs.States.{State, outcome_of, outcome_in, outcome_at, claim_at, after}
 use Rattle.cf_core.specs.Events.{settled_by, landed, linked_to}
 use Rattle.cf_core.proofs.Moves.{new_states-settled, set-settled}
+use Rattle.cf_core.proofs.StateLemmas.{after-unsettled}
 use Rattle.cf_plan.specs.Meanings.{Meanings}
 use Rattle.cf_expr.specs.Expressions.{landing_expr}
 use Rattle.cf_expr.specs.Histories.{Grants}
@@ -147,12 +148,12 @@ module _ (meanings : Meanings) (named exprs : ℕ → Option Outcome) where
 
   pub after_stands : (granted : Grants) (s : State) (i : ℕ) (o : Outcome) → Stands meanings named exprs granted s → outcome_at s i ≡ None →
       ((p : PlannedStage) → slice_get s.plan.stages i ≡ Some p → exprs i ≡ Some o) → Stands meanings named exprs granted (after s i o)
-  after_stands granted s i o h unsettled is = record {
+  after_stands granted s i o h unsettled is = subst (Stands meanings named exprs granted) (sym (after-unsettled s i o unsettled)) (record {
     known = h.known;
     sound = all_sound meanings named exprs s.plan.stages h.known (outcome_at s) granted (claim_at s) (set s.stages i (Settled o))
         (settled_fair granted s i o h is)
         (λ j q e. new_states-settled [] s.plan.stages (set s.stages i (Settled o)) j q (set-settled s.stages i j (Settled o) q unsettled e));
-  }
+  })
 
   pub settled_by_stands : (granted : Grants) (x : Option Outcome) (s : State) (i : ℕ) (o : Outcome) → outcome_at s i ≡ x → Stands meanings named exprs granted s →
       (outcome_at s i ≡ None → (p : PlannedStage) → slice_get s.plan.stages i ≡ Some p → exprs i ≡ Some o) → Stands meanings named exprs granted ((settled_by x s i o).1)

@@ -21,6 +21,7 @@ use Rattle.cf_core.specs.Events.{settled_by, settling, claimed_by, claiming, fin
 use Rattle.cf_core.specs.declared.replies.Finished.TheVariants.{Won, Late, NotYours}
 use Rattle.cf_core.specs.declared.kept.KeptStage.{KeptStage}
 use Rattle.cf_core.specs.declared.stages.Stages.{Stages}
+use Rattle.cf_core.proofs.StateLemmas.{after-unsettled}
 use Rattle.cf_core.specs.Keeping.Sound.{AreTreated, StayTaken, StayTakenBut, is_taken, kept_at}
 use Rattle.cf_core.specs.Keeping.SoundStages.{AreSound, outlook_of}
 use Rattle.cf_core.specs.Keeping.Landings.{linked_stages, landed_stages}
@@ -69,16 +70,12 @@ claims_now s who i args seen new same e is =
 
 -- ---- landing
 
--- a stage that isn't settled is settled
-settled_is : (s : State) (i : ℕ) (o : Outcome) → outcome_at s i ≡ None → record s { stages = new_states [] s.plan.stages (set s.stages i (Settled o)) } ≡ after s i o
-settled_is s i o none = ap (λ y. record s { stages = stages_after y s.plan.stages s.stages i o }) (sym none)
-
 pub landed_is : (s : State) (i : ℕ) (at : Landing) → outcome_at s i ≡ None → record s { stages = landed_stages s.plan.stages s.stages i at } ≡ landed s i at
-landed_is s i (Lands o) none = settled_is s i o none
+landed_is s i (Lands o) none = sym (after-unsettled s i o none)
 landed_is s i (Links j) none = by_target (outcome_at s j)
   where
     by_target : (y : Option Outcome) → record s { stages = linked_stages y s.plan.stages s.stages i j } ≡ linked_to y s i j
-    by_target (Some o) = settled_is s i (wrap o) none
+    by_target (Some o) = sym (after-unsettled s i (wrap o) none)
     by_target None = refl
 
 -- ---- claims
