@@ -9,11 +9,13 @@
 
 mod now;
 mod outcome;
+mod short;
 mod text;
 mod write;
 
 pub use now::{Now, now_of};
 pub use outcome::{Cause, Outcome, Value, is_cancelled, is_exceptional, wrap};
+pub use short::{SHORT_ROOM, ShortText};
 pub use write::{WriteFault, write_outcome, write_text};
 
 #[cfg(test)]

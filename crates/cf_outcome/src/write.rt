@@ -1,12 +1,11 @@
 //! Writing a text to a writer, whole or up to where the writer failed.
-ghost use Rattle.std.specs.Prelude.{◌≡◌, OnOk, OnErr, IfSome};
-ghost use Rattle.std.specs.Fmt.InlineText.{inline_text};
+ghost use Rattle.std.specs.Prelude.{◌≡◌, OnOk, OnErr};
 ghost use Rattle.std.specs.Io.KnownBytes.{Appends};
 ghost use Rattle.cf_outcome.specs.Output.{AppendsFront};
 ghost use Rattle.cf_outcome.specs.Texts.{outcome_text};
 
 use crate::outcome::Outcome;
-use std::fmt::{InlineText, Write as _};
+use crate::short::ShortText;
 use std::io::Write;
 use thiserror::Error;
 
@@ -36,16 +35,13 @@ pub fn write_text<W: Write>(w: &mut W, text: &[u8]) -> Result<(), WriteFault>
     }
 }
 
-/// The text of an outcome, of which the longest, `fault thrown 4294967295 wrapped`, has 31 bytes.
-#[tactic(auto, using(crate::proofs::Inline::inline_written))]
-fn text_of(o: Outcome) -> Option<InlineText<32>>
-    ensures { IfSome result (λ text. inline_text text ≡ outcome_text o) }
+/// The text of an outcome.
+fn text_of(o: Outcome) -> ShortText
+    ensures { result ≡ outcome_text o }
 {
-    let mut text = InlineText::<32>::new();
-    if write!(text, "{o}").is_err() {
-        return None;
-    }
-    Some(text)
+    let mut text = ShortText::new();
+    text.push_outcome(o);
+    text
 }
 
 /// Writes the text of an outcome, as `value 3`, `value nil` or `fault thrown 7 wrapped`. It takes no memory.
@@ -54,8 +50,6 @@ pub fn write_outcome<W: Write>(w: &mut W, o: Outcome) -> Result<(), WriteFault>
     ensures front { OnErr result
         (AppendsFront (W.contents w.old) (W.contents w.new) (outcome_text o)) }
 {
-    let Some(text) = text_of(o) else {
-        return Err(WriteFault);
-    };
-    write_text(w, text.as_str().as_bytes())
+    let text = text_of(o);
+    write_text(w, text.as_bytes())
 }
