@@ -312,6 +312,106 @@ fn the_largest_plan_is_built_and_walked(rt: HostRuntime) -> Result<(), Fail> {
     Ok(())
 }
 
+/// Numbers of edges from none up to the most, and those beside the powers of two that blocks grow by.
+const EDGES: [usize; 12] = [
+    0, 1, 2, 255, 256, 257, 4_095, 4_096, 4_097, 8_192, 16_383, 16_384,
+];
+
+#[test]
+fn every_number_of_edges_is_built(rt: HostRuntime) -> Result<(), Fail> {
+    let of = vec![in rt.alloc(); 0u16; MAX_EDGES + 1]?;
+    for edges in EDGES {
+        let (named, one_too_many) = of.as_slice().split_at(edges.min(of.len()));
+        let mut builder = PlanBuilder::new(rt.alloc());
+        builder.stage(Form::Source, &[], None)?;
+        assert_eq!(rt;
+            builder.stage(Form::AllOf, &of, None),
+            Err(PlanFault::TooManyEdges)
+        );
+        assert_eq!(rt; builder.stage(Form::AllOf, named, None), Ok(1));
+        assert_eq!(rt;
+            builder.stage(Form::AllOf, one_too_many, None),
+            Err(PlanFault::TooManyEdges)
+        );
+        let plan = builder.build()?;
+        let copy = plan.copy()?;
+        for built in [&plan, &copy] {
+            assert_eq!(rt; built.stages(), 2);
+            assert_eq!(rt; built.edges() as usize, edges);
+            assert_eq!(rt; built.sources(1).len(), edges);
+            assert_eq!(rt; built.dependents(0).len(), edges);
+        }
+    }
+    Ok(())
+}
+
+#[test]
+fn every_number_of_stages_is_built(rt: HostRuntime) -> Result<(), Fail> {
+    for stages in [0u16, 1, 2, 63, 64, 65, 4_095, 4_096] {
+        let mut builder = PlanBuilder::new(rt.alloc());
+        for i in 0..stages {
+            assert_eq!(rt; builder.stage(Form::Supply, &[], Some(u16::MAX)), Ok(i));
+        }
+        let plan = builder.build()?;
+        assert_eq!(rt; plan.stages(), stages);
+        assert_eq!(rt; plan.edges(), 0);
+        assert_eq!(rt; plan.copy()?.stages(), stages);
+    }
+    Ok(())
+}
+
+#[test]
+fn moments_reach_from_the_least_to_the_greatest(rt: HostRuntime) -> Result<(), Fail> {
+    let mut builder = PlanBuilder::new(rt.alloc());
+    builder.stage(Form::Source, &[], None)?;
+    for k in 0..32u32 {
+        let power = 1u32 << k;
+        for at in [power - 1, power, u32::MAX - (power - 1)] {
+            assert_eq!(rt; builder.limit(0, at, LimitKind::Timeout), Ok(()));
+        }
+    }
+    let plan = builder.build()?;
+    let mut last = 0;
+    for limit in plan.limits() {
+        assert!(rt; last <= limit.at);
+        last = limit.at;
+    }
+    assert_eq!(rt; last, u32::MAX);
+    assert_eq!(rt; plan.limits().len(), 96);
+    assert_eq!(rt; plan.limits().first().map(|limit| limit.at), Some(0));
+    Ok(())
+}
+
+/// As many stages, edges and limits as there may be at once.
+#[test]
+fn the_fullest_plan_is_built(rt: HostRuntime) -> Result<(), Fail> {
+    let mut builder = largest(rt.alloc())?;
+    for i in 0..4_096u16 {
+        let at = u32::MAX - i as u32;
+        assert_eq!(rt; builder.limit(i, at, LimitKind::Timeout), Ok(()));
+    }
+    assert_eq!(rt;
+        builder.limit(4_095, u32::MAX, LimitKind::Timeout),
+        Err(PlanFault::TooManyLimits)
+    );
+    assert_eq!(rt;
+        builder.limit(4_096, u32::MAX, LimitKind::Timeout),
+        Err(PlanFault::NoSuchStage)
+    );
+    let plan = builder.build()?;
+    let copy = plan.copy()?;
+    for built in [&plan, &copy] {
+        assert_eq!(rt; built.stages(), 4_096);
+        assert_eq!(rt; built.edges(), 16_384);
+        assert_eq!(rt; built.limits().len(), 4_096);
+        for (i, limit) in built.limits().iter().enumerate() {
+            assert_eq!(rt; limit.stage as usize, 4_095usize.saturating_sub(i));
+            assert_eq!(rt; limit.at, u32::MAX - limit.stage as u32);
+        }
+    }
+    Ok(())
+}
+
 #[test]
 fn faults_are_written_by_name(rt: HostRuntime) -> Result<(), Fail> {
     for (fault, text) in [
