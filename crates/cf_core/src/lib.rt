@@ -58,10 +58,9 @@ pub mod propagation;
 mod replies;
 mod stage;
 mod stages;
-mod treat;
-
 #[cfg(test)]
 mod tests;
+mod treat;
 
 pub use asks::{Ask, Told};
 pub use events::{Event, Reply};

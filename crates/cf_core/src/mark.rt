@@ -5,8 +5,8 @@ ghost use Rattle.cf_core.specs.Keeping.Sound.{is_waiting, mark_all, mark_one};
 
 use crate::kept::KeptStage;
 use crate::links::Links;
-use cf_bits::BitSet;
 use crate::stage::Stage;
+use cf_bits::BitSet;
 
 /// Whether a stage waits, for its sources or for the stage that it is linked to.
 pub fn is_waiting(stage: Stage) -> bool

@@ -229,3 +229,56 @@ fn chain_is_settled_when_it_is_asked_for(rt: HostRuntime) -> Result<(), Fail> {
     assert_eq!(rt; graph.nudge(5), 0);
     Ok(())
 }
+
+/// A graph of so many sources and one allOf over all of them, each of which is completed.
+fn all_of(rt: &impl Abort, alloc: Global, sources: u16) -> Result<(), Fail> {
+    let mut builder = PlanBuilder::new(alloc);
+    let mut of = Vec::new(alloc);
+    for i in 0..sources {
+        builder.stage(Form::Source, &[], None)?;
+        of.push(i)?;
+    }
+    builder.stage(Form::AllOf, of.as_slice(), None)?;
+    let mut graph = Graph::new(alloc, builder.build()?)?;
+    for i in 0..sources {
+        assert_eq!(rt; outcome(rt, &mut graph, sources), None);
+        assert!(rt; complete(rt, &mut graph, i, 1));
+    }
+    assert_eq!(rt;
+        outcome(rt, &mut graph, sources),
+        Some(Outcome::Value(Value::Nil))
+    );
+    Ok(())
+}
+
+#[test]
+fn serves_graphs_of_each_size(rt: HostRuntime) -> Result<(), Fail> {
+    for sources in 0..130 {
+        all_of(&rt, rt.alloc(), sources)?;
+    }
+    for sources in [255, 256, 257, 1023, 1024, 1025] {
+        all_of(&rt, rt.alloc(), sources)?;
+    }
+    Ok(())
+}
+
+/// One source, 4,095 stages that name it four times, and 4,096 limits on it: the greatest plan but for four edges.
+#[test]
+fn serves_the_greatest_plan(rt: HostRuntime) -> Result<(), Fail> {
+    let mut builder = PlanBuilder::new(rt.alloc());
+    builder.stage(Form::Source, &[], None)?;
+    for _ in 0..4095 {
+        builder.stage(Form::AnyOf, &[0, 0, 0, 0], None)?;
+    }
+    for at in 0..4096 {
+        builder.limit(0, at, LimitKind::Give(Value::Int(1)))?;
+    }
+    let mut graph = Graph::new(rt.alloc(), builder.build()?)?;
+    assert_eq!(rt; graph.tick(4294967295), Ticked::Fired(1));
+    assert_eq!(rt;
+        outcome(&rt, &mut graph, 4095),
+        Some(Outcome::Value(Value::Int(1)))
+    );
+    assert_eq!(rt; graph.turns(), 4095);
+    Ok(())
+}

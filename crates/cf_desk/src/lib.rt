@@ -4,6 +4,18 @@
 //! the next word from 0 to its own; a reading one loads the next word until it finds it empty. So the row holds one order
 //! of all callers' calls, of which each pass has seen a front. A pass keeps a graph of its own, to which it does the
 //! events that it sees, and answers from that. Nothing waits for anybody.
+//!
+//! | Part | What it is |
+//! |---|---|
+//! | desk (`Desk`) | what callers share: the plan, the number of callers, and the row |
+//! | row | the desk's words, in one table of `atomic_table`; the row's rule is `RowKept` in `specs/Rule` |
+//! | log | the events of the filled words, in order |
+//! | place | a number in the log: a record's counts the events up to and with its own, or those that were seen |
+//! | pass (`Pass`) | what one caller holds: a seat, a graph of its own, and records |
+//! | seat | a pass's hold on the row, which carries its view from step to step |
+//! | view | for each pass that a seat stands for, what that pass knows (`Known`): no code holds it, proofs do |
+//! | record (`Rec`) | what a pass keeps of one call: the call, its place and its answer |
+//! | closed desk (`Closed`) | the history, each pass's caller and records (`Kept`), and the graph |
 #![tactic(auto)]
 
 mod calls;

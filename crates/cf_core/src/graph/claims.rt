@@ -10,9 +10,9 @@ ghost use Rattle.cf_core.specs.Keeping.SoundStages.{AreSound, outlook_of};
 ghost use Rattle.cf_core.specs.Graphs.{most_turns};
 
 use crate::graph::Graph;
-use crate::stages::Stages;
 use crate::replies::{Claimed, Finished};
 use crate::stage::Stage;
+use crate::stages::Stages;
 use cf_plan::{Answer, Form, Landing, Plan, landing};
 
 impl Graph {
