@@ -10,6 +10,7 @@ use Rattle.std.proofs.lemmas.Bool.{cases_lt, lt-ltb}
 use Rattle.std.proofs.lemmas.Bool.Decides.{eqb_tells, nat_tests}
 use Rattle.std.proofs.lemmas.Option.{slice_get-get_or}
 use Rattle.std.proofs.lemmas.Nat.Bits.{bit_at-zero, same_from_bits_below}
+use Rattle.cf_bits.proofs.Positions.{position_is, position_is_none}
 use Rattle.cf_bits.specs.Bits.{bit_in, flags, AreBits, SetsBit, IsLowestBit}
 
 -- a number with a bit isn't 0
@@ -132,19 +133,6 @@ AreBits-empty n len e few = record {
 }
 
 -- where the first flag is set
-position_is : (xs : List Bool) (i : ℕ) → i < length xs → ((j : ℕ) → j < i → get_or xs j false ≡ false) → get_or xs i false ≡ true → position (λ b. b) xs ≡ Some i
-position_is xs i l below here =
-    let e = position_or_len_is (λ b. b) xs i false (omega arith) below (λ _. here) in
-    let P : ℕ → Type 0 = λ n. cond (nat_lt n (length xs)) (Some n) None ≡ Some i in
-    subst P (sym e) (ap (λ b. cond b (Some i) None) (lt-ltb i (length xs) l))
-
-position_is_none : (xs : List Bool) → ((j : ℕ) → j < length xs → get_or xs j false ≡ false) → position (λ b. b) xs ≡ None
-position_is_none xs below =
-    let e = position_or_len_is (λ b. b) xs (length xs) false (omega arith) below (λ l. absurd (lt_irrefl (length xs) l)) in
-    let no : nat_lt (length xs) (length xs) ≡ false = grind (arith, nat_tests) in
-    let P : ℕ → Type 0 = λ n. cond (nat_lt n (length xs)) (Some n) None ≡ None in
-    subst P (sym e) (ap (λ b. cond b (Some (length xs)) None) no)
-
 -- a bit of a word that is 0
 bit_in-zero : (words : List ℕ) (j : ℕ) → get_or words (j / 64) 0 ≡ 0 → bit_in words j ≡ 0
 bit_in-zero words j e = ap (λ w. bit_at w (j % 64)) e ∙ bit_at-zero (j % 64)
@@ -184,14 +172,14 @@ flags-lowest len top words w k h hw hk =
           let u = h.tops (j / 64) (omega arith) in
           bit_in-zero words j (omega (arith, t, u)))
     ] in
-    position_is (flags len words) i (omega (arith, n))
+    position_is (λ b. b) (flags len words) i false (omega (arith, n))
     (λ j l. flag_at len words j (omega (arith, n)) ∙ ap (λ x. eqb x 1) (clear j l))
     (flag_at len words i (omega (arith, n)) ∙ ap (λ x. eqb x 1) one)
 
 pub flags-none : (len : ℕ) (words : List ℕ) → AreBits len 0 words → position (λ b. b) (flags len words) ≡ None
 flags-none len words h =
     let n = length-map-range_with_len (λ j. eqb (bit_in words j) 1) 0 len in
-    position_is_none (flags len words) (λ j l.
+    position_is_none (λ b. b) (flags len words) false (λ j l.
     let few = h.few in
     let u = h.tops (j / 64) (omega (arith, n)) in
     let z = bit_at-zero (j / 64) in

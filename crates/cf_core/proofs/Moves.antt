@@ -17,6 +17,7 @@ use Rattle.cf_plan.specs.declared.forms.Landing.TheVariants.{Settles as Lands, L
 use Rattle.cf_plan.specs.declared.limits.Limit.{Limit}
 use Rattle.cf_plan.specs.Forms.{landing}
 use Rattle.cf_plan.specs.Plans.{PlannedStage, form_at}
+use Rattle.cf_core.proofs.StateLemmas.{slice_get-set_other}
 use Rattle.cf_core.specs.declared.stage.Stage.{Stage}
 use Rattle.cf_core.specs.declared.stage.Stage.TheVariants.{Pending, Ready, Claimed, Linked, Settled}
 use Rattle.cf_core.specs.States.{State, after, stages_after, outcome_of, outcome_in, outcome_at, stage_at, claim_at, linked_state, next_of, new_states}
@@ -108,14 +109,6 @@ state_after-kept R k (e ∷ events) s =
     k.then s.stages ((answered s e).1.stages) ((state_after s (e ∷ events)).stages) (answered-kept R k e s) (state_after-kept R k events ((answered s e).1))
 
 -- ---- a settled stage
-
--- a place that isn't written
-pub slice_get-set_other : (xs : List Stage) (i j : ℕ) (y : Stage) → j ≢ i → slice_get (set xs i y) j ≡ slice_get xs j
-slice_get-set_other [] i j y ne = refl
-slice_get-set_other (x ∷ xs) zero zero y ne = absurd (ne refl)
-slice_get-set_other (x ∷ xs) zero (suc j) y ne = refl
-slice_get-set_other (x ∷ xs) (suc i) zero y ne = refl
-slice_get-set_other (x ∷ xs) (suc i) (suc j) y ne = slice_get-set_other xs i j y (λ e. ne (ap suc e))
 
 -- a settled stage stays as it is among the new states
 next_of-settled : (below : List Stage) (form : Form) (sources : List ℕ) (x : Stage) (o : Outcome) → outcome_of x ≡ Some o → next_of below form sources x ≡ x

@@ -11,6 +11,7 @@ use lib.ListN.{get_elem?}
 use Rattle.atomic_table.specs.Table.{Final, Seen, Me}
 use Rattle.atomic_table.specs.Seated.{TableId}
 use mathlib.Core.List.{map-append}
+use Rattle.cf_desk.proofs.Lists.{same_rest, one_of}
 use Rattle.cf_desk.specs.declared.calls.Rec.{Rec}
 use Rattle.cf_core.specs.declared.events.Event.{Event}
 use Rattle.cf_desk.specs.declared.row.Setting.{Setting}
@@ -84,10 +85,6 @@ none_of callers now rest [] h c one = absurd (omega arith)
 none_of callers now rest (k ∷ ks) h c one = dite (ℕ_discrete k.caller c)
     (λ (same : k.caller ≡ c). subst (λ x. own x rest ≡ []) same (subst (λ l. own k.caller l ≡ []) (same_rest now h.0.rest rest (sym h.0.split)) h.0.none))
     (λ (ne : k.caller ≢ c). none_of callers now rest ks h.1 c (let w : weight (eqb k.caller c) ≡ 0 = ap weight (ne_eqb k.caller c ne) in omega arith))
-  where
-    same_rest : (xs r q : List Event) → xs ++ r ≡ xs ++ q → r ≡ q
-    same_rest [] r q e = e
-    same_rest (x ∷ xs) r q e = same_rest xs r q cc
 
 nobodys : (callers : Setting) (rest : List Event) → All (IsEventOf callers) rest → ((c : ℕ) → c < callers.callers → own c rest ≡ []) → rest ≡ []
 nobodys callers [] events none = refl

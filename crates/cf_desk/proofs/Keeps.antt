@@ -11,6 +11,7 @@ use lib.ListN.{get_elem?}
 use Rattle.atomic_table.specs.Table.{State, Step, Me, step, stepped, keeps, Allows, Splits, Joins}
 use Rattle.atomic_table.proofs.Lists.{at_set, exchanged}
 use Rattle.cf_core.specs.declared.events.Event.{Event}
+use Rattle.cf_desk.proofs.Lists.{none_of_both, one_of}
 use Rattle.cf_desk.specs.declared.row.Setting.{Setting}
 use Rattle.cf_desk.specs.declared.row.Terms.{Terms}
 use Rattle.cf_desk.specs.declared.row.Known.{Known}
@@ -111,10 +112,6 @@ looks_kept t words views h id k at st found next = ⊎_elim
       record { empty = λ none. absurd (let some = is in cc); taken = λ d some. subst (λ (x : Event). SeesOther k x (saw k e ∷ [])) (same_some e d (sym is ∙ some)) mine },
     ))
     next
-  where
-    none_of_both : (xs ys : List Event) → xs ++ ys ≡ [] → (xs ≡ []) × (ys ≡ [])
-    none_of_both [] ys e = (refl, e)
-    none_of_both (x ∷ xs) ys e = cc
 
 pub looks : {S : Type 0} (t : Terms) (slots id : ℕ) (k : Known) (c : List (ℕ × S)) → Allows (holds {S = S} t) slots id (k ∷ [], c) (length k.seen) (λ n. n) (looks_next (step slots (length k.seen) 0 0 none) (k ∷ [], c))
 looks t slots id k c s h len at lt =
@@ -123,9 +120,6 @@ looks t slots id k c s h len at lt =
     let did = looks_kept t s.words s.views h id k at st found (at_next t h.log s.words k.seen st.rest h.row st.split) in
     let same : set s.words (length k.seen) found ≡ s.words = set-get_or s.words (length k.seen) 0 in
     (did.0, keeps, tt, subst (λ ws. RowKept t ws (set s.views id did.0)) (sym same) did.1, (refl, λ k' e. subst (λ (x : Known). LooksNext x found did.0) (one_of k k' e) did.2))
-  where
-    one_of : (k k' : Known) → k ∷ [] ≡ k' ∷ [] → k ≡ k'
-    one_of k k' e = cc
 
 -- an exchange of the next word that is won
 adds_kept : (t : Terms) (words : List ℕ) (views : List (List Known)) (h : RowKept t words views) (id : ℕ) (k : Known) → get_elem? views id ≡ some (k ∷ []) → (st : Stands t.setting h.log k) → st.rest ≡ []
@@ -193,9 +187,6 @@ adds {S} t slots id k c e room event mine s h len at lt =
       ),
     ))
   where
-    one_of : (k k' : Known) → k ∷ [] ≡ k' ∷ [] → k ≡ k'
-    one_of k k' e = cc
-
     is_end : (rest : List Event) (found : ℕ) → found ≡ 0 → Next rest found → rest ≡ []
     is_end rest found z (inl p) = p.1
     is_end rest found z (inr p) = absurd (let filled = word_of_filled p.0 in let is = p.1 in omega arith)

@@ -1,3 +1,4 @@
+pub mod Lists
 pub mod Keeps
 pub mod Meets
 pub mod Recs

@@ -8,6 +8,7 @@ use lib.ListN.{get_elem?}
 use Rattle.atomic_table.specs.Table.{Me, step, keeps, Allows, Splits, Joins, Enters}
 use Rattle.atomic_table.proofs.Lists.{at_set, at_snoc}
 use Rattle.cf_core.specs.declared.events.Event.{Event}
+use Rattle.cf_desk.proofs.Lists.{none_of_both, one_of}
 use Rattle.cf_desk.specs.declared.row.Setting.{Setting}
 use Rattle.cf_desk.specs.declared.row.Terms.{Terms}
 use Rattle.cf_desk.specs.declared.row.Known.{Known}
@@ -117,10 +118,6 @@ all_short : (v : List Known) → AllShort (length (longest v)) v
 all_short [] = tt
 all_short (k ∷ ks) = let p = longer_short k.seen (longest ks) (leb (length k.seen) (length (longest ks))) refl in (p.0, short_more (length (longest ks)) (length (longest (k ∷ ks))) p.1 ks (all_short ks))
 
-none_of_both : (xs ys : List Event) → xs ++ ys ≡ [] → (xs ≡ []) × (ys ≡ [])
-none_of_both [] ys e = (refl, e)
-none_of_both (x ∷ xs) ys e = cc
-
 -- where all begin the log, and none is longer than this beginning, they may all be taken to have seen it
 levelled : (setting : Setting) (log now rest : List Event) → log ≡ now ++ rest → (v : List Known) → AllShort (length now) v → AllStand setting log v → AllCatch now v × AllStand setting log (map (with_seen now) v)
 levelled setting log now rest e [] short h = (tt, tt)
@@ -175,6 +172,3 @@ found_there t slots id k c i inside s h len at lt =
       subst (λ ws. RowKept t ws (set s.views id (k ∷ []))) (sym (set-get_or s.words i 0)) kept,
       (refl, λ k' f. subst (λ (x : Known). FindsSeen x i found) (one_of k k' f) (record { event = e.0; there = e.1; is = ap event_of is ∙ event_of_own_word e.0 event.event; logged = subst (λ n. IsEventOf n e.0) (sym st.terms) event })),
     )
-  where
-    one_of : (k k' : Known) → k ∷ [] ≡ k' ∷ [] → k ≡ k'
-    one_of k k' e = cc

@@ -5,6 +5,7 @@ use Rattle.std.proofs.lemmas.Option.{none-some}
 use Rattle.std.proofs.lemmas.List.Elements.{All-nil, All-cons, All-contains, Contains-append_cases, filter-append}
 use Rattle.cf_core.specs.declared.events.Event.{Event}
 use Rattle.cf_event.specs.Words.{who_of}
+use Rattle.cf_desk.proofs.Lists.{none_of_both, same_rest}
 use Rattle.cf_desk.specs.declared.row.Setting.{Setting}
 use Rattle.cf_desk.specs.declared.row.Known.{Known}
 use Rattle.cf_desk.specs.Log.{own}
@@ -23,10 +24,6 @@ counted (k ∷ ks) c h = ⊎_elim
     omega arith)
     (λ (more : Contains (callers_of ks) c). let r = counted ks c more in omega arith)
     (Contains-append_cases (k.caller ∷ []) (callers_of ks) c h)
-
-same_rest : (xs r q : List Event) → xs ++ r ≡ xs ++ q → r ≡ q
-same_rest [] r q e = e
-same_rest (x ∷ xs) r q e = same_rest xs r q cc
 
 -- past what its passes have seen the log has no event of a seat's callers
 past : (setting : Setting) (log now rest : List Event) → log ≡ now ++ rest → (v : List Known) → AllStand setting log (map (with_seen now) v) → All (λ c. own c rest ≡ []) (callers_of v)
@@ -57,12 +54,8 @@ seen_before [] rest p e at none = absurd (not_there rest p e at none)
 seen_before (x ∷ xs) rest zero e at none = omega arith
 seen_before (x ∷ xs) rest (suc p) e at none = let r = seen_before xs rest p e at none in omega arith
 
-none_of_both : (xs ys : List Event) → xs ++ ys ≡ [] → xs ≡ []
-none_of_both [] ys e = refl
-none_of_both (x ∷ xs) ys e = absurd cc
-
 fronts_none : (more rest all : List Event) → all ≡ more ++ rest → (cs : List ℕ) → All (λ c. own c all ≡ []) cs → All (λ c. own c more ≡ []) cs
-fronts_none more rest all e cs h c d lt = none_of_both (own (at cs c d) more) (own (at cs c d) rest) (sym (filter-append (λ x. eqb (who_of x) (at cs c d)) more rest) ∙ ap (own (at cs c d)) (sym e) ∙ h c d lt)
+fronts_none more rest all e cs h c d lt = (none_of_both (own (at cs c d) more) (own (at cs c d) rest) (sym (filter-append (λ x. eqb (who_of x) (at cs c d)) more rest) ∙ ap (own (at cs c d)) (sym e) ∙ h c d lt)).0
   where
     at : List ℕ → ℕ → ℕ → ℕ
     at cs c d = Rattle.std.proofs.Common.get_or cs c d

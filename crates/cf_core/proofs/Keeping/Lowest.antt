@@ -8,6 +8,7 @@ use Rattle.std.proofs.lemmas.Bool.Decides.{eqb_tells, nat_tests}
 use Rattle.std.proofs.lemmas.List.{length-map}
 use Rattle.std.proofs.lemmas.List.Quantifiers.{position-Some}
 use Rattle.std.proofs.lemmas.List.Sums.{position_or_len_is}
+use Rattle.cf_bits.proofs.Positions.{position_is, position_is_none}
 use Rattle.cf_plan.specs.Plans.{PlannedStage}
 use Rattle.cf_core.specs.declared.stage.Stage.{Stage}
 use Rattle.cf_core.specs.declared.stage.Stage.TheVariants.{Pending, Ready, Claimed, Linked, Settled}
@@ -53,24 +54,6 @@ ready_unmarked marks ready e l = by_ready (position (λ b. b) ready) refl
 pub ready_above : (marks ready : List Bool) (m r : ℕ) → position (λ b. b) marks ≡ Some m → position (λ b. b) ready ≡ Some r → r ≤ m → ReadyIsTreated marks ready
 ready_above marks ready m r e f l =
     subst (λ x. MatchOption x (position (λ b. b) marks ≡ None) (λ n. AreTreated n marks)) (sym f) (λ i below. lowest_below marks m e i (omega arith))
-
--- ---- where the first that passes is
-
-position_is : {X : Type 0} (p : X → Bool) (xs : List X) (i : ℕ) (d : X) → i < length xs → ((j : ℕ) → j < i → p (get_or xs j d) ≡ false) → p (get_or xs i d) ≡ true → position p xs ≡ Some i
-position_is p xs i d l below here =
-    let e = position_or_len_is p xs i d (omega arith) below (λ _. here) in
-    let P : ℕ → Type 0 = λ n. cond (nat_lt n (length xs)) (Some n) None ≡ Some i in
-    subst P (sym e) (ap (λ b. cond b (Some i) None) (lt-ltb i (length xs) l))
-
-lt_irrefl : (n : ℕ) → n < n → ⊥
-lt_irrefl n h = omega arith
-
-position_is_none : {X : Type 0} (p : X → Bool) (xs : List X) (d : X) → ((j : ℕ) → j < length xs → p (get_or xs j d) ≡ false) → position p xs ≡ None
-position_is_none p xs d below =
-    let e = position_or_len_is p xs (length xs) d (omega arith) below (λ l. absurd (lt_irrefl (length xs) l)) in
-    let no : nat_lt (length xs) (length xs) ≡ false = grind (arith, nat_tests) in
-    let P : ℕ → Type 0 = λ n. cond (nat_lt n (length xs)) (Some n) None ≡ None in
-    subst P (sym e) (ap (λ b. cond b (Some (length xs)) None) no)
 
 get_is : {X : Type 0} (xs : List X) (i : ℕ) (x d : X) → slice_get xs i ≡ Some x → get_or xs i d ≡ x
 get_is [] i x d e = cc

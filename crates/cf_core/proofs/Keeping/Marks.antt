@@ -2,6 +2,7 @@
 use Rattle.std.proofs.Common.{◌≡◌, ◌≢◌, ℕ, ◌<◌, ◌∷◌, ◌++◌, [], List, Some, Contains, suc, zero, arith, ap, sym, ◌∙◌, refl, set, map, take, append_assoc, append-nil}
 use Rattle.std.specs.Prelude.{slice_get, option_and_then}
 use Rattle.cf_plan.specs.Plans.{PlannedStage}
+use Rattle.cf_core.proofs.StateLemmas.{slice_get-set_other}
 use Rattle.cf_core.specs.declared.stage.Stage.{Stage}
 use Rattle.cf_core.specs.declared.stage.Stage.TheVariants.{Pending, Ready, Claimed, Linked, Settled}
 use Rattle.cf_core.specs.declared.kept.KeptStage.{KeptStage}
@@ -22,13 +23,6 @@ steady below (p ∷ plan) (k ∷ kept) (suc m) h =
 
 pub steady_by_stage : SteadyByStage
 steady_by_stage plan kept m h = steady [] plan kept m h
-
-slice_get-set_other : (xs : List KeptStage) (i j : ℕ) (y : KeptStage) → j ≢ i → slice_get (set xs i y) j ≡ slice_get xs j
-slice_get-set_other [] i j y ne = refl
-slice_get-set_other (x ∷ xs) zero zero y ne = absurd (ne refl)
-slice_get-set_other (x ∷ xs) zero (suc j) y ne = refl
-slice_get-set_other (x ∷ xs) (suc i) zero y ne = refl
-slice_get-set_other (x ∷ xs) (suc i) (suc j) y ne = slice_get-set_other xs i j y (λ e. ne (ap suc e))
 
 pub dated_in-set : (kept : List KeptStage) (d j : ℕ) (new : KeptStage) → j ≢ d → dated_in (set kept d new) j ≡ dated_in kept j
 dated_in-set kept d j new ne = ap (option_and_then dated_of) (slice_get-set_other kept d j new ne)

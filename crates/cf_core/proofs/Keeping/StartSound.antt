@@ -20,7 +20,7 @@ use Rattle.cf_core.specs.declared.kept.KeptStage.{KeptStage}
 use Rattle.cf_core.specs.Keeping.Late.{StepsUpTo, dated_in, due_kept, earliest, late_due, outcome_part, treated}
 use Rattle.cf_core.specs.Keeping.Sound.{IsSound, is_bound, kept_at, link_marks, marks_from, steps_of}
 use Rattle.cf_core.specs.Keeping.Starts.{mark_starts, starts, untreated}
-use Rattle.cf_core.proofs.Keeping.Marking.{count-set_true, get-set_same, get-set_other}
+use Rattle.cf_core.proofs.Keeping.Marking.{count-set_true, get-set_same, get-set_other, length-mark_one}
 
 -- ---- what isn't marked waits
 
@@ -88,13 +88,9 @@ starts-below i (p ∷ plan) marks j l =
     starts-below (i + 1) plan (cond (starts p.form p.sources) (set marks i true) marks) j (omega arith)
     ∙ mark-stays (starts p.form p.sources) marks i j (λ e. absurd (omega arith))
 
-length-mark : (b : Bool) (marks : List Bool) (i : ℕ) → length (cond b (set marks i true) marks) ≡ length marks
-length-mark true marks i = length-set marks i true
-length-mark false marks i = refl
-
 pub length-mark_starts : (i : ℕ) (plan : List PlannedStage) (marks : List Bool) → length (mark_starts i plan marks) ≡ length marks
 length-mark_starts i [] marks = refl
-length-mark_starts i (p ∷ plan) marks = length-mark_starts (i + 1) plan (cond (starts p.form p.sources) (set marks i true) marks) ∙ length-mark (starts p.form p.sources) marks i
+length-mark_starts i (p ∷ plan) marks = length-mark_starts (i + 1) plan (cond (starts p.form p.sources) (set marks i true) marks) ∙ length-mark_one (starts p.form p.sources) marks i
 
 here_marked : (b : Bool) (marks : List Bool) (i : ℕ) → i < length marks → slice_get (cond b (set marks i true) marks) i ≡ Some false → b ≡ false
 here_marked false marks i l e = refl
@@ -112,7 +108,7 @@ unmarked_unstarted i (q ∷ plan) marks zero p l e f =
 unmarked_unstarted i (q ∷ plan) marks (suc j) p l e f =
     let first = cond (starts q.form q.sources) (set marks i true) marks in
     let at : (i + 1) + j ≡ i + suc j = omega arith in
-    let n = length-mark (starts q.form q.sources) marks i in
+    let n = length-mark_one (starts q.form q.sources) marks i in
     unmarked_unstarted (i + 1) plan first j p (omega (arith, n)) e (ap (slice_get (mark_starts (i + 1) plan first)) at ∙ f)
 
 one_mark : (b : Bool) (marks : List Bool) (i : ℕ) → count_by (λ b. b) (cond b (set marks i true) marks) ≤ count_by (λ b. b) marks + cond b 1 0
@@ -216,6 +212,3 @@ mark_starts-step plan i marks l =
     let none : PlannedStage = record { form = Source; sources = []; function = None } in
     let rest : drop i plan ≡ get_or plan i none ∷ drop (i + 1) plan = drop-cons plan i none l ∙ ap (λ n. get_or plan i none ∷ drop n plan) (sym (add-one i)) in
     rw (form_at-within plan i none l, sources_at-within plan i none l, rest) refl
-
-pub length-mark_start : (b : Bool) (marks : List Bool) (i : ℕ) → length (cond b (set marks i true) marks) ≡ length marks
-length-mark_start b marks i = length-mark b marks i

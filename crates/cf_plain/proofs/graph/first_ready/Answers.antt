@@ -1,12 +1,12 @@
 use Rattle.std.proofs.Common.{◌∙◌, sym, arith}
 use Rattle.cf_core.specs.States.{is_ready}
 use Rattle.cf_core.specs.declared.stage.Stage.TheVariants.{Pending}
-use Rattle.cf_plain.proofs.Places.{position_is, position_is_none}
+use Rattle.cf_bits.proofs.Positions.{position_is, position_is_none}
 use Rattle.cf_plain.proofs.graph.first_ready.Goals as goal
 
 pub returns-then-ready : goal.returns-then-ready
 returns-then-ready c =
-    sym (position_is is_ready c.args.stages.now Pending c.loop-i.i c.loop-i-test.true c.loop-i.invariant (sym c.ready.ensures ∙ c.if-ready.true))
+    sym (position_is is_ready c.args.stages.now c.loop-i.i Pending c.loop-i-test.true c.loop-i.invariant (sym c.ready.ensures ∙ c.if-ready.true))
 
 pub returns : goal.returns
 returns c =
