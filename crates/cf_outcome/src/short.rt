@@ -39,12 +39,14 @@ impl ShortText {
         }
     }
 
+    /// The bytes that were put into it.
     pub fn as_bytes(&self) -> &[u8]
         ensures { result.now ≡ self.now }
     {
         &self.bytes[..self.len]
     }
 
+    /// Puts this part behind the text.
     pub fn push(&mut self, part: &str)
         requires { length self.old + length part.now ≤ 48 }
         ensures { self.new ≡ self.old ++ part.now }
@@ -64,7 +66,7 @@ impl ShortText {
         self.push_digits(n);
     }
 
-    /// The last digit goes behind those before it.
+    /// Puts the digits behind the text: the last one goes behind those before it.
     #[tactic(auto, using(crate::proofs::Lengths::length_decimal_digit, crate::proofs::Lengths::length_decimal_step, std::proofs::lemmas::Fmt::decimal_digit))]
     fn push_digits(&mut self, n: u32)
         requires { length self.old + length (decimal n) ≤ 48 }
