@@ -11,7 +11,7 @@ use lib.ListN.{get_elem?}
 use Rattle.atomic_table.specs.Table.{Final, Seen, Me}
 use Rattle.atomic_table.specs.Seated.{TableId}
 use mathlib.Core.List.{map-append}
-use Rattle.cf_desk.proofs.Lists.{same_rest, one_of}
+use Rattle.cf_desk.proofs.Lists.{same_rest}
 use Rattle.cf_desk.specs.declared.calls.Rec.{Rec}
 use Rattle.cf_core.specs.declared.events.Event.{Event}
 use Rattle.cf_desk.specs.declared.row.Setting.{Setting}
