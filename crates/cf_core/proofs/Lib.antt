@@ -7,3 +7,5 @@ pub mod LowestReady
 pub mod Keeping
 pub mod Stable
 pub mod Closed
+pub mod Histories
+pub mod ClaimedStages

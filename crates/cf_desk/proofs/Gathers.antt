@@ -34,7 +34,7 @@ one_still : (first plan : Planned) (seen : List Event) (ks : List Known) (k : Kn
 one_still first plan seen [] k h = inr h
 one_still first plan seen (l ∷ ks) k h = ⊎_elim inl (λ r. inr (one_still first plan seen ks k r)) h
 
-short_push : (n : ℕ) (ks : List Known) (k : Known) → AllShort n ks → length k.seen ≤ n → AllShort n (ks ++ k ∷ [])
+pub short_push : (n : ℕ) (ks : List Known) (k : Known) → AllShort n ks → length k.seen ≤ n → AllShort n (ks ++ k ∷ [])
 short_push n [] k h le = (le, tt)
 short_push n (l ∷ ks) k h le = (h.0, short_push n ks k h.1 le)
 

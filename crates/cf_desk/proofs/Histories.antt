@@ -25,7 +25,7 @@ abbrev mine : ℕ → ℕ × Event → Bool
 mine c e = eqb (who_of e.1) c
 
 -- the events of a caller, taken from a list with places, have its words
-calls_of : (c n : ℕ) (ws : List Event) → map call_of (filter (mine c) (placed n ws)) ≡ own c ws
+pub calls_of : (c n : ℕ) (ws : List Event) → map call_of (filter (mine c) (placed n ws)) ≡ own c ws
 calls_of c n [] = refl
 calls_of c n (w ∷ ws) = split (eqb (who_of w) c) (calls_of c (suc n) ws)
   where

@@ -19,6 +19,15 @@ event_by who (Claim i) = Claims who i
 event_by who (Finish i answer) = Finishes who i answer
 event_by who (Tick now) = Ticks who now
 
+-- the call that an event is, whoever's it is
+abbrev pub as_call : Event → Call
+as_call (Completes who i v) = Complete i v
+as_call (Fails who i code) = Fail i code
+as_call (Cancels who i) = Cancel i
+as_call (Claims who i) = Claim i
+as_call (Finishes who i answer) = Finish i answer
+as_call (Ticks who now) = Tick now
+
 -- what a join of a stage with this outcome, or none, is answered
 abbrev pub joined : Option Outcome → Joined
 joined None = NotYet

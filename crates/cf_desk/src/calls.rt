@@ -1,6 +1,6 @@
 //! What callers ask of a desk, and what they are answered.
 ghost use Rattle.std.specs.Prelude.{◌≡◌};
-ghost use Rattle.cf_desk.specs.Calls.{event_by, joined};
+ghost use Rattle.cf_desk.specs.Calls.{as_call, event_by, joined};
 
 use cf_core::{Ask, Event, Graph, Reply, Told};
 use cf_outcome::{Cause, Outcome, Value};
@@ -21,6 +21,22 @@ pub enum Call {
     Finish(u16, Answer),
     /// Lets it be this moment, in milliseconds.
     Tick(u32),
+}
+
+impl Call {
+    /// The call that an event is, whoever's it is.
+    pub fn of(event: &Event) -> Call
+        ensures { result ≡ as_call event.now }
+    {
+        match *event {
+            Event::Complete { stage, value, .. } => Call::Complete(stage, value),
+            Event::Fail { stage, code, .. } => Call::Fail(stage, code),
+            Event::Cancel { stage, .. } => Call::Cancel(stage),
+            Event::Claim { stage, .. } => Call::Claim(stage),
+            Event::Finish { stage, answer, .. } => Call::Finish(stage, answer),
+            Event::Tick { now, .. } => Call::Tick(now),
+        }
+    }
 }
 
 /// What a join of a stage is answered (`CompletableFuture.join`).

@@ -6,3 +6,4 @@ pub mod Writes
 pub mod Runs
 pub mod Parts
 pub mod Examples
+pub mod Quiet

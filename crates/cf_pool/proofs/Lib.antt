@@ -1,3 +1,4 @@
+pub mod Jobs
 pub mod Pools
 pub mod Runs
-pub mod Turns
+pub mod Racing

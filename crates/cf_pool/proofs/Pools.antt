@@ -9,13 +9,15 @@ use mathlib.Core.List.{map-append}
 use Rattle.cf_plan.specs.declared.forms.Answer.{Answer}
 use Rattle.cf_plan.specs.declared.forms.Args.{Args}
 use Rattle.cf_desk.specs.declared.faults.DeskFault.{DeskFault}
-use Rattle.cf_desk.specs.declared.row.Known.{Known}
 use Rattle.cf_desk.specs.Rule.{AllShort, blank, fresh}
-use Rattle.cf_desk.specs.Views.{Holder, Meets, Place, knowns, new_pass, opened}
+use Rattle.cf_desk.specs.Views.{Pass, Meets, Desk, knowns, new_pass, opened}
+use Rattle.cf_desk.proofs.Gathers.{short_push}
+use Rattle.cf_desk.proofs.Meets.{short_more}
 use Rattle.cf_pool.specs.declared.pool.Met.{Met}
 use Rattle.cf_pool.specs.declared.pool.Worked.{Worked}
-use Rattle.cf_pool.specs.Runs.{EndsIf, IsFirst, IsWork, SeesMore, Stop, first_with, lower_of, stop_of}
-use Rattle.cf_pool.specs.Works.{IsOf, meanings_of}
+use Rattle.cf_pool.specs.Runs.{EndsIf, IsFirst, IsWorkedFrom, SeesMore, Stop, first_with, lower_of, stop_of}
+use Rattle.cf_plan.specs.Meanings.{meanings_of}
+use Rattle.cf_pool.specs.Works.{IsOf}
 
 -- ---- the lowest caller that was stopped
 
@@ -49,7 +51,7 @@ zip_push R [] (b ∷ ys) x y h r = absurd h
 zip_push R (a ∷ xs) [] x y h r = absurd h
 zip_push R (a ∷ xs) (b ∷ ys) x y h r = (h.0, zip_push R xs ys x y h.1 r)
 
-pub zip_kept : {H : Type 0} (P : H → Type 0) (f : H → Holder) (W : Holder → Worked → Type 0) (hs : List H) (ws : List Worked) → length ws ≡ length hs → All P hs
+pub zip_kept : {H : Type 0} (P : H → Type 0) (f : H → Pass) (W : Pass → Worked → Type 0) (hs : List H) (ws : List Worked) → length ws ≡ length hs → All P hs
     → ((i : ℕ) (d : Worked) → i < length hs → (h : H) × (h ≡ slice_index_or hs i h) × (P h → W (f h) (slice_index_or ws i d))) → AllZip W (map f hs) ws
 zip_kept P f W [] [] same all each = tt
 zip_kept P f W [] (w ∷ ws) same all each = absurd (omega arith)
@@ -62,10 +64,10 @@ zip_kept P f W (h ∷ hs) (w ∷ ws) same all each =
 
 -- ---- passes that see more
 
-pub sees_itself : (p : Holder) → SeesMore p p
+pub sees_itself : (p : Pass) → SeesMore p p
 sees_itself p = record { same = (refl, refl, refl, refl); seen = []; goes_on = sym (append-nil p.known.seen); records = refl }
 
-pub sees_then : (p q r : Holder) → SeesMore p q → SeesMore q r → SeesMore p r
+pub sees_then : (p q r : Pass) → SeesMore p q → SeesMore q r → SeesMore p r
 sees_then p q r a b = record {
   same = (b.same.0 ∙ a.same.0, b.same.1 ∙ a.same.1, b.same.2 ∙ a.same.2, b.same.3 ∙ a.same.3);
   seen = a.seen ++ b.seen;
@@ -73,41 +75,33 @@ sees_then p q r a b = record {
   records = b.records ∙ a.records;
 }
 
-pub sees_left : (p q p' q' : Holder) → Meets p q p' q' → SeesMore p p'
+pub sees_left : (p q p' q' : Pass) → Meets p q p' q' → SeesMore p p'
 sees_left p q p' q' m = record {
-  same = (ap (λ (h : Holder). h.table) m.left, ap (λ (h : Holder). h.known.setting) m.left, ap (λ (h : Holder). h.known.caller) m.left, ap (λ (h : Holder). h.calls) m.left);
+  same = (ap (λ (h : Pass). h.table) m.left, ap (λ (h : Pass). h.known.setting) m.left, ap (λ (h : Pass). h.known.caller) m.left, ap (λ (h : Pass). h.calls) m.left);
   seen = m.begins_left.others;
-  goes_on = ap (λ (h : Holder). h.known.seen) m.left ∙ m.begins_left.joined;
-  records = ap (λ (h : Holder). h.records) m.left;
+  goes_on = ap (λ (h : Pass). h.known.seen) m.left ∙ m.begins_left.joined;
+  records = ap (λ (h : Pass). h.records) m.left;
 }
 
-pub sees_right : (p q p' q' : Holder) → Meets p q p' q' → SeesMore q q'
+pub sees_right : (p q p' q' : Pass) → Meets p q p' q' → SeesMore q q'
 sees_right p q p' q' m = record {
-  same = (ap (λ (h : Holder). h.table) m.right, ap (λ (h : Holder). h.known.setting) m.right, ap (λ (h : Holder). h.known.caller) m.right, ap (λ (h : Holder). h.calls) m.right);
+  same = (ap (λ (h : Pass). h.table) m.right, ap (λ (h : Pass). h.known.setting) m.right, ap (λ (h : Pass). h.known.caller) m.right, ap (λ (h : Pass). h.calls) m.right);
   seen = m.begins_right.others;
-  goes_on = ap (λ (h : Holder). h.known.seen) m.right ∙ m.begins_right.joined;
-  records = ap (λ (h : Holder). h.records) m.right;
+  goes_on = ap (λ (h : Pass). h.known.seen) m.right ∙ m.begins_right.joined;
+  records = ap (λ (h : Pass). h.records) m.right;
 }
 
-pub sees_longer : (p q : Holder) → SeesMore p q → length p.known.seen ≤ length q.known.seen
+pub sees_longer : (p q : Pass) → SeesMore p q → length p.known.seen ≤ length q.known.seen
 sees_longer p q a = let e = ap length a.goes_on in let l = length-append p.known.seen a.seen in omega arith
 
-pub short_more : (n m : ℕ) (ks : List Known) → n ≤ m → AllShort n ks → AllShort m ks
-short_more n m [] le h = tt
-short_more n m (k ∷ ks) le h = (let x = h.0 in omega arith, short_more n m ks le h.1)
-
-short_push : (n : ℕ) (ks : List Known) (k : Known) → AllShort n ks → length k.seen ≤ n → AllShort n (ks ++ k ∷ [])
-short_push n [] k h le = (le, tt)
-short_push n (l ∷ ks) k h le = (h.0, short_push n ks k h.1 le)
-
 -- the other passes, with one more that has met the caller's
-pub short_met : (p q p' q' : Holder) (qs : List Holder) → Meets p q p' q' → AllShort (length p.known.seen) (knowns qs) → AllShort (length p'.known.seen) (knowns (qs ++ q' ∷ []))
+pub short_met : (p q p' q' : Pass) (qs : List Pass) → Meets p q p' q' → AllShort (length p.known.seen) (knowns qs) → AllShort (length p'.known.seen) (knowns (qs ++ q' ∷ []))
 short_met p q p' q' qs m h =
     let n = sees_longer p p' (sees_left p q p' q' m) in
-    let a = ap (λ (x : Holder). length x.known.seen) m.left in
-    let b = ap (λ (x : Holder). length x.known.seen) m.right in
-    subst (AllShort (length p'.known.seen)) (sym (map-append (λ (x : Holder). x.known) qs (q' ∷ [])))
-    (short_push (length p'.known.seen) (knowns qs) q'.known (short_more (length p.known.seen) (length p'.known.seen) (knowns qs) n h) (omega arith))
+    let a = ap (λ (x : Pass). length x.known.seen) m.left in
+    let b = ap (λ (x : Pass). length x.known.seen) m.right in
+    subst (AllShort (length p'.known.seen)) (sym (map-append (λ (x : Pass). x.known) qs (q' ∷ [])))
+    (short_push (length p'.known.seen) (knowns qs) q'.known (short_more (length p.known.seen) (length p'.known.seen) n (knowns qs) h) (omega arith))
 
 pub stop_step : (ws : List Worked) (i caller : ℕ) (w : Worked) (met now : Option Met) → i < length ws → w ≡ get_or ws i w → caller ≡ w.pass.known.caller → now ≡ first_with met caller w.fault → IsFirst (map stop_of (take i ws)) met → IsFirst (map stop_of (take (i + 1) ws)) now
 stop_step ws i caller w met now l is by_caller by_fault h =
@@ -117,21 +111,21 @@ stop_step ws i caller w met now l is by_caller by_fault h =
     subst (λ m. IsFirst (map stop_of (take (i + 1) ws)) m) (sym then)
     (subst (λ s. IsFirst s (first_with met w.pass.known.caller w.fault)) (sym stops) (first_more (map stop_of (take i ws)) met w.pass.known.caller w.fault h))
 
-pub parts_step : {H : Type 0} (f : H → Holder) (hs now : List H) (h : H) (p : Holder) (rest all : List Holder) → all ≡ map f hs ++ p ∷ rest → f h ≡ p → now ≡ hs ++ h ∷ [] → all ≡ map f now ++ rest
+pub parts_step : {H : Type 0} (f : H → Pass) (hs now : List H) (h : H) (p : Pass) (rest all : List Pass) → all ≡ map f hs ++ p ∷ rest → f h ≡ p → now ≡ hs ++ h ∷ [] → all ≡ map f now ++ rest
 parts_step f hs now h p rest all parts same items =
     parts ∙ ap (λ x. map f hs ++ x ∷ rest) (sym same) ∙ sym (append_assoc (map f hs) (f h ∷ []) rest) ∙ ap (λ x. x ++ rest) (sym (ap (map f) items ∙ map-append f hs (h ∷ [])))
 
 pub all_step : {H : Type 0} (P : H → Type 0) (hs now : List H) (h : H) → now ≡ hs ++ h ∷ [] → All P hs → P h → All P now
 all_step P hs now h items all one = subst (All P) (sym items) (All-push P hs h all one)
 
-pub work_same : {F : Type 0} (meaning : F → Args → Answer) (fns now : List F) (d e : Place) (p : Holder) (w : Worked) → d ≡ e → fns ≡ now → IsWork (meanings_of meaning fns) d p w → IsWork (meanings_of meaning now) e p w
+pub work_same : {F : Type 0} (meaning : F → Args → Answer) (fns now : List F) (d e : Desk) (p : Pass) (w : Worked) → d ≡ e → fns ≡ now → IsWorkedFrom (meanings_of meaning fns) d p w → IsWorkedFrom (meanings_of meaning now) e p w
 work_same meaning fns now d e p w same_desk same_fns h =
-    subst (λ (x : Place). IsWork (meanings_of meaning now) x p w) same_desk (subst (λ fs. IsWork (meanings_of meaning fs) d p w) same_fns h)
+    subst (λ (x : Desk). IsWorkedFrom (meanings_of meaning now) x p w) same_desk (subst (λ fs. IsWorkedFrom (meanings_of meaning fs) d p w) same_fns h)
 
-fresh_of : (d : Place) (calls c n : ℕ) → All (IsOf d) (map (new_pass d.table calls) (fresh d.setting c n))
+fresh_of : (d : Desk) (calls c n : ℕ) → All (IsOf d) (map (new_pass d.table calls) (fresh d.setting c n))
 fresh_of d calls c zero = All-nil (IsOf d)
 fresh_of d calls c (suc n) = All-cons (IsOf d) (new_pass d.table calls (blank d.setting c)) (map (new_pass d.table calls) (fresh d.setting (suc c) n)) (refl, refl) (fresh_of d calls (suc c) n)
 
 -- the passes of a desk that was just opened are of it
-pub opened_of : (d : Place) (calls : ℕ) → All (IsOf d) (opened d.table d.setting calls)
+pub opened_of : (d : Desk) (calls : ℕ) → All (IsOf d) (opened d.table d.setting calls)
 opened_of d calls = fresh_of d calls 0 d.setting.callers

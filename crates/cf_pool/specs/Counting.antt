@@ -7,7 +7,7 @@ use Rattle.cf_core.specs.declared.replies.Finished.TheVariants.{Won, Late}
 use Rattle.cf_desk.specs.declared.calls.Call.TheVariants.{Claim, Finish}
 use Rattle.cf_desk.specs.declared.calls.Rec.{Rec}
 use Rattle.cf_desk.specs.declared.calls.Rec.TheVariants.{Did}
-use Rattle.cf_desk.specs.Views.{Holder}
+use Rattle.cf_desk.specs.Views.{Pass}
 use Rattle.cf_plan.specs.Meanings.{Meanings}
 use Rattle.cf_pool.specs.declared.worker.Done.{Done}
 use Rattle.cf_pool.specs.Works.{WorksOut}
@@ -46,6 +46,6 @@ pub record Counts (done : Done) (records : List Rec) : Type 0 where
   pub late : done.late ≡ total_by late_at records
 
 -- a worker that ended: it owes nothing, and has counted what it added
-pub record Ends (meanings : Meanings) (p q : Holder) (done : Done) : Type 0 where
+pub record EndedWith (meanings : Meanings) (p q : Pass) (done : Done) : Type 0 where
   pub out : WorksOut meanings p q
   pub counts : Counts done out.works.more

@@ -1,4 +1,8 @@
+pub mod Works
+pub mod Jobs
 pub mod Counting
 pub mod Runs
-pub mod Turns
-pub mod Works
+pub mod Records
+pub mod Races
+pub mod Beginnings
+pub mod Samples

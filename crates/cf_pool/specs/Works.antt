@@ -1,17 +1,13 @@
 -- What a worker adds to its pass, and what a run of workers leaves.
-use Rattle.std.specs.Prelude.{◌≡◌, ℕ, ◌+◌, ◌≤◌, ◌==◌, Option, Some, None, List, [], ◌∷◌, ◌++◌, length, map, slice_get, unwrap_or, if◌then◌else◌}
+use Rattle.std.specs.Prelude.{◌≡◌, ℕ, ◌+◌, ◌≤◌, ◌==◌, Option, Some, None, List, [], ◌∷◌, ◌++◌, length, map, if◌then◌else◌}
 use Rattle.std.specs.List.{AllZip, Contains}
-use Rattle.std.specs.Option.{option_map_or}
-use Rattle.cf_outcome.specs.declared.outcome.Value.TheVariants.{Nil}
 use Rattle.cf_plan.specs.declared.forms.Args.{Args}
-use Rattle.cf_plan.specs.declared.forms.Answer.{Answer}
-use Rattle.cf_plan.specs.declared.forms.Answer.TheVariants.{Give}
-use Rattle.cf_plan.specs.Plans.{Planned, function_at}
+use Rattle.cf_plan.specs.Plans.{Planned}
 use Rattle.cf_core.specs.declared.events.Event.{Event}
 use Rattle.cf_core.specs.declared.events.Reply.TheVariants.{Claim as ToldClaim}
 use Rattle.cf_core.specs.declared.replies.Claimed.TheVariants.{Granted}
 use Rattle.cf_core.specs.States.{State, lowest_ready_of}
-use Rattle.cf_plan.specs.Meanings.{Meanings}
+use Rattle.cf_plan.specs.Meanings.{Meanings, stage_answer}
 use Rattle.cf_desk.specs.declared.calls.Call.TheVariants.{Claim, Finish}
 use Rattle.cf_desk.specs.declared.calls.Kept.{Kept}
 use Rattle.cf_desk.specs.declared.calls.Rec.{Rec}
@@ -21,11 +17,7 @@ use Rattle.cf_desk.specs.declared.faults.DeskFault.TheVariants.{LogFull, NoStage
 use Rattle.cf_desk.specs.declared.row.Setting.{Setting}
 use Rattle.cf_desk.specs.Keepings.{AllFit, AreKept, pass_kept}
 use Rattle.cf_desk.specs.Log.{state_from}
-use Rattle.cf_desk.specs.Views.{Closes, Holder, IsSamePass, Place}
-
--- the functions' meanings by their numbers; nil where there is no such function
-abbrev pub meanings_of : {F : Type 0} → (F → Args → Answer) → List F → Meanings
-meanings_of meaning fns n args = option_map_or (λ f. meaning f args) (slice_get fns n) (Give Nil)
+use Rattle.cf_desk.specs.Views.{Closes, Pass, IsSamePass, Desk}
 
 -- what a worker owes after a record: the finish of a stage whose claim was granted, with the arguments
 abbrev pub Owed : Type 0
@@ -39,7 +31,7 @@ owed_by r = None
 abbrev pub IsNext : Meanings → Planned → Owed → Rec → Type 0
 IsNext meanings plan None (Did place (Claim i) reply) = Unit {0}
 IsNext meanings plan (Some owed) (Did place (Finish i answer) reply) =
-    (i ≡ owed.0) × (answer ≡ meanings (unwrap_or (function_at plan.stages i) 0) owed.1)
+    (i ≡ owed.0) × (answer ≡ stage_answer meanings plan.stages i owed.1)
 IsNext meanings plan owed r = ⊥
 
 -- the records are claims, and after each granted one its finish
@@ -62,7 +54,7 @@ claims_of i [] = 0
 claims_of i (r ∷ rs) = claims_by i r + claims_of i rs
 
 -- the same pass has seen more, and has done work: it claimed no stage twice
-pub record Works (meanings : Meanings) (p q : Holder) : Type 0 where
+pub record Works (meanings : Meanings) (p q : Pass) : Type 0 where
   pub same : IsSamePass p q
   pub seen : List Event
   pub goes_on : q.known.seen ≡ p.known.seen ++ seen
@@ -72,13 +64,13 @@ pub record Works (meanings : Meanings) (p q : Holder) : Type 0 where
   pub once : (i : ℕ) → claims_of i more ≤ 1
 
 -- and it owes nothing
-pub record WorksOut (meanings : Meanings) (p q : Holder) : Type 0 where
+pub record WorksOut (meanings : Meanings) (p q : Pass) : Type 0 where
   pub works : Works meanings p q
   pub owes : owed_after None works.more ≡ None
 
 -- what a run leaves: the closed desk with the passes as they are then
-pub record Ran (meanings : Meanings) (setting : Setting) (ps : List Holder) (history : List Event) (kept : List Kept) (graph : State) : Type 0 where
-  pub qs : List Holder
+pub record Ran (meanings : Meanings) (setting : Setting) (ps : List Pass) (history : List Event) (kept : List Kept) (graph : State) : Type 0 where
+  pub qs : List Pass
   pub closes : Closes setting qs history
   pub kept_are : AreKept kept qs
   pub works : AllZip (Works meanings) ps qs
@@ -86,23 +78,23 @@ pub record Ran (meanings : Meanings) (setting : Setting) (ps : List Holder) (his
   pub graph_is : graph ≡ state_from setting.plan history
 
 -- and nothing is ready or owed
-pub record RanOut (meanings : Meanings) (setting : Setting) (ps : List Holder) (history : List Event) (kept : List Kept) (graph : State) : Type 0 where
+pub record RanOut (meanings : Meanings) (setting : Setting) (ps : List Pass) (history : List Event) (kept : List Kept) (graph : State) : Type 0 where
   pub ran : Ran meanings setting ps history kept graph
   pub out : AllZip (WorksOut meanings) ps ran.qs
   pub none : lowest_ready_of graph ≡ None
 
 -- the pass is of this desk
-abbrev pub IsOf : Place → Holder → Type 0
+abbrev pub IsOf : Desk → Pass → Type 0
 IsOf d p = (p.table ≡ d.table) × (p.known.setting ≡ d.setting)
 
 -- why a worker stops: what its pass has seen fills the log, or the pass is full
-abbrev pub IsDueToStop : Place → Holder → DeskFault → Type 0
+abbrev pub IsDueToStop : Desk → Pass → DeskFault → Type 0
 IsDueToStop d p LogFull = d.words ≤ length p.known.seen
 IsDueToStop d p PassFull = length p.records ≡ p.calls
 IsDueToStop d p NoStage = ⊥
 
 -- why a run tells a fault with the closed desk: the history fills the log, or one of the passes is full
-abbrev pub IsDueToTell : ℕ → List Holder → List Event → DeskFault → Type 0
+abbrev pub IsDueToTell : ℕ → List Pass → List Event → DeskFault → Type 0
 IsDueToTell words qs history LogFull = words ≤ length history
-IsDueToTell words qs history PassFull = (q : Holder) × Contains qs q × (length q.records ≡ q.calls)
+IsDueToTell words qs history PassFull = (q : Pass) × Contains qs q × (length q.records ≡ q.calls)
 IsDueToTell words qs history NoStage = ⊥

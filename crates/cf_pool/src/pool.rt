@@ -4,8 +4,9 @@ ghost use Rattle.std.specs.List.{AllZip};
 ghost use Rattle.cf_desk.specs.Rule.{AllShort};
 ghost use Rattle.cf_core.specs.States.{lowest_ready_of};
 ghost use Rattle.cf_desk.specs.Views.{knowns, state_of};
-ghost use Rattle.cf_pool.specs.Runs.{IsFirst, IsRefused, IsWork, SeesMore, SeesOn, first_with, lower_of, stop_of};
-ghost use Rattle.cf_pool.specs.Works.{IsOf, RanOut, meanings_of};
+ghost use Rattle.cf_pool.specs.Runs.{IsFirst, IsRefused, IsWorkedFrom, SeesMore, SeesOn, first_with, lower_of, stop_of};
+ghost use Rattle.cf_plan.specs.Meanings.{meanings_of};
+ghost use Rattle.cf_pool.specs.Works.{IsOf, RanOut};
 
 use crate::faults::PoolFault;
 use crate::gate::Gate;
@@ -54,10 +55,10 @@ impl<'a, F> Drop for WorkOf<'a, F> {
 }
 
 impl<'a, F: StageFn> Promise<Worked> for WorkOf<'a, F> {
-    ghost use Rattle.cf_pool.specs.Runs.{IsWork};
-    ghost use Rattle.cf_pool.specs.Works.{meanings_of};
+    ghost use Rattle.cf_pool.specs.Runs.{IsWorkedFrom};
+    ghost use Rattle.cf_plan.specs.Meanings.{meanings_of};
 
-    ghost kept_by = { λ p r. IsWork (meanings_of F.meaning p.fns.now) p.desk.now p.was.value r };
+    ghost kept_by = { λ p r. IsWorkedFrom (meanings_of F.meaning p.fns.now) p.desk.now p.was.value r };
 }
 
 /// Works with a pass, and tells what stopped it. If nothing did, nothing is ready in what the pass has seen.
@@ -70,7 +71,7 @@ fn work_on<F: StageFn, G: Gate>(
 ) -> Worked
     requires pass { IsOf desk.now pass }
     requires patience { 0 < patience }
-    ensures works { IsWork (meanings_of F.meaning fns.now) desk.now pass result }
+    ensures works { IsWorkedFrom (meanings_of F.meaning fns.now) desk.now pass result }
     ensures ready { result.fault ≡ None → lowest_ready_of (state_of result.pass.known) ≡ None }
 {
     let fault = work(desk, &mut pass, fns, gate, patience).err();
@@ -97,7 +98,7 @@ fn start<'s, E, F: StageFn + Sync, G: Gate + Sync>(
         promise,
         move || -> Worked
             requires { IsOf desk.now pass }
-            ensures { IsWork (meanings_of F.meaning fns.entry.now) desk.entry.now pass result }
+            ensures { IsWorkedFrom (meanings_of F.meaning fns.entry.now) desk.entry.now pass result }
         { work_on(desk, pass, fns, gate, PATIENCE) },
     );
     match started {
@@ -138,14 +139,14 @@ fn spread<R: Threads + Wait + Sync, F: StageFn + Sync, G: Gate + Sync>(
     gate: &G,
 ) -> Result<Vec<Worked>, AllocError>
     requires { All (IsOf desk.now) passes.items }
-    ensures { IfOk result (λ v. AllZip (IsWork (meanings_of F.meaning fns.now) desk.now) passes.items v.items) }
+    ensures { IfOk result (λ v. AllZip (IsWorkedFrom (meanings_of F.meaning fns.now) desk.now) passes.items v.items) }
 {
     thread::scope(
         thread::scope_env(),
         rt,
         |scope| -> Result<Vec<Worked>, AllocError>
             requires { All (IsOf desk.now) passes.items }
-            ensures { IfOk result (λ v. AllZip (IsWork (meanings_of F.meaning fns.entry.now) desk.entry.now) passes.items v.items) }
+            ensures { IfOk result (λ v. AllZip (IsWorkedFrom (meanings_of F.meaning fns.entry.now) desk.entry.now) passes.items v.items) }
         {
             let handles = start_all(scope, alloc, desk, passes, fns, gate)?;
             match join_promised(rt, handles) {
@@ -225,7 +226,7 @@ pub fn run<R: Threads + Wait + Sync, F: StageFn + Sync, G: Gate + Sync>(
 ) -> Result<Closed, PoolFault>
     requires workers { (0 < workers) × (workers ≤ 32) × (desk.setting.callers ≡ workers + 1) }
     requires passes { All (IsOf desk) passes.items × (vec_len passes ≡ workers + 1) }
-    ensures ran { IfOk result (λ closed. RanOut (meanings_of F.meaning fns.now) desk.setting passes.items closed.history.items closed.passes.items closed.graph) }
+    ensures ran { IfOk result (λ closed. RanOut (meanings_of F.meaning fns.now) desk.setting passes.items closed.history.items closed.passes.items closed.graph.state) }
     ensures refused { IfErr result (IsRefused (meanings_of F.meaning fns.now) desk passes.items) }
 {
     let alloc = *passes.allocator();

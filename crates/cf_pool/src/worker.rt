@@ -4,9 +4,10 @@ ghost use Rattle.cf_core.specs.States.{lowest_ready_of};
 ghost use Rattle.cf_desk.specs.declared.calls.Call.TheVariants.{Finish};
 ghost use Rattle.cf_desk.specs.Faults.{HasRoom};
 ghost use Rattle.cf_desk.specs.Views.{Acts, Follows, HasLooked, IsSamePass, state_of};
-ghost use Rattle.cf_pool.specs.Counting.{Ends, late_by, won_by};
-ghost use Rattle.cf_pool.specs.Turns.{Adds, Does, answer_for, granted_by};
-ghost use Rattle.cf_pool.specs.Works.{IsDueToStop, IsOf, Owed, Works, meanings_of};
+ghost use Rattle.cf_pool.specs.Counting.{EndedWith, late_by, won_by};
+ghost use Rattle.cf_pool.specs.Jobs.{AddsCounted, AddsWork, granted_by};
+ghost use Rattle.cf_plan.specs.Meanings.{meanings_of, stage_answer};
+ghost use Rattle.cf_pool.specs.Works.{IsDueToStop, IsOf, Owed, Works};
 
 use crate::gate::Gate;
 use cf_core::{Claimed, Finished, Reply};
@@ -41,7 +42,7 @@ pub fn work<F: StageFn, G: Gate>(
     requires patience { 0 < patience }
     ensures same { IsSamePass pass.old pass.new }
     ensures works { Works (meanings_of F.meaning fns.now) pass.old pass.new }
-    ensures done { IfOk result (λ done. Ends (meanings_of F.meaning fns.now) pass.old pass.new done) }
+    ensures done { IfOk result (λ done. EndedWith (meanings_of F.meaning fns.now) pass.old pass.new done) }
     ensures nothing_ready { OnOk result (lowest_ready_of (state_of pass.new.known) ≡ None) }
     ensures looks { OnOk result (HasLooked patience pass.old pass.new desk.now) }
     ensures fault { IfErr result (IsDueToStop desk.now pass.new) }
@@ -52,11 +53,11 @@ pub fn work<F: StageFn, G: Gate>(
         won: 0,
         late: 0,
     };
-    'turns: while let Some(stage) = next_ready(desk, pass, patience) {
-        let turn = take_turn(desk, pass, fns, gate, stage)?;
-        done.run += turn.run;
-        done.won += turn.won;
-        done.late += turn.late;
+    'jobs: while let Some(stage) = next_ready(desk, pass, patience) {
+        let job = take_job(desk, pass, fns, gate, stage)?;
+        done.run += job.run;
+        done.won += job.won;
+        done.late += job.late;
     }
     Ok(done)
 }
@@ -80,7 +81,7 @@ fn next_ready(desk: &Desk, pass: &mut Pass, patience: u32) -> Option<u16>
 }
 
 /// Claims a ready stage, and runs and finishes it where the claim is granted.
-fn take_turn<F: StageFn, G: Gate>(
+fn take_job<F: StageFn, G: Gate>(
     desk: &Desk,
     pass: &mut Pass,
     fns: &[F],
@@ -89,8 +90,8 @@ fn take_turn<F: StageFn, G: Gate>(
 ) -> Result<Done, DeskFault>
     requires pass { IsOf desk.now pass.old }
     requires ready { lowest_ready_of (state_of pass.old.known) ≡ Some stage }
-    ensures adds { (owes : Owed) × Adds (meanings_of F.meaning fns.now) None pass.old pass.new owes }
-    ensures done { IfOk result (λ done. Does (meanings_of F.meaning fns.now) None pass.old pass.new done) }
+    ensures adds { (owes : Owed) × AddsWork (meanings_of F.meaning fns.now) None pass.old pass.new owes }
+    ensures done { IfOk result (λ done. AddsCounted (meanings_of F.meaning fns.now) None pass.old pass.new done) }
     ensures more { OnOk result (length pass.old.records < length pass.new.records) }
     ensures looks { OnOk result (pass.new.known.looks ≡ pass.old.known.looks) }
     ensures fault { IfErr result (IsDueToStop desk.now pass.new) }
@@ -130,7 +131,7 @@ fn finish<F: StageFn, G: Gate>(
 ) -> Result<Reply, DeskFault>
     requires pass { IsOf desk.now pass.old }
     requires stage { stage < length pass.old.known.setting.plan.stages }
-    ensures done { IfOk result (λ reply. Acts pass.old (Finish stage (answer_for (meanings_of F.meaning fns.now) pass.old.known.setting.plan stage args)) reply pass.new) }
+    ensures done { IfOk result (λ reply. Acts pass.old (Finish stage (stage_answer (meanings_of F.meaning fns.now) pass.old.known.setting.plan.stages stage args)) reply pass.new) }
     ensures room { OnOk result (HasRoom pass.old) }
     ensures refused { OnErr result (Follows pass.old pass.new) }
     ensures fault { IfErr result (IsDueToStop desk.now pass.new) }
@@ -157,7 +158,7 @@ fn count(finished: Reply) -> Done
 /// What the function of a stage answers to these arguments.
 fn answer_of<F: StageFn>(desk: &Desk, fns: &[F], stage: u16, args: &Args) -> Answer
     requires { stage < length desk.now.setting.plan.stages }
-    ensures { result ≡ answer_for (meanings_of F.meaning fns.now) desk.now.setting.plan stage args.now }
+    ensures { result ≡ stage_answer (meanings_of F.meaning fns.now) desk.now.setting.plan.stages stage args.now }
 {
     let number = desk.function(stage).unwrap_or(0);
     match fns.get(number as usize) {

@@ -16,6 +16,7 @@ use Rattle.cf_reading.specs.Input.{IsOfInput}
 use Rattle.cf_reading.specs.Reading.{race_reading}
 use Rattle.cf_reading.specs.Scripts.{Said, StepFits}
 use Rattle.cf_reading.specs.Functions.{meaning_of}
+use Rattle.cf_core.specs.Calls.{is_from_outside}
 use Rattle.cf_core.specs.States.{State, outcome_at, start}
 use Rattle.cf_core.proofs.Shape.{state_after-shape}
 use Rattle.cf_plan.specs.Plans.{Planned, PlannedStage}
@@ -25,7 +26,7 @@ use Rattle.std.specs.Fmt.{decimal}
 use Rattle.cf_script.specs.Reports.{stage_lines}
 use Rattle.cf_script.specs.Texts.{line, settled_text}
 use Rattle.cf_reading.specs.Steps.{is_raced}
-use Rattle.cf_race.specs.Races.{IsRaced, IsStep, RacedIsExpression, is_step, log_words}
+use Rattle.cf_pool.specs.Races.{IsRaced, IsStep, RacedIsExpression, log_words}
 use Rattle.cf_script.specs.Runs.{IsInput, fault_line}
 use Rattle.cf_script.proofs.RunLemmas.{held_or_empty, input_too_long}
 use Rattle.cf_script.specs.Races.{IsWhyNot, MakesRace, Races, EndsOf, PlainRacesWriteExpressions, events_of, lines_of, words_of}
@@ -41,7 +42,7 @@ length-events_of (Asks a ∷ xs) h = absurd (cc (All-head Raced (Asks a) xs h))
 length-events_of (Work ∷ xs) h = absurd (cc (All-head Raced Work xs h))
 length-events_of (Nudge k ∷ xs) h = absurd (cc (All-head Raced (Nudge k) xs h))
 
-raced_step : (e : Event) → is_raced (Does e) ≡ true → is_step e ≡ true
+raced_step : (e : Event) → is_raced (Does e) ≡ true → is_from_outside e ≡ true
 raced_step (Completes who i v) h = h
 raced_step (Fails who i code) h = h
 raced_step (Cancels who i) h = h

@@ -17,7 +17,7 @@ use Rattle.cf_reading.specs.declared.script.Step.TheVariants.{Does}
 use Rattle.cf_reading.specs.Functions.{meaning_of}
 use Rattle.cf_reading.specs.Reading.{race_reading}
 use Rattle.cf_reading.specs.Scripts.{Said}
-use Rattle.cf_race.specs.Races.{IsRaced, log_words}
+use Rattle.cf_pool.specs.Races.{IsRaced, log_words}
 use Rattle.cf_script.specs.Reports.{stages_lines}
 use Rattle.cf_script.specs.Runs.{fault_line}
 use Rattle.cf_script.specs.Texts.{line, settled_text}

@@ -1,6 +1,6 @@
 //! A whole race: from a reader's bytes to the lines of the stages that a writer gets.
 ghost use Rattle.std.specs.Prelude.{◌≡◌, ◌<◌, ◌≤◌, All, IfErr, IfOk, List, ℕ, length, string_bytes, true};
-ghost use Rattle.cf_race.specs.Races.{IsStep};
+ghost use Rattle.cf_pool.specs.Races.{IsStep};
 ghost use Rattle.cf_reading.specs.Scripts.{IsSaid, StepFits};
 ghost use Rattle.cf_reading.specs.Steps.{is_raced};
 ghost use Rattle.cf_script.specs.Reports.{stages_lines};
@@ -11,8 +11,7 @@ use crate::fault_line::write_fault;
 use crate::report::write_stages;
 use cf_core::{Event, Graph};
 use cf_outcome::write_text;
-use cf_pool::Gate;
-use cf_race::{RaceFault, race};
+use cf_pool::{Gate, RaceFault, race};
 use cf_reading::{Script, ScriptFault, Step, read_input, read_race};
 use std::alloc::{AllocError, Global};
 use std::io::{Read, Write};

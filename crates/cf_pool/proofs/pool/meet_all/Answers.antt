@@ -2,7 +2,7 @@ use Rattle.std.proofs.Common.{◌≡◌, ◌++◌, ◌∷◌, [], List, is_ok, n
 use Rattle.std.specs.List.{All, AllZip}
 use Rattle.std.specs.Vec.Iter.{into_iter_items}
 use Rattle.cf_desk.specs.Rule.{AllShort}
-use Rattle.cf_desk.specs.Views.{Holder, knowns}
+use Rattle.cf_desk.specs.Views.{Pass, knowns}
 use Rattle.cf_desk.proofs.Gathers.{all_at}
 use Rattle.cf_pool.specs.declared.pool.Worked.{Worked}
 use Rattle.cf_pool.specs.Runs.{SeesOn}
@@ -37,5 +37,5 @@ next-preserved c =
       room = (let r = i.room in omega (arith, c.push.ensures.capacity));
       mine = sees_then c.args.mine.now c.next.mine c.meet.new.p i.mine (sees_left c.next.mine c.in-Some.w.pass c.meet.new.p c.meet.new.q m);
       others = subst (AllZip SeesOn (i.done ++ c.in-Some.w ∷ [])) (sym items) (zip_push SeesOn i.done c.next.back.items c.in-Some.w c.meet.new.q i.others (sees_right c.next.mine c.in-Some.w.pass c.meet.new.p c.meet.new.q m));
-      short = subst (λ (l : List Holder). AllShort (length c.meet.new.p.known.seen) (knowns l)) (sym items) (short_met c.next.mine c.in-Some.w.pass c.meet.new.p c.meet.new.q c.next.back.items m i.short);
+      short = subst (λ (l : List Pass). AllShort (length c.meet.new.p.known.seen) (knowns l)) (sym items) (short_met c.next.mine c.in-Some.w.pass c.meet.new.p c.meet.new.q c.next.back.items m i.short);
     }

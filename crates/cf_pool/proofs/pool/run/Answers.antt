@@ -2,10 +2,11 @@ use Rattle.std.proofs.Common.{◌≡◌, ◌∷◌, List, None, Some, false, tru
 use Rattle.std.specs.List.{All}
 use Rattle.std.proofs.lemmas.List.Elements.{All-head, All-tail, All-weaker}
 use Rattle.cf_desk.specs.Keepings.{AreKept}
-use Rattle.cf_desk.specs.Views.{Closes, Holder}
+use Rattle.cf_desk.specs.Views.{Closes, Pass}
 use Rattle.cf_pool.specs.declared.pool.Worked.{Worked}
 use Rattle.cf_pool.specs.Runs.{IsFirst, IsTold, first_with, stop_of}
-use Rattle.cf_pool.specs.Works.{IsOf, RanOut, meanings_of}
+use Rattle.cf_plan.specs.Meanings.{meanings_of}
+use Rattle.cf_pool.specs.Works.{IsOf, RanOut}
 use Rattle.cf_pool.proofs.Runs.{Back, back_of, back_out, back_told, first_and, first_none, worked_of, zip_length}
 use Rattle.cf_pool.proofs.pool.run.Given.{Over}
 use Rattle.cf_pool.proofs.pool.run.Goals as goal
@@ -69,8 +70,8 @@ back g c all = record {
 pub close-requires-clause-table : goal.close-requires-clause-table
 close-requires-clause-table g c =
     let at = (goal.at.close-requires-clause-table g c).Else-is_err in
-    subst (All (λ (p : Holder). p.table ≡ c.args.desk.table)) (sym (put g at))
-    (All-weaker (IsOf c.args.desk) (λ (p : Holder). p.table ≡ c.args.desk.table) (λ p x. x.0) (c.work_on-pass.result.pass ∷ c.meet_all-back.result.items) (back_of _ _ _ _ _ _ _ _ _ _ (back g at (of g (goal.at.close-requires-clause-table g c).In-Ok-spread))))
+    subst (All (λ (p : Pass). p.table ≡ c.args.desk.table)) (sym (put g at))
+    (All-weaker (IsOf c.args.desk) (λ (p : Pass). p.table ≡ c.args.desk.table) (λ p x. x.0) (c.work_on-pass.result.pass ∷ c.meet_all-back.result.items) (back_of _ _ _ _ _ _ _ _ _ _ (back g at (of g (goal.at.close-requires-clause-table g c).In-Ok-spread))))
 
 pub close-requires-clause-all : goal.close-requires-clause-all
 close-requires-clause-all g c =
@@ -88,10 +89,10 @@ returns-in-None-clause-ran g c =
     let e = c.in-Ok-close.ensures in
     let none : first_with c.first_fault-others.result c.work_on-pass.result.pass.known.caller c.work_on-pass.result.fault ≡ None =
     ap (λ n. first_with c.first_fault-others.result n c.work_on-pass.result.fault) (sym c.caller.ensures) ∙ sym c.first_of-first.ensures ∙ c.in-None.is in
-    subst (λ (l : List Holder). RanOut (meanings_of g.F.StageFn.meaning c.args.fns.now) c.args.desk.setting l c.in-Ok-close.closed.history.items c.in-Ok-close.closed.passes.items c.in-Ok-close.closed.graph) (sym (split g (goal.at.returns-in-None-clause-ran g c).In-Ok-spread))
-    (back_out _ _ _ _ _ _ _ _ _ _ (back g at (of g (goal.at.returns-in-None-clause-ran g c).In-Ok-spread)) c.in-Ok-close.closed.history.items c.in-Ok-close.closed.passes.items c.in-Ok-close.closed.graph
-    (subst (λ (l : List Holder). Closes c.args.desk.setting l c.in-Ok-close.closed.history.items) (put g at) e.history)
-    (subst (λ (l : List Holder). AreKept c.in-Ok-close.closed.passes.items l) (put g at) e.passes)
+    subst (λ (l : List Pass). RanOut (meanings_of g.F.StageFn.meaning c.args.fns.now) c.args.desk.setting l c.in-Ok-close.closed.history.items c.in-Ok-close.closed.passes.items c.in-Ok-close.closed.graph.state) (sym (split g (goal.at.returns-in-None-clause-ran g c).In-Ok-spread))
+    (back_out _ _ _ _ _ _ _ _ _ _ (back g at (of g (goal.at.returns-in-None-clause-ran g c).In-Ok-spread)) c.in-Ok-close.closed.history.items c.in-Ok-close.closed.passes.items c.in-Ok-close.closed.graph.state
+    (subst (λ (l : List Pass). Closes c.args.desk.setting l c.in-Ok-close.closed.history.items) (put g at) e.history)
+    (subst (λ (l : List Pass). AreKept c.in-Ok-close.closed.passes.items l) (put g at) e.passes)
     e.fit e.graph none (c.work_on-pass.ensures.ready (first_none _ _ _ none)))
 
 pub returns-in-Some-clause-refused : goal.returns-in-Some-clause-refused
@@ -100,8 +101,8 @@ returns-in-Some-clause-refused g c =
     let e = c.in-Ok-close.ensures in
     let some : first_with c.first_fault-others.result c.work_on-pass.result.pass.known.caller c.work_on-pass.result.fault ≡ Some c.in-Some.met =
     ap (λ n. first_with c.first_fault-others.result n c.work_on-pass.result.fault) (sym c.caller.ensures) ∙ sym c.first_of-first.ensures ∙ c.in-Some.is in
-    subst (λ (l : List Holder). IsTold (meanings_of g.F.StageFn.meaning c.args.fns.now) c.args.desk l c.in-Some.met.fault c.in-Ok-close.closed) (sym (split g (goal.at.returns-in-Some-clause-refused g c).In-Ok-spread))
+    subst (λ (l : List Pass). IsTold (meanings_of g.F.StageFn.meaning c.args.fns.now) c.args.desk l c.in-Some.met.fault c.in-Ok-close.closed) (sym (split g (goal.at.returns-in-Some-clause-refused g c).In-Ok-spread))
     (back_told _ _ _ _ _ _ _ _ _ _ (back g at (of g (goal.at.returns-in-Some-clause-refused g c).In-Ok-spread)) c.in-Ok-close.closed
-    (subst (λ (l : List Holder). Closes c.args.desk.setting l c.in-Ok-close.closed.history.items) (put g at) e.history)
-    (subst (λ (l : List Holder). AreKept c.in-Ok-close.closed.passes.items l) (put g at) e.passes)
+    (subst (λ (l : List Pass). Closes c.args.desk.setting l c.in-Ok-close.closed.history.items) (put g at) e.history)
+    (subst (λ (l : List Pass). AreKept c.in-Ok-close.closed.passes.items l) (put g at) e.passes)
     e.fit e.graph c.in-Some.met some)

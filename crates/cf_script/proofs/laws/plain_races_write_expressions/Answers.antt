@@ -1,4 +1,4 @@
-use Rattle.cf_race.proofs.Expressed.{raced_is_expression}
+use Rattle.cf_pool.proofs.Racing.Expressed.{raced_is_expression}
 use Rattle.cf_script.proofs.RaceLemmas.{plain_lines}
 use Rattle.cf_script.proofs.laws.plain_races_write_expressions.Goals as goal
 

@@ -1,5 +1,5 @@
 use Rattle.std.proofs.Common.{rules, ◌≡◌, ◌∙◌, ap, length, subst, sym, All, ◌≤◌, ◌<◌}
-use Rattle.cf_race.specs.Races.{IsRaced, IsStep, log_words}
+use Rattle.cf_pool.specs.Races.{IsRaced, IsStep, log_words}
 use Rattle.cf_reading.specs.Functions.{meaning_of}
 use Rattle.cf_script.specs.Races.{events_of}
 use Rattle.cf_script.proofs.RaceLemmas.{ends_of, steps_taken, too_long}

@@ -1,0 +1,385 @@
+-- What a worker's calls add, and how that adds up.
+use Rattle.std.proofs.Common.{◌≡◌, ℕ, ◌+◌, ◌<◌, ◌≤◌, inl, inr, Bool, true, false, cond, Option, Some, None, List, [], ◌∷◌, ◌++◌, length, sym, refl, ap, ◌∙◌, subst, append-nil, append_assoc, length-append, replicate, arith}
+use Rattle.std.specs.Prelude.{◌==◌}
+use Rattle.std.proofs.lemmas.Bool.{cases_lt, eqb-true}
+use Rattle.std.proofs.lemmas.List.{length-replicate}
+use Rattle.cf_plan.specs.declared.forms.Args.{Args}
+use Rattle.cf_plan.specs.Plans.{Planned}
+use Rattle.cf_core.specs.declared.stage.Stage.TheVariants.{Pending}
+use Rattle.cf_core.specs.declared.events.Event.{Event}
+use Rattle.cf_core.specs.declared.events.Event.TheVariants.{Claim as Claims}
+use Rattle.cf_core.specs.declared.events.Reply.{Reply}
+use Rattle.cf_core.specs.declared.events.Reply.TheVariants.{Flag as ToldFlag, Claim as ToldClaim, Finish as ToldFinish, Tick as ToldTick}
+use Rattle.cf_core.specs.declared.replies.Claimed.TheVariants.{Granted, Settled as IsSettled, Taken, NotReady}
+use Rattle.cf_core.specs.declared.replies.Finished.TheVariants.{Won, Late, NotYours}
+use Rattle.cf_core.specs.States.{State, stage_at, start, is_ready, lowest_ready_of}
+use Rattle.cf_core.specs.Events.{answered, state_after}
+use Rattle.cf_core.specs.Claims.{is_claimable}
+use Rattle.cf_core.proofs.Claimable.{state_after-not_claimable}
+use Rattle.cf_core.proofs.Histories.{claiming-not_claimable, is_pending, ready-claimable, ready-not_pending, state_after-append, state_after-not_pending}
+use Rattle.cf_core.proofs.LowestReady.{lowest_ready-within, lowest_ready-is_ready}
+use Rattle.cf_core.proofs.Shape.{length-new_states, state_after-shape}
+use Rattle.cf_plan.specs.Meanings.{Meanings, stage_answer}
+use Rattle.cf_desk.specs.declared.calls.Call.{Call}
+use Rattle.cf_desk.specs.declared.calls.Call.TheVariants.{Claim, Finish}
+use Rattle.cf_desk.specs.declared.calls.Rec.{Rec}
+use Rattle.cf_desk.specs.declared.calls.Rec.TheVariants.{Did}
+use Rattle.cf_desk.specs.declared.faults.DeskFault.{DeskFault}
+use Rattle.cf_desk.specs.declared.faults.DeskFault.TheVariants.{LogFull, NoStage, PassFull}
+use Rattle.cf_desk.specs.declared.row.Known.{Known}
+use Rattle.cf_desk.specs.Calls.{event_by}
+use Rattle.cf_desk.specs.Faults.{HasRoom, IsDue}
+use Rattle.cf_desk.specs.Log.{state_from}
+use Rattle.cf_desk.specs.Views.{Acts, Follows, HasLooked, Pass, Desk, state_of}
+use Rattle.cf_desk.proofs.Passes.{same_acts, same_follows}
+use Rattle.cf_pool.specs.declared.worker.Done.{Done}
+use Rattle.cf_pool.specs.Counting.{Counts, EndedWith, grant_at, late_at, late_by, total_by, won_at, won_by}
+use Rattle.cf_pool.specs.Jobs.{AddsCounted, AddsWork, granted_by, sum_of}
+use Rattle.cf_pool.specs.Works.{AreWork, IsDueToStop, Owed, Works, claims_of, owed_after, owed_by}
+
+-- ---- states that a pass has seen
+
+-- the state of a pass that has seen more
+goes_on_from : (p q : Pass) (seen : List Event) → q.known.setting ≡ p.known.setting → q.known.seen ≡ p.known.seen ++ seen → state_of q.known ≡ state_after (state_of p.known) seen
+goes_on_from p q seen same on =
+    ap (λ x. state_from x.plan q.known.seen) same ∙ ap (λ l. state_from p.known.setting.plan l) on ∙ state_after-append (start p.known.setting.plan) p.known.seen seen
+
+still_spent : (p q : Pass) (seen : List Event) (i : ℕ) → q.known.setting ≡ p.known.setting → q.known.seen ≡ p.known.seen ++ seen → is_claimable (stage_at (state_of p.known) i) ≡ false → is_claimable (stage_at (state_of q.known) i) ≡ false
+still_spent p q seen i same on e =
+    subst (λ s. is_claimable (stage_at s i) ≡ false) (sym (goes_on_from p q seen same on)) (state_after-not_claimable (state_of p.known) seen i e)
+
+before_too : (x y : Bool) → (x ≡ false → y ≡ false) → y ≡ true → x ≡ true
+before_too true y h e = refl
+before_too false y h e = let f = h refl in cc
+
+-- ---- records
+
+owed-append : (owed : Owed) (xs ys : List Rec) → owed_after owed (xs ++ ys) ≡ owed_after (owed_after owed xs) ys
+owed-append owed [] ys = refl
+owed-append owed (x ∷ xs) ys = owed-append (owed_by x) xs ys
+
+work-append : (meanings : Meanings) (plan : Planned) (owed : Owed) (xs ys : List Rec) → AreWork meanings plan owed xs → AreWork meanings plan (owed_after owed xs) ys → AreWork meanings plan owed (xs ++ ys)
+work-append meanings plan owed [] ys f g = g
+work-append meanings plan owed (x ∷ xs) ys f g = (f.0, work-append meanings plan (owed_by x) xs ys f.1 g)
+
+claims-append : (i : ℕ) (xs ys : List Rec) → claims_of i (xs ++ ys) ≡ claims_of i xs + claims_of i ys
+claims-append i [] ys = omega arith
+claims-append i (x ∷ xs) ys = let rest = claims-append i xs ys in omega arith
+
+total-append : (count : Rec → ℕ) (xs ys : List Rec) → total_by count (xs ++ ys) ≡ total_by count xs + total_by count ys
+total-append count [] ys = omega arith
+total-append count (x ∷ xs) ys = let rest = total-append count xs ys in omega arith
+
+counts_then : (a b : Done) (xs ys : List Rec) → Counts a xs → Counts b ys → Counts (sum_of a b) (xs ++ ys)
+counts_then a b xs ys f g = record {
+  run = (let t = total-append grant_at xs ys in let x = f.run in let y = g.run in omega arith);
+  won = (let t = total-append won_at xs ys in let x = f.won in let y = g.won in omega arith);
+  late = (let t = total-append late_at xs ys in let x = f.late in let y = g.late in omega arith);
+}
+
+-- what a claim's record makes owed
+abbrev owed_as : ℕ → Option Args → Owed
+owed_as i None = None
+owed_as i (Some args) = Some (i, args)
+
+owed_claim : (place i : ℕ) (reply : Reply) → owed_by (Did place (Claim i) reply) ≡ owed_as i (granted_by reply)
+owed_claim place i (ToldFlag b) = refl
+owed_claim place i (ToldClaim (Granted args)) = refl
+owed_claim place i (ToldClaim IsSettled) = refl
+owed_claim place i (ToldClaim Taken) = refl
+owed_claim place i (ToldClaim NotReady) = refl
+owed_claim place i (ToldFinish f) = refl
+owed_claim place i (ToldTick t) = refl
+
+abbrev grants_as : Option Args → ℕ
+grants_as None = 0
+grants_as (Some args) = 1
+
+grant_claim : (place i : ℕ) (reply : Reply) → grant_at (Did place (Claim i) reply) ≡ grants_as (granted_by reply)
+grant_claim place i (ToldFlag b) = refl
+grant_claim place i (ToldClaim (Granted args)) = refl
+grant_claim place i (ToldClaim IsSettled) = refl
+grant_claim place i (ToldClaim Taken) = refl
+grant_claim place i (ToldClaim NotReady) = refl
+grant_claim place i (ToldFinish f) = refl
+grant_claim place i (ToldTick t) = refl
+
+won_by-few : (reply : Reply) → won_by reply ≤ 1
+won_by-few (ToldFlag b) = omega arith
+won_by-few (ToldClaim c) = omega arith
+won_by-few (ToldFinish Won) = omega arith
+won_by-few (ToldFinish Late) = omega arith
+won_by-few (ToldFinish NotYours) = omega arith
+won_by-few (ToldTick t) = omega arith
+
+late_by-few : (reply : Reply) → late_by reply ≤ 1
+late_by-few (ToldFlag b) = omega arith
+late_by-few (ToldClaim c) = omega arith
+late_by-few (ToldFinish Won) = omega arith
+late_by-few (ToldFinish Late) = omega arith
+late_by-few (ToldFinish NotYours) = omega arith
+late_by-few (ToldTick t) = omega arith
+
+one_claim : (b : Bool) → 0 < cond b 1 0 + 0 → b ≡ true
+one_claim true h = refl
+one_claim false h = absurd (omega arith)
+
+few_claims : (b : Bool) → cond b 1 0 + 0 ≤ 1
+few_claims true = omega arith
+few_claims false = omega arith
+
+-- ---- what calls add
+
+pub adds_itself : (meanings : Meanings) (owed : Owed) (p : Pass) → AddsWork meanings owed p p owed
+adds_itself meanings owed p = record {
+  same = (refl, refl, refl, refl);
+  seen = [];
+  goes_on = sym (append-nil p.known.seen);
+  more = [];
+  records = sym (append-nil p.records);
+  work = tt;
+  owes_then = refl;
+  once = λ i. omega arith;
+  fresh = λ i h. absurd (omega arith);
+  spent = λ i h. absurd (omega arith);
+}
+
+pub adds_follows : (meanings : Meanings) (owed : Owed) (p q : Pass) → Follows p q → AddsWork meanings owed p q owed
+adds_follows meanings owed p q f = record {
+  same = same_follows p q f;
+  seen = f.caught.others;
+  goes_on = ap (λ (h : Pass). h.known.seen) f.is ∙ f.caught.joined;
+  more = [];
+  records = ap (λ (h : Pass). h.records) f.is ∙ sym (append-nil p.records);
+  work = tt;
+  owes_then = refl;
+  once = λ i. omega arith;
+  fresh = λ i h. absurd (omega arith);
+  spent = λ i h. absurd (omega arith);
+}
+
+acts_on : (p q : Pass) (call : Call) (reply : Reply) (a : Acts p call reply q) → q.known.seen ≡ p.known.seen ++ (a.caught.others ++ event_by p.known.caller call ∷ [])
+acts_on p q call reply a =
+    let e = event_by p.known.caller call in
+    ap (λ (h : Pass). h.known.seen) a.is ∙ ap (λ l. l ++ e ∷ []) a.caught.joined ∙ append_assoc p.known.seen a.caught.others (e ∷ [])
+
+pub adds_finish : (meanings : Meanings) (p q : Pass) (i : ℕ) (args : Args) (reply : Reply) → Acts p (Finish i (stage_answer meanings p.known.setting.plan.stages i args)) reply q → AddsWork meanings (Some (i, args)) p q None
+adds_finish meanings p q i args reply a =
+    let call = Finish i (stage_answer meanings p.known.setting.plan.stages i args) in record {
+      same = same_acts p q call reply a;
+      seen = a.caught.others ++ event_by p.known.caller call ∷ [];
+      goes_on = acts_on p q call reply a;
+      more = Did (length a.before + 1) call reply ∷ [];
+      records = ap (λ (h : Pass). h.records) a.is;
+      work = ((refl, refl), tt);
+      owes_then = refl;
+      once = λ i. omega arith;
+      fresh = λ i h. absurd (omega arith);
+      spent = λ i h. absurd (omega arith);
+    }
+
+claim_spent : (p q : Pass) (i : ℕ) (reply : Reply) → Acts p (Claim i) reply q → is_ready (stage_at (state_of p.known) i) ≡ true → is_claimable (stage_at (state_of q.known) i) ≡ false
+claim_spent p q i reply a ready =
+    let plan = p.known.setting.plan in
+    let e = Claims p.known.caller i in
+    let on : q.known.seen ≡ p.known.seen ++ (a.caught.others ++ e ∷ []) = acts_on p q (Claim i) reply a in
+    let then : State = state_after (state_of p.known) a.caught.others in
+    let is : state_of q.known ≡ (answered then e).1 =
+    goes_on_from p q (a.caught.others ++ e ∷ []) (ap (λ (h : Pass). h.known.setting) a.is) on ∙ state_after-append (state_of p.known) a.caught.others (e ∷ []) in
+    let waits : is_pending (stage_at then i) ≡ false = state_after-not_pending (state_of p.known) a.caught.others i (ready-not_pending (stage_at (state_of p.known) i) ready) in
+    subst (λ s. is_claimable (stage_at s i) ≡ false) (sym is) (claiming-not_claimable then p.known.caller i waits)
+
+pub adds_claim : (meanings : Meanings) (p q : Pass) (i : ℕ) (reply : Reply) → Acts p (Claim i) reply q → is_ready (stage_at (state_of p.known) i) ≡ true → AddsWork meanings None p q (owed_as i (granted_by reply))
+adds_claim meanings p q i reply a ready = record {
+  same = same_acts p q (Claim i) reply a;
+  seen = a.caught.others ++ event_by p.known.caller (Claim i) ∷ [];
+  goes_on = acts_on p q (Claim i) reply a;
+  more = Did (length a.before + 1) (Claim i) reply ∷ [];
+  records = ap (λ (h : Pass). h.records) a.is;
+  work = (tt, tt);
+  owes_then = owed_claim (length a.before + 1) i reply;
+  once = λ j. few_claims (j == i);
+  fresh = λ j h. subst (λ k. is_claimable (stage_at (state_of p.known) k) ≡ true) (sym (eqb-true j i (one_claim (j == i) h))) (ready-claimable (stage_at (state_of p.known) i) ready);
+  spent = λ j h. subst (λ k. is_claimable (stage_at (state_of q.known) k) ≡ false) (sym (eqb-true j i (one_claim (j == i) h))) (claim_spent p q i reply a ready);
+}
+
+adds_owing : (meanings : Meanings) (owed owes then : Owed) (p q : Pass) → owes ≡ then → AddsWork meanings owed p q owes → AddsWork meanings owed p q then
+adds_owing meanings owed owes then p q e a = record {
+  same = a.same;
+  seen = a.seen;
+  goes_on = a.goes_on;
+  more = a.more;
+  records = a.records;
+  work = a.work;
+  owes_then = a.owes_then ∙ e;
+  once = a.once;
+  fresh = a.fresh;
+  spent = a.spent;
+}
+
+-- ---- one after another
+
+no_both : (x : Bool) → x ≡ false → x ≡ true → ⊥
+no_both true e f = cc
+no_both false e f = cc
+
+pub adds_then : (meanings : Meanings) (owed then owes : Owed) (p q r : Pass) → AddsWork meanings owed p q then → AddsWork meanings then q r owes → AddsWork meanings owed p r owes
+adds_then meanings owed then owes p q r a b =
+    let setting : r.known.setting ≡ q.known.setting = b.same.1 in
+    let counted = λ (i : ℕ). claims-append i a.more b.more in
+    let spent_once : (i : ℕ) → 0 < claims_of i a.more → 0 < claims_of i b.more → ⊥ = λ i x y. no_both (is_claimable (stage_at (state_of q.known) i)) (a.spent i x) (b.fresh i y) in
+    record {
+      same = (b.same.0 ∙ a.same.0, b.same.1 ∙ a.same.1, b.same.2 ∙ a.same.2, b.same.3 ∙ a.same.3);
+      seen = a.seen ++ b.seen;
+      goes_on = b.goes_on ∙ ap (λ l. l ++ b.seen) a.goes_on ∙ append_assoc p.known.seen a.seen b.seen;
+      more = a.more ++ b.more;
+      records = b.records ∙ ap (λ l. l ++ b.more) a.records ∙ append_assoc p.records a.more b.more;
+      work = work-append meanings p.known.setting.plan owed a.more b.more a.work
+          (subst (λ o. AreWork meanings p.known.setting.plan o b.more) (sym a.owes_then) (subst (λ x. AreWork meanings x.plan then b.more) a.same.1 b.work));
+      owes_then = owed-append owed a.more b.more ∙ ap (λ o. owed_after o b.more) a.owes_then ∙ b.owes_then;
+      once = λ i. (let c = claims-append i a.more b.more in let x = a.once i in let y = b.once i in
+          elim (cases_lt 0 (claims_of i a.more)) [
+            | inl l ↦ elim (cases_lt 0 (claims_of i b.more)) [ inl m ↦ absurd (spent_once i l m) | inr m ↦ omega arith ]
+            | inr l ↦ omega arith
+          ]);
+      fresh = λ i h. (let c = claims-append i a.more b.more in
+          elim (cases_lt 0 (claims_of i a.more)) [
+            | inl l ↦ a.fresh i l
+            | inr l ↦ before_too (is_claimable (stage_at (state_of p.known) i)) (is_claimable (stage_at (state_of q.known) i)) (still_spent p q a.seen i a.same.1 a.goes_on) (b.fresh i (omega arith))
+          ]);
+      spent = λ i h. (let c = claims-append i a.more b.more in
+          elim (cases_lt 0 (claims_of i b.more)) [
+            | inl l ↦ b.spent i l
+            | inr l ↦ still_spent q r b.seen i b.same.1 b.goes_on (a.spent i (omega arith))
+          ]);
+    }
+
+-- ---- what is counted
+
+pub does_itself : (meanings : Meanings) (p : Pass) → length p.records ≤ p.calls → AddsCounted meanings None p p (record { run = 0; won = 0; late = 0 })
+unfolding adds_itself
+does_itself meanings p room = record {
+  adds = adds_itself meanings None p;
+  counts = record { run = refl; won = refl; late = refl };
+  run_few = omega arith;
+  won_few = omega arith;
+  late_few = omega arith;
+  room = room;
+}
+
+pub does_then : (meanings : Meanings) (p q r : Pass) (a b : Done) → AddsCounted meanings None p q a → AddsCounted meanings None q r b → AddsCounted meanings None p r (sum_of a b)
+unfolding adds_then
+does_then meanings p q r a b f g = record {
+  adds = adds_then meanings None None None p q r f.adds g.adds;
+  counts = counts_then a b f.adds.more g.adds.more f.counts g.counts;
+  run_few = (let x = f.run_few in let y = g.run_few in omega arith);
+  won_few = (let x = f.won_few in let y = g.won_few in omega arith);
+  late_few = (let x = f.late_few in let y = g.late_few in omega arith);
+  room = g.room;
+}
+
+-- a pass that has only seen more
+pub does_follows : (meanings : Meanings) (p q r : Pass) (a : Done) → AddsCounted meanings None p q a → Follows q r → AddsCounted meanings None p r a
+unfolding adds_then adds_follows
+does_follows meanings p q r a f g =
+    let h = adds_follows meanings None q r g in
+    let same : r.records ≡ q.records = ap (λ (x : Pass). x.records) g.is in
+    let calls : r.calls ≡ q.calls = h.same.3 in
+    let len = ap length same in
+    record {
+      adds = adds_then meanings None None None p q r f.adds h;
+      counts = (let all : f.adds.more ++ [] ≡ f.adds.more = append-nil f.adds.more in subst (Counts a) (sym all) f.counts);
+      run_few = (let x = f.run_few in omega arith);
+      won_few = (let x = f.won_few in omega arith);
+      late_few = (let x = f.late_few in omega arith);
+      room = (let x = f.room in omega arith);
+    }
+
+-- a claim that wasn't granted
+pub does_claim : (meanings : Meanings) (p q : Pass) (i : ℕ) (reply : Reply) → Acts p (Claim i) reply q → HasRoom p → is_ready (stage_at (state_of p.known) i) ≡ true → granted_by reply ≡ None
+    → AddsCounted meanings None p q (record { run = 0; won = 0; late = 0 }) × (length p.records < length q.records)
+unfolding adds_claim adds_owing
+does_claim meanings p q i reply a room ready none =
+    let adds = adds_claim meanings p q i reply a ready in
+    let len : length q.records ≡ length p.records + 1 = ap (λ (h : Pass). length h.records) a.is ∙ length-append p.records (Did (length a.before + 1) (Claim i) reply ∷ []) in
+    let calls : q.calls ≡ p.calls = ap (λ (h : Pass). h.calls) a.is in
+    let g = grant_claim (length a.before + 1) i reply in
+    let z : grants_as (granted_by reply) ≡ 0 = ap grants_as none in (
+      record {
+        adds = adds_owing meanings None (owed_as i (granted_by reply)) None p q (ap (owed_as i) none) adds;
+        counts = record { run = omega arith; won = refl; late = refl };
+        run_few = omega arith;
+        won_few = omega arith;
+        late_few = omega arith;
+        room = omega arith;
+      },
+      omega arith,
+    )
+
+-- a claim that was granted, and its finish
+pub adds_granted : (meanings : Meanings) (p q : Pass) (i : ℕ) (reply : Reply) (args : Args) → Acts p (Claim i) reply q → is_ready (stage_at (state_of p.known) i) ≡ true → granted_by reply ≡ Some args → AddsWork meanings None p q (Some (i, args))
+adds_granted meanings p q i reply args a ready given = subst (λ (x : Option Args). AddsWork meanings None p q (owed_as i x)) given (adds_claim meanings p q i reply a ready)
+
+pub does_both : (meanings : Meanings) (p q r : Pass) (i : ℕ) (reply finished : Reply) (args : Args) (done : Done) → Acts p (Claim i) reply q → is_ready (stage_at (state_of p.known) i) ≡ true → granted_by reply ≡ Some args
+    → Acts q (Finish i (stage_answer meanings q.known.setting.plan.stages i args)) finished r → HasRoom q → done.run ≡ 1 → done.won ≡ won_by finished → done.late ≡ late_by finished
+    → AddsCounted meanings None p r done × (length p.records < length r.records)
+unfolding adds_claim adds_owing adds_finish adds_then
+does_both meanings p q r i reply finished args done a ready given b room run won late =
+    let adds = adds_claim meanings p q i reply a ready in
+    let call = Finish i (stage_answer meanings q.known.setting.plan.stages i args) in
+    let first : length q.records ≡ length p.records + 1 = ap (λ (h : Pass). length h.records) a.is ∙ length-append p.records (Did (length a.before + 1) (Claim i) reply ∷ []) in
+    let second : length r.records ≡ length q.records + 1 = ap (λ (h : Pass). length h.records) b.is ∙ length-append q.records (Did (length b.before + 1) call finished ∷ []) in
+    let calls : r.calls ≡ q.calls = ap (λ (h : Pass). h.calls) b.is in
+    let g = grant_claim (length a.before + 1) i reply in
+    let z : grants_as (granted_by reply) ≡ 1 = ap grants_as given in
+    let x = won_by-few finished in
+    let y = late_by-few finished in (
+      record {
+        adds = adds_then meanings None (Some (i, args)) None p q r (adds_owing meanings None (owed_as i (granted_by reply)) (Some (i, args)) p q (ap (owed_as i) given) adds) (adds_finish meanings q r i args finished b);
+        counts = record { run = omega arith; won = omega arith; late = omega arith };
+        run_few = omega arith;
+        won_few = omega arith;
+        late_few = omega arith;
+        room = omega arith;
+      },
+      omega arith,
+    )
+
+-- ---- what is told
+
+pub adds_works : (meanings : Meanings) (p q : Pass) (owes : Owed) → AddsWork meanings None p q owes → Works meanings p q
+adds_works meanings p q owes a = record { same = a.same; seen = a.seen; goes_on = a.goes_on; more = a.more; records = a.records; work = a.work; once = a.once }
+
+pub does_end : (meanings : Meanings) (p q : Pass) (done : Done) → AddsCounted meanings None p q done → EndedWith meanings p q done
+unfolding adds_works
+does_end meanings p q done f = record { out = record { works = adds_works meanings p q None f.adds; owes = f.adds.owes_then }; counts = f.counts }
+
+pub ready_there : (k : Known) (i : ℕ) → lowest_ready_of (state_of k) ≡ Some i → i < length k.setting.plan.stages
+ready_there k i e =
+    let s : State = start k.setting.plan in
+    let within = lowest_ready-within (state_of k) i e in
+    let kept = (state_after-shape s k.seen).all_stages in
+    let new = length-new_states [] k.setting.plan.stages (replicate (length k.setting.plan.stages) Pending) in
+    let n : length (replicate (length k.setting.plan.stages) Pending) ≡ length k.setting.plan.stages = length-replicate (length k.setting.plan.stages) Pending in
+    omega arith
+
+pub ready_is : (k : Known) (i : ℕ) → lowest_ready_of (state_of k) ≡ Some i → is_ready (stage_at (state_of k) i) ≡ true
+ready_is k i e = lowest_ready-is_ready (state_of k) i e
+
+pub due_stops : (d : Desk) (p q : Pass) (i : ℕ) (fault : DeskFault) → Follows p q → i < length p.known.setting.plan.stages → IsDue q d (event_by p.known.caller (Claim i)) fault → IsDueToStop d q fault
+due_stops d p q i NoStage f there due = absurd (due (subst (λ x. i < length x.plan.stages) (sym (ap (λ (h : Pass). h.known.setting) f.is)) there))
+due_stops d p q i PassFull f there due = due.1
+due_stops d p q i LogFull f there due = due.2
+
+-- looks stay counted
+pub looked_same : (p q r : Pass) (d : Desk) → length q.known.seen ≤ length r.known.seen → r.known.looks ≡ q.known.looks → HasLooked 0 p q d → HasLooked 0 p r d
+looked_same p q r d longer same (inl a) = inl (omega arith)
+looked_same p q r d longer same (inr a) = inr (omega arith)
+
+pub adds_longer : (meanings : Meanings) (owed owes : Owed) (p q : Pass) → AddsWork meanings owed p q owes → length p.known.seen ≤ length q.known.seen
+adds_longer meanings owed owes p q a = let e = ap length a.goes_on in let l = length-append p.known.seen a.seen in omega arith
+
+pub looked_less_on : (n : ℕ) (p q r : Pass) (d : Desk) → length q.known.seen ≤ length r.known.seen → HasLooked 0 p q d → HasLooked n q r d → HasLooked 0 p r d
+looked_less_on n p q r d longer (inl a) (inl b) = inl (omega arith)
+looked_less_on n p q r d longer (inl a) (inr b) = inr b
+looked_less_on n p q r d longer (inr a) b = inr (omega arith)

@@ -1,0 +1,136 @@
+-- From what each pass holds to the one history: what each caller adds to it, and how long it is.
+use Rattle.std.proofs.Common.{◌≡◌, ℕ, suc, ◌+◌, ◌*◌, ◌<◌, ◌≤◌, Bool, true, false, cond, eqb, None, List, [], ◌∷◌, ◌++◌, length, map, sym, refl, ap, ◌∙◌, subst, arith, length-append}
+use Rattle.std.specs.List.{All, AllZip}
+use Rattle.std.proofs.lemmas.Bool.{eqb-true}
+use Rattle.std.proofs.lemmas.List.{append_cancel_left}
+use Rattle.std.proofs.lemmas.List.Elements.{All-nil, All-cons, All-head, All-tail}
+use Rattle.cf_plan.specs.Plans.{Planned}
+use Rattle.cf_core.specs.declared.events.Event.{Event}
+use Rattle.cf_core.specs.States.{State, start}
+use Rattle.cf_core.specs.Events.{answered}
+use Rattle.cf_event.specs.Words.{who_of}
+use Rattle.cf_plan.specs.Meanings.{Meanings}
+use Rattle.cf_desk.specs.declared.calls.Rec.{Rec}
+use Rattle.cf_desk.specs.declared.row.Setting.{Setting}
+use Rattle.cf_desk.specs.Keepings.{IsKeptFit, pass_did}
+use Rattle.cf_desk.specs.Log.{state_from}
+use Rattle.cf_desk.specs.Records.{Fits}
+use Rattle.cf_desk.specs.Rule.{count_in, weight}
+use Rattle.cf_desk.specs.Views.{Pass, knowns}
+use Rattle.cf_pool.specs.Works.{Works, WorksOut, AreWork, claims_of, owed_after}
+use Rattle.cf_pool.specs.Records.{recorded}
+use Rattle.cf_pool.proofs.Racing.Recorded.{only_dids, only_append, only_work, fits_recorded, recorded_append}
+use Rattle.cf_pool.proofs.Racing.Counts.{AllBelow, grants_in, records_at_most, grants_at_most, claims_at_most}
+
+-- ---- what a pass added is what the rest of the history makes of its caller's events
+
+pub more_is : (meanings : Meanings) (plan : Planned) (seen work : List Event) (p q : Pass) (w : Works meanings p q) → Fits plan p.known.caller seen p.records → Fits plan q.known.caller (seen ++ work) q.records
+    → w.more ≡ recorded p.known.caller (length seen) (state_from plan seen) work
+more_is meanings plan seen work p q w before now =
+    let c = p.known.caller in
+    let now_p : Fits plan c (seen ++ work) q.records = subst (λ (k : ℕ). Fits plan k (seen ++ work) q.records) w.same.2 now in
+    let a = fits_recorded plan c seen p.records before in
+    let b = fits_recorded plan c (seen ++ work) q.records now_p in
+    let added : only_dids q.records ≡ only_dids p.records ++ w.more =
+    ap only_dids w.records ∙ only_append p.records w.more ∙ ap (λ l. only_dids p.records ++ l) (only_work meanings p.known.setting.plan None w.more w.work) in
+    let place : 0 + length seen ≡ length seen = omega arith in
+    append_cancel_left (recorded c 0 (start plan) seen) w.more (recorded c (length seen) (state_from plan seen) work)
+    (ap (λ l. l ++ w.more) (sym a) ∙ sym added ∙ b ∙ recorded_append c 0 (start plan) seen work
+    ∙ ap (λ (k : ℕ). recorded c 0 (start plan) seen ++ recorded c k (state_from plan seen) work) place)
+
+-- ---- each caller has a pass
+
+weigh_other : (b : Bool) (n : ℕ) → b ≡ false → 0 < weight b + n → 0 < n
+weigh_other true n e l = cc
+weigh_other false n e l = omega arith
+
+-- what holds of each pass's caller holds of each caller who has a pass
+pub each_pass : (plan : Planned) (history : List Event) (R : Pass → Pass → Type 0) (B : Pass → Type 0) (P : ℕ → Type 0)
+    → ((p q : Pass) → R p q → q.known.caller ≡ p.known.caller)
+    → ((p q : Pass) → R p q → B p → Fits plan q.known.caller history q.records → P p.known.caller)
+    → (c : ℕ) (ps qs : List Pass) → AllZip R ps qs → All B ps → All (IsKeptFit plan history) (map pass_did qs) → 0 < count_in c (knowns qs) → P c
+each_pass plan history R B P same holds c [] [] zip begun fit l = absurd (omega arith)
+each_pass plan history R B P same holds c [] (q ∷ qs) zip begun fit l = absurd zip
+each_pass plan history R B P same holds c (p ∷ ps) [] zip begun fit l = absurd zip
+each_pass plan history R B P same holds c (p ∷ ps) (q ∷ qs) zip begun fit l = split (eqb q.known.caller c) refl (each_pass plan history R B P same holds c ps qs zip.1 (All-tail B p ps begun) (All-tail (IsKeptFit plan history) (pass_did q) (map pass_did qs) fit))
+  where
+    split : (b : Bool) → eqb q.known.caller c ≡ b → (0 < count_in c (knowns qs) → P c) → P c
+    split true t rest = subst P (sym (same p q zip.0) ∙ eqb-true q.known.caller c t)
+        (holds p q zip.0 (All-head B p ps begun) (All-head (IsKeptFit plan history) (pass_did q) (map pass_did qs) fit))
+    split false t rest = rest (weigh_other (eqb q.known.caller c) (count_in c (knowns qs)) t l)
+
+-- ---- what each caller records of the work
+
+pub record Shares (meanings : Meanings) (plan : Planned) (rs : List Rec) : Type 0 where
+  pub work : AreWork meanings plan None rs
+  pub once : (i : ℕ) → claims_of i rs ≤ 1
+
+-- before its workers began, a pass held what its caller did of what was seen
+pub record HadBegun (setting : Setting) (seen : List Event) (most calls : ℕ) (p : Pass) : Type 0 where
+  pub setting_is : p.known.setting ≡ setting
+  pub fits : Fits setting.plan p.known.caller seen p.records
+  pub few : length p.records ≤ most
+  pub calls_are : p.calls ≡ calls
+
+pub shares : (meanings : Meanings) (setting : Setting) (seen work : List Event) (most calls : ℕ) (p q : Pass) → Works meanings p q → HadBegun setting seen most calls p → Fits setting.plan q.known.caller (seen ++ work) q.records
+    → Shares meanings setting.plan (recorded p.known.caller (length seen) (state_from setting.plan seen) work)
+shares meanings setting seen work most calls p q w begun fit =
+    let is = more_is meanings setting.plan seen work p q w begun.fits fit in
+    record {
+      work = subst (AreWork meanings setting.plan None) is (subst (λ (s : Setting). AreWork meanings s.plan None w.more) begun.setting_is w.work);
+      once = λ i. subst (λ (l : List Rec). claims_of i l ≤ 1) is (w.once i);
+    }
+
+pub owes_none : (meanings : Meanings) (setting : Setting) (seen work : List Event) (most calls : ℕ) (p q : Pass) → WorksOut meanings p q → HadBegun setting seen most calls p → Fits setting.plan q.known.caller (seen ++ work) q.records
+    → owed_after None (recorded p.known.caller (length seen) (state_from setting.plan seen) work) ≡ None
+owes_none meanings setting seen work most calls p q w begun fit =
+    ap (owed_after None) (sym (more_is meanings setting.plan seen work p q w.works begun.fits fit)) ∙ w.owes
+
+-- a caller without a pass records nothing
+absent_split : (b : Bool) (r : Rec) (rs : List Rec) → b ≡ false → rs ≡ [] → cond b (r ∷ rs) rs ≡ []
+absent_split true r rs e h = cc
+absent_split false r rs e h = h
+
+pub absent_records : (callers c n : ℕ) (s : State) (events : List Event) → callers ≤ c → All (λ e. who_of e < callers) events → recorded c n s events ≡ []
+absent_records callers c n s [] le h = refl
+absent_records callers c n s (e ∷ events) le h =
+    absent_split (eqb (who_of e) c) _ (recorded c (suc n) ((answered s e).1) events)
+    (other (eqb (who_of e) c) refl (All-head (λ x. who_of x < callers) e events h))
+    (absent_records callers c (suc n) ((answered s e).1) events le (All-tail (λ x. who_of x < callers) e events h))
+  where
+    other : (b : Bool) → eqb (who_of e) c ≡ b → who_of e < callers → b ≡ false
+    other true t l = let same = eqb-true (who_of e) c t in absurd (omega arith)
+    other false t l = refl
+
+-- ---- no pass is full
+
+pub shares_few : (meanings : Meanings) (plan : Planned) (n : ℕ) (rs : List Rec) → Shares meanings plan rs → AllBelow n rs → (length rs ≤ n + grants_in rs) × (grants_in rs ≤ n)
+shares_few meanings plan n rs h below =
+    let a = claims_at_most n rs below h.once in
+    let b = grants_at_most rs in
+    (records_at_most meanings plan n rs h.work below h.once, omega (arith, a, b))
+
+pub has_room : (meanings : Meanings) (setting : Setting) (seen work : List Event) (most calls stages : ℕ) → most + 2 * stages < calls
+    → ((c : ℕ) → AllBelow stages (recorded c (length seen) (state_from setting.plan seen) work))
+    → (p q : Pass) → Works meanings p q → HadBegun setting seen most calls p → Fits setting.plan q.known.caller (seen ++ work) q.records → length q.records < q.calls
+has_room meanings setting seen work most calls stages room below p q w begun fit =
+    let is = more_is meanings setting.plan seen work p q w begun.fits fit in
+    let few = shares_few meanings setting.plan stages (recorded p.known.caller (length seen) (state_from setting.plan seen) work) (shares meanings setting seen work most calls p q w begun fit) (below p.known.caller) in
+    let len : length q.records ≡ length p.records + length w.more = ap length w.records ∙ length-append p.records w.more in
+    let more : length w.more ≡ length (recorded p.known.caller (length seen) (state_from setting.plan seen) work) = ap length is in
+    let same : q.calls ≡ calls = w.same.3 ∙ begun.calls_are in
+    let before = begun.few in
+    let a = few.0 in
+    let b = few.1 in
+    omega (arith, len, more, same, before, a, b, room)
+
+pub all_room : (plan : Planned) (history : List Event) (R : Pass → Pass → Type 0) (B : Pass → Type 0)
+    → ((p q : Pass) → R p q → B p → Fits plan q.known.caller history q.records → length q.records < q.calls)
+    → (ps qs : List Pass) → AllZip R ps qs → All B ps → All (IsKeptFit plan history) (map pass_did qs) → All (λ (q : Pass). length q.records < q.calls) qs
+all_room plan history R B holds [] [] zip begun fit = All-nil (λ (q : Pass). length q.records < q.calls)
+all_room plan history R B holds [] (q ∷ qs) zip begun fit = absurd zip
+all_room plan history R B holds (p ∷ ps) [] zip begun fit = absurd zip
+all_room plan history R B holds (p ∷ ps) (q ∷ qs) zip begun fit =
+    All-cons (λ (q : Pass). length q.records < q.calls) q qs
+    (holds p q zip.0 (All-head B p ps begun) (All-head (IsKeptFit plan history) (pass_did q) (map pass_did qs) fit))
+    (all_room plan history R B holds ps qs zip.1 (All-tail B p ps begun) (All-tail (IsKeptFit plan history) (pass_did q) (map pass_did qs) fit))

@@ -1,0 +1,48 @@
+-- What the passes of a race hold before its workers begin.
+use Rattle.std.specs.Prelude.{◌≡◌, ℕ, ◌≤◌, ◌⊎◌, List, [], ◌∷◌, length, map, take}
+use Rattle.std.specs.List.{All}
+use Rattle.cf_core.specs.declared.events.Event.{Event}
+use Rattle.cf_desk.specs.Keepings.{IsFit}
+use Rattle.cf_desk.specs.Laws.{call_of}
+use Rattle.cf_desk.specs.Log.{own}
+use Rattle.cf_desk.specs.Records.{dids}
+use Rattle.cf_desk.specs.Views.{Pass, Desk}
+use Rattle.cf_pool.specs.Works.{IsOf}
+
+-- caller 0 has done the first of the steps in order, so many of them
+pub record HasTaken (d : Desk) (steps : List Event) (taken : ℕ) (p : Pass) : Type 0 where
+  pub of : IsOf d p
+  pub caller : p.known.caller ≡ 0
+  pub fit : IsFit p
+  pub held : length p.records ≡ taken
+  pub did : map call_of (dids 0 p.records) ≡ take taken steps
+
+-- it has done them all, or what it has seen fills the log
+pub record HasDoneSteps (d : Desk) (steps : List Event) (p : Pass) : Type 0 where
+  pub taken : ℕ
+  pub few : taken ≤ length steps
+  pub done : HasTaken d steps taken p
+  pub all : (taken ≡ length steps) ⊎ (d.words ≤ length p.known.seen)
+
+-- a pass of the desk with room for so many records that has seen and recorded nothing
+pub record IsIdle (d : Desk) (calls : ℕ) (p : Pass) : Type 0 where
+  pub of : IsOf d p
+  pub idle : p.records ≡ []
+  pub unseeing : p.known.seen ≡ []
+  pub room : p.calls ≡ calls
+
+-- another caller has done nothing, and stands nowhere in what caller 0 has seen
+pub record IsApart (d : Desk) (calls : ℕ) (seen : List Event) (p : Pass) : Type 0 where
+  pub of : IsOf d p
+  pub idle : p.records ≡ []
+  pub none : own p.known.caller seen ≡ []
+  pub room : p.calls ≡ calls
+
+-- the passes, caller 0's first, each with room for so many records
+pub record HaveBegun (d : Desk) (steps : List Event) (calls : ℕ) (ps : List Pass) : Type 0 where
+  pub first : Pass
+  pub others : List Pass
+  pub are : ps ≡ first ∷ others
+  pub took : HasDoneSteps d steps first
+  pub room : first.calls ≡ calls
+  pub apart : All (IsApart d calls first.known.seen) others

@@ -1,0 +1,47 @@
+-- What one job of a worker adds: a claim, and the finish where the claim is granted.
+use Rattle.std.specs.Prelude.{◌≡◌, ℕ, ◌+◌, ◌<◌, ◌≤◌, true, false, Option, Some, None, List, ◌++◌, length}
+use Rattle.cf_plan.specs.declared.forms.Args.{Args}
+use Rattle.cf_core.specs.declared.events.Event.{Event}
+use Rattle.cf_core.specs.declared.events.Reply.{Reply}
+use Rattle.cf_core.specs.declared.events.Reply.TheVariants.{Claim as ToldClaim}
+use Rattle.cf_core.specs.declared.replies.Claimed.TheVariants.{Granted}
+use Rattle.cf_core.specs.Claims.{is_claimable}
+use Rattle.cf_core.specs.States.{stage_at}
+use Rattle.cf_plan.specs.Meanings.{Meanings}
+use Rattle.cf_desk.specs.declared.calls.Rec.{Rec}
+use Rattle.cf_desk.specs.Views.{Pass, IsSamePass, state_of}
+use Rattle.cf_pool.specs.declared.worker.Done.{Done}
+use Rattle.cf_pool.specs.Works.{Owed, AreWork, owed_after, claims_of}
+use Rattle.cf_pool.specs.Counting.{Counts}
+
+-- The same pass has seen more, and has done work: where this was owed before, that is owed after. Each stage that it claimed
+-- could be claimed before in what it had seen, and can't be claimed any more after.
+pub record AddsWork (meanings : Meanings) (owed : Owed) (p q : Pass) (owes : Owed) : Type 0 where
+  pub same : IsSamePass p q
+  pub seen : List Event
+  pub goes_on : q.known.seen ≡ p.known.seen ++ seen
+  pub more : List Rec
+  pub records : q.records ≡ p.records ++ more
+  pub work : AreWork meanings p.known.setting.plan owed more
+  pub owes_then : owed_after owed more ≡ owes
+  pub once : (i : ℕ) → claims_of i more ≤ 1
+  pub fresh : (i : ℕ) → 0 < claims_of i more → is_claimable (stage_at (state_of p.known) i) ≡ true
+  pub spent : (i : ℕ) → 0 < claims_of i more → is_claimable (stage_at (state_of q.known) i) ≡ false
+
+-- the counts with more of them
+abbrev pub sum_of : Done → Done → Done
+sum_of a b = record { run = a.run + b.run; won = a.won + b.won; late = a.late + b.late }
+
+-- the pass has added what was counted, a record at least for each that was counted, and not more than it may hold
+pub record AddsCounted (meanings : Meanings) (owed : Owed) (p q : Pass) (done : Done) : Type 0 where
+  pub adds : AddsWork meanings owed p q None
+  pub counts : Counts done adds.more
+  pub run_few : done.run + length p.records ≤ length q.records
+  pub won_few : done.won + length p.records ≤ length q.records
+  pub late_few : done.late + length p.records ≤ length q.records
+  pub room : length q.records ≤ q.calls
+
+-- the arguments that a reply grants
+abbrev pub granted_by : Reply → Option Args
+granted_by (ToldClaim (Granted args)) = Some args
+granted_by reply = None

@@ -1,0 +1,64 @@
+-- What a race does and leaves.
+use Rattle.std.specs.Prelude.{◌≡◌, ℕ, ◌+◌, ◌*◌, ◌<◌, ◌≤◌, true, Some, List, [], ◌∷◌, ◌++◌, length}
+use Rattle.cf_plan.specs.Plans.{Planned, IsBuilt}
+use Rattle.cf_core.specs.declared.events.Event.{Event}
+use Rattle.cf_core.specs.declared.events.Event.TheVariants.{Claim as Claims, Finish as Finishes}
+use Rattle.cf_core.specs.States.{State, start, outcome_at}
+use Rattle.cf_core.specs.Events.{answered, state_after}
+use Rattle.cf_core.specs.Calls.{is_from_outside}
+use Rattle.cf_core.specs.Ranges.{EventFits}
+use Rattle.cf_plan.specs.declared.forms.Args.{Args}
+use Rattle.cf_pool.specs.declared.races.RaceFault.{RaceFault}
+use Rattle.cf_pool.specs.declared.races.RaceFault.TheVariants.{Size, NoMemory}
+use Rattle.cf_plan.specs.Meanings.{Meanings, stage_answer}
+use Rattle.cf_expr.specs.Expressions.{expr}
+use Rattle.cf_expr.specs.Histories.{Grants, IsPlain, IsPlainPlan, IsQuiet, grants_after, granted_with, nothing_granted}
+
+-- how many words the log of a race has: one more than its events can be
+abbrev pub log_words : ℕ → ℕ → ℕ → ℕ
+log_words steps stages workers = steps + stages * (workers + 2) + 1
+
+-- a step over a plan of n stages: caller 0 completes, fails or cancels a stage, or tells a moment
+abbrev pub IsStep : ℕ → Event → Type 0
+IsStep n e = (is_from_outside e ≡ true) × EventFits n e
+
+-- a claim, or a finish with what the stage's function answers to the arguments that its caller was granted last
+abbrev pub IsWorkEvent : Meanings → Grants → State → Event → Type 0
+IsWorkEvent meanings granted s (Claims who i) = Unit {0}
+IsWorkEvent meanings granted s (Finishes who i answer) =
+    (args : Args) × (granted who i ≡ Some args) × (answer ≡ stage_answer meanings s.plan.stages i args)
+IsWorkEvent meanings granted s event = ⊥
+
+-- each of these events is work where it stands
+abbrev pub IsWorkHistory : Meanings → Grants → State → List Event → Type 0
+IsWorkHistory meanings granted s [] = Unit {0}
+IsWorkHistory meanings granted s (e ∷ events) =
+    IsWorkEvent meanings granted s e × IsWorkHistory meanings (granted_with granted e ((answered s e).0)) ((answered s e).1) events
+
+-- The plan is one that a builder built, and the state comes after a history that begins with the steps, goes on with work alone,
+-- and leaves nothing ready or claimed.
+pub record IsRaced (meanings : Meanings) (plan : Planned) (steps : List Event) (s : State) : Type 0 where
+  pub built : IsBuilt plan
+  pub work : List Event
+  pub done : IsWorkHistory meanings (grants_after nothing_granted (start plan) steps) (state_after (start plan) steps) work
+  pub state : s ≡ state_after (start plan) (steps ++ work)
+  pub quiet : IsQuiet s
+
+-- However many workers there were and whatever they did first, a race of a plain plan with plain steps ends as the expressions say.
+abbrev pub RacedIsExpression : Type 0
+RacedIsExpression =
+    (plan : Planned) (steps : List Event) (meanings : Meanings) (s : State) (i : ℕ) →
+    IsPlainPlan plan → IsPlain meanings nothing_granted (start plan) steps → IsRaced meanings plan steps s →
+    i < length plan.stages → outcome_at s i ≡ expr plan steps meanings i
+
+-- So two races that begin with the same plain steps end alike.
+abbrev pub RacesEndAlike : Type 0
+RacesEndAlike =
+    (plan : Planned) (steps : List Event) (meanings : Meanings) (s r : State) (i : ℕ) →
+    IsPlainPlan plan → IsPlain meanings nothing_granted (start plan) steps → IsRaced meanings plan steps s → IsRaced meanings plan steps r →
+    i < length plan.stages → outcome_at s i ≡ outcome_at r i
+
+-- why there is no race
+abbrev pub IsDueToRefuse : ℕ → RaceFault → Type 0
+IsDueToRefuse words Size = 65535 < words
+IsDueToRefuse words NoMemory = words ≤ 65535

@@ -1,0 +1,82 @@
+//! Races: caller 0 settles what a plan's sources take, and then workers, each on a thread of its own, do all the work
+//! that there is.
+mod beginning;
+mod sizes;
+
+ghost use Rattle.std.specs.Prelude.{◌≡◌, ◌<◌, ◌≤◌, All, IfErr, IfOk, length};
+ghost use Rattle.cf_plan.specs.Meanings.{meanings_of};
+ghost use Rattle.cf_pool.specs.Races.{IsDueToRefuse, IsRaced, IsStep, RacedIsExpression, RacesEndAlike, log_words};
+
+use crate::faults::PoolFault;
+use crate::gate::Gate;
+use crate::pool::run;
+use beginning::begin;
+use cf_core::{Event, Graph};
+use cf_desk::Closed;
+use cf_plan::{Plan, StageFn};
+use sizes::sizes;
+use std::alloc::Global;
+use std::sync::Wait;
+use std::thread::Threads;
+
+/// Why there is no race.
+#[derive(Clone, Copy, Debug, Drop, PartialEq, Eq)]
+pub enum RaceFault {
+    /// Memory or a thread was refused.
+    NoMemory,
+    /// The log would have more than 65,535 words.
+    Size,
+}
+
+/// Does these steps as caller 0's, in order, and then lets so many workers, 1 to 32, work on threads of their own until
+/// nothing is ready. It gives the graph as the whole history leaves it.
+pub fn race<R: Threads + Wait + Sync, F: StageFn + Sync, G: Gate + Sync>(
+    rt: &R,
+    alloc: Global,
+    plan: Plan,
+    steps: &[Event],
+    fns: &[F],
+    gate: &G,
+    workers: u8,
+) -> Result<Graph, RaceFault>
+    requires workers { (0 < workers) × (workers ≤ 32) }
+    requires steps { All (IsStep (length plan.stages)) steps.now }
+    ensures raced { IfOk result (λ g. IsRaced (meanings_of F.meaning fns.now) plan steps.now g.state) }
+    ensures size { IfOk result (λ g. log_words (length steps.now) (length plan.stages) workers ≤ 65535) }
+    ensures fault { IfErr result (IsDueToRefuse (log_words (length steps.now) (length plan.stages) workers)) }
+{
+    let (log, calls) = match sizes(steps.len(), plan.stages(), workers) {
+        Some(sizes) => sizes,
+        None => return Err(RaceFault::Size),
+    };
+    let (desk, passes) = match begin(alloc, plan, workers + 1, steps, log, calls) {
+        Ok(begun) => begun,
+        Err(_) => return Err(RaceFault::NoMemory),
+    };
+    match run(rt, desk, passes, fns, gate, workers) {
+        Ok(closed) => {
+            let Closed {
+                history: _,
+                passes: _,
+                graph,
+            } = closed;
+            Ok(graph)
+        }
+        Err(PoolFault::NoMemory) => Err(RaceFault::NoMemory),
+        Err(PoolFault::Desk(..)) => unreachable!(),
+    }
+}
+
+/// However many workers there were, and whatever they did first, a race of a plain plan with plain steps ends as the
+/// expressions say.
+pub fn races_end_as_expressions()
+    ensures { RacedIsExpression }
+{}
+
+/// So two races that begin with the same plain steps end alike, whatever their numbers of workers.
+pub fn races_end_alike()
+    ensures { RacesEndAlike }
+{}
+
+#[cfg(test)]
+mod tests;

@@ -1,0 +1,73 @@
+//! How a race begins: caller 0 does the steps, and then it meets each other caller.
+ghost use Rattle.std.specs.Prelude.{◌≡◌, ◌<◌, ◌≤◌, All, IfOk, length, vec_len};
+ghost use Rattle.cf_pool.specs.Works.{IsOf};
+ghost use Rattle.cf_pool.specs.Beginnings.{HasDoneSteps, HasTaken, HaveBegun, IsApart, IsIdle};
+ghost use Rattle.cf_pool.specs.Races.{IsStep};
+
+use cf_core::Event;
+use cf_desk::{Call, Desk, Pass};
+use cf_plan::Plan;
+use std::alloc::{AllocError, Global};
+
+/// Opens a desk, and begins a race: its passes, caller 0's first.
+pub(crate) fn begin(
+    alloc: Global,
+    plan: Plan,
+    callers: u8,
+    steps: &[Event],
+    log: u16,
+    calls: u16,
+) -> Result<(Desk, Vec<Pass>), AllocError>
+    requires steps { All (IsStep (length plan.stages)) steps.now × (length steps.now < calls) }
+    ensures desk { IfOk result (λ r. (r.0.setting ≡ record { plan = plan; callers = callers }) × (r.0.words ≡ log)) }
+    ensures passes { IfOk result (λ r. All (IsOf r.0) r.1.items × (vec_len r.1 ≡ callers)) }
+    ensures begun { IfOk result (λ r. HaveBegun r.0 steps.now calls r.1.items) }
+{
+    let (desk, mut passes) = match Desk::open(alloc, plan, callers, log, calls) {
+        Ok(opened) => opened,
+        Err(_) => return Err(AllocError),
+    };
+    let mut first = passes.remove(0);
+    take_steps(&desk, &mut first, steps);
+    let mut passes = meet_others(alloc, &desk, &mut first, passes)?;
+    passes.insert(0, first)?;
+    Ok((desk, passes))
+}
+
+/// Does the steps in order, up to the first that finds the log full. In a race none does: all that caller 0 has then seen
+/// is its own, as it learns where it meets the others, and the log is longer than the steps.
+fn take_steps(desk: &Desk, pass: &mut Pass, steps: &[Event])
+    requires pass { HasTaken desk.now steps.now 0 pass.old × (length steps.now < pass.old.calls) }
+    requires steps { All (IsStep (length desk.now.setting.plan.stages)) steps.now }
+    ensures took { HasDoneSteps desk.now steps.now pass.new }
+    ensures calls { pass.new.calls ≡ pass.old.calls }
+{
+    for step in steps {
+        match desk.act(pass, Call::of(step)) {
+            Ok(_) => {}
+            Err(_) => return,
+        }
+    }
+}
+
+/// Lets caller 0 meet the others, so that it is known that none of them stands in what it has seen.
+fn meet_others(
+    alloc: Global,
+    desk: &Desk,
+    first: &mut Pass,
+    others: Vec<Pass>,
+) -> Result<Vec<Pass>, AllocError>
+    requires first { first.old.table ≡ desk.now.table }
+    requires others { All (IsIdle desk.now first.old.calls) others.items }
+    ensures first { first.new ≡ first.old }
+    ensures count { IfOk result (λ met. vec_len met ≡ vec_len others) }
+    ensures apart { IfOk result (λ met. All (IsApart desk.now first.old.calls first.old.known.seen) met.items) }
+{
+    let mut met = Vec::new(alloc);
+    let mut rest = others.into_iter();
+    'next: while let Some(mut other) = rest.next() {
+        desk.meet(first, &mut other);
+        met.push(other)?;
+    }
+    Ok(met)
+}

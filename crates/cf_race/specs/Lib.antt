@@ -1,4 +1,0 @@
-pub mod Records
-pub mod Races
-pub mod Beginnings
-pub mod Samples
