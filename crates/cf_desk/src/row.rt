@@ -112,9 +112,9 @@ impl Split<View> for KeepsFirst {
 }
 
 /// The seat stands for the passes of both.
-pub struct Both;
+pub struct StandsForBoth;
 
-impl Join<View> for Both {
+impl Join<View> for StandsForBoth {
     ghost use Rattle.std.specs.Prelude.{[], ◌++◌};
 
     ghost both = { λ v w. v ++ w };

@@ -1,7 +1,7 @@
 //! What a caller does on its thread.
 ghost use Rattle.std.specs.Prelude.{◌≡◌};
 
-use cf_core::{Ask, Claimed, Event, Reply};
+use cf_core::{Ask, Claimed, Reply};
 use cf_desk::{Call, Desk, Pass};
 use cf_outcome::Value;
 use cf_plan::{Answer, Args, StageFn};
@@ -51,18 +51,6 @@ fn wait_for_others(shared: &Shared) {
     }
 }
 
-/// The caller of an event, and its call.
-pub(crate) fn call_of(event: Event) -> (u8, Call) {
-    match event {
-        Event::Complete { who, stage, value } => (who, Call::Complete(stage, value)),
-        Event::Fail { who, stage, code } => (who, Call::Fail(stage, code)),
-        Event::Cancel { who, stage } => (who, Call::Cancel(stage)),
-        Event::Claim { who, stage } => (who, Call::Claim(stage)),
-        Event::Finish { who, stage, answer } => (who, Call::Finish(stage, answer)),
-        Event::Tick { who, now } => (who, Call::Tick(now)),
-    }
-}
-
 /// Does one step. What the desk refuses is left out.
 fn take_step(desk: &Desk, p: &mut Pass, step: Step, functions: &[Func])
     requires { p.old.table ≡ desk.now.table }
@@ -70,7 +58,7 @@ fn take_step(desk: &Desk, p: &mut Pass, step: Step, functions: &[Func])
 {
     match step {
         Step::Does(event) => {
-            let _ = desk.act(p, call_of(event).1);
+            let _ = desk.act(p, Call::of(&event));
         }
         Step::Asks(ask) => look(desk, p, ask),
         Step::Work => {

@@ -1,6 +1,5 @@
 //! The text of a closed desk.
-use crate::caller::call_of;
-use cf_core::{Ask, Claimed, Finished, Graph, Reply, Ticked, Told};
+use cf_core::{Ask, Claimed, Event, Finished, Graph, Reply, Ticked, Told};
 use cf_desk::{Call, Closed, Rec};
 use cf_outcome::Outcome;
 use cf_plan::{Answer, Args};
@@ -15,7 +14,8 @@ pub(crate) fn text_of(alloc: Global, closed: Closed) -> Result<String, AllocErro
     } = closed;
     let mut text = String::new(alloc);
     for event in &history {
-        let (who, call) = call_of(*event);
+        let who = caller_of(*event);
+        let call = Call::of(event);
         write!(text, "event {who} ")?;
         write_call(&mut text, call)?;
         text.push_str("\n")?;
@@ -29,6 +29,16 @@ pub(crate) fn text_of(alloc: Global, closed: Closed) -> Result<String, AllocErro
     }
     write_stages(&mut text, &mut graph)?;
     Ok(text)
+}
+
+fn caller_of(event: Event) -> u8 {
+    let (Event::Complete { who, .. }
+    | Event::Fail { who, .. }
+    | Event::Cancel { who, .. }
+    | Event::Claim { who, .. }
+    | Event::Finish { who, .. }
+    | Event::Tick { who, .. }) = event;
+    who
 }
 
 fn write_stages(text: &mut String, graph: &mut Graph) -> Result<(), AllocError> {

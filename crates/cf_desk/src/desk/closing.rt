@@ -11,7 +11,7 @@ use crate::calls::{Closed, Kept};
 use crate::desk::{Desk, Row};
 use crate::faults::CloseFault;
 use crate::pass::Pass;
-use crate::row::{Both, Sits, View};
+use crate::row::{Sits, StandsForBoth, View};
 use atomic_table::Seat;
 use cf_core::{Event, Graph};
 use cf_event::decode;
@@ -76,7 +76,7 @@ fn gather(
             records,
             calls: _,
         } = pass;
-        row.shared.join_seat::<Both>(&mut seat, other);
+        row.shared.join_seat::<StandsForBoth>(&mut seat, other);
         copy = later(copy, most, mine, count);
         most = most.max(count);
         if kept.push(Kept { caller, records }).is_err() {

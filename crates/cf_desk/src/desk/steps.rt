@@ -8,7 +8,7 @@ ghost use Rattle.cf_desk.specs.Views.{AddedByOther, AddedOwn, IsOne, Levelled, k
 use crate::calls::{Call, Rec, event_by};
 use crate::desk::Desk;
 use crate::pass::Pass;
-use crate::row::{Adds, Both, Finds, KeepsFirst, Levels, Looks, Sits, View};
+use crate::row::{Adds, Finds, KeepsFirst, Levels, Looks, Sits, StandsForBoth, View};
 use atomic_table::Seat;
 use cf_core::{Graph, Reply};
 use cf_event::{apply, decode, encode};
@@ -78,7 +78,7 @@ impl Desk {
     {
         let spare = self.table.shared.load_new_seat::<Sits>(0).1;
         let other = mem::replace(q, spare);
-        self.table.shared.join_seat::<Both>(p, other);
+        self.table.shared.join_seat::<StandsForBoth>(p, other);
         self.table.shared.load::<Levels>(p, 0);
         *q = self.table.shared.split_seat::<KeepsFirst>(p);
     }
