@@ -1,25 +1,12 @@
 -- Plans and functions that grow.
-use Rattle.std.proofs.Common.{◌≡◌, ℕ, ◌+◌, ◌<◌, ◌≤◌, List, [], ◌∷◌, ◌++◌, length, refl, sym, subst, Result, Ok, Err, Option, Some, None, Bool, true, false, if◌then◌else◌, All, arith, nat_le, length-append}
+use Rattle.std.proofs.Common.{◌≡◌, ℕ, ◌<◌, ◌≤◌, List, [], ◌∷◌, ◌++◌, length, sym, subst, Result, Ok, Err, Option, Some, None, All, arith, length-append}
 use Rattle.std.specs.Prelude.{IfSome, OnOk}
 use Rattle.std.proofs.lemmas.List.Elements.{All-append, All-weaker, All-cons, All-nil}
 use Rattle.cf_plan.specs.declared.forms.Form.{Form}
-use Rattle.cf_plan.specs.declared.limits.Limit.{Limit}
-use Rattle.cf_plan.specs.Plans.{Planned, PlannedStage, with_limit_in_order, with_stage}
+use Rattle.cf_plan.specs.Plans.{Planned, PlannedStage, with_stage}
 use Rattle.cf_reading.specs.declared.func.Func.{Func}
 use Rattle.cf_reading.specs.Scripts.{FunctionFits}
 use Rattle.cf_reading.specs.Stages.{number_after, with_function}
-
--- the longer of two lists, each one longer, whichever is taken
-length_either : (b : Bool) (limits others : List Limit) → length others ≡ length limits + 1 → (one two : Limit)
-    → length (if b then one ∷ others else two ∷ one ∷ limits) ≡ length (one ∷ limits) + 1
-length_either true limits others e one two = omega arith
-length_either false limits others e one two = omega arith
-
--- a plan with a limit more has one limit more
-pub length-with_limit_in_order : (limits : List Limit) (new : Limit) → length (with_limit_in_order limits new) ≡ length limits + 1
-length-with_limit_in_order [] new = refl
-length-with_limit_in_order (limit ∷ limits) new =
-    length_either (nat_le limit.at new.at) limits (with_limit_in_order limits new) (length-with_limit_in_order limits new) limit new
 
 -- a function that is one of n is one of more
 fits_more : (n m : ℕ) → n ≤ m → (stage : PlannedStage) (f : Option ℕ) → IfSome f (λ k. k < n) → IfSome f (λ k. k < m)

@@ -1,7 +1,6 @@
 -- What the functions of a script answer.
-use Rattle.std.specs.Prelude.{ℕ, ℤ, pos, List, slice_get, if◌then◌else◌}
+use Rattle.std.specs.Prelude.{ℤ, pos, if◌then◌else◌}
 use Rattle.std.specs.Int.{w32, int_wrapping_add, int_wrapping_mul, int_wrapping_div, int_wrapping_neg}
-use Rattle.std.specs.Option.{option_map_or}
 use Rattle.std.specs.Ordering.{int_eq}
 use Rattle.cf_outcome.specs.declared.outcome.Value.{Value}
 use Rattle.cf_outcome.specs.declared.outcome.Value.TheVariants.{Nil, Int}
@@ -59,7 +58,3 @@ func_answer (funcs.Div k) args = quotient args k
 func_answer funcs.Neg args = Give (Int (int_wrapping_neg w32 (operand args)))
 func_answer funcs.Sum args = Give (Int (sum_of args))
 func_answer (funcs.Select i j) args = if int_eq (operand args) (pos 0) then Link i else Link j
-
--- what the function with a number answers; nil where there is none
-abbrev pub meaning_of : List Func → ℕ → Args → Answer
-meaning_of functions n args = option_map_or (λ f. func_answer f args) (slice_get functions n) (Give Nil)

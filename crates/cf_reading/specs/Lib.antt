@@ -2,6 +2,7 @@ pub mod Faults
 pub mod Functions
 pub mod Scripts
 pub mod Input
+pub mod Purposes
 pub mod Checks
 pub mod Parts
 pub mod Funcs

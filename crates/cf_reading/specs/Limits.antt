@@ -8,8 +8,8 @@ use Rattle.cf_plan.specs.declared.limits.LimitKind.{LimitKind}
 use Rattle.cf_plan.specs.declared.limits.LimitKind.TheVariants.{Timeout, Give}
 use Rattle.cf_plan.specs.Plans.{Planned, limit_fault, with_limit}
 use Rattle.cf_reading.specs.declared.fault.Part.TheVariants as parts
-use Rattle.cf_reading.specs.declared.fault.ScriptFault.{ScriptFault}
-use Rattle.cf_reading.specs.declared.fault.ScriptFault.TheVariants as faults
+use Rattle.cf_reading.specs.declared.fault.ReadingFault.{ReadingFault}
+use Rattle.cf_reading.specs.declared.fault.ReadingFault.TheVariants as faults
 use Rattle.cf_reading.specs.Checks.{◌>>=◌, ok_or, planned_unless}
 use Rattle.cf_reading.specs.Parts.{up_to, value_of}
 
@@ -29,12 +29,12 @@ abbrev pub kind_of : Data → Option LimitKind
 kind_of d = option_and_then (kind_named d) (option_and_then as_str (get (codes "kind") d))
 
 -- the plan with one more limit, or why the builder refuses it
-abbrev pub limited : Planned → Limit → Result Planned ScriptFault
+abbrev pub limited : Planned → Limit → Result Planned ReadingFault
 limited plan limit = planned_unless (limit_fault plan limit.stage) (length plan.limits) (with_limit plan limit)
 
 -- The next limit: its stage, its moment and its kind, then what the builder says of it. Its position is the number of
 -- limits before it.
-unfoldable pub limit_next : Planned → Data → Result Planned ScriptFault
+unfoldable pub limit_next : Planned → Data → Result Planned ReadingFault
 limit_next plan d = do
   let k = length plan.limits
   stage ← ok_or (faults.Shape (parts.Limit k)) (number_named 65535 (codes "stage") d)

@@ -1,13 +1,15 @@
 -- What script bytes say, or the first fault in them.
-use Rattle.std.specs.Prelude.{ℕ, List, [], length, pos, Option, Some, None, option_map, option_and_then, unwrap_or, Bool, true, false, Result, Ok, Err, nat_lt, codes, if◌then◌else◌}
+use Rattle.std.specs.Prelude.{ℕ, List, [], length, pos, Option, Some, None, option_map, option_and_then, unwrap_or, Bool, false, Result, Ok, Err, nat_lt, codes, if◌then◌else◌}
 use Rattle.std.specs.Ordering.{int_eq}
 use Rattle.std.specs.Str.{is_utf8}
 use Rattle.serde_json.specs.Data.{Data, Items, no_items}
 use Rattle.serde_json.specs.Find.{get, as_array, as_object}
 use Rattle.serde_json.specs.Read.{read}
 use Rattle.cf_reading.specs.declared.fault.Part.TheVariants as parts
-use Rattle.cf_reading.specs.declared.fault.ScriptFault.{ScriptFault}
-use Rattle.cf_reading.specs.declared.fault.ScriptFault.TheVariants as faults
+use Rattle.cf_reading.specs.declared.fault.ReadingFault.{ReadingFault}
+use Rattle.cf_reading.specs.declared.fault.ReadingFault.TheVariants as faults
+use Rattle.cf_reading.specs.declared.purpose.Purpose.{Purpose}
+use Rattle.cf_reading.specs.declared.purpose.Purpose.TheVariants.{Run, Race}
 use Rattle.cf_reading.specs.Scripts.{Said}
 use Rattle.cf_reading.specs.Checks.{◌>>=◌, ok_or, guard, fold_items}
 use Rattle.cf_reading.specs.Parts.{whole}
@@ -24,10 +26,10 @@ abbrev pub items_said : Option Data → Option Items
 items_said None = Some no_items
 items_said (Some d) = as_array d
 
--- What a JSON value says, to a run or to a race: first the top, the version and the three arrays, then each stage, each limit
--- and each step.
-unfoldable pub script_of : Bool → Data → Result Said ScriptFault
-script_of races d = do
+-- What a JSON value says to what it is read for: first the top, the version and the three arrays, then each stage, each
+-- limit and each step.
+unfoldable pub script_of : Purpose → Data → Result Said ReadingFault
+script_of purpose d = do
   top ← ok_or (faults.Shape parts.Top) (as_object d)
   version ← guard (has_version d) (faults.Shape parts.Version)
   stages ← ok_or (faults.Shape parts.Stages) (option_and_then as_array (get (codes "stages") d))
@@ -35,7 +37,7 @@ script_of races d = do
   steps ← ok_or (faults.Shape parts.Steps) (items_said (get (codes "steps") d))
   drafted ← fold_items stage_next nothing_drafted stages
   plan ← fold_items limit_next drafted.plan limits
-  done ← fold_items (step_next races (length plan.stages)) [] steps
+  done ← fold_items (step_next purpose (length plan.stages)) [] steps
   Ok (record { plan = plan; functions = drafted.functions; steps = done })
 
 -- the JSON value of the bytes, where they are UTF-8 and JSON
@@ -43,12 +45,12 @@ abbrev pub json_of : List ℕ → Option Data
 json_of bytes = if is_utf8 bytes then read bytes else None
 
 -- What bytes say: there are at most 1,048,576 of them, they are JSON, and they say a script.
-unfoldable pub reading_for : Bool → List ℕ → Result Said ScriptFault
-reading_for races bytes = if nat_lt 1048576 (length bytes) then Err faults.TooLong else ok_or faults.NotJson (json_of bytes) >>= script_of races
+unfoldable pub reading_for : Purpose → List ℕ → Result Said ReadingFault
+reading_for purpose bytes = if nat_lt 1048576 (length bytes) then Err faults.TooLong else ok_or faults.NotJson (json_of bytes) >>= script_of purpose
 
 -- what they say to a run, and to a race
-abbrev pub reading : List ℕ → Result Said ScriptFault
-reading bytes = reading_for false bytes
+abbrev pub reading : List ℕ → Result Said ReadingFault
+reading bytes = reading_for Run bytes
 
-abbrev pub race_reading : List ℕ → Result Said ScriptFault
-race_reading bytes = reading_for true bytes
+abbrev pub race_reading : List ℕ → Result Said ReadingFault
+race_reading bytes = reading_for Race bytes

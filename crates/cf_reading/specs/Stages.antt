@@ -8,8 +8,8 @@ use Rattle.cf_plan.specs.declared.forms.Form.{Form}
 use Rattle.cf_plan.specs.declared.forms.Form.TheVariants.{Source, Supply, RunAsync, Apply, Accept, ThenRun, Combine, AcceptBoth, RunBoth, ApplyEither, AcceptEither, RunEither, Compose, Handle, WhenComplete, Exceptionally, AllOf, AnyOf}
 use Rattle.cf_plan.specs.Plans.{Planned, PlannedStage, edges_of, stage_fault, with_stage}
 use Rattle.cf_reading.specs.declared.fault.Part.TheVariants as parts
-use Rattle.cf_reading.specs.declared.fault.ScriptFault.{ScriptFault}
-use Rattle.cf_reading.specs.declared.fault.ScriptFault.TheVariants as faults
+use Rattle.cf_reading.specs.declared.fault.ReadingFault.{ReadingFault}
+use Rattle.cf_reading.specs.declared.fault.ReadingFault.TheVariants as faults
 use Rattle.cf_reading.specs.declared.func.Func.{Func}
 use Rattle.cf_reading.specs.Checks.{◌>>=◌, ok_or, planned_unless, fold_items}
 use Rattle.cf_reading.specs.Parts.{up_to}
@@ -57,11 +57,11 @@ abbrev pub form_of : Data → Option Form
 form_of d = option_and_then form_named (option_and_then as_str (get (codes "form") d))
 
 -- one source more, or the fault
-abbrev pub source_next : ScriptFault → List ℕ → Data → Result (List ℕ) ScriptFault
+abbrev pub source_next : ReadingFault → List ℕ → Data → Result (List ℕ) ReadingFault
 source_next fault found d = ok_or fault (option_map (λ n. found ++ n ∷ []) (up_to 65535 d))
 
 -- the sources of a stage: none, where nothing is said of them
-abbrev pub sources_said : ScriptFault → Option Data → Result (List ℕ) ScriptFault
+abbrev pub sources_said : ReadingFault → Option Data → Result (List ℕ) ReadingFault
 sources_said fault None = Ok []
 sources_said fault (Some d) = ok_or fault (as_array d) >>= fold_items (source_next fault) []
 
@@ -83,14 +83,14 @@ with_function functions None = functions
 with_function functions (Some f) = functions ++ f ∷ []
 
 -- the plan with one more stage, or why the builder refuses it
-abbrev pub staged : Planned → PlannedStage → Result Planned ScriptFault
+abbrev pub staged : Planned → PlannedStage → Result Planned ReadingFault
 staged plan stage =
     let k = length plan.stages in
     planned_unless (stage_fault k (edges_of plan.stages) stage) k (with_stage plan stage)
 
 -- The next stage: its form and its sources, then its function, then what the builder says of it. Its position is the
 -- number of stages before it.
-unfoldable pub stage_next : Drafted → Data → Result Drafted ScriptFault
+unfoldable pub stage_next : Drafted → Data → Result Drafted ReadingFault
 stage_next drafted d = do
   let k = length drafted.plan.stages
   form ← ok_or (faults.Shape (parts.Stage k)) (form_of d)

@@ -1,5 +1,5 @@
 -- The steps of a script. Each is an array of exactly the elements that its word asks for.
-use Rattle.std.specs.Prelude.{ℕ, List, [], ◌∷◌, ◌++◌, length, Bool, true, false, Option, Some, None, option_map, option_and_then, Result, Err, nat_lt, ◌==◌, codes, if◌then◌else◌}
+use Rattle.std.specs.Prelude.{ℕ, List, [], ◌∷◌, ◌++◌, length, Option, Some, None, option_map, option_and_then, Result, Err, nat_lt, ◌==◌, codes, if◌then◌else◌}
 use Rattle.std.specs.Option.{option_or}
 use Rattle.std.specs.Str.{bytes_eq}
 use Rattle.serde_json.specs.Data.{Data}
@@ -9,10 +9,12 @@ use Rattle.cf_plan.specs.declared.forms.Answer.{Answer}
 use Rattle.cf_plan.specs.declared.forms.Answer.TheVariants.{Give, Throw, Link}
 use Rattle.cf_core.specs.declared.asks.Ask.TheVariants.{Now as AsksNow, Outcome as AsksOutcome}
 use Rattle.cf_core.specs.declared.events.Event.TheVariants.{Complete as Completes, Fail as Fails, Cancel as Cancels, Claim as Claims, Finish as Finishes, Tick as Ticks}
-use Rattle.cf_reading.specs.declared.fault.ScriptFault.{ScriptFault}
-use Rattle.cf_reading.specs.declared.fault.ScriptFault.TheVariants as faults
+use Rattle.cf_reading.specs.declared.fault.ReadingFault.{ReadingFault}
+use Rattle.cf_reading.specs.declared.fault.ReadingFault.TheVariants as faults
 use Rattle.cf_reading.specs.declared.script.Step.{Step}
 use Rattle.cf_reading.specs.declared.script.Step.TheVariants.{Does, Asks, Work, Nudge}
+use Rattle.cf_reading.specs.declared.purpose.Purpose.{Purpose}
+use Rattle.cf_reading.specs.Purposes.{takes}
 use Rattle.cf_reading.specs.Checks.{ok_or}
 use Rattle.cf_reading.specs.Parts.{◌>>=◌, up_to, value_of, elements, exactly, number_at, value_at, only_member}
 
@@ -137,25 +139,12 @@ step_named stages d word = option_or (own_step stages d word) (other_step stages
 abbrev pub step_of : ℕ → Data → Option Step
 step_of stages d = option_and_then (step_named stages d) (option_and_then as_str (at 0 d))
 
--- whether a race takes a step: what caller 0 completes, fails and cancels, and its ticks
-abbrev pub is_raced : Step → Bool
-is_raced (Does (Completes who i v)) = who == 0
-is_raced (Does (Fails who i code)) = who == 0
-is_raced (Does (Cancels who i)) = who == 0
-is_raced (Does (Ticks who now)) = who == 0
-is_raced step = false
-
--- what runs the steps: a run takes all of them, a race only some
-abbrev pub takes : Bool → Step → Bool
-takes true step = is_raced step
-takes false step = true
-
 -- a step over so many stages that is taken
-abbrev pub step_for : Bool → ℕ → Data → Option Step
-step_for races stages d = option_and_then (λ s. if takes races s then Some s else None) (step_of stages d)
+abbrev pub step_for : Purpose → ℕ → Data → Option Step
+step_for purpose stages d = option_and_then (λ s. if takes purpose s then Some s else None) (step_of stages d)
 
 -- the next step, of which there are at most 20,000
-unfoldable pub step_next : Bool → ℕ → List Step → Data → Result (List Step) ScriptFault
-step_next races stages found d =
-    if nat_lt (length found) 20000 then ok_or (faults.Step (length found)) (option_map (λ s. found ++ s ∷ []) (step_for races stages d))
+unfoldable pub step_next : Purpose → ℕ → List Step → Data → Result (List Step) ReadingFault
+step_next purpose stages found d =
+    if nat_lt (length found) 20000 then ok_or (faults.Step (length found)) (option_map (λ s. found ++ s ∷ []) (step_for purpose stages d))
     else Err (faults.Step (length found))

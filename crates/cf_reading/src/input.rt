@@ -2,7 +2,7 @@
 ghost use Rattle.std.specs.Prelude.{◌≡◌, ◌<◌, ◌≤◌, IfErr, IfOk, IfSome, IsErrOf, length, vec_len};
 ghost use Rattle.cf_reading.specs.Input.{IsOfInput};
 
-use crate::fault::ScriptFault;
+use crate::fault::ReadingFault;
 use std::alloc::Global;
 use std::io::Read;
 
@@ -12,13 +12,13 @@ pub const MAX_BYTES: usize = 1_048_576;
 /// How many bytes are asked for in one call.
 const PIECE: usize = 4_096;
 
-/// Reads to the end, by a loop over `read` that stops at the first byte past `MAX_BYTES`, which is `TooLong`. Every
-/// error of the reader is `Read`, `Interrupted` too; a growth that is refused is `NoMemory`. At each fault what was
-/// read is dropped.
-pub fn read_input<R: Read>(alloc: Global, r: &mut R) -> Result<Vec<u8>, ScriptFault>
+/// Reads to the end, by a loop over `read` that asks for up to 4,096 bytes at a time. It asks for none once it has more
+/// than `MAX_BYTES`, which is `TooLong`: the reader may then have given up to 4,096 bytes past them. Every error of the
+/// reader is `Read`, `Interrupted` too; a growth that is refused is `NoMemory`. At each fault what was read is dropped.
+pub fn read_input<R: Read>(alloc: Global, r: &mut R) -> Result<Vec<u8>, ReadingFault>
     ensures whole { IfOk result (λ v. IfSome (R.remaining r.old) (λ xs. v.items ≡ xs)) }
     ensures fits { IfOk result (λ v. vec_len v ≤ MAX_BYTES) }
-    ensures too_long { IsErrOf result ScriptFault.TooLong
+    ensures too_long { IsErrOf result ReadingFault.TooLong
         → IfSome (R.remaining r.old) (λ xs. MAX_BYTES < length xs) }
     ensures faults { IfErr result IsOfInput }
 {
@@ -28,11 +28,11 @@ pub fn read_input<R: Read>(alloc: Global, r: &mut R) -> Result<Vec<u8>, ScriptFa
         let n = match r.read(&mut piece) {
             Ok(0) => return Ok(found),
             Ok(n) => n,
-            Err(_) => return Err(ScriptFault::Read),
+            Err(_) => return Err(ReadingFault::Read),
         };
         if found.extend_from_slice(&piece[..n]).is_err() {
-            return Err(ScriptFault::NoMemory);
+            return Err(ReadingFault::NoMemory);
         }
     }
-    Err(ScriptFault::TooLong)
+    Err(ReadingFault::TooLong)
 }

@@ -1,10 +1,10 @@
 //! The limits of a script.
-ghost use Rattle.std.specs.Prelude.{◌≡◌, ◌≤◌, OnOk, codes, length};
+ghost use Rattle.std.specs.Prelude.{◌≡◌, OnOk, codes};
 ghost use Rattle.serde_json.specs.View.{items_view, view};
 ghost use Rattle.cf_reading.specs.Checks.{Gives, fold_items};
 ghost use Rattle.cf_reading.specs.Limits.{kind_named, kind_of, limit_next, number_named};
 
-use crate::fault::{Part, ScriptFault};
+use crate::fault::{Part, ReadingFault};
 use crate::parts::{large, small, value};
 use crate::refused::plan_limit;
 use cf_plan::{LimitKind, PlanBuilder};
@@ -45,28 +45,25 @@ fn moment_said(json: &Json) -> Option<u32>
 
 /// Takes the next limit into the plan.
 #[tactic(auto, unfolding(crate::specs::Limits::limit_next))]
-fn add_limit(plan: &mut PlanBuilder, json: &Json) -> Result<(), ScriptFault>
-    requires { length plan.old.limits ≤ 4096 }
+fn add_limit(plan: &mut PlanBuilder, json: &Json) -> Result<(), ReadingFault>
     ensures gives { Gives (λ _. plan.new) result (limit_next plan.old (view json.now)) }
     ensures stages { OnOk result (plan.new.stages ≡ plan.old.stages) }
-    ensures few { OnOk result (length plan.new.limits ≤ 4096) }
 {
     let k = plan.limits().len() as u32;
     let Some(stage) = stage_said(json) else {
-        return Err(ScriptFault::Shape(Part::Limit(k)));
+        return Err(ReadingFault::Shape(Part::Limit(k)));
     };
     let Some(at) = moment_said(json) else {
-        return Err(ScriptFault::Shape(Part::Limit(k)));
+        return Err(ReadingFault::Shape(Part::Limit(k)));
     };
     let Some(kind) = kind_said(json) else {
-        return Err(ScriptFault::Shape(Part::Limit(k)));
+        return Err(ReadingFault::Shape(Part::Limit(k)));
     };
     plan_limit(plan, stage, at, kind)
 }
 
 /// Takes the limits of an array into the plan, in order.
-pub(crate) fn read_limits(plan: &mut PlanBuilder, list: &[Json]) -> Result<(), ScriptFault>
-    requires { length plan.old.limits ≤ 4096 }
+pub(crate) fn read_limits(plan: &mut PlanBuilder, list: &[Json]) -> Result<(), ReadingFault>
     ensures gives { Gives (λ _. plan.new) result (fold_items limit_next plan.old (items_view list.now)) }
     ensures stages { OnOk result (plan.new.stages ≡ plan.old.stages) }
 {

@@ -1,14 +1,15 @@
 //! A script as a whole.
-ghost use Rattle.std.specs.Prelude.{◌≡◌, All, IfOk, option_map, true};
+ghost use Rattle.std.specs.Prelude.{◌≡◌, All, IfOk, option_map};
 ghost use Rattle.serde_json.specs.View.{items_view, view};
 ghost use Rattle.cf_reading.specs.Checks.{Gives};
-ghost use Rattle.cf_reading.specs.Steps.{is_raced, takes};
+ghost use Rattle.cf_reading.specs.Purposes.{IsForRace, IsTaken};
 ghost use Rattle.cf_reading.specs.Reading.{has_version, items_said, race_reading, reading, reading_for, script_of};
 
 use crate::draft::Draft;
-use crate::fault::{Part, ScriptFault};
+use crate::fault::{Part, ReadingFault};
 use crate::input::MAX_BYTES;
 use crate::limits::read_limits;
+use crate::purpose::Purpose;
 use crate::script::Script;
 use crate::stages::read_stages;
 use crate::steps::read_steps;
@@ -36,26 +37,26 @@ fn items<'a>(said: Option<&'a Json>) -> Option<&'a [Json]>
     }
 }
 
-/// What a JSON value says, to a run or to a race.
+/// What a JSON value says to what it is read for.
 #[tactic(auto, unfolding(crate::specs::Reading::script_of))]
-fn script(alloc: Global, json: &Json, races: bool) -> Result<Script, ScriptFault>
-    ensures says { Gives (λ s. s) result (script_of races (view json.now)) }
-    ensures taken { IfOk result (λ s. All (λ x. takes races x ≡ true) s.steps) }
+fn script(alloc: Global, purpose: Purpose, json: &Json) -> Result<Script, ReadingFault>
+    ensures says { Gives (λ s. s) result (script_of purpose (view json.now)) }
+    ensures taken { IfOk result (λ s. All (IsTaken purpose) s.steps) }
 {
     if !json.is_object() {
-        return Err(ScriptFault::Shape(Part::Top));
+        return Err(ReadingFault::Shape(Part::Top));
     }
     if !is_version_one(json) {
-        return Err(ScriptFault::Shape(Part::Version));
+        return Err(ReadingFault::Shape(Part::Version));
     }
     let Some(stages) = json.get("stages").and_then(Json::as_array) else {
-        return Err(ScriptFault::Shape(Part::Stages));
+        return Err(ReadingFault::Shape(Part::Stages));
     };
     let Some(limits) = items(json.get("limits")) else {
-        return Err(ScriptFault::Shape(Part::Limits));
+        return Err(ReadingFault::Shape(Part::Limits));
     };
     let Some(steps) = items(json.get("steps")) else {
-        return Err(ScriptFault::Shape(Part::Steps));
+        return Err(ReadingFault::Shape(Part::Steps));
     };
     let draft = read_stages(alloc, stages.as_slice())?;
     let Draft {
@@ -63,10 +64,10 @@ fn script(alloc: Global, json: &Json, races: bool) -> Result<Script, ScriptFault
         functions,
     } = draft;
     read_limits(&mut plan, limits)?;
-    let steps = read_steps(alloc, plan.stages(), steps, races)?;
+    let steps = read_steps(alloc, purpose, plan.stages(), steps)?;
     match plan.build() {
         Ok(plan) => Ok(Script::new(plan, functions, steps)),
-        Err(_) => Err(ScriptFault::NoMemory),
+        Err(_) => Err(ReadingFault::NoMemory),
     }
 }
 
@@ -75,38 +76,38 @@ fn script(alloc: Global, json: &Json, races: bool) -> Result<Script, ScriptFault
 /// The bytes are at most `MAX_BYTES`, UTF-8, and one JSON text (RFC 8259) that `serde_json` reads. Then the order of
 /// checks is: the top, the version, the arrays `stages`, `limits` and `steps`, each stage (its form and sources, its
 /// function, the builder), each limit (its shape, the builder), each step. A refused growth is `NoMemory` wherever it
-/// is met. `Read`, `Write` and `RaceSize` never come.
-pub fn read_script(alloc: Global, bytes: &[u8]) -> Result<Script, ScriptFault>
+/// is met. `Read` never comes.
+pub fn read_script(alloc: Global, bytes: &[u8]) -> Result<Script, ReadingFault>
     ensures { Gives (λ s. s) result (reading bytes.now) }
 {
-    read_for(alloc, bytes, false)
+    read_for(alloc, Purpose::Run, bytes)
 }
 
 /// The same of a script that is raced: a step that isn't a `complete`, `fail`, `cancel` or `tick` of caller 0 is the
 /// fault `Step` where it stands in the order of steps.
-pub fn read_race(alloc: Global, bytes: &[u8]) -> Result<Script, ScriptFault>
+pub fn read_race(alloc: Global, bytes: &[u8]) -> Result<Script, ReadingFault>
     ensures says { Gives (λ s. s) result (race_reading bytes.now) }
-    ensures raced { IfOk result (λ s. All (λ x. is_raced x ≡ true) s.steps) }
+    ensures raced { IfOk result (λ s. All IsForRace s.steps) }
 {
-    read_for(alloc, bytes, true)
+    read_for(alloc, Purpose::Race, bytes)
 }
 
-/// The script that the bytes say to a run or to a race, or the first fault in them.
+/// The script that the bytes say to what they are read for, or the first fault in them.
 #[tactic(auto, using(crate::proofs::Texts::json_found, crate::proofs::Texts::json_missing), unfolding(crate::specs::Reading::reading_for))]
-fn read_for(alloc: Global, bytes: &[u8], races: bool) -> Result<Script, ScriptFault>
-    ensures says { Gives (λ s. s) result (reading_for races bytes.now) }
-    ensures taken { IfOk result (λ s. All (λ x. takes races x ≡ true) s.steps) }
+fn read_for(alloc: Global, purpose: Purpose, bytes: &[u8]) -> Result<Script, ReadingFault>
+    ensures says { Gives (λ s. s) result (reading_for purpose bytes.now) }
+    ensures taken { IfOk result (λ s. All (IsTaken purpose) s.steps) }
 {
     if bytes.len() > MAX_BYTES {
-        return Err(ScriptFault::TooLong);
+        return Err(ReadingFault::TooLong);
     }
     match Json::from_slice(alloc, bytes) {
-        Ok(json) => script(alloc, &json, races),
+        Ok(json) => script(alloc, purpose, &json),
         Err(e) => {
             if e.is_memory() {
-                Err(ScriptFault::NoMemory)
+                Err(ReadingFault::NoMemory)
             } else {
-                Err(ScriptFault::NotJson)
+                Err(ReadingFault::NotJson)
             }
         }
     }

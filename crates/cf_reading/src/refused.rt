@@ -1,20 +1,20 @@
 //! What the builder of plans accepts and refuses, as a script is told.
-ghost use Rattle.std.specs.Prelude.{◌≡◌, ◌≤◌, OnErr, OnOk, length};
+ghost use Rattle.std.specs.Prelude.{◌≡◌, OnErr, OnOk};
 ghost use Rattle.cf_plan.specs.Plans.{with_stage};
 ghost use Rattle.cf_reading.specs.Checks.{Gives, refusal_told};
 ghost use Rattle.cf_reading.specs.Limits.{limited};
 ghost use Rattle.cf_reading.specs.Stages.{staged};
 
-use crate::fault::ScriptFault;
+use crate::fault::ReadingFault;
 use cf_plan::{Form, LimitKind, PlanBuilder, PlanFault};
 
 /// What a refusal at this position is told as.
-fn told(refusal: PlanFault, k: u32) -> ScriptFault
+fn told(refusal: PlanFault, k: u32) -> ReadingFault
     ensures { result ≡ refusal_told refusal k }
 {
     match refusal {
-        PlanFault::NoMemory => ScriptFault::NoMemory,
-        e => ScriptFault::Plan(e, k),
+        PlanFault::NoMemory => ReadingFault::NoMemory,
+        e => ReadingFault::Plan(e, k),
     }
 }
 
@@ -24,7 +24,7 @@ pub(crate) fn plan_stage(
     form: Form,
     of: &[u16],
     function: Option<u16>,
-) -> Result<(), ScriptFault>
+) -> Result<(), ReadingFault>
     ensures gives { Gives (λ _. plan.new) result
         (staged plan.old (record { form = form; sources = of.now; function = function })) }
     ensures ok { OnOk result
@@ -44,12 +44,10 @@ pub(crate) fn plan_limit(
     stage: u16,
     at: u32,
     kind: LimitKind,
-) -> Result<(), ScriptFault>
-    requires { length plan.old.limits ≤ 4096 }
+) -> Result<(), ReadingFault>
     ensures gives { Gives (λ _. plan.new) result
         (limited plan.old (record { stage = stage; at = at; kind = kind })) }
     ensures stages { OnOk result (plan.new.stages ≡ plan.old.stages) }
-    ensures few { OnOk result (length plan.new.limits ≤ 4096) }
 {
     let k = plan.limits().len() as u32;
     match plan.limit(stage, at, kind) {

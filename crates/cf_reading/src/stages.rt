@@ -7,7 +7,7 @@ ghost use Rattle.cf_reading.specs.Stages.{nothing_drafted, number_after, source_
 ghost use Rattle.cf_reading.specs.Views.{drafted};
 
 use crate::draft::Draft;
-use crate::fault::{Part, ScriptFault};
+use crate::fault::{Part, ReadingFault};
 use crate::forms::form_of;
 use crate::func::Func;
 use crate::functions::function;
@@ -18,23 +18,23 @@ use serde_json::Value as Json;
 use std::alloc::Global;
 
 /// Takes the next source of stage `k`.
-fn add_source(found: &mut Vec<u16>, json: &Json, k: u32) -> Result<(), ScriptFault>
+fn add_source(found: &mut Vec<u16>, json: &Json, k: u32) -> Result<(), ReadingFault>
     ensures { Gives (λ _. found.new.items) result
-        (source_next (ScriptFault.Shape (Part.Stage k)) found.old.items (view json.now)) }
+        (source_next (ReadingFault.Shape (Part.Stage k)) found.old.items (view json.now)) }
 {
     let Some(n) = small(json) else {
-        return Err(ScriptFault::Shape(Part::Stage(k)));
+        return Err(ReadingFault::Shape(Part::Stage(k)));
     };
     if found.push(n).is_err() {
-        return Err(ScriptFault::NoMemory);
+        return Err(ReadingFault::NoMemory);
     }
     Ok(())
 }
 
 /// The sources of stage `k`, in order.
-fn read_sources(alloc: Global, list: &[Json], k: u32) -> Result<Vec<u16>, ScriptFault>
+fn read_sources(alloc: Global, list: &[Json], k: u32) -> Result<Vec<u16>, ReadingFault>
     ensures { Gives (λ v. v.items) result
-        (fold_items (source_next (ScriptFault.Shape (Part.Stage k))) [] (items_view list.now)) }
+        (fold_items (source_next (ReadingFault.Shape (Part.Stage k))) [] (items_view list.now)) }
 {
     let mut found = Vec::new(alloc);
     'sources: for json in list {
@@ -46,15 +46,15 @@ fn read_sources(alloc: Global, list: &[Json], k: u32) -> Result<Vec<u16>, Script
 }
 
 /// The sources that stand in stage `k`, none where nothing is said of them.
-fn sources(alloc: Global, said: Option<&Json>, k: u32) -> Result<Vec<u16>, ScriptFault>
+fn sources(alloc: Global, said: Option<&Json>, k: u32) -> Result<Vec<u16>, ReadingFault>
     ensures { Gives (λ v. v.items) result
-        (sources_said (ScriptFault.Shape (Part.Stage k)) (option_map (λ d. view d.now) said.entry)) }
+        (sources_said (ReadingFault.Shape (Part.Stage k)) (option_map (λ d. view d.now) said.entry)) }
 {
     let Some(json) = said else {
         return Ok(Vec::new(alloc));
     };
     let Some(list) = json.as_array() else {
-        return Err(ScriptFault::Shape(Part::Stage(k)));
+        return Err(ReadingFault::Shape(Part::Stage(k)));
     };
     read_sources(alloc, list.as_slice(), k)
 }
@@ -71,34 +71,34 @@ fn number_after(functions: &[Func], function: Option<Func>) -> Option<u16>
 }
 
 /// Takes a stage's function, if it has one.
-fn keep(functions: &mut Vec<Func>, function: Option<Func>) -> Result<(), ScriptFault>
+fn keep(functions: &mut Vec<Func>, function: Option<Func>) -> Result<(), ReadingFault>
     ensures ok { OnOk result (functions.new.items ≡ with_function functions.old.items function) }
     ensures err { OnErr result (functions.new.items ≡ functions.old.items) }
-    ensures refused { IsOkUnless result ScriptFault.NoMemory }
+    ensures refused { IsOkUnless result ReadingFault.NoMemory }
 {
     match function {
         None => Ok(()),
         Some(f) => match functions.push(f) {
             Ok(()) => Ok(()),
-            Err(_) => Err(ScriptFault::NoMemory),
+            Err(_) => Err(ReadingFault::NoMemory),
         },
     }
 }
 
 /// Takes the next stage into the draft.
 #[tactic(auto, unfolding(crate::specs::Stages::stage_next))]
-fn add_stage(alloc: Global, draft: &mut Draft, json: &Json) -> Result<(), ScriptFault>
+fn add_stage(alloc: Global, draft: &mut Draft, json: &Json) -> Result<(), ReadingFault>
     ensures gives { Gives (λ _. drafted draft.new) result (stage_next (drafted draft.old) (view json.now)) }
     ensures numbered { OnOk result (All (FunctionFits (length draft.old.functions.items)) draft.old.plan.stages
         → All (FunctionFits (length draft.new.functions.items)) draft.new.plan.stages) }
 {
     let k = draft.plan.stages() as u32;
     let Some(form) = form_of(json) else {
-        return Err(ScriptFault::Shape(Part::Stage(k)));
+        return Err(ReadingFault::Shape(Part::Stage(k)));
     };
     let of = sources(alloc, json.get("of"), k)?;
     let Some(function) = function(json.get("fn")) else {
-        return Err(ScriptFault::Function(k));
+        return Err(ReadingFault::Function(k));
     };
     let number = number_after(draft.functions.as_slice(), function);
     plan_stage(&mut draft.plan, form, of.as_slice(), number)?;
@@ -106,7 +106,7 @@ fn add_stage(alloc: Global, draft: &mut Draft, json: &Json) -> Result<(), Script
 }
 
 /// The stages of an array, in order.
-pub(crate) fn read_stages(alloc: Global, list: &[Json]) -> Result<Draft, ScriptFault>
+pub(crate) fn read_stages(alloc: Global, list: &[Json]) -> Result<Draft, ReadingFault>
     ensures gives { Gives drafted result (fold_items stage_next nothing_drafted (items_view list.now)) }
     ensures numbered { IfOk result
         (λ draft. All (FunctionFits (length draft.functions.items)) draft.plan.stages) }

@@ -1,14 +1,15 @@
 //! The steps of a script.
-ghost use Rattle.std.specs.Prelude.{◌≡◌, ◌≤◌, ◌<◌, true, All, IfOk, IfSome, OnOk, [], length};
+ghost use Rattle.std.specs.Prelude.{◌≡◌, ◌≤◌, ◌<◌, All, IfOk, IfSome, OnOk, [], length};
 ghost use Rattle.serde_json.specs.View.{items_view, view};
 ghost use Rattle.cf_reading.specs.Checks.{Gives, fold_items};
 ghost use Rattle.cf_reading.specs.Scripts.{StepFits};
-ghost use Rattle.cf_reading.specs.Steps.{is_raced, own_step, other_step, step_for, step_named, step_of, step_next, takes};
+ghost use Rattle.cf_reading.specs.Steps.{own_step, other_step, step_for, step_named, step_of, step_next};
+ghost use Rattle.cf_reading.specs.Purposes.{IsTaken};
 
-use crate::fault::ScriptFault;
+use crate::fault::ReadingFault;
+use crate::purpose::Purpose;
 use crate::script::Step;
 use crate::words::{cancel, claim, complete, fail, finish, now, nudge, outcome, tick, work};
-use cf_core::Event;
 use serde_json::Value as Json;
 use std::alloc::Global;
 
@@ -67,52 +68,43 @@ fn step(stages: u16, json: &Json) -> Option<Step>
     named(stages, json, json.get(0usize)?.as_str()?)
 }
 
-/// Whether a race takes a step: what caller 0 completes, fails and cancels, and its ticks.
-fn is_raced(step: Step) -> bool
-    ensures { result ≡ is_raced step }
-{
-    match step {
-        Step::Does(
-            Event::Complete { who, .. }
-            | Event::Fail { who, .. }
-            | Event::Cancel { who, .. }
-            | Event::Tick { who, .. },
-        ) => who == 0,
-        _ => false,
-    }
-}
-
-/// A step over so many stages that a run, or a race, takes.
-fn step_taken(stages: u16, json: &Json, races: bool) -> Option<Step>
-    ensures said { result ≡ step_for races stages (view json.now) }
+/// A step over so many stages that is taken.
+fn step_taken(purpose: Purpose, stages: u16, json: &Json) -> Option<Step>
+    ensures said { result ≡ step_for purpose stages (view json.now) }
     ensures fits { IfSome result (StepFits stages) }
-    ensures taken { IfSome result (λ s. takes races s ≡ true) }
+    ensures taken { IfSome result (IsTaken purpose) }
 {
     let step = step(stages, json)?;
-    if races && !is_raced(step) {
-        return None;
+    if purpose.takes(step) {
+        Some(step)
+    } else {
+        None
     }
-    Some(step)
 }
 
 /// Takes the next step, of which there are at most `MAX_STEPS`.
 #[tactic(auto, unfolding(crate::specs::Steps::step_next))]
-fn add_step(stages: u16, found: &mut Vec<Step>, json: &Json, races: bool) -> Result<(), ScriptFault>
+fn add_step(
+    purpose: Purpose,
+    stages: u16,
+    found: &mut Vec<Step>,
+    json: &Json,
+) -> Result<(), ReadingFault>
     requires { length found.old.items ≤ MAX_STEPS }
-    ensures gives { Gives (λ _. found.new.items) result (step_next races stages found.old.items (view json.now)) }
+    ensures gives { Gives (λ _. found.new.items) result (step_next purpose stages found.old.items (view json.now)) }
     ensures most { OnOk result (length found.new.items ≤ MAX_STEPS) }
     ensures fits { All (StepFits stages) found.old.items → All (StepFits stages) found.new.items }
-    ensures taken { All (λ s. takes races s ≡ true) found.old.items → All (λ s. takes races s ≡ true) found.new.items }
+    ensures taken { All (IsTaken purpose) found.old.items → All (IsTaken purpose) found.new.items }
 {
     let k = found.len();
     if k >= MAX_STEPS {
-        return Err(ScriptFault::Step(k as u32));
+        return Err(ReadingFault::Step(k as u32));
     }
-    let Some(step) = step_taken(stages, json, races) else {
-        return Err(ScriptFault::Step(k as u32));
+    let Some(step) = step_taken(purpose, stages, json) else {
+        return Err(ReadingFault::Step(k as u32));
     };
     if found.push(step).is_err() {
-        return Err(ScriptFault::NoMemory);
+        return Err(ReadingFault::NoMemory);
     }
     Ok(())
 }
@@ -120,17 +112,17 @@ fn add_step(stages: u16, found: &mut Vec<Step>, json: &Json, races: bool) -> Res
 /// The steps of an array, in order.
 pub(crate) fn read_steps(
     alloc: Global,
+    purpose: Purpose,
     stages: u16,
     list: &[Json],
-    races: bool,
-) -> Result<Vec<Step>, ScriptFault>
-    ensures gives { Gives (λ v. v.items) result (fold_items (step_next races stages) [] (items_view list.now)) }
+) -> Result<Vec<Step>, ReadingFault>
+    ensures gives { Gives (λ v. v.items) result (fold_items (step_next purpose stages) [] (items_view list.now)) }
     ensures fits { IfOk result (λ v. All (StepFits stages) v.items) }
-    ensures taken { IfOk result (λ v. All (λ s. takes races s ≡ true) v.items) }
+    ensures taken { IfOk result (λ v. All (IsTaken purpose) v.items) }
 {
     let mut found = Vec::new(alloc);
     'steps: for json in list {
-        if let Err(e) = add_step(stages, &mut found, json, races) {
+        if let Err(e) = add_step(purpose, stages, &mut found, json) {
             return Err(e);
         }
     }

@@ -1,4 +1,4 @@
-use crate::{Func, MAX_BYTES, ScriptFault, Step, read_input, read_script};
+use crate::{Func, MAX_BYTES, ReadingFault, Step, read_input, read_script};
 use cf_core::{Ask, Event};
 use cf_outcome::{Cause, Outcome, Value};
 use cf_plan::{Answer, Args, Limit, LimitKind, StageFn};
@@ -115,7 +115,7 @@ fn reads_whole_or_not(rt: HostRuntime) -> Result<(), Fail> {
                 }
                 Err(e) => {
                     assert!(rt; calls <= text.len());
-                    assert_eq!(rt; e, ScriptFault::Read);
+                    assert_eq!(rt; e, ReadingFault::Read);
                 }
             }
         }
@@ -125,7 +125,7 @@ fn reads_whole_or_not(rt: HostRuntime) -> Result<(), Fail> {
     assert_eq!(rt; most.map(|found| found.len()), Ok(MAX_BYTES));
     blanks.push(b' ')?;
     let more = read_input(rt.alloc(), &mut blanks.as_slice());
-    assert_eq!(rt; more.map(|found| found.len()), Err(ScriptFault::TooLong));
+    assert_eq!(rt; more.map(|found| found.len()), Err(ReadingFault::TooLong));
     Ok(())
 }
 

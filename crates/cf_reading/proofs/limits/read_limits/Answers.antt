@@ -6,7 +6,6 @@ use Rattle.cf_reading.proofs.limits.read_limits.Goals as goal
 pub limits-preserved : goal.limits-preserved
 limits-preserved c = record {
   stages = c.in_default.ensures.stages ∙ c.limits.invariant.stages;
-  few = c.in_default.ensures.few;
   so_far = goes_on limit_next c.limits.plan c.add_limit.new.plan c.args.list.now c.limits.json-index c.json-item.result _
       c.limits-test.true c.json-item.is c.in_default.ensures.gives c.limits.invariant.so_far;
 }

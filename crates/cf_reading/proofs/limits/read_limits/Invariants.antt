@@ -1,4 +1,4 @@
-use Rattle.std.proofs.Common.{◌≡◌, ◌≤◌, length, drop}
+use Rattle.std.proofs.Common.{◌≡◌, drop}
 use Rattle.serde_json.specs.View.{items_view}
 use Rattle.cf_reading.specs.Checks.{fold_items}
 use Rattle.cf_reading.specs.Limits.{limit_next}
@@ -8,6 +8,5 @@ use Rattle.cf_reading.proofs.limits.read_limits.Given as goal
 abbrev pub invariant-limits : goal.invariant-limits
 invariant-limits l = record {
   stages : l.plan.stages ≡ l.initial.plan.stages;
-  few : length l.plan.limits ≤ 4096;
   so_far : fold_items limit_next l.plan (items_view (drop l.json-index l.list)) ≡ fold_items limit_next l.initial.plan (items_view l.list);
 }

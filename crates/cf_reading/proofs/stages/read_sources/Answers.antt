@@ -1,4 +1,4 @@
-use Rattle.cf_reading.specs.declared.fault.ScriptFault.TheVariants.{Shape}
+use Rattle.cf_reading.specs.declared.fault.ReadingFault.TheVariants.{Shape}
 use Rattle.cf_reading.specs.declared.fault.Part.TheVariants.{Stage}
 use Rattle.cf_reading.specs.Stages.{source_next}
 use Rattle.cf_reading.proofs.Loop.{goes_on, fails_at, is_done}

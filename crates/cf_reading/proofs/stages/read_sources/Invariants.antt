@@ -1,6 +1,6 @@
 use Rattle.std.proofs.Common.{◌≡◌, [], drop}
 use Rattle.serde_json.specs.View.{items_view}
-use Rattle.cf_reading.specs.declared.fault.ScriptFault.TheVariants.{Shape}
+use Rattle.cf_reading.specs.declared.fault.ReadingFault.TheVariants.{Shape}
 use Rattle.cf_reading.specs.declared.fault.Part.TheVariants.{Stage}
 use Rattle.cf_reading.specs.Checks.{fold_items}
 use Rattle.cf_reading.specs.Stages.{source_next}
