@@ -1,4 +1,4 @@
 pub mod WorkLemmas
 pub mod ReportLemmas
+pub mod PrintLemmas
 pub mod RaceLemmas
-pub mod RunLemmas

@@ -3,7 +3,7 @@ use Rattle.std.proofs.Common.{None, ◌≡◌, ℕ, ◌+◌, ◌<◌, List, [], 
 use Rattle.std.proofs.Math.Seq.{drop-cons}
 use Rattle.cf_plan.specs.declared.forms.Form.TheVariants.{Source}
 use Rattle.cf_plan.specs.Plans.{Planned}
-use Rattle.cf_core.specs.States.{State}
+use Rattle.cf_core.specs.States.{State, outcome_at}
 use Rattle.cf_core.specs.Laws.{SameShape}
 use Rattle.cf_core.proofs.Shape.{answered-shape}
 use Rattle.cf_reading.specs.declared.func.Func.{Func}
@@ -46,15 +46,15 @@ state_goes_on functions steps i d g u last l reached h =
 
 -- one stage more
 pub stages_go_on : (i : ℕ) (g u : State) (text new first : List ℕ) → i < length g.plan.stages →
-    new ≡ text ++ line (stage_text g i) → u ≡ g →
-    text ++ stage_lines g i (drop i g.plan.stages) ≡ first → new ++ stage_lines u (i + 1) (drop (i + 1) u.plan.stages) ≡ first
+    new ≡ text ++ line (stage_text i (outcome_at g i)) → u ≡ g →
+    text ++ stage_lines (outcome_at g) i (drop i g.plan.stages) ≡ first → new ++ stage_lines (outcome_at u) (i + 1) (drop (i + 1) u.plan.stages) ≡ first
 stages_go_on i g u text new first l written same h =
-    let here = line (stage_text g i) in
+    let here = line (stage_text i (outcome_at g i)) in
     let rest = drop (i + 1) g.plan.stages in
-    ap (λ t. t ++ stage_lines u (i + 1) (drop (i + 1) u.plan.stages)) written
-    ∙ ap (λ (t : State). (text ++ here) ++ stage_lines t (i + 1) (drop (i + 1) t.plan.stages)) same
-    ∙ append_assoc text here (stage_lines g (i + 1) rest)
-    ∙ sym (ap (λ xs. text ++ stage_lines g i xs) (cut g.plan.stages i (record { form = Source; sources = []; function = None }) l)) ∙ h
+    ap (λ t. t ++ stage_lines (outcome_at u) (i + 1) (drop (i + 1) u.plan.stages)) written
+    ∙ ap (λ (t : State). (text ++ here) ++ stage_lines (outcome_at t) (i + 1) (drop (i + 1) t.plan.stages)) same
+    ∙ append_assoc text here (stage_lines (outcome_at g) (i + 1) rest)
+    ∙ sym (ap (λ xs. text ++ stage_lines (outcome_at g) i xs) (cut g.plan.stages i (record { form = Source; sources = []; function = None }) l)) ∙ h
 
 pub within : (i n : ℕ) (plan : Planned) (g first : State) → i < n → n ≡ length plan.stages → plan ≡ first.plan → g ≡ first → i < length g.plan.stages
 within i n plan g first l count is same =

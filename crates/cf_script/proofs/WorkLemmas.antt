@@ -1,49 +1,27 @@
 -- Work ends with nothing ready, and keeps the plan.
-use Rattle.std.proofs.Common.{◌≡◌, ℕ, ◌+◌, ◌<◌, ◌≤◌, List, Bool, true, false, cond, Option, Some, None, zero, suc, length, get_or, arith, ap, sym, subst, ◌∙◌, refl}
-use Rattle.std.specs.Prelude.{nat_lt}
-use Rattle.std.specs.List.{position, position_or_len}
-use Rattle.std.proofs.lemmas.List.Sums.{passes_at_first, count_by-le-length}
-use Rattle.std.proofs.lemmas.Bool.Decides.{nat_tests}
-use Rattle.std.proofs.lemmas.Option.{unwrap_or-slice_get}
-use Rattle.cf_core.specs.declared.stage.Stage.TheVariants.{Pending}
+use Rattle.std.proofs.Common.{◌≡◌, ℕ, ◌+◌, ◌<◌, ◌≤◌, List, Option, Some, None, zero, suc, length, arith, ap, sym, subst, ◌∙◌, refl}
+use Rattle.std.proofs.lemmas.List.Sums.{count_by-le-length}
 use Rattle.cf_core.specs.declared.replies.Claimed.TheVariants as claims
 use Rattle.cf_core.specs.declared.events.Event.TheVariants.{Claim as Claims, Finish as Finishes}
 use Rattle.cf_core.specs.declared.events.Reply.{Reply}
 use Rattle.cf_core.specs.declared.events.Reply.TheVariants as replies
-use Rattle.cf_core.specs.States.{State, is_ready, lowest_ready_of, stage_at}
+use Rattle.cf_core.specs.States.{State, lowest_ready_of}
 use Rattle.cf_core.specs.Events.{answered}
 use Rattle.cf_core.specs.Claims.{is_claimable, claimable_count}
 use Rattle.cf_core.specs.Laws.{SameShape}
 use Rattle.cf_core.proofs.Claimable.{answered-claimable, claiming-claimable, ready-granted}
+use Rattle.cf_core.proofs.LowestReady.{lowest_ready-is_ready}
 use Rattle.cf_core.proofs.Shape.{answered-shape}
-use Rattle.cf_plan.specs.Plans.{function_at}
+use Rattle.cf_plan.specs.Meanings.{meanings_of, stage_answer}
 use Rattle.cf_reading.specs.declared.func.Func.{Func}
+use Rattle.cf_reading.specs.Functions.{func_answer}
 use Rattle.cf_script.specs.Laws.{WorkLeavesNothingReady}
-use Rattle.cf_script.specs.Working.{answer_of, finished_after, worked_once, and_one, working, worked}
-
--- ---- the lowest ready stage
-
-found_if : (b : Bool) (k i : ℕ) → cond b (Some k) None ≡ Some i → (b ≡ true) × (k ≡ i)
-found_if true k i e = (refl, cc)
-found_if false k i e = cc
-
--- the place that is found passes the test
-pub position_found : {X : Type 0} (p : X → Bool) (xs : List X) (i : ℕ) (d : X) → position p xs ≡ Some i → (i < length xs) × (p (get_or xs i d) ≡ true)
-position_found p xs i d e =
-    let (test, is) = found_if (nat_lt (position_or_len p xs) (length xs)) (position_or_len p xs) i e in
-    let within : position_or_len p xs < length xs = grind (arith, nat_tests) in
-    (subst (λ n. n < length xs) is within, subst (λ n. p (get_or xs n d) ≡ true) is (passes_at_first p xs d within))
-
-pub lowest-within : (s : State) (i : ℕ) → lowest_ready_of s ≡ Some i → i < length s.stages
-lowest-within s i e = (position_found is_ready s.stages i Pending e).0
-
-pub lowest-ready : (s : State) (i : ℕ) → lowest_ready_of s ≡ Some i → is_ready (stage_at s i) ≡ true
-lowest-ready s i e = ap is_ready (unwrap_or-slice_get s.stages i Pending) ∙ (position_found is_ready s.stages i Pending e).1
+use Rattle.cf_script.specs.Working.{finished_after, worked_once, and_one, working, worked}
 
 -- ---- one turn
 
 finished_after-claimable : (functions : List Func) (i : ℕ) (r : Reply) (s : State) → claimable_count (finished_after functions i (r, s)) ≤ claimable_count s
-finished_after-claimable functions i (replies.Claim (claims.Granted args)) s = answered-claimable s (Finishes 63 i (answer_of functions (function_at s.plan.stages i) args))
+finished_after-claimable functions i (replies.Claim (claims.Granted args)) s = answered-claimable s (Finishes 63 i (stage_answer (meanings_of func_answer functions) s.plan.stages i args))
 finished_after-claimable functions i (replies.Claim claims.Settled) s = omega arith
 finished_after-claimable functions i (replies.Claim claims.Taken) s = omega arith
 finished_after-claimable functions i (replies.Claim claims.NotReady) s = omega arith
@@ -54,7 +32,7 @@ finished_after-claimable functions i (replies.Tick t) s = omega arith
 -- a turn leaves fewer stages that may be claimed
 pub worked_once-claimable : (functions : List Func) (s : State) (i : ℕ) → lowest_ready_of s ≡ Some i → claimable_count (worked_once functions s i) < claimable_count s
 worked_once-claimable functions s i e =
-    let (args, granted) = ready-granted s 63 i (lowest-ready s i e) in
+    let (args, granted) = ready-granted s 63 i (lowest_ready-is_ready s i e) in
     let claimed = claiming-claimable s 63 i args granted in
     let done = answered s (Claims 63 i) in
     let finished = finished_after-claimable functions i done.0 done.1 in
@@ -67,7 +45,7 @@ pub then_shape : (s r t : State) → SameShape s r → SameShape r t → SameSha
 then_shape s r t f g = record { plan = g.plan ∙ f.plan; all_stages = g.all_stages ∙ f.all_stages; all_claims = g.all_claims ∙ f.all_claims }
 
 finished_after-shape : (functions : List Func) (i : ℕ) (r : Reply) (s : State) → SameShape s (finished_after functions i (r, s))
-finished_after-shape functions i (replies.Claim (claims.Granted args)) s = answered-shape s (Finishes 63 i (answer_of functions (function_at s.plan.stages i) args))
+finished_after-shape functions i (replies.Claim (claims.Granted args)) s = answered-shape s (Finishes 63 i (stage_answer (meanings_of func_answer functions) s.plan.stages i args))
 finished_after-shape functions i (replies.Claim claims.Settled) s = same_shape s
 finished_after-shape functions i (replies.Claim claims.Taken) s = same_shape s
 finished_after-shape functions i (replies.Claim claims.NotReady) s = same_shape s
@@ -85,7 +63,7 @@ worked_once-shape functions s i =
 -- a ready stage may be claimed
 pub some_claimable : (s : State) (i : ℕ) → lowest_ready_of s ≡ Some i → 0 < claimable_count s
 some_claimable s i e =
-    let (args, granted) = ready-granted s 63 i (lowest-ready s i e) in
+    let (args, granted) = ready-granted s 63 i (lowest_ready-is_ready s i e) in
     let claimed = claiming-claimable s 63 i args granted in
     omega (arith, claimed)
 

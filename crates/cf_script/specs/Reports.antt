@@ -1,6 +1,7 @@
 -- What a script writes.
-use Rattle.std.specs.Prelude.{ℕ, ◌+◌, List, [], ◌∷◌, ◌++◌, codes}
+use Rattle.std.specs.Prelude.{ℕ, ◌+◌, List, [], ◌∷◌, ◌++◌, Option, codes}
 use Rattle.std.specs.Fmt.{decimal}
+use Rattle.cf_outcome.specs.declared.outcome.Outcome.{Outcome}
 use Rattle.cf_plan.specs.Plans.{PlannedStage}
 use Rattle.cf_core.specs.States.{State, outcome_at, start}
 use Rattle.cf_core.specs.Events.{answered, told}
@@ -35,18 +36,18 @@ abbrev pub after_steps : List Func → State → List Step → State
 after_steps functions s [] = s
 after_steps functions s (x ∷ xs) = after_steps functions (after_step functions s x) xs
 
--- the line of a stage
-abbrev pub stage_text : State → ℕ → List ℕ
-stage_text s i = codes "stage " ++ decimal i ++ codes " " ++ settled_text (outcome_at s i)
+-- the line of stage i, with its outcome or none
+abbrev pub stage_text : ℕ → Option Outcome → List ℕ
+stage_text i outcome = codes "stage " ++ decimal i ++ codes " " ++ settled_text outcome
 
--- a line for each of these stages of the plan, the first being stage i
-abbrev pub stage_lines : State → ℕ → List PlannedStage → List ℕ
-stage_lines s i [] = []
-stage_lines s i (p ∷ stages) = line (stage_text s i) ++ stage_lines s (i + 1) stages
+-- a line for each of these stages, the first being stage i, with these outcomes
+abbrev pub stage_lines : (ℕ → Option Outcome) → ℕ → List PlannedStage → List ℕ
+stage_lines outcomes i [] = []
+stage_lines outcomes i (p ∷ stages) = line (stage_text i (outcomes i)) ++ stage_lines outcomes (i + 1) stages
 
--- the lines of all stages
+-- the lines of all stages of a state
 abbrev pub stages_lines : State → List ℕ
-stages_lines s = stage_lines s 0 s.plan.stages
+stages_lines s = stage_lines (outcome_at s) 0 s.plan.stages
 
 -- the lines of the steps in order, then those of the stages as the steps leave them
 abbrev pub report : Said → List ℕ

@@ -1,11 +1,7 @@
 -- Work: the functions of ready stages are called, the lowest stage first.
-use Rattle.std.specs.Prelude.{ℕ, ◌+◌, zero, suc, List, length, Option}
+use Rattle.std.specs.Prelude.{ℕ, ◌+◌, zero, suc, List, length}
 use Rattle.std.specs.Option.{option_map_or}
-use Rattle.cf_outcome.specs.declared.outcome.Value.TheVariants.{Nil}
-use Rattle.cf_plan.specs.declared.forms.Args.{Args}
-use Rattle.cf_plan.specs.declared.forms.Answer.{Answer}
-use Rattle.cf_plan.specs.declared.forms.Answer.TheVariants.{Give}
-use Rattle.cf_plan.specs.Plans.{function_at}
+use Rattle.cf_plan.specs.Meanings.{meanings_of, stage_answer}
 use Rattle.cf_core.specs.States.{State, lowest_ready_of}
 use Rattle.cf_core.specs.declared.replies.Claimed.TheVariants.{Granted}
 use Rattle.cf_core.specs.declared.events.Event.TheVariants.{Claim as Claims, Finish as Finishes}
@@ -13,16 +9,12 @@ use Rattle.cf_core.specs.declared.events.Reply.{Reply}
 use Rattle.cf_core.specs.declared.events.Reply.TheVariants.{Claim as ToldClaim}
 use Rattle.cf_core.specs.Events.{answered}
 use Rattle.cf_reading.specs.declared.func.Func.{Func}
-use Rattle.cf_reading.specs.Functions.{meaning_of}
-
--- what the function of a stage answers; nil where the stage has none, which no stage is that was ever ready
-abbrev pub answer_of : List Func → Option ℕ → Args → Answer
-answer_of functions number args = option_map_or (λ n. meaning_of functions n args) number (Give Nil)
+use Rattle.cf_reading.specs.Functions.{func_answer}
 
 -- the stage i is finished by caller 63 with what its function answers to the arguments that a claim granted
 abbrev pub finished_after : List Func → ℕ → Reply × State → State
 finished_after functions i (ToldClaim (Granted args), s) =
-    (answered s (Finishes 63 i (answer_of functions (function_at s.plan.stages i) args))).1
+    (answered s (Finishes 63 i (stage_answer (meanings_of func_answer functions) s.plan.stages i args))).1
 finished_after functions i (reply, s) = s
 
 -- the stage i is claimed by caller 63 and finished

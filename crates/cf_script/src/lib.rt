@@ -7,11 +7,16 @@
 //!
 //! `specs/Reports.antt` says what a script prints by what the graph's model answers to the events and questions of its
 //! steps, and `specs/Working.antt` what the step `work` does. `run_script` is proved to write that report, or the line
-//! of the fault that the input has, for any reader and any writer that tell their bytes.
+//! of the fault that the input has, for any reader and any writer that tell their bytes; `race_script` writes the lines
+//! of the stages as a race may leave them. What both print alike is in `specs/Printing.antt`.
+//!
+//! `read_script` and `read_race` answer a `ReadingFault`, of which a `ScriptFault` is made by `From`. That adds the two
+//! faults that come after reading, and has the line that is printed for each.
 #![tactic(auto)]
 
-mod fault_line;
+mod fault;
 pub mod laws;
+mod printing;
 mod race;
 mod report;
 mod run;
@@ -21,7 +26,8 @@ mod work;
 pub use cf_command::{Command, CommandFault, read_command};
 pub use cf_plan::PlanFault;
 pub use cf_pool::{Gate, NoGate};
-pub use cf_reading::{Func, Part, Script, ScriptFault, Step, read_race, read_script};
+pub use cf_reading::{Func, Part, ReadingFault, Script, Step, read_race, read_script};
+pub use fault::ScriptFault;
 pub use race::race_script;
 pub use run::run_script;
 

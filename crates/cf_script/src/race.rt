@@ -1,18 +1,18 @@
 //! A whole race: from a reader's bytes to the lines of the stages that a writer gets.
-ghost use Rattle.std.specs.Prelude.{◌≡◌, ◌<◌, ◌≤◌, All, IfErr, IfOk, List, ℕ, length, string_bytes, true};
+ghost use Rattle.std.specs.Prelude.{◌≡◌, ◌<◌, ◌≤◌, All, IfErr, IfOk, List, ℕ, length, string_bytes};
 ghost use Rattle.cf_pool.specs.Races.{IsStep};
+ghost use Rattle.cf_reading.specs.Purposes.{IsForRace};
 ghost use Rattle.cf_reading.specs.Scripts.{IsSaid, StepFits};
-ghost use Rattle.cf_reading.specs.Steps.{is_raced};
 ghost use Rattle.cf_script.specs.Reports.{stages_lines};
-ghost use Rattle.cf_script.specs.Runs.{IsInput};
-ghost use Rattle.cf_script.specs.Races.{EndsOf, IsWhyOf, MakesRace, Races, events_of};
+ghost use Rattle.cf_script.specs.Printing.{IsInput, Prints, given_by};
+ghost use Rattle.cf_script.specs.Races.{IsRaceEnd, IsRaceRefused, RaceGives, events_of};
 
-use crate::fault_line::write_fault;
+use crate::fault::ScriptFault;
+use crate::printing::print_given;
 use crate::report::write_stages;
 use cf_core::{Event, Graph};
-use cf_outcome::write_text;
 use cf_pool::{Gate, RaceFault, race};
-use cf_reading::{Script, ScriptFault, Step, read_input, read_race};
+use cf_reading::{Script, Step, read_input, read_race};
 use std::alloc::{AllocError, Global};
 use std::io::{Read, Write};
 use std::sync::Wait;
@@ -40,9 +40,9 @@ fn graph_of<R: Threads + Wait + Sync, G: Gate + Sync>(
     workers: u8,
 ) -> Result<Graph, ScriptFault>
     requires workers { (0 < workers) × (workers ≤ 32) }
-    requires raced { All (λ x. is_raced x ≡ true) script.steps }
-    ensures ends { IfOk result (λ g. EndsOf workers script g) }
-    ensures why { IfErr result (IsWhyOf workers script) }
+    requires steps { All IsForRace script.steps }
+    ensures ends { IfOk result (λ g. IsRaceEnd workers script g.state) }
+    ensures refused { IfErr result (IsRaceRefused workers script) }
 {
     let (plan, functions, steps) = script.into_parts();
     let Ok(events) = events(alloc, &steps) else {
@@ -57,14 +57,14 @@ fn graph_of<R: Threads + Wait + Sync, G: Gate + Sync>(
 
 /// The lines of all stages of a graph.
 fn lines_of(alloc: Global, mut graph: Graph) -> Result<String, AllocError>
-    ensures { IfOk result (λ text. string_bytes text ≡ stages_lines graph) }
+    ensures { IfOk result (λ text. string_bytes text ≡ stages_lines graph.state) }
 {
     let mut text = String::new(alloc);
     write_stages(&mut text, &mut graph)?;
     Ok(text)
 }
 
-/// The lines of the stages as a race of the script that the reader gives leaves them, or the fault that stands in its way.
+/// What a race gives for the script of the reader: the lines of its stages, or the fault that stands in its way.
 fn raced<R: Threads + Wait + Sync, I: Read, G: Gate + Sync>(
     rt: &R,
     alloc: Global,
@@ -73,7 +73,7 @@ fn raced<R: Threads + Wait + Sync, I: Read, G: Gate + Sync>(
     workers: u8,
 ) -> Result<String, ScriptFault>
     requires { (0 < workers) × (workers ≤ 32) }
-    ensures { (input : List ℕ) × IsInput (I.remaining r.old) input × MakesRace workers result input }
+    ensures { (input : List ℕ) × IsInput (I.remaining r.old) input × RaceGives workers input (given_by result) }
 {
     let input = read_input(alloc, r)?;
     let script = read_race(alloc, &input)?;
@@ -100,16 +100,8 @@ pub fn race_script<R: Threads + Wait + Sync, I: Read, W: Write, G: Gate + Sync>(
 ) -> Result<(), ScriptFault>
     requires { (0 < workers) × (workers ≤ 32) }
     ensures { (input : List ℕ) × IsInput (I.remaining r.old) input
-        × Races workers result input (W.contents w.old) (W.contents w.new) }
+        × Prints (RaceGives workers input) result (W.contents w.old) (W.contents w.new) }
 {
-    match raced(rt, alloc, r, gate, workers) {
-        Ok(text) => match write_text(w, text.as_str().as_bytes()) {
-            Ok(()) => Ok(()),
-            Err(_) => Err(ScriptFault::Write),
-        },
-        Err(fault) => match write_fault(w, fault) {
-            Ok(()) => Err(fault),
-            Err(_) => Err(ScriptFault::Write),
-        },
-    }
+    let given = raced(rt, alloc, r, gate, workers);
+    print_given(w, given)
 }

@@ -1,29 +1,15 @@
 //! The report of a script.
 ghost use Rattle.std.specs.Prelude.{◌≡◌, ◌++◌, ◌<◌, length, OnOk, IfOk, All, string_bytes};
-ghost use Rattle.cf_core.specs.Events.{told};
-ghost use Rattle.cf_core.specs.Ranges.{AskFits};
+ghost use Rattle.cf_core.specs.States.{outcome_at};
 ghost use Rattle.cf_reading.specs.Scripts.{StepFits};
 ghost use Rattle.cf_script.specs.Texts.{line};
 ghost use Rattle.cf_script.specs.Reports.{after_step, after_steps, report, stage_text, stages_lines, step_text, steps_lines};
 
 use crate::texts::{write_reply, write_told};
 use crate::work::work;
-use cf_core::{Ask, Graph, Told};
-use cf_event::apply;
+use cf_core::Graph;
 use cf_reading::{Func, Script, Step};
 use std::alloc::{AllocError, Global};
-
-/// What a question is told.
-fn tell(graph: &mut Graph, ask: Ask) -> Told
-    requires { AskFits (length graph.old.plan.stages) ask }
-    ensures told { result ≡ told graph.old ask }
-    ensures unchanged { graph.new ≡ graph.old }
-{
-    match ask {
-        Ask::Now(i, absent) => Told::Now(graph.now(i, absent)),
-        Ask::Outcome(i) => Told::Outcome(graph.outcome(i)),
-    }
-}
 
 /// Does a step, and adds its line.
 fn write_step(
@@ -32,14 +18,14 @@ fn write_step(
     functions: &[Func],
     step: Step,
 ) -> Result<(), AllocError>
-    requires { StepFits (length graph.old.plan.stages) step }
+    requires { StepFits (length graph.old.state.plan.stages) step }
     ensures line { OnOk result
-        (string_bytes text.new ≡ string_bytes text.old ++ line (step_text functions.now graph.old step)) }
-    ensures state { graph.new ≡ after_step functions.now graph.old step }
+        (string_bytes text.new ≡ string_bytes text.old ++ line (step_text functions.now graph.old.state step)) }
+    ensures state { graph.new.state ≡ after_step functions.now graph.old.state step }
 {
     match step {
-        Step::Does(event) => write_reply(text, apply(graph, &event)),
-        Step::Asks(ask) => write_told(text, tell(graph, ask)),
+        Step::Does(event) => write_reply(text, graph.answer(&event)),
+        Step::Asks(ask) => write_told(text, graph.tell(ask)),
         Step::Work => {
             let calls = work(graph, functions);
             writeln!(text, "worked {calls}")
@@ -58,10 +44,10 @@ fn write_steps(
     functions: &[Func],
     steps: &[Step],
 ) -> Result<(), AllocError>
-    requires { All (StepFits (length graph.old.plan.stages)) steps.now }
+    requires { All (StepFits (length graph.old.state.plan.stages)) steps.now }
     ensures lines { OnOk result
-        (string_bytes text.new ≡ string_bytes text.old ++ steps_lines functions.now graph.old steps.now) }
-    ensures state { OnOk result (graph.new ≡ after_steps functions.now graph.old steps.now) }
+        (string_bytes text.new ≡ string_bytes text.old ++ steps_lines functions.now graph.old.state steps.now) }
+    ensures state { OnOk result (graph.new.state ≡ after_steps functions.now graph.old.state steps.now) }
 {
     'steps: for step in steps {
         write_step(text, graph, functions, *step)?;
@@ -71,10 +57,10 @@ fn write_steps(
 
 /// Adds the line of a stage.
 fn write_stage(text: &mut String, graph: &mut Graph, i: u16) -> Result<(), AllocError>
-    requires { i < length graph.old.plan.stages }
+    requires { i < length graph.old.state.plan.stages }
     ensures line { OnOk result
-        (string_bytes text.new ≡ string_bytes text.old ++ line (stage_text graph.old i)) }
-    ensures unchanged { graph.new ≡ graph.old }
+        (string_bytes text.new ≡ string_bytes text.old ++ line (stage_text i (outcome_at graph.old.state i))) }
+    ensures unchanged { graph.new.state ≡ graph.old.state }
 {
     match graph.outcome(i) {
         Some(o) => writeln!(text, "stage {i} {o}"),
@@ -85,7 +71,7 @@ fn write_stage(text: &mut String, graph: &mut Graph, i: u16) -> Result<(), Alloc
 /// Adds the lines of all stages.
 pub(crate) fn write_stages(text: &mut String, graph: &mut Graph) -> Result<(), AllocError>
     ensures { OnOk result
-        (string_bytes text.new ≡ string_bytes text.old ++ stages_lines graph.old) }
+        (string_bytes text.new ≡ string_bytes text.old ++ stages_lines graph.old.state) }
 {
     'stages: for i in 0..graph.plan().stages() {
         write_stage(text, graph, i)?;

@@ -1,17 +1,18 @@
 //! A whole run: from a reader's bytes to the report that a writer gets.
 ghost use Rattle.std.specs.Prelude.{List, ℕ};
-ghost use Rattle.cf_script.specs.Runs.{IsInput, Makes, Runs};
+ghost use Rattle.cf_script.specs.Printing.{IsInput, Prints, given_by};
+ghost use Rattle.cf_script.specs.Runs.{RunGives};
 
-use crate::fault_line::write_fault;
+use crate::fault::ScriptFault;
+use crate::printing::print_given;
 use crate::report::report_of;
-use cf_outcome::write_text;
-use cf_reading::{ScriptFault, read_input, read_script};
+use cf_reading::{read_input, read_script};
 use std::alloc::Global;
 use std::io::{Read, Write};
 
-/// The report of the script that the reader gives, or the fault that stands in its way.
-fn made<R: Read>(alloc: Global, r: &mut R) -> Result<String, ScriptFault>
-    ensures { (input : List ℕ) × IsInput (R.remaining r.old) input × Makes result input }
+/// What a run gives for the script of the reader: its report, or the fault that stands in its way.
+fn ran<R: Read>(alloc: Global, r: &mut R) -> Result<String, ScriptFault>
+    ensures { (input : List ℕ) × IsInput (R.remaining r.old) input × RunGives input (given_by result) }
 {
     let input = read_input(alloc, r)?;
     let script = read_script(alloc, &input)?;
@@ -29,16 +30,8 @@ fn made<R: Read>(alloc: Global, r: &mut R) -> Result<String, ScriptFault>
 /// `NoMemory` is a growth that was refused. `RaceSize` never comes.
 pub fn run_script<R: Read, W: Write>(alloc: Global, r: &mut R, w: &mut W) -> Result<(), ScriptFault>
     ensures { (input : List ℕ) × IsInput (R.remaining r.old) input
-        × Runs result input (W.contents w.old) (W.contents w.new) }
+        × Prints (RunGives input) result (W.contents w.old) (W.contents w.new) }
 {
-    match made(alloc, r) {
-        Ok(text) => match write_text(w, text.as_str().as_bytes()) {
-            Ok(()) => Ok(()),
-            Err(_) => Err(ScriptFault::Write),
-        },
-        Err(fault) => match write_fault(w, fault) {
-            Ok(()) => Err(fault),
-            Err(_) => Err(ScriptFault::Write),
-        },
-    }
+    let given = ran(alloc, r);
+    print_given(w, given)
 }

@@ -6,7 +6,7 @@ mod rows;
 
 use self::devices::{Dripping, Fixed, Sipping, Then};
 use self::rows::{BAD_PLANS, BAD_SHAPES, CALLS, CLAIMS, FORMS, LONG, LongRow, NUDGED, Row};
-use crate::{Command, CommandFault, ScriptFault, read_command, run_script};
+use crate::{Command, CommandFault, Part, PlanFault, ScriptFault, read_command, run_script};
 use std::alloc::{AllocError, Global};
 use std::io::{ErrorKind, Read, Write};
 use std::process::Abort;
@@ -227,8 +227,31 @@ fn a_failing_writer_holds_a_front(rt: HostRuntime) -> Result<(), Fail> {
         &rt,
         "[]",
         "fault 3 shape top",
-        Err(ScriptFault::Shape(crate::Part::Top)),
+        Err(ScriptFault::Shape(Part::Top)),
     )
+}
+
+/// The longest line of each fault that tells a number, of which no script is long enough for the greatest.
+#[test]
+fn the_greatest_numbers_are_told(rt: HostRuntime) -> Result<(), Fail> {
+    let most = u32::MAX;
+    let rows = [
+        (
+            ScriptFault::Shape(Part::Stage(most)),
+            "fault 3 shape stage 4294967295",
+        ),
+        (
+            ScriptFault::Plan(PlanFault::TooManyLimits, most),
+            "fault 4 plan 9 at 4294967295",
+        ),
+        (ScriptFault::Function(most), "fault 5 function 4294967295"),
+        (ScriptFault::Step(most), "fault 6 step 4294967295"),
+    ];
+    for (fault, text) in rows {
+        let shown = format!(in rt.alloc(); "{fault}")?;
+        assert_eq!(rt; shown.as_str(), text);
+    }
+    Ok(())
 }
 
 /// Runs the script of a source and an apply, and checks that what was written is its report, or that no memory was left.

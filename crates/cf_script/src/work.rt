@@ -1,51 +1,50 @@
 //! Work: the functions of ready stages are called, the lowest stage first.
 ghost use Rattle.std.specs.Prelude.{◌≡◌, ◌<◌, Some, length};
+ghost use Rattle.cf_plan.specs.Meanings.{meanings_of, stage_answer};
 ghost use Rattle.cf_core.specs.States.{lowest_ready_of};
-ghost use Rattle.cf_script.specs.Working.{answer_of, worked, worked_once};
+ghost use Rattle.cf_reading.specs.Functions.{func_answer};
+ghost use Rattle.cf_script.specs.Working.{worked, worked_once};
 
 use cf_core::{Claimed, Event, Graph, Reply};
-use cf_event::apply;
 use cf_outcome::Value;
-use cf_plan::{Answer, Args, StageFn};
+use cf_plan::{Answer, Args, Plan, StageFn};
 use cf_reading::Func;
 
 /// The caller that does a script's work.
 const WORKER: u8 = 63;
 
-/// What the function with this number answers.
-fn answer(functions: &[Func], number: Option<u16>, args: &Args) -> Answer
-    ensures { result ≡ answer_of functions.now number args.now }
+/// What the function of a stage answers.
+fn answer(plan: &Plan, functions: &[Func], stage: u16, args: &Args) -> Answer
+    requires { stage < length plan.now.stages }
+    ensures { result ≡ stage_answer (meanings_of func_answer functions.now) plan.now.stages stage args.now }
 {
-    match number {
-        Some(n) => match functions.get(n as usize) {
-            Some(function) => function.call(args),
-            None => Answer::Give(Value::Nil),
-        },
+    let number = plan.function(stage).unwrap_or(0);
+    match functions.get(number as usize) {
+        Some(function) => function.call(args),
         None => Answer::Give(Value::Nil),
     }
 }
 
 /// Claims a stage, calls its function, and finishes it with the answer.
 fn work_once(graph: &mut Graph, functions: &[Func], stage: u16)
-    requires { stage < length graph.old.plan.stages }
-    ensures { graph.new ≡ worked_once functions.now graph.old stage }
+    requires { stage < length graph.old.state.plan.stages }
+    ensures { graph.new.state ≡ worked_once functions.now graph.old.state stage }
 {
     let claim = Event::Claim { who: WORKER, stage };
-    if let Reply::Claim(Claimed::Granted(args)) = apply(graph, &claim) {
-        let number = graph.plan().function(stage);
+    if let Reply::Claim(Claimed::Granted(args)) = graph.answer(&claim) {
         let finish = Event::Finish {
             who: WORKER,
             stage,
-            answer: answer(functions, number, &args),
+            answer: answer(graph.plan(), functions, stage, &args),
         };
-        apply(graph, &finish);
+        graph.answer(&finish);
     }
 }
 
 /// Works until no stage is ready, and says how many functions were called: at most one for each stage, since none is
 /// claimed twice.
 pub(crate) fn work(graph: &mut Graph, functions: &[Func]) -> u32
-    ensures { (result, graph.new) ≡ worked functions.now graph.old }
+    ensures { (result, graph.new.state) ≡ worked functions.now graph.old.state }
 {
     let stages = u32::from(graph.plan().stages());
     let mut calls = 0;

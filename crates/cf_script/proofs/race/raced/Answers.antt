@@ -1,16 +1,21 @@
-use Rattle.std.proofs.Common.{◌≡◌, ℕ, List, Result, Err, String, rules, ap, sym, subst}
-use Rattle.std.specs.declared.alloc.Global.{Global}
-use Rattle.cf_reading.specs.declared.fault.ScriptFault.{ScriptFault}
-use Rattle.cf_script.specs.Runs.{IsInput}
-use Rattle.cf_script.specs.Races.{MakesRace}
-use Rattle.cf_script.proofs.RaceLemmas.{unread}
+use Rattle.std.proofs.Common.{ap, subst, Err}
+use Rattle.cf_reading.specs.Checks.{Fails}
+use Rattle.cf_reading.specs.Reading.{race_reading}
+use Rattle.cf_script.specs.Faults.{fault_of_reading}
+use Rattle.cf_script.specs.Races.{IsRaceText, IsTooLargeToRace, RaceGives}
+use Rattle.cf_script.proofs.PrintLemmas.{fault_given, misread, too_long_to_race, unread}
 use Rattle.cf_script.proofs.race.raced.Goals as goal
 
 pub returns-in_err-input : goal.returns-in_err-input
 returns-in_err-input g c =
     let e = c.in_err-input.field-0.0 in
-    let is : c.from_residual.result ≡ Err e = search rules in
     let told = c.in_err-input.ensures in
-    let held = g.I.Read.remaining c.args.r.now in
-    let P : Result (String Global) ScriptFault → Type 0 = λ r. (input : List ℕ) × IsInput held input × MakesRace c.args.workers r input in
-    subst P (sym is) (unread c.args.workers held e told.faults (λ long. told.too_long (ap Err long)))
+    let found = unread (IsRaceText c.args.workers) (IsTooLargeToRace c.args.workers) race_reading too_long_to_race (g.I.Read.remaining c.args.r.now) e told.faults (λ long. told.too_long (ap Err long)) in
+    (found.0, found.1, fault_given (RaceGives c.args.workers found.0) c.from_residual.result (fault_of_reading e) c.from_residual.ensures.1 found.2)
+
+pub returns-in_err-script : goal.returns-in_err-script
+returns-in_err-script g c =
+    let e = c.in_err-script.field-0.0 in
+    let input = c.in_ok-input.input.items in
+    let said = subst (λ bytes. Fails e (race_reading bytes)) c.deref.ensures.value c.in_err-script.ensures.says in
+    (input, c.in_ok-input.ensures.whole, fault_given (RaceGives c.args.workers input) c.from_residual-in_err-script.result (fault_of_reading e) c.from_residual-in_err-script.ensures.1 (misread (IsRaceText c.args.workers) (IsTooLargeToRace c.args.workers) (race_reading input) e said))

@@ -5,7 +5,7 @@ use Rattle.cf_script.proofs.report.write_steps.Given as goal
 
 abbrev pub invariant-steps : goal.invariant-steps
 invariant-steps l = record {
-  shape : SameShape l.initial.graph l.graph;
-  lines : string_bytes l.text ++ steps_lines l.functions l.graph (drop l.step-index l.steps) ≡ string_bytes l.initial.text ++ steps_lines l.functions l.initial.graph l.steps;
-  state : after_steps l.functions l.graph (drop l.step-index l.steps) ≡ after_steps l.functions l.initial.graph l.steps;
+  shape : SameShape l.initial.graph.state l.graph.state;
+  lines : string_bytes l.text ++ steps_lines l.functions l.graph.state (drop l.step-index l.steps) ≡ string_bytes l.initial.text ++ steps_lines l.functions l.initial.graph.state l.steps;
+  state : after_steps l.functions l.graph.state (drop l.step-index l.steps) ≡ after_steps l.functions l.initial.graph.state l.steps;
 }
