@@ -15,9 +15,8 @@ use Rattle.cf_core.specs.declared.stage.Stage.{Stage}
 use Rattle.cf_core.specs.declared.stage.Stage.TheVariants.{Pending, Ready, Claimed, Linked, Settled}
 use Rattle.cf_core.specs.States.{State, outcome_of, outcome_in, outcome_at, claim_at, after}
 use Rattle.cf_core.specs.Events.{settled_by, landed, linked_to}
-use Rattle.cf_core.proofs.Keeping.Marking.{get-set_other}
+use Rattle.cf_core.proofs.StateLemmas.{after-unsettled, slice_get-set_other}
 use Rattle.cf_core.proofs.Moves.{new_states-settled, set-settled}
-use Rattle.cf_core.proofs.StateLemmas.{after-unsettled}
 use Rattle.cf_plan.specs.Meanings.{Meanings}
 use Rattle.cf_expr.specs.Expressions.{landing_expr}
 use Rattle.cf_expr.specs.Histories.{Grants}
@@ -55,7 +54,7 @@ same_outcomes xs i y e f = fun_ext λ k. same_at xs i y k e f
 
 -- open claims
 pub claim_other : (xs : List (Option ℕ)) (i : ℕ) (y : Option ℕ) (k : ℕ) → k ≢ i → unwrap_or (slice_get (set xs i y) k) None ≡ unwrap_or (slice_get xs k) None
-claim_other xs i y k ne = ap (λ c. unwrap_or c None) (get-set_other xs i k y ne)
+claim_other xs i y k ne = ap (λ c. unwrap_or c None) (slice_get-set_other xs i k y ne)
 
 pub claim_closed : (xs : List (Option ℕ)) (i : ℕ) → unwrap_or (slice_get (set xs i None) i) None ≡ None
 claim_closed [] i = refl

@@ -20,8 +20,9 @@ use Rattle.cf_core.specs.declared.events.Reply.{Reply}
 use Rattle.cf_core.specs.declared.events.Reply.TheVariants.{Claim as ToldClaim}
 use Rattle.cf_core.specs.States.{State, outcome_of, outcome_at, stage_at, claim_at}
 use Rattle.cf_core.specs.Events.{answered, state_after, claimed_by, finished_by, landed, linked_to, source_outcome}
-use Rattle.cf_core.proofs.Keeping.Marking.{get-set_other, get-set_same}
+use Rattle.cf_core.proofs.Keeping.Marking.{get-set_same}
 use Rattle.cf_core.proofs.Shape.{answered-shape}
+use Rattle.cf_core.proofs.StateLemmas.{slice_get-set_other}
 use Rattle.cf_event.specs.Words.{who_of}
 use Rattle.cf_plan.specs.Meanings.{Meanings}
 use Rattle.cf_desk.specs.declared.calls.Rec.{Rec}
@@ -58,10 +59,10 @@ set_here : (xs : List (Option ℕ)) (i : ℕ) (x : Option ℕ) → i < length xs
 set_here xs i x l = ap (λ c. unwrap_or c None) (get-set_same xs i x l)
 
 claims_other : (xs : List (Option ℕ)) (i j : ℕ) (x : Option ℕ) → j ≢ i → unwrap_or (slice_get (set xs i x) j) None ≡ unwrap_or (slice_get xs j) None
-claims_other xs i j x ne = ap (λ c. unwrap_or c None) (get-set_other xs i j x ne)
+claims_other xs i j x ne = ap (λ c. unwrap_or c None) (slice_get-set_other xs i j x ne)
 
 stages_other : (xs : List Stage) (i j : ℕ) (x : Stage) → j ≢ i → at (set xs i x) j ≡ at xs j
-stages_other xs i j x ne = ap (λ c. unwrap_or c Pending) (get-set_other xs i j x ne)
+stages_other xs i j x ne = ap (λ c. unwrap_or c Pending) (slice_get-set_other xs i j x ne)
 
 ready_there : (xs : List Stage) (i : ℕ) (args : Args) → at xs i ≡ Ready args → i < length xs
 ready_there [] i args e = cc
