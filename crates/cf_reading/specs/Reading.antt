@@ -10,7 +10,7 @@ use Rattle.cf_reading.specs.declared.fault.ReadingFault.{ReadingFault}
 use Rattle.cf_reading.specs.declared.fault.ReadingFault.TheVariants as faults
 use Rattle.cf_reading.specs.declared.purpose.Purpose.{Purpose}
 use Rattle.cf_reading.specs.declared.purpose.Purpose.TheVariants.{Run, Race}
-use Rattle.cf_reading.specs.Scripts.{Said}
+use Rattle.cf_reading.specs.Scripts.{Script}
 use Rattle.cf_reading.specs.Checks.{◌>>=◌, ok_or, guard, fold_items}
 use Rattle.cf_reading.specs.Parts.{whole}
 use Rattle.cf_reading.specs.Stages.{nothing_drafted, stage_next}
@@ -28,7 +28,7 @@ items_said (Some d) = as_array d
 
 -- What a JSON value says to what it is read for: first the top, the version and the three arrays, then each stage, each
 -- limit and each step.
-unfoldable pub script_of : Purpose → Data → Result Said ReadingFault
+unfoldable pub script_of : Purpose → Data → Result Script ReadingFault
 script_of purpose d = do
   top ← ok_or (faults.Shape parts.Top) (as_object d)
   version ← guard (has_version d) (faults.Shape parts.Version)
@@ -45,12 +45,12 @@ abbrev pub json_of : List ℕ → Option Data
 json_of bytes = if is_utf8 bytes then read bytes else None
 
 -- What bytes say: there are at most 1,048,576 of them, they are JSON, and they say a script.
-unfoldable pub reading_for : Purpose → List ℕ → Result Said ReadingFault
+unfoldable pub reading_for : Purpose → List ℕ → Result Script ReadingFault
 reading_for purpose bytes = if nat_lt 1048576 (length bytes) then Err faults.TooLong else ok_or faults.NotJson (json_of bytes) >>= script_of purpose
 
 -- what they say to a run, and to a race
-abbrev pub reading : List ℕ → Result Said ReadingFault
+abbrev pub reading : List ℕ → Result Script ReadingFault
 reading bytes = reading_for Run bytes
 
-abbrev pub race_reading : List ℕ → Result Said ReadingFault
+abbrev pub race_reading : List ℕ → Result Script ReadingFault
 race_reading bytes = reading_for Race bytes

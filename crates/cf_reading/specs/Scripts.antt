@@ -6,9 +6,12 @@ use Rattle.cf_reading.specs.declared.func.Func.{Func}
 use Rattle.cf_reading.specs.declared.script.Step.{Step}
 use Rattle.cf_reading.specs.declared.script.Step.TheVariants.{Does, Asks, Work, Nudge}
 
-pub record Said : Type 0 where
+pub record Script : Type 0 where
+  -- the plan that its stages and limits make
   pub plan : Planned
+  -- the functions of its stages, which stages name by their places here
   pub functions : List Func
+  -- what is done with the plan, in order
   pub steps : List Step
 
 -- each stage that a step names is one of n
@@ -23,6 +26,6 @@ abbrev pub FunctionFits : ℕ → PlannedStage → Type 0
 FunctionFits n stage = IfSome stage.function (λ f. f < n)
 
 -- what is true of every script: functions and stages that are named are there
-pub record IsSaid (s : Said) : Type 0 where
+pub record IsScript (s : Script) : Type 0 where
   pub numbered : All (FunctionFits (length s.functions)) s.plan.stages
   pub steps_fit : All (StepFits (length s.plan.stages)) s.steps

@@ -26,22 +26,22 @@ pub struct Script {
 }
 
 impl Model for Script {
-    ghost use Rattle.cf_reading.specs.Scripts.{Said, IsSaid};
+    ghost use Rattle.cf_reading.specs.Scripts.{Script, IsScript};
 
-    ghost Value = { Said };
+    ghost Value = { Script };
 
     ghost view = { λ s. record { plan = s.plan; functions = s.functions.items; steps = s.steps.items } };
 
-    ghost invariant = { λ s. IsSaid (record { plan = s.plan; functions = s.functions.items; steps = s.steps.items }) };
+    ghost invariant = { λ s. IsScript (record { plan = s.plan; functions = s.functions.items; steps = s.steps.items }) };
 }
 
 impl Script {
     ghost use Rattle.std.specs.Prelude.{◌≡◌};
-    ghost use Rattle.cf_reading.specs.Scripts.{Said, IsSaid};
+    ghost use Rattle.cf_reading.specs.Scripts.{Script, IsScript};
 
     /// A script of these parts.
     pub(crate) fn new(plan: Plan, functions: Vec<Func>, steps: Vec<Step>) -> Script
-        requires { IsSaid (record { plan = plan; functions = functions.items; steps = steps.items }) }
+        requires { IsScript (record { plan = plan; functions = functions.items; steps = steps.items }) }
         ensures { result ≡ record { plan = plan; functions = functions.items; steps = steps.items } }
     {
         Script {
@@ -56,7 +56,7 @@ impl Script {
         ensures plan { result.0 ≡ self.plan }
         ensures functions { result.1.items ≡ self.functions }
         ensures steps { result.2.items ≡ self.steps }
-        ensures said { IsSaid self }
+        ensures said { IsScript self }
     {
         let Script {
             plan,

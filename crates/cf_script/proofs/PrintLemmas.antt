@@ -12,7 +12,7 @@ use Rattle.cf_reading.specs.declared.fault.ReadingFault.TheVariants as readings
 use Rattle.cf_reading.specs.Checks.{Fails}
 use Rattle.cf_reading.specs.Input.{IsOfInput}
 use Rattle.cf_reading.specs.Reading.{race_reading, reading, reading_for}
-use Rattle.cf_reading.specs.Scripts.{Said}
+use Rattle.cf_reading.specs.Scripts.{Script}
 use Rattle.cf_script.specs.declared.fault.ScriptFault.{ScriptFault}
 use Rattle.cf_script.specs.declared.fault.ScriptFault.TheVariants as faults
 use Rattle.cf_script.specs.Faults.{fault_line, fault_of_reading}
@@ -21,7 +21,7 @@ use Rattle.cf_script.specs.Printing.{Given, IsInput, MayGive, Prints, given_by}
 -- ---- an input that can't be read
 
 -- bytes that are too many are no script
-abbrev pub TooLong : (List ℕ → Result Said ReadingFault) → Type 0
+abbrev pub TooLong : (List ℕ → Result Script ReadingFault) → Type 0
 TooLong read = (bytes : List ℕ) → 1048576 < length bytes → read bytes ≡ Err readings.TooLong
 
 pub too_long_to_run : TooLong reading
@@ -43,9 +43,9 @@ held_or_empty : (held : Option (List ℕ)) → (input : List ℕ) × IsInput hel
 held_or_empty (Some bytes) = (bytes, refl)
 held_or_empty None = ([], tt)
 
-module _ (IsText : Said → List ℕ → Type 0) (IsTooLarge : Said → Type 0) where
+module _ (IsText : Script → List ℕ → Type 0) (IsTooLarge : Script → Type 0) where
   -- reading the input failed
-  pub unread : (read : List ℕ → Result Said ReadingFault) → TooLong read → (held : Option (List ℕ)) (e : ReadingFault) → IsOfInput e →
+  pub unread : (read : List ℕ → Result Script ReadingFault) → TooLong read → (held : Option (List ℕ)) (e : ReadingFault) → IsOfInput e →
       (e ≡ readings.TooLong → IfSome held (λ bytes. 1048576 < length bytes)) → (input : List ℕ) × IsInput held input × MayGive (read input) IsText IsTooLarge (Err (fault_of_reading e))
   unread read too_long held readings.TooLong of long = let found = input_too_long held (long refl) in (found.0, found.1, (readings.TooLong, too_long found.0 found.2, refl))
   unread read too_long held readings.Read of long = let some = held_or_empty held in (some.0, some.1, tt)
@@ -57,7 +57,7 @@ module _ (IsText : Said → List ℕ → Type 0) (IsTooLarge : Said → Type 0) 
   unread read too_long held (readings.Step k) of long = absurd of
 
   -- what was read is no script
-  pub misread : (said : Result Said ReadingFault) (e : ReadingFault) → Fails e said → MayGive said IsText IsTooLarge (Err (fault_of_reading e))
+  pub misread : (said : Result Script ReadingFault) (e : ReadingFault) → Fails e said → MayGive said IsText IsTooLarge (Err (fault_of_reading e))
   misread said readings.Read h = tt
   misread said readings.NoMemory h = tt
   misread said readings.TooLong h = (readings.TooLong, h, refl)

@@ -12,7 +12,7 @@ use Rattle.cf_reading.specs.declared.script.Step.{Step}
 use Rattle.cf_reading.specs.declared.script.Step.TheVariants.{Does, Asks, Work, Nudge}
 use Rattle.cf_reading.specs.Functions.{func_answer}
 use Rattle.cf_reading.specs.Purposes.{IsForRace}
-use Rattle.cf_reading.specs.Scripts.{Said, StepFits}
+use Rattle.cf_reading.specs.Scripts.{Script, StepFits}
 use Rattle.cf_pool.specs.Races.{IsRaced, IsStep, RacedIsExpression, log_words}
 use Rattle.cf_script.specs.Reports.{stage_lines, stage_text}
 use Rattle.cf_script.specs.Races.{IsRaceEnd, IsTooLargeToRace, PlainRacesGiveExpressions, events_of}
@@ -37,7 +37,7 @@ steps_taken n (Work ∷ xs) h fits = absurd (cc (All-head IsForRace Work xs h))
 steps_taken n (Nudge k ∷ xs) h fits = absurd (cc (All-head IsForRace (Nudge k) xs h))
 
 -- a race of the events ends as one of the steps
-pub ends_of : (workers : ℕ) (s : Said) (events : List Event) (end : State) → events ≡ events_of s.steps → All IsForRace s.steps →
+pub ends_of : (workers : ℕ) (s : Script) (events : List Event) (end : State) → events ≡ events_of s.steps → All IsForRace s.steps →
     IsRaced (meanings_of func_answer s.functions) s.plan events end → log_words (length events) (length s.plan.stages) workers ≤ 65535 → IsRaceEnd workers s end
 ends_of workers s events end is h raced fits =
     let same : length events ≡ length s.steps = ap length is ∙ length-events_of s.steps h in
@@ -46,7 +46,7 @@ ends_of workers s events end is h raced fits =
       raced = subst (λ es. IsRaced (meanings_of func_answer s.functions) s.plan es end) is raced;
     }
 
-pub too_long : (workers : ℕ) (s : Said) (events : List Event) → events ≡ events_of s.steps → All IsForRace s.steps →
+pub too_long : (workers : ℕ) (s : Script) (events : List Event) → events ≡ events_of s.steps → All IsForRace s.steps →
     65535 < log_words (length events) (length s.plan.stages) workers → IsTooLargeToRace workers s
 too_long workers s events is h long = subst (λ k. 65535 < log_words k (length s.plan.stages) workers) (ap length is ∙ length-events_of s.steps h) long
 

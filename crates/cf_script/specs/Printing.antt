@@ -4,7 +4,7 @@ use Rattle.std.specs.Io.KnownBytes.{Appends}
 use Rattle.std.specs.declared.alloc.Global.{Global}
 use Rattle.cf_outcome.specs.Output.{AppendsFront}
 use Rattle.cf_reading.specs.declared.fault.ReadingFault.{ReadingFault}
-use Rattle.cf_reading.specs.Scripts.{Said}
+use Rattle.cf_reading.specs.Scripts.{Script}
 use Rattle.cf_script.specs.declared.fault.ScriptFault.{ScriptFault}
 use Rattle.cf_script.specs.declared.fault.ScriptFault.TheVariants as faults
 use Rattle.cf_script.specs.Faults.{fault_line, fault_of_reading}
@@ -29,16 +29,16 @@ lines_for (Err fault) = fault_line fault
 
 -- Why a script isn't done, by what its input says: that is this fault, or the script is too large. The reader and memory may
 -- fail whatever it says, and a writer is never the cause.
-abbrev pub IsRefused : Result Said ReadingFault → (Said → Type 0) → ScriptFault → Type 0
+abbrev pub IsRefused : Result Script ReadingFault → (Script → Type 0) → ScriptFault → Type 0
 IsRefused said IsTooLarge faults.Read = Unit {0}
 IsRefused said IsTooLarge faults.NoMemory = Unit {0}
 IsRefused said IsTooLarge faults.Write = ⊥
-IsRefused said IsTooLarge faults.RaceSize = (s : Said) × (said ≡ Ok s) × IsTooLarge s
+IsRefused said IsTooLarge faults.RaceSize = (s : Script) × (said ≡ Ok s) × IsTooLarge s
 IsRefused said IsTooLarge fault = (e : ReadingFault) × (said ≡ Err e) × (fault ≡ fault_of_reading e)
 
 -- what an input may give, by what it says: a text of the script, or the fault for which it isn't done
-abbrev pub MayGive : Result Said ReadingFault → (Said → List ℕ → Type 0) → (Said → Type 0) → Given → Type 0
-MayGive said IsText IsTooLarge (Ok text) = (s : Said) × (said ≡ Ok s) × IsText s text
+abbrev pub MayGive : Result Script ReadingFault → (Script → List ℕ → Type 0) → (Script → Type 0) → Given → Type 0
+MayGive said IsText IsTooLarge (Ok text) = (s : Script) × (said ≡ Ok s) × IsText s text
 MayGive said IsText IsTooLarge (Err fault) = IsRefused said IsTooLarge fault
 
 -- What is answered, and what the writer gets, of an input that gives one of these. Ok: the text. A writer that failed: a front

@@ -9,7 +9,7 @@ use Rattle.cf_reading.specs.declared.script.Step.{Step}
 use Rattle.cf_reading.specs.declared.script.Step.TheVariants.{Does}
 use Rattle.cf_reading.specs.Functions.{func_answer}
 use Rattle.cf_reading.specs.Reading.{race_reading}
-use Rattle.cf_reading.specs.Scripts.{Said}
+use Rattle.cf_reading.specs.Scripts.{Script}
 use Rattle.cf_pool.specs.Races.{IsRaced, log_words}
 use Rattle.cf_script.specs.declared.fault.ScriptFault.{ScriptFault}
 use Rattle.cf_script.specs.declared.fault.ScriptFault.TheVariants as faults
@@ -23,26 +23,26 @@ events_of (Does e ∷ xs) = e ∷ events_of xs
 events_of (x ∷ xs) = events_of xs
 
 -- how many words the log of a race has, of which there may be 65,535
-abbrev pub words_of : ℕ → Said → ℕ
+abbrev pub words_of : ℕ → Script → ℕ
 words_of workers s = log_words (length s.steps) (length s.plan.stages) workers
 
-abbrev pub IsTooLargeToRace : ℕ → Said → Type 0
+abbrev pub IsTooLargeToRace : ℕ → Script → Type 0
 IsTooLargeToRace workers s = 65535 < words_of workers s
 
 -- A race of this script may end in this state: the log isn't too long, and the state comes after a history that begins with the
 -- steps and goes on with claims and finishes by the functions' meanings, and nothing is ready or claimed in it.
-pub record IsRaceEnd (workers : ℕ) (s : Said) (end : State) : Type 0 where
+pub record IsRaceEnd (workers : ℕ) (s : Script) (end : State) : Type 0 where
   pub fits : words_of workers s ≤ 65535
   pub raced : IsRaced (meanings_of func_answer s.functions) s.plan (events_of s.steps) end
 
 -- the lines of the stages, as a race of this script may leave them
-pub record IsRaceText (workers : ℕ) (s : Said) (text : List ℕ) : Type 0 where
+pub record IsRaceText (workers : ℕ) (s : Script) (text : List ℕ) : Type 0 where
   pub end : State
   pub ends : IsRaceEnd workers s end
   pub lines : text ≡ stages_lines end
 
 -- why a script isn't raced: memory or a thread was refused, or the log would be too long
-abbrev pub IsRaceRefused : ℕ → Said → ScriptFault → Type 0
+abbrev pub IsRaceRefused : ℕ → Script → ScriptFault → Type 0
 IsRaceRefused workers s faults.NoMemory = Unit {0}
 IsRaceRefused workers s faults.RaceSize = IsTooLargeToRace workers s
 IsRaceRefused workers s fault = ⊥
@@ -52,12 +52,12 @@ abbrev pub RaceGives : ℕ → List ℕ → Given → Type 0
 RaceGives workers input = MayGive (race_reading input) (IsRaceText workers) (IsTooLargeToRace workers)
 
 -- a plan without either forms, and steps that settle sources alone and reach no limit
-pub record IsPlainScript (s : Said) : Type 0 where
+pub record IsPlainScript (s : Script) : Type 0 where
   pub plan : IsPlainPlan s.plan
   pub steps : IsPlain (meanings_of func_answer s.functions) nothing_granted (start s.plan) (events_of s.steps)
 
 -- Of a plain script a race gives the lines of the expressions, with however many workers.
 abbrev pub PlainRacesGiveExpressions : Type 0
 PlainRacesGiveExpressions =
-    (workers : ℕ) (s : Said) (text : List ℕ) → IsRaceText workers s text → IsPlainScript s →
+    (workers : ℕ) (s : Script) (text : List ℕ) → IsRaceText workers s text → IsPlainScript s →
     text ≡ stage_lines (expr s.plan (events_of s.steps) (meanings_of func_answer s.functions)) 0 s.plan.stages

@@ -1,15 +1,15 @@
 -- What a run gives.
 use Rattle.std.specs.Prelude.{◌≡◌, ℕ, List}
 use Rattle.cf_reading.specs.Reading.{reading}
-use Rattle.cf_reading.specs.Scripts.{Said}
+use Rattle.cf_reading.specs.Scripts.{Script}
 use Rattle.cf_script.specs.Printing.{Given, MayGive}
 use Rattle.cf_script.specs.Reports.{report}
 
 -- a run prints the report of its script, and none is too large for it
-abbrev pub IsReport : Said → List ℕ → Type 0
+abbrev pub IsReport : Script → List ℕ → Type 0
 IsReport s text = text ≡ report s
 
-abbrev pub IsTooLargeToRun : Said → Type 0
+abbrev pub IsTooLargeToRun : Script → Type 0
 IsTooLargeToRun s = ⊥
 
 -- what a run of this input may give

@@ -2,7 +2,7 @@
 ghost use Rattle.std.specs.Prelude.{◌≡◌, ◌<◌, ◌≤◌, All, IfErr, IfOk, List, ℕ, length, string_bytes};
 ghost use Rattle.cf_pool.specs.Races.{IsStep};
 ghost use Rattle.cf_reading.specs.Purposes.{IsForRace};
-ghost use Rattle.cf_reading.specs.Scripts.{IsSaid, StepFits};
+ghost use Rattle.cf_reading.specs.Scripts.{IsScript, StepFits};
 ghost use Rattle.cf_script.specs.Reports.{stages_lines};
 ghost use Rattle.cf_script.specs.Printing.{IsInput, Prints, given_by};
 ghost use Rattle.cf_script.specs.Races.{IsRaceEnd, IsRaceRefused, RaceGives, events_of};
