@@ -1,3 +1,5 @@
+mod listing;
+
 ghost use Rattle.std.specs.Prelude.{◌≡◌, ◌<◌, ◌∷◌, [], All, IfOk, length, vec_len};
 ghost use Rattle.cf_desk.specs.Views.{Pass};
 
