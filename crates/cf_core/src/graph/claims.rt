@@ -18,6 +18,9 @@ use cf_plan::{Answer, Form, Landing, Plan, landing};
 impl Graph {
     /// Hands a ready stage's arguments to a caller, whose claim is open from then until its first finish of the stage, also
     /// if the stage settles in between.
+    ///
+    /// It stands in its callers' own code, as `finish` does, since a worker's round is little more than these two.
+    #[inline(always)]
     pub fn claim(&mut self, who: u8, i: u16) -> Claimed
         requires { i < length self.old.state.plan.stages }
         ensures told { (result, self.new.state) ≡ claiming self.old.state who i }
@@ -38,6 +41,7 @@ impl Graph {
     }
 
     /// Closes a caller's claim, and settles or links the stage by its function's answer, unless it is settled.
+    #[inline(always)]
     pub fn finish(&mut self, who: u8, i: u16, answer: Answer) -> Finished
         requires { i < length self.old.state.plan.stages }
         ensures told { (result, self.new.state) ≡ finishing self.old.state who i answer }
