@@ -7,7 +7,7 @@ use Rattle.cf_desk.specs.declared.faults.DeskFault.{DeskFault}
 use Rattle.cf_desk.specs.declared.faults.DeskFault.TheVariants.{NoStage, LogFull, PassFull}
 use Rattle.cf_desk.specs.declared.faults.OpenFault.{OpenFault}
 use Rattle.cf_desk.specs.declared.faults.OpenFault.TheVariants.{Callers, Log, Calls, NoMemory}
-use Rattle.cf_desk.specs.Views.{Pass, Desk}
+use Rattle.cf_desk.specs.Views.{Pass, Desk, SeesFull}
 
 -- the stage of an event, or of a question, is one of the pass's plan
 abbrev pub IsOnStage : Pass → Event → Type 0
@@ -24,7 +24,7 @@ HasRoom p = length p.records < p.calls
 abbrev pub IsDue : Pass → Desk → Event → DeskFault → Type 0
 IsDue p d e NoStage = ¬ IsOnStage p e
 IsDue p d e PassFull = IsOnStage p e × (length p.records ≡ p.calls)
-IsDue p d e LogFull = IsOnStage p e × HasRoom p × (d.words ≤ length p.known.seen)
+IsDue p d e LogFull = IsOnStage p e × HasRoom p × SeesFull d p
 
 -- why a question is refused: its stage isn't in the plan, else the pass is full; it meets no full log
 abbrev pub IsDueToRead : Pass → Ask → DeskFault → Type 0

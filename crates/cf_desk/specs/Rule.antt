@@ -56,7 +56,7 @@ abbrev pub holds : {S : Type 0} → Terms → State S (List Known) → Type 0
 holds t s = RowKept t s.words s.views
 
 abbrev pub blank : Setting → ℕ → Known
-blank setting c = record { setting = setting; caller = c; seen = []; looks = 0 }
+blank setting c = record { setting = setting; caller = c; seen = []; looks = [] }
 
 -- the callers from c on, n of them
 abbrev pub fresh : Setting → ℕ → ℕ → List Known
@@ -66,12 +66,12 @@ fresh setting c (suc n) = blank setting c ∷ fresh setting (suc c) n
 abbrev pub first : Terms → List Known
 first t = fresh t.setting 0 t.setting.callers
 
--- one event more was seen, and one look more met an empty next word
+-- one event more was seen, and one look more met an empty next word behind what was seen
 abbrev pub saw : Known → Event → Known
 saw k e = record k { seen = k.seen ++ e ∷ [] }
 
 abbrev pub looked : Known → Known
-looked k = record k { looks = k.looks + 1 }
+looked k = record k { looks = k.looks ++ length k.seen ∷ [] }
 
 -- the word found at the next place is that of another caller's event, which was not seen before
 abbrev pub SeesOther : Known → Event → List Known → Type 0

@@ -1,6 +1,6 @@
 -- What contracts see of a pass and of a desk.
 use Rattle.cf_plan.specs.Plans.{Planned}
-use Rattle.std.specs.Prelude.{◌≡◌, ◌<◌, ◌≤◌, ◌+◌, Option, ◌⊎◌, length, map, ℕ, List, [], ◌∷◌, ◌++◌}
+use Rattle.std.specs.Prelude.{◌≡◌, ◌<◌, ◌≤◌, ◌+◌, Option, None, ◌⊎◌, length, map, ℕ, List, [], ◌∷◌, ◌++◌}
 use Rattle.atomic_table.specs.Seated.{TableId}
 use Rattle.cf_outcome.specs.declared.outcome.Outcome.{Outcome}
 use Rattle.cf_core.specs.declared.asks.Ask.{Ask}
@@ -9,11 +9,10 @@ use Rattle.cf_core.specs.declared.asks.Told.{Told}
 use Rattle.cf_core.specs.declared.asks.Told.TheVariants.{Outcome as ToldOutcome}
 use Rattle.cf_core.specs.declared.events.Event.{Event}
 use Rattle.cf_core.specs.declared.events.Reply.{Reply}
-use Rattle.cf_core.specs.States.{State}
-use Rattle.cf_core.specs.Events.{answered, told}
+use Rattle.cf_core.specs.States.{State, outcome_at}
+use Rattle.cf_core.specs.Events.{answered, state_at, told}
 use Rattle.cf_desk.specs.declared.calls.Call.{Call}
 use Rattle.cf_desk.specs.declared.calls.Joined.{Joined}
-use Rattle.cf_desk.specs.declared.calls.Joined.TheVariants.{NotYet}
 use Rattle.cf_desk.specs.declared.calls.Rec.{Rec}
 use Rattle.cf_desk.specs.declared.calls.Rec.TheVariants.{Did, Saw}
 use Rattle.cf_desk.specs.declared.row.Known.{Known}
@@ -28,7 +27,7 @@ use Rattle.atomic_table.specs.Table.{Me}
 pub record Pass : Type 0 where
   -- the row of its desk
   pub table : TableId
-  -- the desk's plan and number of callers, the pass's caller, the events that it has seen, and how often it looked and found nothing
+  -- the desk's plan and number of callers, the pass's caller, the events that it has seen, and the places at which it looked and found nothing
   pub known : Known
   -- what it has recorded so far, in order
   pub records : List Rec
@@ -44,7 +43,7 @@ pub record Desk : Type 0 where
   pub words : ℕ
 
 abbrev pub no_one : Known
-no_one = record { setting = record { plan = record { stages = []; limits = [] }; callers = 0 }; caller = 0; seen = []; looks = 0 }
+no_one = record { setting = record { plan = record { stages = []; limits = [] }; callers = 0 }; caller = 0; seen = []; looks = [] }
 
 abbrev pub known_of : List Known → Known
 known_of [] = no_one
@@ -57,12 +56,20 @@ pub record AddedByOther (p q : Pass) : Type 0 where
   pub event : IsEventOf p.known.setting found
   pub other : own p.known.caller (found ∷ []) ≡ []
 
--- the pass has seen more events, of other callers alone
+-- the pass is of this desk
+abbrev pub IsOf : Desk → Pass → Type 0
+IsOf d p = (p.table ≡ d.table) × (p.known.setting ≡ d.setting)
+
+abbrev pub IsBetween : ℕ → ℕ → ℕ → Type 0
+IsBetween low high n = (low ≤ n) × (n ≤ high)
+
+-- the pass has seen more events, of other callers alone, and looked at more places from what it had seen to what it has
 pub record Follows (p q : Pass) : Type 0 where
   pub now : List Event
-  pub looks : ℕ
-  pub is : q ≡ record p { known = record p.known { seen = now; looks = looks } }
+  pub more : List ℕ
+  pub is : q ≡ record p { known = record p.known { seen = now; looks = p.known.looks ++ more } }
   pub caught : Catches p.known.caller p.known.seen now
+  pub between : All (IsBetween (length p.known.seen) (length now)) more
 
 -- the state of what a pass has seen
 abbrev pub state_of : Known → State
@@ -80,12 +87,13 @@ pub record Acts (p : Pass) (call : Call) (reply : Reply) (q : Pass) : Type 0 whe
   pub is : q ≡ record p { known = record p.known { seen = before ++ event_by p.known.caller call ∷ [] }; records = p.records ++ Did (length before + 1) call reply ∷ [] }
   pub replied : reply ≡ (answered (state_from p.known.setting.plan before) (event_by p.known.caller call)).0
 
--- the pass has seen more events of other callers, and recorded what it was told of the state after them
+-- the pass has seen more events of other callers, looked, and recorded what it was told of the state after them
 pub record Reads (p : Pass) (ask : Ask) (answer : Told) (q : Pass) : Type 0 where
   pub now : List Event
-  pub looks : ℕ
+  pub more : List ℕ
   pub caught : Catches p.known.caller p.known.seen now
-  pub is : q ≡ record p { known = record p.known { seen = now; looks = looks }; records = p.records ++ Saw (length now) ask answer ∷ [] }
+  pub between : All (IsBetween (length p.known.seen) (length now)) more
+  pub is : q ≡ record p { known = record p.known { seen = now; looks = p.known.looks ++ more }; records = p.records ++ Saw (length now) ask answer ∷ [] }
   pub told_is : answer ≡ told (state_from p.known.setting.plan now) ask
 
 -- the same of a join, which asks for the stage's outcome
@@ -131,11 +139,12 @@ abbrev pub knowns : List Pass → List Known
 knowns ps = map (λ (p : Pass). p.known) ps
 
 -- the history is the longest list that one of these passes has seen, each other list begins it, and each caller has one of them
-pub record Closes (setting : Setting) (passes : List Pass) (history : List Event) : Type 0 where
+pub record Closes (d : Desk) (passes : List Pass) (history : List Event) : Type 0 where
   pub longest : history ≡ longest (knowns passes)
   pub begins : All (λ (p : Pass). Catches p.known.caller p.known.seen history) passes
-  pub events : All (IsEventOf setting) history
-  pub each : (c : ℕ) → c < setting.callers → count_in c (knowns passes) ≡ 1
+  pub events : All (IsEventOf d.setting) history
+  pub each : (c : ℕ) → c < d.setting.callers → count_in c (knowns passes) ≡ 1
+  pub room : length history ≤ d.words
 
 -- the same pass, of the same desk
 abbrev pub IsSamePass : Pass → Pass → Type 0
@@ -155,11 +164,31 @@ pub record IsLatest (first : Planned) (most : ℕ) (s : State) (ks : List Known)
   pub one : IsOneOf first plan seen ks
   pub short : AllShort most ks
 
--- of the pass, as many looks more met an empty next word, or what it has seen fills the log
-abbrev pub HasLooked : ℕ → Pass → Pass → Desk → Type 0
-HasLooked n p q d = (p.known.looks + n ≤ q.known.looks) ⊎ (d.words ≤ length q.known.seen)
+-- what the pass has seen fills the log
+abbrev pub SeesFull : Desk → Pass → Type 0
+SeesFull d p = length p.known.seen ≡ d.words
 
--- a join made all its looks where it found the stage unsettled, and one at least
-abbrev pub LookedFor : Joined → ℕ → Pass → Pass → Desk → Type 0
-LookedFor NotYet looks p q d = HasLooked looks p q d
-LookedFor answer looks p q d = HasLooked 1 p q d
+-- a look: it met an empty word behind all that the pass has seen, or that fills the log and there is no word to look at
+abbrev pub IsLook : Desk → Pass → List ℕ → Type 0
+IsLook d p look = (look ≡ length p.known.seen ∷ []) ⊎ ((look ≡ []) × SeesFull d p)
+
+-- the pass looked once
+pub record LooksOnce (d : Desk) (p q : Pass) : Type 0 where
+  pub look : List ℕ
+  pub is : q.known.looks ≡ p.known.looks ++ look
+  pub last : IsLook d q look
+
+-- at this place in what the pass has seen the stage wasn't settled
+abbrev pub IsUnsettledAt : Pass → ℕ → ℕ → Type 0
+IsUnsettledAt p stage place = (place ≤ length p.known.seen) × (outcome_at (state_at p.known.setting.plan p.known.seen place) stage ≡ None)
+
+-- The pass looked so many times at most, the last time at all that it has seen. Each earlier look found the stage unsettled, and
+-- where the last one did too, it was the last of so many, or what was seen fills the log.
+pub record LooksFor (d : Desk) (stage most : ℕ) (p q : Pass) : Type 0 where
+  pub earlier : List ℕ
+  pub look : List ℕ
+  pub is : q.known.looks ≡ p.known.looks ++ earlier ++ look
+  pub unsettled : All (IsUnsettledAt q stage) earlier
+  pub last : IsLook d q look
+  pub at_most : length earlier + length look ≤ most
+  pub all : outcome_at (state_of q.known) stage ≡ None → (length earlier + length look ≡ most) ⊎ SeesFull d q

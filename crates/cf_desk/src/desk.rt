@@ -8,7 +8,7 @@ ghost use Rattle.std.specs.Prelude.{◌≡◌, ◌<◌, ◌≤◌, ◌↔◌, Al
 ghost use Rattle.cf_plan.specs.Plans.{function_at};
 ghost use Rattle.cf_core.specs.States.{start};
 ghost use Rattle.cf_desk.specs.Faults.{IsDueToOpen};
-ghost use Rattle.cf_desk.specs.Views.{opened};
+ghost use Rattle.cf_desk.specs.Views.{IsOf, opened};
 
 use crate::calls::Kept;
 use crate::faults::OpenFault;
@@ -56,7 +56,8 @@ impl Desk {
         calls: u16,
     ) -> Result<(Desk, Vec<Pass>), OpenFault>
         ensures opened { IfOk result (λ r. (r.0.setting ≡ record { plan = plan; callers = callers }) × (r.0.words ≡ log) × (r.1.items ≡ opened r.0.table r.0.setting calls)) }
-        ensures passes { IfOk result (λ r. All (λ p. p.table ≡ r.0.table) r.1.items × (vec_len r.1 ≡ callers)) }
+        ensures passes { IfOk result (λ r. All (IsOf r.0) r.1.items × (vec_len r.1 ≡ callers)) }
+        ensures table { IfOk result (λ r. All (λ p. p.table ≡ r.0.table) r.1.items × (r.0.table.words ≡ log)) }
         ensures counts { IfOk result (λ r. (0 < callers) × (callers ≤ 64) × (0 < log) × (0 < calls)) }
         ensures fault { IfErr result (IsDueToOpen callers log calls) }
     {
@@ -92,7 +93,7 @@ impl Desk {
 
     /// How many words the log has, filled or empty.
     pub fn words(&self) -> u16
-        ensures { (result ≡ self.now.words) × (0 < result) }
+        ensures { (result ≡ self.now.words) × (result ≡ self.now.table.words) × (0 < result) }
     {
         self.words
     }

@@ -47,7 +47,8 @@ impl Pass {
 
     /// How many events it has seen.
     pub fn seen(&self) -> u16
-        ensures { result ≡ length self.now.known.seen }
+        ensures seen { result ≡ length self.now.known.seen }
+        ensures few { result ≤ self.now.table.words }
     {
         self.count
     }

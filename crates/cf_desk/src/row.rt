@@ -26,8 +26,8 @@ pub struct Known {
     pub caller: u8,
     /// The events that it has seen, from the first on.
     pub seen: LinkedList<Event>,
-    /// How often it looked and found the next word empty.
-    pub looks: u64,
+    /// The looks that met an empty next word: of each, how many events the pass had seen by then.
+    pub looks: LinkedList<u16>,
 }
 
 /// What a seat knows: for each pass that it stands for, what that pass knows.

@@ -1,6 +1,7 @@
 //! The call that changes the graph.
-ghost use Rattle.std.specs.Prelude.{◌≡◌, IfErr, IfOk, OnErr};
+ghost use Rattle.std.specs.Prelude.{◌≡◌, ◌⊎◌, IfErr, IfOk, OnErr};
 ghost use Rattle.cf_desk.specs.Calls.{event_by};
+ghost use Rattle.cf_desk.specs.declared.faults.DeskFault.TheVariants.{LogFull};
 ghost use Rattle.cf_desk.specs.Faults.{HasRoom, IsDue, IsOnStage};
 ghost use Rattle.cf_desk.specs.Views.{Acts, Follows, IsSamePass};
 
@@ -19,6 +20,8 @@ impl Desk {
         ensures done { IfOk result (λ reply. Acts p.old c reply p.new) }
         ensures due { IfOk result (λ reply. IsOnStage p.old (event_by p.old.known.caller c) × HasRoom p.old) }
         ensures refused { OnErr result (Follows p.old p.new) }
+        ensures looks { p.new.known.looks ≡ p.old.known.looks }
+        ensures unseen { IfErr result (λ fault. (fault ≡ LogFull) ⊎ (p.new ≡ p.old)) }
         ensures fault { IfErr result (IsDue p.new self.now (event_by p.old.known.caller c)) }
     {
         if !p.takes(c) {

@@ -23,7 +23,7 @@ impl Desk {
     pub fn close(self, passes: Vec<Pass>) -> Result<Closed, CloseFault>
         requires table { All (λ p. p.table ≡ self.table) passes.items }
         requires all { vec_len passes ≡ self.setting.callers }
-        ensures history { IsOkAnd result (λ closed. Closes self.setting passes.items closed.history.items) }
+        ensures history { IsOkAnd result (λ closed. Closes self passes.items closed.history.items) }
         ensures passes { IsOkAnd result (λ closed. AreKept closed.passes.items passes.items) }
         ensures fit { IsOkAnd result (λ closed. AllFit self.setting.plan closed.history.items (map pass_kept closed.passes.items)) }
         ensures graph { IsOkAnd result (λ closed. closed.graph.state ≡ state_from self.setting.plan closed.history.items) }

@@ -1,9 +1,9 @@
 //! The calls that look, and the one by which two passes tell each other what they have seen.
-ghost use Rattle.std.specs.Prelude.{◌≡◌, ◌<◌, IfErr, IfOk, None, OnErr, OnOk, length};
+ghost use Rattle.std.specs.Prelude.{◌≡◌, ◌<◌, IfErr, IfOk, OnErr, OnOk, length};
 ghost use Rattle.cf_core.specs.declared.asks.Ask.TheVariants.{Outcome as AsksOutcome};
-ghost use Rattle.cf_core.specs.States.{lowest_ready_of, outcome_at};
+ghost use Rattle.cf_core.specs.States.{lowest_ready_of};
 ghost use Rattle.cf_desk.specs.Faults.{AsksStage, HasRoom, IsDueToRead};
-ghost use Rattle.cf_desk.specs.Views.{Follows, HasLooked, IsSamePass, Joins, LookedFor, Meets, Reads, state_of};
+ghost use Rattle.cf_desk.specs.Views.{Follows, IsSamePass, Joins, LooksFor, LooksOnce, Meets, Reads, state_of};
 
 use crate::calls::Joined;
 use crate::desk::Desk;
@@ -18,7 +18,7 @@ impl Desk {
         requires { p.old.table ≡ self.now.table }
         ensures same { IsSamePass p.old p.new }
         ensures told { IfOk result (λ told. Reads p.old a told p.new) }
-        ensures looks { OnOk result (HasLooked 1 p.old p.new self.now) }
+        ensures looks { OnOk result (LooksOnce self.now p.old p.new) }
         ensures due { OnOk result (AsksStage p.old a × HasRoom p.old) }
         ensures refused { OnErr result (p.new ≡ p.old) }
         ensures fault { IfErr result (IsDueToRead p.old a) }
@@ -40,7 +40,7 @@ impl Desk {
         requires looks { 0 < looks }
         ensures same { IsSamePass p.old p.new }
         ensures told { IfOk result (λ answer. Joins p.old stage answer p.new) }
-        ensures looks { IfOk result (λ answer. LookedFor answer looks p.old p.new self.now) }
+        ensures looks { OnOk result (LooksFor self.now stage looks p.old p.new) }
         ensures due { OnOk result (AsksStage p.old (AsksOutcome stage) × HasRoom p.old) }
         ensures refused { OnErr result (p.new ≡ p.old) }
         ensures fault { IfErr result (IsDueToRead p.old (AsksOutcome stage)) }
@@ -60,7 +60,7 @@ impl Desk {
         requires { p.old.table ≡ self.now.table }
         ensures seen { Follows p.old p.new }
         ensures told { result ≡ lowest_ready_of (state_of p.new.known) }
-        ensures looks { HasLooked 1 p.old p.new self.now }
+        ensures looks { LooksOnce self.now p.old p.new }
     {
         self.catch_others(p);
         p.lowest_ready()
@@ -86,8 +86,7 @@ impl Desk {
         requires stage { stage < length p.old.known.setting.plan.stages }
         requires looks { 0 < looks }
         ensures seen { Follows p.old p.new }
-        ensures once { HasLooked 1 p.old p.new self.now }
-        ensures unsettled { outcome_at (state_of p.new.known) stage ≡ None → HasLooked looks p.old p.new self.now }
+        ensures looks { LooksFor self.now stage looks p.old p.new }
     {
         'looks: for _ in 0..looks {
             self.catch_others(p);
@@ -101,7 +100,7 @@ impl Desk {
     fn catch_others(&self, p: &mut Pass)
         requires { p.old.table ≡ self.now.table }
         ensures seen { Follows p.old p.new }
-        ensures looks { HasLooked 1 p.old p.new self.now }
+        ensures looks { LooksOnce self.now p.old p.new }
     {
         let words = self.words();
         'next: while p.seen() < words {
