@@ -1,7 +1,7 @@
 -- What the last seat shows, where it stands for every pass.
 use Rattle.cf_plan.specs.Plans.{Planned}
 use Rattle.std.proofs.Common.{◌≡◌, ℕ, zero, suc, ◌+◌, ◌-◌, ◌<◌, ◌≤◌, ◌≢◌, ◌⊎◌, Bool, true, false, eqb, leb, ⊎_elim, length-append, eq-eqb, ne_eqb, Option, Some, None, List, [], ◌∷◌, ◌++◌, map, length, replicate, All, sym, refl, drop, ap, ◌∙◌, subst, append-nil, arith}
-use Rattle.std.proofs.lemmas.List.Elements.{All-nil, All-cons, All-head, All-tail}
+use Rattle.std.proofs.lemmas.List.Elements.{All-nil, All-cons, All-head, All-tail, All-weaker}
 use mathlib.Core.Logic.{dite}
 use native.Mathlib.Decide.{ℕ_discrete}
 use mathlib.Core.Option.{some, some-injective, some-ne-none}
@@ -18,13 +18,13 @@ use Rattle.cf_desk.specs.declared.row.Setting.{Setting}
 use Rattle.cf_desk.specs.declared.row.Terms.{Terms}
 use Rattle.cf_desk.specs.declared.row.Known.{Known}
 use Rattle.cf_core.specs.States.{State as Copy, start}
-use Rattle.cf_event.specs.Words.{IsEvent, who_of}
+use Rattle.cf_event.specs.Words.{IsEvent, who_of, word_of}
 use Rattle.cf_event.specs.Decoding.{decoded, decoded_with, event_of}
 use Rattle.cf_event.proofs.WordLemmas.{decoded_words}
 use Rattle.cf_desk.specs.Log.{own, IsEventOf, Catches, state_from}
 use Rattle.cf_desk.specs.Records.{Fits}
 use Rattle.cf_desk.specs.Rule.{AllStand, weight, count_in, IsRow, RowKept, holds, longer_if, longest, with_seen, level, AllCatch, AllShort, blank, fresh, first, head_of, rest_of}
-use Rattle.cf_desk.specs.Views.{Pass, knowns, Closes, IsOneOf, IsLatest, new_pass, known_of}
+use Rattle.cf_desk.specs.Views.{Pass, Desk, knowns, Closes, IsOneOf, IsLatest, IsOf, new_pass, opened, known_of}
 use Rattle.cf_desk.specs.Keepings.{IsFit, IsKeptFit, AllFit, pass_did}
 use Rattle.std.specs.List.{Contains}
 use Rattle.cf_desk.specs.Desks.{Agrees}
@@ -215,14 +215,21 @@ latest_whole t log most s v stand catch l =
     l.state ∙ (λ i. state_from (b.0 i) (is i))
 
 -- what the last seat shows
-pub record Shown (t : Setting) (ps : List Pass) (most : ℕ) (copy : Copy) (history : List Event) : Type 0 where
-  pub closes : Closes t ps history
-  pub fit : AllFit t.plan history (map pass_did ps)
-  pub latest : copy ≡ state_from t.plan history
+pub record Shown (d : Desk) (ps : List Pass) (most : ℕ) (copy : Copy) (history : List Event) : Type 0 where
+  pub closes : Closes d ps history
+  pub fit : AllFit d.setting.plan history (map pass_did ps)
+  pub latest : copy ≡ state_from d.setting.plan history
 
-pub shows : {S : Type 0} (t : Terms) (words : List ℕ) (slots : List S) (id : ℕ) (ps : List Pass) (most : ℕ) (copy : Copy) → length ps ≡ t.setting.callers → All IsFit ps → IsLatest t.setting.plan most copy (knowns ps)
-    → Final (Seen (holds {S = S} t) id (knowns ps)) words slots → Shown t.setting ps most copy (decoded words)
-shows t words slots id ps most copy all fit latest f =
+row_room : (t : Terms) (log : List Event) (words : List ℕ) → IsRow t log words → length log ≤ t.words
+row_room t log words r = let l = r.room in let w = ap length r.words_are in omega (arith, length-append (map word_of log) (replicate r.free 0), length-map log word_of, length-replicate {A = ℕ} r.free 0)
+
+-- the desk of a row
+abbrev pub desk_of : TableId → Terms → Desk
+desk_of z t = record { table = z; setting = t.setting; words = t.words }
+
+pub shows : {S : Type 0} (z : TableId) (t : Terms) (words : List ℕ) (slots : List S) (id : ℕ) (ps : List Pass) (most : ℕ) (copy : Copy) → length ps ≡ t.setting.callers → All IsFit ps → IsLatest t.setting.plan most copy (knowns ps)
+    → Final (Seen (holds {S = S} t) id (knowns ps)) words slots → Shown (desk_of z t) ps most copy (decoded words)
+shows z t words slots id ps most copy all fit latest f =
     let s = f.0 in
     let h = f.1.0 in
     let at = f.1.1 in
@@ -232,18 +239,18 @@ shows t words slots id ps most copy all fit latest f =
     let w = whole t s.words s.views h id v at len in
     let each = each_there t s.words s.views h id v at len in
     let is : decoded words ≡ longest v = ap decoded (sym f.2) ∙ decoded_log t (longest v) s.words w.0 in
-    subst (Shown t.setting ps most copy) (sym is) (record {
-      closes = record { longest = refl; begins = begins_all (longest v) ps w.1; events = w.0.events; each = each };
+    subst (Shown (desk_of z t) ps most copy) (sym is) (record {
+      closes = record { longest = refl; begins = begins_all (longest v) ps w.1; events = w.0.events; each = each; room = row_room t (longest v) s.words w.0 };
       fit = record { each = fits_all t.setting h.log (longest v) ps stand w.1 fit; owned = owned_all t.setting ps each (longest v) w.0.events };
       latest = latest_whole t.setting h.log most copy v stand w.1 latest;
     })
 
-pub shown_as : (t : Terms) (words : List ℕ) (slots : List ℕ) (id : ℕ) (v : List Known) (ps : List Pass) (setting : Setting) (first : Planned) (most : ℕ) (copy : Copy) (history : List Event) → t.setting ≡ setting → first ≡ setting.plan → v ≡ knowns ps → length ps ≡ setting.callers → All IsFit ps
-    → IsLatest first most copy (knowns ps) → history ≡ decoded words → Final (Seen (holds {S = ℕ} t) id v) words slots → Shown setting ps most copy history
-shown_as t words slots id v ps setting first most copy history key plan is all fit latest read f =
-    subst (Shown setting ps most copy) (sym read) (subst (λ (x : Setting). Shown x ps most copy (decoded words)) key
-    (shows {S = ℕ} t words slots id ps most copy (all ∙ ap (λ (x : Setting). x.callers) (sym key)) fit
-    (subst (λ (x : Planned). IsLatest x most copy (knowns ps)) (plan ∙ ap (λ (x : Setting). x.plan) (sym key)) latest)
+pub shown_as : (z : TableId) (t : Terms) (words : List ℕ) (slots : List ℕ) (id : ℕ) (v : List Known) (ps : List Pass) (d : Desk) (first : Planned) (most : ℕ) (copy : Copy) (history : List Event) → desk_of z t ≡ d → first ≡ d.setting.plan → v ≡ knowns ps → length ps ≡ d.setting.callers → All IsFit ps
+    → IsLatest first most copy (knowns ps) → history ≡ decoded words → Final (Seen (holds {S = ℕ} t) id v) words slots → Shown d ps most copy history
+shown_as z t words slots id v ps d first most copy history desk plan is all fit latest read f =
+    subst (Shown d ps most copy) (sym read) (subst (λ (x : Desk). Shown x ps most copy (decoded words)) desk
+    (shows {S = ℕ} z t words slots id ps most copy (all ∙ ap (λ (x : Desk). x.setting.callers) (sym desk)) fit
+    (subst (λ (x : Planned). IsLatest x most copy (knowns ps)) (plan ∙ ap (λ (x : Desk). x.setting.plan) (sym desk)) latest)
     (subst (λ (u : List Known). Final (Seen (holds {S = ℕ} t) id u) words slots) is f)))
 
 pub new_one : (n : Setting) (c : ℕ) (seat mine : Me ℕ (List Known)) → c < n.callers → seat ≡ (fresh n c (n.callers - c), []) → mine ≡ (head_of seat.0, []) → mine ≡ (blank n c ∷ [], [])
@@ -266,10 +273,10 @@ split_next z n c calls seat new mine passes now pass lt s e m p w is =
           ∙ sym (map-append (new_pass z calls) (fresh n 0 c) (blank n c ∷ [])) ∙ ap (map (new_pass z calls)) (ap (λ (x : ℕ). fresh n 0 c ++ blank n x ∷ []) (let o : c ≡ 0 + c = omega arith in o) ∙ sym (fresh_snoc n 0 c) ∙ ap (λ (x : ℕ). fresh n 0 x) (let o : suc c ≡ c + 1 = omega arith in o)),
     )
 
--- the passes of a new desk are of its table, one for each caller
-pub opened_there : (z : TableId) (calls : ℕ) (ks : List Known) → All (λ (p : Pass). p.table ≡ z) (map (new_pass z calls) ks)
-opened_there z calls [] = All-nil (λ (p : Pass). p.table ≡ z)
-opened_there z calls (k ∷ ks) = All-cons (λ (p : Pass). p.table ≡ z) (new_pass z calls k) (map (new_pass z calls) ks) refl (opened_there z calls ks)
+-- the passes of a new desk are its own, one for each caller
+fresh_of : (d : Desk) (calls c n : ℕ) → All (IsOf d) (map (new_pass d.table calls) (fresh d.setting c n))
+fresh_of d calls c zero = All-nil (IsOf d)
+fresh_of d calls c (suc n) = All-cons (IsOf d) (new_pass d.table calls (blank d.setting c)) (map (new_pass d.table calls) (fresh d.setting (suc c) n)) (refl, refl) (fresh_of d calls (suc c) n)
 
 length_fresh : (n : Setting) (c m : ℕ) → length (fresh n c m) ≡ m
 length_fresh n c zero = refl
@@ -278,6 +285,11 @@ length_fresh n c (suc m) = let r = length_fresh n (suc c) m in omega arith
 pub opened_count : (z : TableId) (n : Setting) (calls : ℕ) → length (map (new_pass z calls) (fresh n 0 n.callers)) ≡ n.callers
 opened_count z n calls = length-map (fresh n 0 n.callers) (new_pass z calls) ∙ length_fresh n 0 n.callers
 
-pub opened_all : (z : TableId) (n : Setting) (calls callers : ℕ) (items : List Pass) → items ≡ map (new_pass z calls) (fresh n 0 n.callers) → n.callers ≡ callers → All (λ (p : Pass). p.table ≡ z) items × (length items ≡ callers)
-opened_all z n calls callers items is count =
-    (subst (All (λ (p : Pass). p.table ≡ z)) (sym is) (opened_there z calls (fresh n 0 n.callers)), ap length is ∙ opened_count z n calls ∙ count)
+pub opened_of : (d : Desk) (calls : ℕ) (items : List Pass) → items ≡ opened d.table d.setting calls → All (IsOf d) items
+opened_of d calls items is = subst (All (IsOf d)) (sym is) (fresh_of d calls 0 d.setting.callers)
+
+pub opened_there : (d : Desk) (calls : ℕ) (items : List Pass) → items ≡ opened d.table d.setting calls → All (λ (p : Pass). p.table ≡ d.table) items
+opened_there d calls items is = All-weaker (IsOf d) (λ (p : Pass). p.table ≡ d.table) (λ p h. h.0) items (opened_of d calls items is)
+
+pub opened_all : (d : Desk) (calls callers : ℕ) (items : List Pass) → items ≡ opened d.table d.setting calls → d.setting.callers ≡ callers → length items ≡ callers
+opened_all d calls callers items is count = ap length is ∙ opened_count d.table d.setting calls ∙ count

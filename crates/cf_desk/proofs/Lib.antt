@@ -4,6 +4,7 @@ pub mod Meets
 pub mod Recs
 pub mod Closing
 pub mod Passes
+pub mod Looks
 pub mod Gathers
 pub mod Histories
 pub mod RowLemmas

@@ -2,7 +2,8 @@
 use Rattle.cf_plan.specs.Plans.{Planned}
 use Rattle.std.proofs.Common.{◌≡◌, ℕ, zero, suc, ◌+◌, ◌<◌, ◌≤◌, ◌⊎◌, inl, inr, ⊎_elim, eqb, leb, leb-true, leb-false, max, Bool, true, false, Option, Some, List, [], ◌∷◌, ◌++◌, length, sym, refl, ap, ◌∙◌, subst, append-nil, append_assoc, length-append, take, slice_get, arith}
 use Rattle.std.proofs.lemmas.Option.{none-some}
-use Rattle.std.proofs.lemmas.List.Elements.{filter-append}
+use Rattle.std.specs.List.{All}
+use Rattle.std.proofs.lemmas.List.Elements.{All-nil, All-push, All-append, All-weaker, filter-append}
 use mathlib.Core.Option.{none}
 use prog.Atomic.{either}
 use Rattle.atomic_table.specs.Table.{Me, step, Allows}
@@ -28,7 +29,7 @@ use Rattle.cf_desk.specs.Log.{own, IsEventOf, state_from, Catches}
 use Rattle.cf_desk.specs.Calls.{event_by, joined}
 use Rattle.cf_desk.specs.Records.{Fits}
 use Rattle.cf_desk.specs.Rule.{holds, saw, looked, looks_next, adds_next, finds, longer_if, longest, with_seen, level, AllCatch, head_of, rest_of}
-use Rattle.cf_desk.specs.Views.{known_of, Pass, IsSamePass, state_of, AddedByOther, AddedOwn, Follows, Acts, Reads, Joins, HasLooked, Desk, IsOne, Levelled, longer_of}
+use Rattle.cf_desk.specs.Views.{known_of, Pass, IsSamePass, state_of, AddedByOther, AddedOwn, IsBetween, Follows, Acts, Reads, Joins, IsOne, Levelled, longer_of}
 use Rattle.cf_desk.specs.Desks.{Agrees}
 use Rattle.cf_desk.proofs.Recs.{own_call, state_snoc, plan_stays, fits_more, fits_did, fits_saw}
 use Rattle.cf_desk.proofs.Keeps.{looks, adds, same_some}
@@ -116,14 +117,24 @@ one_new c before now e h other = record {
   none = filter-append (λ x. eqb (who_of x) c) h.others (e ∷ []) ∙ (rw (h.none, other) refl);
 }
 
+wider : (low low' high high' : ℕ) (xs : List ℕ) → low' ≤ low → high ≤ high' → All (IsBetween low high) xs → All (IsBetween low' high') xs
+wider low low' high high' xs down up h = All-weaker (IsBetween low high) (IsBetween low' high') (λ x b. (let l = b.0 in omega arith, let g = b.1 in omega arith)) xs h
+
+caught_longer : (c : ℕ) (before now : List Event) → Catches c before now → length before ≤ length now
+caught_longer c before now h = let len = ap length h.joined in omega (arith, length-append before h.others)
+
+pub no_looks : (p : Pass) → p ≡ record p { known = record p.known { looks = p.known.looks ++ [] } }
+no_looks p = ap (λ (l : List ℕ). record p { known = record p.known { looks = l } }) (sym (append-nil p.known.looks))
+
 pub follows_itself : (p : Pass) → Follows p p
-follows_itself p = record { now = p.known.seen; looks = p.known.looks; is = refl; caught = none_new p.known.caller p.known.seen }
+follows_itself p = record { now = p.known.seen; more = []; is = no_looks p; caught = none_new p.known.caller p.known.seen; between = All-nil (IsBetween (length p.known.seen) (length p.known.seen)) }
 
 pub follows_more : (p q r : Pass) → Follows p q → AddedByOther q r → Follows p r
 follows_more p q r f a =
-    let k : q.known ≡ record p.known { seen = f.now; looks = f.looks } = ap (λ (h : Pass). h.known) f.is in record {
+    let k : q.known ≡ record p.known { seen = f.now; looks = p.known.looks ++ f.more } = ap (λ (h : Pass). h.known) f.is in record {
       now = f.now ++ a.found ∷ [];
-      looks = f.looks;
+      more = f.more;
+      between = wider (length p.known.seen) (length p.known.seen) (length f.now) (length (f.now ++ a.found ∷ [])) f.more (omega arith) (omega (arith, length-append f.now (a.found ∷ []))) f.between;
       is = a.is ∙ ap (λ (h : Pass). record h { known = saw h.known a.found }) f.is;
       caught = one_new p.known.caller p.known.seen f.now a.found f.caught (ap (λ (x : Known). own x.caller (a.found ∷ [])) (sym k) ∙ a.other);
     }
@@ -134,18 +145,27 @@ looks_same q r a = ap (λ (h : Pass). h.known.looks) a.is
 pub follows_looked : (p q r : Pass) → Follows p q → r ≡ record q { known = looked q.known } → Follows p r
 follows_looked p q r f e = record {
   now = f.now;
-  looks = f.looks + 1;
-  is = e ∙ ap (λ (h : Pass). record h { known = looked h.known }) f.is;
+  more = f.more ++ length f.now ∷ [];
+  is = e ∙ ap (λ (h : Pass). record h { known = looked h.known }) f.is
+      ∙ ap (λ (l : List ℕ). record p { known = record p.known { seen = f.now; looks = l } }) (append_assoc p.known.looks f.more (length f.now ∷ []));
   caught = f.caught;
+  between = All-push (IsBetween (length p.known.seen) (length f.now)) f.more (length f.now) f.between (caught_longer p.known.caller p.known.seen f.now f.caught, omega arith);
 }
 
 pub follows_then : (p q r : Pass) → Follows p q → Follows q r → Follows p r
 follows_then p q r f g =
-    let k : q.known ≡ record p.known { seen = f.now; looks = f.looks } = ap (λ (h : Pass). h.known) f.is in
-    let caught : Catches p.known.caller f.now g.now = subst (λ (x : Known). Catches x.caller x.seen g.now) k g.caught in record {
+    let k : q.known ≡ record p.known { seen = f.now; looks = p.known.looks ++ f.more } = ap (λ (h : Pass). h.known) f.is in
+    let caught : Catches p.known.caller f.now g.now = subst (λ (x : Known). Catches x.caller x.seen g.now) k g.caught in
+    let between : All (IsBetween (length f.now) (length g.now)) g.more = subst (λ (x : Known). All (IsBetween (length x.seen) (length g.now)) g.more) k g.between in
+    let low = caught_longer p.known.caller p.known.seen f.now f.caught in
+    let high = caught_longer p.known.caller f.now g.now caught in record {
       now = g.now;
-      looks = g.looks;
-      is = g.is ∙ ap (λ (h : Pass). record h { known = record h.known { seen = g.now; looks = g.looks } }) f.is;
+      more = f.more ++ g.more;
+      is = g.is ∙ ap (λ (h : Pass). record h { known = record h.known { seen = g.now; looks = h.known.looks ++ g.more } }) f.is
+          ∙ ap (λ (l : List ℕ). record p { known = record p.known { seen = g.now; looks = l } }) (append_assoc p.known.looks f.more g.more);
+      between = All-append (IsBetween (length p.known.seen) (length g.now)) f.more g.more
+          (wider (length p.known.seen) (length p.known.seen) (length f.now) (length g.now) f.more (omega arith) high f.between)
+          (wider (length f.now) (length p.known.seen) (length g.now) (length g.now) g.more low (omega arith) between);
       caught = record {
         others = f.caught.others ++ caught.others;
         joined = caught.joined ∙ ap (λ l. l ++ caught.others) f.caught.joined ∙ append_assoc p.known.seen f.caught.others caught.others;
@@ -155,23 +175,24 @@ follows_then p q r f g =
 
 pub acts_then : (p q r : Pass) (call : Call) (reply : Reply) → Follows p q → q.known.looks ≡ p.known.looks → AddedOwn q call reply r → Acts p call reply r
 acts_then p q r call reply f same a =
-    let k : q.known ≡ record p.known { seen = f.now; looks = f.looks } = ap (λ (h : Pass). h.known) f.is in
-    let l : f.looks ≡ p.known.looks = ap (λ (x : Known). x.looks) (sym k) ∙ same in record {
+    let k : q.known ≡ record p.known { seen = f.now; looks = p.known.looks ++ f.more } = ap (λ (h : Pass). h.known) f.is in
+    let l : p.known.looks ++ f.more ≡ p.known.looks = ap (λ (x : Known). x.looks) (sym k) ∙ same in record {
       before = f.now;
       caught = f.caught;
       is = a.is ∙ ap (λ (h : Pass). record h { known = saw h.known (event_by h.known.caller call); records = h.records ++ Did (length h.known.seen + 1) call reply ∷ [] }) f.is
-          ∙ ap (λ (n : ℕ). record p { known = record p.known { seen = f.now ++ event_by p.known.caller call ∷ []; looks = n }; records = p.records ++ Did (length f.now + 1) call reply ∷ [] }) l;
+          ∙ ap (λ (n : List ℕ). record p { known = record p.known { seen = f.now ++ event_by p.known.caller call ∷ []; looks = n }; records = p.records ++ Did (length f.now + 1) call reply ∷ [] }) l;
       replied = a.replied ∙ ap (λ (x : Known). (answered (state_of x) (event_by x.caller call)).0) k;
     }
 
 pub reads_then : (p q r : Pass) (ask : Ask) (answer : Told) → Follows p q → Reads q ask answer r → r.known ≡ q.known → Reads p ask answer r
 reads_then p q r ask answer f a same =
-    let k : q.known ≡ record p.known { seen = f.now; looks = f.looks } = ap (λ (h : Pass). h.known) f.is in
+    let k : q.known ≡ record p.known { seen = f.now; looks = p.known.looks ++ f.more } = ap (λ (h : Pass). h.known) f.is in
     let seen : a.now ≡ f.now = ap (λ (h : Pass). h.known.seen) (sym a.is) ∙ ap (λ (x : Known). x.seen) (same ∙ k) in
-    let looks : a.looks ≡ f.looks = ap (λ (h : Pass). h.known.looks) (sym a.is) ∙ ap (λ (x : Known). x.looks) (same ∙ k) in record {
+    let looks : q.known.looks ++ a.more ≡ p.known.looks ++ f.more = ap (λ (h : Pass). h.known.looks) (sym a.is) ∙ ap (λ (x : Known). x.looks) (same ∙ k) in record {
       now = f.now;
-      looks = f.looks;
+      more = f.more;
       caught = f.caught;
+      between = f.between;
       is = a.is ∙ (λ i. record (f.is i) { known = record (f.is i).known { seen = seen i; looks = looks i }; records = (f.is i).records ++ Saw (length (seen i)) ask answer ∷ [] });
       told_is = a.told_is ∙ (λ i. told (state_from (k i).setting.plan (seen i)) ask);
     }
@@ -194,21 +215,11 @@ joins_told p q r stage outcome answer told_as is same read known as_told =
 pub joins_then : (p q r : Pass) (stage : ℕ) (answer : Joined) → Follows p q → Joins q stage answer r → r.known ≡ q.known → Joins p stage answer r
 joins_then p q r stage answer f j same = record { outcome = j.outcome; read = reads_then p q r (AsksOutcome stage) (ToldOutcome j.outcome) f j.read same; answered_so = j.answered_so }
 
--- looks add up
 pub follows_longer : (p q : Pass) → Follows p q → length p.known.seen ≤ length q.known.seen
 follows_longer p q f =
-    let now : q.known.seen ≡ p.known.seen ++ f.caught.others = ap (λ (h : Pass). h.known.seen) f.is ∙ f.caught.joined in
-    let len = ap length now in
-    omega (arith, length-append p.known.seen f.caught.others)
-
-pub looked_more : (n m : ℕ) (p q r : Pass) (d : Desk) → Follows q r → HasLooked n p q d → HasLooked m q r d → HasLooked (n + m) p r d
-looked_more n m p q r d f (inl a) (inl b) = inl (omega arith)
-looked_more n m p q r d f (inl a) (inr b) = inr b
-looked_more n m p q r d f (inr a) b = inr (let longer = follows_longer q r f in omega arith)
-
-pub looked_less : (n m : ℕ) (p q : Pass) (d : Desk) → m ≤ n → HasLooked n p q d → HasLooked m p q d
-looked_less n m p q d le (inl a) = inl (omega arith)
-looked_less n m p q d le (inr a) = inr a
+    let longer = caught_longer p.known.caller p.known.seen f.now f.caught in
+    let len = ap (λ (h : Pass). length h.known.seen) f.is in
+    omega arith
 
 pub short_same : (z z' : TableId) (n : ℕ) → z' ≡ z → n ≤ z.words → n ≤ z'.words
 short_same z z' n e h = subst (λ (x : TableId). n ≤ x.words) (sym e) h

@@ -60,7 +60,7 @@ dids_append c (Did place call reply ∷ rs) qs = ap (λ l. (place, event_by c ca
 dids_append c (Saw place ask answer ∷ rs) qs = dids_append c rs qs
 
 -- an answer stays one while the list grows
-at_still : (plan : Planned) (xs ys : List Event) (p : ℕ) → p ≤ length xs → state_at plan xs p ≡ state_at plan (xs ++ ys) p
+pub at_still : (plan : Planned) (xs ys : List Event) (p : ℕ) → p ≤ length xs → state_at plan xs p ≡ state_at plan (xs ++ ys) p
 at_still plan xs ys p le = ap (state_from plan) (sym (take-append-le p xs ys le))
 
 answered_still : (plan : Planned) (c : ℕ) (xs ys : List Event) (r : Rec) → IsAnswered plan c xs r → IsAnswered plan c (xs ++ ys) r
@@ -105,7 +105,7 @@ fits_did plan c seen rs call reply mine replied f =
       order = did_ordered plan c seen 0 rs (length seen + 1) call reply (omega arith) (omega arith) f.answers f.order;
     }
 
-take_all : (xs : List Event) → take (length xs) xs ≡ xs
+pub take_all : (xs : List Event) → take (length xs) xs ≡ xs
 take_all [] = refl
 take_all (x ∷ xs) = ap (λ l. x ∷ l) (take_all xs)
 

@@ -129,7 +129,8 @@ fn open_with(
     calls: u16,
 ) -> Result<(Desk, Vec<Pass>), AllocError>
     requires counts { (0 < callers) × (callers ≤ 64) × (0 < log) }
-    ensures { IfOk result (λ r. (r.0.setting ≡ record { plan = plan; callers = callers }) × (r.0.words ≡ log) × (r.1.items ≡ opened r.0.table r.0.setting calls)) }
+    ensures words { IfOk result (λ r. r.0.table.words ≡ log) }
+    ensures opened { IfOk result (λ r. (r.0.setting ≡ record { plan = plan; callers = callers }) × (r.0.words ≡ log) × (r.1.items ≡ opened r.0.table r.0.setting calls)) }
 {
     let history = Vec::with_capacity(alloc, log as usize)?;
     let kept = Vec::with_capacity(alloc, callers as usize)?;

@@ -1,5 +1,5 @@
 //! The calls that look, and the one by which two passes tell each other what they have seen.
-ghost use Rattle.std.specs.Prelude.{◌≡◌, ◌<◌, IfErr, IfOk, OnErr, OnOk, length};
+ghost use Rattle.std.specs.Prelude.{◌≡◌, ◌<◌, ◌≤◌, IfErr, IfOk, OnErr, OnOk, length};
 ghost use Rattle.cf_core.specs.declared.asks.Ask.TheVariants.{Outcome as AsksOutcome};
 ghost use Rattle.cf_core.specs.States.{lowest_ready_of};
 ghost use Rattle.cf_desk.specs.Faults.{AsksStage, HasRoom, IsDueToRead};
@@ -100,6 +100,7 @@ impl Desk {
     fn catch_others(&self, p: &mut Pass)
         requires { p.old.table ≡ self.now.table }
         ensures seen { Follows p.old p.new }
+        ensures few { length p.new.known.seen ≤ self.now.words }
         ensures looks { LooksOnce self.now p.old p.new }
     {
         let words = self.words();

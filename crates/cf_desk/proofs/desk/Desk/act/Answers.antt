@@ -1,5 +1,8 @@
-use Rattle.std.proofs.Common.{refl}
-use Rattle.cf_desk.proofs.Passes.{follows_itself}
+use Rattle.std.proofs.Common.{Option, Some, None, ◌≢◌, MatchOption, refl, ◌∙◌}
+use Rattle.cf_core.specs.declared.events.Reply.{Reply}
+use Rattle.cf_desk.specs.declared.calls.Call.{Call}
+use Rattle.cf_desk.specs.Views.{Pass, AddedByOther, AddedOwn}
+use Rattle.cf_desk.proofs.Passes.{follows_itself, follows_more, looks_same}
 use Rattle.cf_desk.proofs.desk.Desk.act.Goals as goal
 
 pub returns-then-left-eq0-clause-refused : goal.returns-then-left-eq0-clause-refused
@@ -10,3 +13,12 @@ next-init c = (follows_itself _, refl)
 
 pub returns-then-not-takes-clause-refused : goal.returns-then-not-takes-clause-refused
 returns-then-not-takes-clause-refused c = follows_itself _
+
+lost : (p q : Pass) (call : Call) (reply : Option Reply) → ((won : Reply) → reply ≢ Some won) → MatchOption reply (AddedByOther p q) (λ won. AddedOwn p call won q) → AddedByOther p q
+lost p q call None none h = h
+lost p q call (Some won) none h = absurd (none won refl)
+
+pub next-preserved : goal.next-preserved
+next-preserved c =
+    let other = lost c.next.p c.add.new.p c.args.c c.add.result c.in_default.not-Some c.add.ensures in
+    (follows_more _ _ _ c.next.invariant.0 other, looks_same _ _ other ∙ c.next.invariant.1)

@@ -1,7 +1,6 @@
 use Rattle.std.proofs.Common.{◌≡◌, length, sym, ap, ◌∙◌, subst, arith}
 use Rattle.cf_desk.specs.Views.{Desk}
 use Rattle.cf_desk.specs.declared.row.Setting.{Setting}
-use Rattle.cf_desk.specs.declared.row.Terms.{Terms}
 use Rattle.cf_core.specs.States.{State}
 use Rattle.cf_desk.specs.Keepings.{AllFit}
 use Rattle.cf_desk.proofs.Closing.{Shown, shown_as}
@@ -11,13 +10,15 @@ use Rattle.cf_desk.proofs.desk.Desk.close.Goals.{After-free}
 pub free-requires : goal.free-requires
 free-requires c = λ k lt. absurd (let n = c.close_with-closed.ensures.counts.1 in let z = c.self.invariant.slots in omega arith)
 
-shown : (c : After-free) → Shown c.args.self.setting c.args.passes.items c.gather-seat.ensures.copy.0 c.gather-seat.result.1.state c.decode_row-history.result.items
+shown : (c : After-free) → Shown c.args.self c.args.passes.items c.gather-seat.ensures.copy.0 c.gather-seat.result.1.state c.decode_row-history.result.items
 shown c =
     let setting = ap (λ (h : Desk). h.setting) c.self.view_is in
     let len : length c.args.passes.items ≡ c.args.self.setting.callers = (let a = c.requires.all in let o = c.args.passes.ok.0 in omega arith) in
     let opening = ap (λ (s : State). s.plan) c.self.invariant.opening in
-    shown_as c.self.inside.table.shared.key _ _ c.gather-seat.result.0.id c.gather-seat.result.0.me.0 c.args.passes.items _ c.self.inside.opening.state.plan _ _ _
-    (ap (λ (t : Terms). t.setting) c.self.invariant.key ∙ setting) (opening ∙ ap (λ (x : Setting). x.plan) setting) (ap (λ m. m.0) c.gather-seat.ensures.seat.1) len c.gather-seat.ensures.fit c.gather-seat.ensures.copy.1 c.decode_row-history.ensures c.close_with-closed.ensures.values.2
+    let key = c.self.invariant.key in
+    let is = (λ i. record { table = c.self.inside.table.shared.table_id; setting = (key i).setting; words = (key i).words }) ∙ c.self.view_is in
+    shown_as c.self.inside.table.shared.table_id c.self.inside.table.shared.key _ _ c.gather-seat.result.0.id c.gather-seat.result.0.me.0 c.args.passes.items c.args.self c.self.inside.opening.state.plan _ _ _
+    is (opening ∙ ap (λ (x : Setting). x.plan) setting) (ap (λ m. m.0) c.gather-seat.ensures.seat.1) len c.gather-seat.ensures.fit c.gather-seat.ensures.copy.1 c.decode_row-history.ensures c.close_with-closed.ensures.values.2
 
 pub returns-clause-history : goal.returns-clause-history
 returns-clause-history c = (shown (goal.at.returns-clause-history c).After-free).closes

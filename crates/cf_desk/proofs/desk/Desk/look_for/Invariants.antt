@@ -1,8 +1,9 @@
-use Rattle.cf_desk.specs.Views.{Follows, HasLooked}
+use Rattle.cf_desk.specs.Views.{Follows}
+use Rattle.cf_desk.proofs.Looks.{LooksInVain}
 use Rattle.cf_desk.proofs.desk.Desk.look_for.Given as goal
 
 abbrev pub invariant-looks : goal.invariant-looks
 invariant-looks l = record {
   seen : Follows l.initial.p l.p;
-  looks : HasLooked l.counter l.initial.p l.p l.self;
+  looks : LooksInVain l.self l.stage l.counter l.initial.p l.p;
 }

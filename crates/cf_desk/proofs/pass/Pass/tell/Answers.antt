@@ -1,10 +1,11 @@
-use Rattle.std.proofs.Common.{◌≡◌, ℕ, ◌++◌, ◌∷◌, [], length, length-append, is_ok, not, true, sym, refl, ap, ◌∙◌, subst, arith}
+use Rattle.std.proofs.Common.{◌≡◌, ℕ, List, ◌++◌, ◌∷◌, [], length, length-append, is_ok, not, true, sym, refl, ap, ◌∙◌, subst, append-nil, arith}
+use Rattle.std.proofs.lemmas.List.Elements.{All-nil}
 use Rattle.cf_desk.specs.declared.calls.Rec.TheVariants.{Saw}
 use Rattle.cf_core.specs.States.{State}
 use Rattle.cf_core.specs.Events.{told}
 use Rattle.cf_core.specs.Ranges.{AskFits}
 use Rattle.cf_desk.specs.declared.row.Known.{Known}
-use Rattle.cf_desk.specs.Views.{Pass, known_of}
+use Rattle.cf_desk.specs.Views.{Pass, IsBetween, known_of}
 use Rattle.cf_desk.proofs.Passes.{agrees_told, none_new, asked_there}
 use Rattle.cf_desk.proofs.pass.Pass.tell.Goals as goal
 use Rattle.cf_desk.proofs.pass.Pass.tell.Goals.{Else-is_err}
@@ -39,10 +40,12 @@ returns c =
     rw (← c.self.view_is) (
       record {
         now = k.seen;
-        looks = k.looks;
+        more = [];
         caught = none_new k.caller k.seen;
+        between = All-nil (IsBetween (length k.seen) (length k.seen));
         is = (λ i. record { table = c.self.inside.seat.table_id; known = k; records = m i; calls = c.self.inside.calls })
-            ∙ ap (λ (n : ℕ). record { table = c.self.inside.seat.table_id; known = k; records = c.self.inside.records.items ++ Saw n c.args.ask c.tell-told.result ∷ []; calls = c.self.inside.calls }) a.count;
+            ∙ ap (λ (n : ℕ). record { table = c.self.inside.seat.table_id; known = k; records = c.self.inside.records.items ++ Saw n c.args.ask c.tell-told.result ∷ []; calls = c.self.inside.calls }) a.count
+            ∙ ap (λ (l : List ℕ). record { table = c.self.inside.seat.table_id; known = record k { looks = l }; records = c.self.inside.records.items ++ Saw (length k.seen) c.args.ask c.tell-told.result ∷ []; calls = c.self.inside.calls }) (sym (append-nil k.looks));
         told_is = c.tell-told.ensures.told ∙ ap (λ (s : State). told s c.args.ask) a.state;
       },
       refl,
