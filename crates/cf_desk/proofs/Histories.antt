@@ -19,7 +19,7 @@ use Rattle.cf_core.specs.Events.{state_after, state_at}
 use Rattle.cf_desk.specs.Log.{own, placed}
 use Rattle.cf_desk.specs.Records.{dids, IsAnswered, Fits}
 use Rattle.cf_desk.specs.Keepings.{IsKeptFit}
-use Rattle.cf_desk.specs.Laws.{replies, call_of, Rises, StandsAt, IsSequential, IsOneOfAll, IsOnesOfAll, OneHistory}
+use Rattle.cf_desk.specs.Laws.{replies, call_of, StandsAt, IsSequential, IsWithin, IsOneOfAll, IsOnesOfAll, OneHistory}
 
 abbrev mine : ℕ → ℕ × Event → Bool
 mine c e = eqb (who_of e.1) c
@@ -32,19 +32,6 @@ calls_of c n (w ∷ ws) = split (eqb (who_of w) c) (calls_of c (suc n) ws)
     split : (b : Bool) → map call_of (filter (mine c) (placed (suc n) ws)) ≡ own c ws → map call_of (cond b ((suc n, w) ∷ filter (mine c) (placed (suc n) ws)) (filter (mine c) (placed (suc n) ws))) ≡ cond b (w ∷ own c ws) (own c ws)
     split true e = ap (λ l. w ∷ l) e
     split false e = e
-
--- their places rise
-rises_from : (m n : ℕ) (es : List (ℕ × Event)) → m ≤ n → Rises n es → Rises m es
-rises_from m n [] le h = tt
-rises_from m n (e ∷ es) le h = ((let a = h.0 in omega arith), h.1)
-
-rise : (c n : ℕ) (ws : List Event) → Rises n (filter (mine c) (placed n ws))
-rise c n [] = tt
-rise c n (w ∷ ws) = split (eqb (who_of w) c) (rise c (suc n) ws)
-  where
-    split : (b : Bool) → Rises (suc n) (filter (mine c) (placed (suc n) ws)) → Rises n (cond b ((suc n, w) ∷ filter (mine c) (placed (suc n) ws)) (filter (mine c) (placed (suc n) ws)))
-    split true h = ((omega arith), h)
-    split false h = rises_from n (suc n) (filter (mine c) (placed (suc n) ws)) (omega arith) h
 
 -- they stand at their places
 get_at : (xs : List Event) (w : Event) (ws : List Event) → slice_get (xs ++ w ∷ ws) (length xs) ≡ Some w
@@ -84,13 +71,23 @@ sequential plan c history (Saw place ask answer ∷ rs) h g =
     All-cons (IsSequential plan history) (Saw place ask answer) rs (All-head (IsAnswered plan c history) (Saw place ask answer) rs h).1
     (sequential plan c history rs (All-tail (IsAnswered plan c history) (Saw place ask answer) rs h) g)
 
+within : (plan : Planned) (c : ℕ) (history : List Event) (rs : List Rec) → All (IsAnswered plan c history) rs → All (IsWithin history) rs
+within plan c history [] h = All-nil (IsWithin history)
+within plan c history (Did place call reply ∷ rs) h =
+    All-cons (IsWithin history) (Did place call reply) rs (All-head (IsAnswered plan c history) (Did place call reply) rs h).1
+    (within plan c history rs (All-tail (IsAnswered plan c history) (Did place call reply) rs h))
+within plan c history (Saw place ask answer ∷ rs) h =
+    All-cons (IsWithin history) (Saw place ask answer) rs (All-head (IsAnswered plan c history) (Saw place ask answer) rs h).0
+    (within plan c history rs (All-tail (IsAnswered plan c history) (Saw place ask answer) rs h))
+
 one_of_all : (plan : Planned) (history : List Event) (caller : ℕ) (records : List Rec) → Fits plan caller history records → IsOneOfAll plan history caller records
 one_of_all plan history caller records f =
     let standing : All (StandsAt history) (dids caller records) = subst (All (StandsAt history)) (sym f.did) (stand caller [] history 0 refl) in record {
       calls = ap (map call_of) f.did ∙ calls_of caller 0 history;
       stand = standing;
-      once = subst (Rises 0) (sym f.did) (rise caller 0 history);
       answers = sequential plan caller history records f.answers standing;
+      order = f.order;
+      within = within plan caller history records f.answers;
     }
 
 each_one : (plan : Planned) (history : List Event) (passes : List (ℕ × List Rec)) → All (IsKeptFit plan history) passes → All (IsOnesOfAll plan history) passes

@@ -15,7 +15,7 @@ use Rattle.cf_expr.specs.Histories.{IsPlain, IsPlainPlan, IsQuiet, nothing_grant
 use Rattle.cf_desk.specs.declared.calls.Rec.{Rec}
 use Rattle.cf_desk.specs.declared.calls.Rec.TheVariants.{Did, Saw}
 use Rattle.cf_desk.specs.Log.{own, state_from}
-use Rattle.cf_desk.specs.Records.{dids}
+use Rattle.cf_desk.specs.Records.{dids, InOrder}
 use Rattle.cf_desk.specs.Keepings.{AllFit}
 
 -- what one sequential graph replies to these events, taken one after another
@@ -29,11 +29,6 @@ place_of e = e.0
 abbrev pub call_of : ℕ × Event → Event
 call_of e = e.1
 
--- each place is above the one before
-abbrev pub Rises : ℕ → List (ℕ × Event) → Type 0
-Rises last [] = Unit {0}
-Rises last (e ∷ es) = (last < place_of e) × Rises (place_of e) es
-
 -- the event stands at its place in the history
 abbrev pub StandsAt : List Event → ℕ × Event → Type 0
 StandsAt history e = slice_get history (place_of e - 1) ≡ Some (call_of e)
@@ -43,18 +38,25 @@ abbrev pub IsSequential : Planned → List Event → Rec → Type 0
 IsSequential plan history (Did place call reply) = slice_get (replies (start plan) history) (place - 1) ≡ Some reply
 IsSequential plan history (Saw place ask answer) = answer ≡ told (state_at plan history place) ask
 
--- a caller's calls stand in the history once each, in the caller's order, and its answers are the sequential graph's there
+-- the record's place isn't behind the history
+abbrev pub IsWithin : List Event → Rec → Type 0
+IsWithin history (Did place call reply) = place ≤ length history
+IsWithin history (Saw place ask answer) = place ≤ length history
+
+-- A caller's calls stand in the history once each, in the caller's order, and each answer is the sequential graph's at its place.
+-- That place isn't before anything that the caller had seen when it was answered, and not behind the history.
 pub record IsOneOfAll (plan : Planned) (history : List Event) (caller : ℕ) (records : List Rec) : Type 0 where
   pub calls : map call_of (dids caller records) ≡ own caller history
   pub stand : All (StandsAt history) (dids caller records)
-  pub once : Rises 0 (dids caller records)
   pub answers : All (IsSequential plan history) records
+  pub order : InOrder 0 records
+  pub within : All (IsWithin history) records
 
 abbrev pub IsOnesOfAll : Planned → List Event → ℕ × List Rec → Type 0
 IsOnesOfAll plan history k = IsOneOfAll plan history k.0 k.1
 
 -- One history, in which each caller's changing calls stand once and in order, each answer is what the sequential graph answers at
--- its place, and no other call stands. A settled stage keeps its outcome at each later place, and of the claims of a stage one at
+-- its place, no answer's place is before anything that its caller had seen or behind the history, and no other call stands. A settled stage keeps its outcome at each later place, and of the claims of a stage one at
 -- most is granted. Where the plan and the history are plain and the graph is quiet, it holds the expressions' outcomes.
 pub record IsOneHistory (plan : Planned) (history : List Event) (passes : List (ℕ × List Rec)) (graph : State) : Type 0 where
   pub calls : All (IsOnesOfAll plan history) passes

@@ -1,0 +1,24 @@
+//! That two callers take their turns.
+use crate::{Fault, take_turns};
+use cf_desk::{CloseFault, DeskFault, OpenFault};
+use cf_outcome::{Outcome, Value};
+use cf_plan::{Form, PlanBuilder};
+use std::test::Fail;
+
+#[test]
+fn the_first_of_two_settles(rt: HostRuntime) -> Result<(), Fail> {
+    let mut builder = PlanBuilder::new(rt.alloc());
+    builder.stage(Form::Source, &[], None)?;
+    builder.stage(Form::Apply, &[0], Some(0))?;
+    let mut closed = match take_turns(rt.alloc(), builder.build()?, Value::Int(3)) {
+        Ok(closed) => closed,
+        Err(_) => return Err(Fail),
+    };
+    assert_eq!(rt; closed.history.len(), 2);
+    assert_eq!(rt; closed.graph.outcome(0), Some(Outcome::Value(Value::Int(3))));
+    assert_eq!(rt; closed.passes.len(), 2);
+    for pass in &closed.passes {
+        assert_eq!(rt; pass.records.len(), 2);
+    }
+    Ok(())
+}
