@@ -1,47 +1,85 @@
 //! What a service writes that shares a graph between callers and relies on what they were told.
 //!
-//! `take_turns` opens a desk for two callers, lets one settle a stage and the other look at it, closes the desk, and
-//! promises that there was one history. Its contract is `IsOneHistory`, the product's own statement; its proof is the
-//! contracts of the calls that it makes, and nothing beside them.
+//! `take_turns` opens a desk for two callers, lets one complete a stage and the other cancel it, lets both look at what
+//! came of it, closes the desk, and promises that there was one history. That promise is `IsOneHistory`, the product's
+//! own statement; its proof is the contracts of the calls that are made, and nothing beside them.
 #![tactic(auto)]
 
 mod fault;
 
-ghost use Rattle.std.specs.Prelude.{◌≡◌, IfOk, map};
+ghost use Rattle.std.specs.Prelude.{◌≡◌, All, IfOk, map};
 ghost use Rattle.cf_desk.specs.Keepings.{pass_kept};
 ghost use Rattle.cf_desk.specs.Laws.{IsOneHistory};
 
 use cf_core::Ask;
-use cf_desk::laws::closed_desks_have_one_history;
-use cf_desk::{Call, Closed, Desk};
+use cf_desk::{Call, Closed, Desk, DeskFault, Pass};
 use cf_outcome::Value;
 use cf_plan::Plan;
-use std::alloc::Global;
-
 pub use fault::Fault;
+use std::alloc::Global;
 
 /// How many events the log holds, and how many records each caller keeps.
 const ROOM: u16 = 16;
 
-/// Lets caller 0 complete stage 0 with this value and caller 1 cancel it, and each look at what came of it, also after
-/// they have met. What both were told stands in the closed desk.
+/// Lets two callers share a graph of this plan: caller 0 completes stage 0 with this value, caller 1 cancels it, and both
+/// look at what came of it. What they were told stands in the closed desk, and is one history.
 pub fn take_turns(alloc: Global, plan: Plan, value: Value) -> Result<Closed, Fault>
     ensures { IfOk result (λ closed. IsOneHistory plan closed.history.items (map pass_kept closed.passes.items) closed.graph.state) }
 {
+    let (desk, mut first, mut second) = open_two(alloc, plan)?;
+    act_and_look(&desk, &mut first, &mut second, value)?;
+    close_two(alloc, desk, first, second)
+}
+
+/// A desk of this plan, and the passes of its two callers.
+fn open_two(alloc: Global, plan: Plan) -> Result<(Desk, Pass, Pass), Fault>
+    ensures setting { IfOk result (λ r. r.0.setting ≡ record { plan = plan; callers = 2 }) }
+    ensures table { IfOk result (λ r. (r.1.table ≡ r.0.table) × (r.2.table ≡ r.0.table)) }
+{
     let (desk, mut passes) = Desk::open(alloc, plan, 2, ROOM, ROOM)?;
-    let (Some(mut second), Some(mut first)) = (passes.pop(), passes.pop()) else {
-        unreachable!()
+    let second = last_of(&desk, &mut passes)?;
+    let first = last_of(&desk, &mut passes)?;
+    Ok((desk, first, second))
+}
+
+/// One call of each caller, and then a look of each, the second one's after they have met.
+fn act_and_look(
+    desk: &Desk,
+    first: &mut Pass,
+    second: &mut Pass,
+    value: Value,
+) -> Result<(), DeskFault>
+    requires { (first.old.table ≡ desk.now.table) × (second.old.table ≡ desk.now.table) }
+    ensures { (first.new.table ≡ desk.now.table) × (second.new.table ≡ desk.now.table) }
+{
+    desk.act(first, Call::Complete(0, value))?;
+    desk.act(second, Call::Cancel(0))?;
+    desk.read(first, Ask::Outcome(0))?;
+    desk.meet(first, second);
+    desk.join(second, 0, 1)?;
+    Ok(())
+}
+
+/// Closes a desk of two callers.
+fn close_two(alloc: Global, desk: Desk, first: Pass, second: Pass) -> Result<Closed, Fault>
+    requires callers { desk.setting.callers ≡ 2 }
+    requires table { (first.table ≡ desk.table) × (second.table ≡ desk.table) }
+    ensures { IfOk result (λ closed. IsOneHistory desk.setting.plan closed.history.items (map pass_kept closed.passes.items) closed.graph.state) }
+{
+    let passes = match vec![in alloc; first, second] {
+        Ok(passes) => passes,
+        Err(_) => return Err(Fault::NoMemory),
     };
-    desk.act(&mut first, Call::Complete(0, value))?;
-    desk.act(&mut second, Call::Cancel(0))?;
-    desk.read(&mut first, Ask::Outcome(0))?;
-    desk.meet(&mut first, &mut second);
-    desk.join(&mut second, 0, 1)?;
-    passes.push(first)?;
-    passes.push(second)?;
-    let closed = desk.close(passes)?;
-    closed_desks_have_one_history();
-    Ok(closed)
+    Ok(desk.close(passes)?)
+}
+
+/// The last of these passes of a desk.
+fn last_of(desk: &Desk, passes: &mut Vec<Pass>) -> Result<Pass, Fault>
+    requires { All (λ p. p.table ≡ desk.now.table) passes.old.items }
+    ensures pass { IfOk result (λ p. p.table ≡ desk.now.table) }
+    ensures rest { All (λ p. p.table ≡ desk.now.table) passes.new.items }
+{
+    passes.pop().ok_or(Fault::NoMemory)
 }
 
 #[cfg(test)]

@@ -1,6 +1,5 @@
 //! That two callers take their turns.
-use crate::{Fault, take_turns};
-use cf_desk::{CloseFault, DeskFault, OpenFault};
+use crate::take_turns;
 use cf_outcome::{Outcome, Value};
 use cf_plan::{Form, PlanBuilder};
 use std::test::Fail;
@@ -12,11 +11,15 @@ fn the_first_of_two_settles(rt: HostRuntime) -> Result<(), Fail> {
     builder.stage(Form::Apply, &[0], Some(0))?;
     let mut closed = match take_turns(rt.alloc(), builder.build()?, Value::Int(3)) {
         Ok(closed) => closed,
-        Err(_) => return Err(Fail),
+        Err(_) => return Err(Fail::from("no turns were taken")),
     };
+    let settled = if closed.graph.has(0) {
+        closed.graph.outcome(0)
+    } else {
+        None
+    };
+    assert_eq!(rt; settled, Some(Outcome::Value(Value::Int(3))));
     assert_eq!(rt; closed.history.len(), 2);
-    assert_eq!(rt; closed.graph.outcome(0), Some(Outcome::Value(Value::Int(3))));
-    assert_eq!(rt; closed.passes.len(), 2);
     for pass in &closed.passes {
         assert_eq!(rt; pass.records.len(), 2);
     }

@@ -4,6 +4,7 @@ ghost use Rattle.std.specs.Mem.Slots.{IsFull, slots_items, slots_len};
 ghost use Rattle.cf_core.specs.States.{start};
 ghost use Rattle.cf_event.specs.Decoding.{decoded};
 ghost use Rattle.cf_desk.specs.Keepings.{AllFit, AreKept, IsFit, pass_kept};
+ghost use Rattle.cf_desk.specs.Laws.{IsOneHistory};
 ghost use Rattle.cf_desk.specs.Log.{state_from};
 ghost use Rattle.cf_desk.specs.Views.{Closes, IsLatest, knowns};
 
@@ -19,7 +20,8 @@ use std::alloc::Global;
 
 impl Desk {
     /// Takes the desk apart, with all its passes, each once, in any order: all events in their one order, the passes in
-    /// this order with their callers and records, and the graph as all events leave it. It never fails.
+    /// this order with their callers and records, and the graph as all events leave it. It never fails. What all callers
+    /// were told is one history.
     pub fn close(self, passes: Vec<Pass>) -> Result<Closed, CloseFault>
         requires table { All (λ p. p.table ≡ self.table) passes.items }
         requires all { vec_len passes ≡ self.setting.callers }
@@ -27,6 +29,7 @@ impl Desk {
         ensures passes { IsOkAnd result (λ closed. AreKept closed.passes.items passes.items) }
         ensures fit { IsOkAnd result (λ closed. AllFit self.setting.plan closed.history.items (map pass_kept closed.passes.items)) }
         ensures graph { IsOkAnd result (λ closed. closed.graph.state ≡ state_from self.setting.plan closed.history.items) }
+        ensures one { IsOkAnd result (λ closed. IsOneHistory self.setting.plan closed.history.items (map pass_kept closed.passes.items) closed.graph.state) }
     {
         let Desk {
             table,

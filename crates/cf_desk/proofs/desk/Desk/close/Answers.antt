@@ -1,8 +1,9 @@
-use Rattle.std.proofs.Common.{◌≡◌, length, sym, ap, ◌∙◌, subst, arith}
+use Rattle.std.proofs.Common.{◌≡◌, length, map, sym, ap, ◌∙◌, subst, arith}
 use Rattle.cf_desk.specs.Views.{Desk}
 use Rattle.cf_desk.specs.declared.row.Setting.{Setting}
 use Rattle.cf_core.specs.States.{State}
-use Rattle.cf_desk.specs.Keepings.{AllFit}
+use Rattle.cf_desk.specs.Keepings.{AllFit, pass_kept}
+use Rattle.cf_desk.proofs.Histories.{one_history}
 use Rattle.cf_desk.proofs.Closing.{Shown, shown_as}
 use Rattle.cf_desk.proofs.desk.Desk.close.Goals as goal
 use Rattle.cf_desk.proofs.desk.Desk.close.Goals.{After-free}
@@ -28,3 +29,9 @@ returns-clause-fit c = subst (AllFit c.args.self.setting.plan c.decode_row-histo
 
 pub returns-clause-graph : goal.returns-clause-graph
 returns-clause-graph c = (shown (goal.at.returns-clause-graph c).After-free).latest
+
+pub returns-clause-one : goal.returns-clause-one
+returns-clause-one c =
+    let all = shown (goal.at.returns-clause-one c).After-free in
+    one_history c.args.self.setting.plan c.decode_row-history.result.items (map pass_kept c.gather-seat.result.2.items) c.gather-seat.result.1.state
+    (subst (AllFit c.args.self.setting.plan c.decode_row-history.result.items) (sym c.gather-seat.ensures.kept) all.fit) all.latest
