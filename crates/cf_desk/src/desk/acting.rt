@@ -13,7 +13,8 @@ use cf_core::Reply;
 
 impl Desk {
     /// Does a call of the pass's caller: adds its event to the log and its record to the pass, and gives the reply. The
-    /// pass is one of this desk's. A refused call adds nothing, but the pass may have seen more events.
+    /// pass is one of this desk's. A refused call adds nothing, but a pass that a full log refuses may have seen more
+    /// events.
     pub fn act(&self, p: &mut Pass, c: Call) -> Result<Reply, DeskFault>
         requires { p.old.table ≡ self.now.table }
         ensures same { IsSamePass p.old p.new }
