@@ -1,8 +1,9 @@
 -- What a worker's calls add, and how that adds up.
 use Rattle.std.proofs.Common.{◌≡◌, ℕ, ◌+◌, ◌<◌, ◌≤◌, inl, inr, Bool, true, false, cond, Option, Some, None, List, [], ◌∷◌, ◌++◌, length, sym, refl, ap, ◌∙◌, subst, append-nil, append_assoc, length-append, replicate, arith}
-use Rattle.std.specs.Prelude.{◌==◌}
+use Rattle.std.specs.Prelude.{◌==◌, Result, Ok, Err, IfErr, OnErr}
 use Rattle.std.proofs.lemmas.Bool.{cases_lt, eqb-true}
 use Rattle.std.proofs.lemmas.List.{length-replicate}
+use Rattle.cf_plan.specs.declared.forms.Answer.{Answer}
 use Rattle.cf_plan.specs.declared.forms.Args.{Args}
 use Rattle.cf_plan.specs.Plans.{Planned}
 use Rattle.cf_core.specs.declared.stage.Stage.TheVariants.{Pending}
@@ -25,17 +26,20 @@ use Rattle.cf_desk.specs.declared.calls.Call.TheVariants.{Claim, Finish}
 use Rattle.cf_desk.specs.declared.calls.Rec.{Rec}
 use Rattle.cf_desk.specs.declared.calls.Rec.TheVariants.{Did}
 use Rattle.cf_desk.specs.declared.faults.DeskFault.{DeskFault}
-use Rattle.cf_desk.specs.declared.faults.DeskFault.TheVariants.{LogFull, NoStage, PassFull}
 use Rattle.cf_desk.specs.declared.row.Known.{Known}
+use Rattle.cf_desk.specs.declared.row.Setting.{Setting}
 use Rattle.cf_desk.specs.Calls.{event_by}
 use Rattle.cf_desk.specs.Faults.{HasRoom, IsDue}
 use Rattle.cf_desk.specs.Log.{state_from}
-use Rattle.cf_desk.specs.Views.{Acts, Follows, HasLooked, Pass, Desk, state_of}
-use Rattle.cf_desk.proofs.Passes.{same_acts, same_follows}
+use Rattle.cf_desk.specs.Views.{Acts, Follows, Pass, Desk, state_of}
+use Rattle.cf_desk.proofs.Passes.{follows_longer, same_acts, same_follows}
 use Rattle.cf_pool.specs.declared.worker.Done.{Done}
 use Rattle.cf_pool.specs.Counting.{Counts, EndedWith, grant_at, late_at, late_by, total_by, won_at, won_by}
-use Rattle.cf_pool.specs.Jobs.{AddsCounted, AddsWork, granted_by, sum_of}
-use Rattle.cf_pool.specs.Works.{AreWork, IsDueToStop, Owed, Works, claims_of, owed_after, owed_by}
+use Rattle.cf_pool.specs.Jobs.{AddsCounted, AddsWork, DoesJob, StopsJob, granted_by, sum_of}
+use Rattle.cf_pool.specs.Stops.{MeetsFault, Stops}
+use Rattle.cf_pool.specs.Waits.{Idles, LooksBefore, Waits, last_place}
+use Rattle.cf_pool.specs.Works.{AreWork, Owed, Works, claims_of, owed_after, owed_by}
+use Rattle.cf_pool.proofs.Waiting.{idles_since, last_place-append, last_place-mono, looks_none, looks_on}
 
 -- ---- states that a pass has seen
 
@@ -141,6 +145,7 @@ adds_itself meanings owed p = record {
   owes_then = refl;
   once = λ i. omega arith;
   fresh = λ i h. absurd (omega arith);
+  placed = omega arith;
   spent = λ i h. absurd (omega arith);
 }
 
@@ -155,6 +160,7 @@ adds_follows meanings owed p q f = record {
   owes_then = refl;
   once = λ i. omega arith;
   fresh = λ i h. absurd (omega arith);
+  placed = follows_longer p q f;
   spent = λ i h. absurd (omega arith);
 }
 
@@ -162,6 +168,16 @@ acts_on : (p q : Pass) (call : Call) (reply : Reply) (a : Acts p call reply q) �
 acts_on p q call reply a =
     let e = event_by p.known.caller call in
     ap (λ (h : Pass). h.known.seen) a.is ∙ ap (λ l. l ++ e ∷ []) a.caught.joined ∙ append_assoc p.known.seen a.caught.others (e ∷ [])
+
+-- the record's place is that of the event
+acts_placed : (p q : Pass) (call : Call) (reply : Reply) (a : Acts p call reply q) → (length p.known.seen < length a.before + 1) × (length a.before + 1 ≤ length q.known.seen)
+acts_placed p q call reply a =
+    let e = event_by p.known.caller call in
+    let longer = ap length a.caught.joined in
+    let parts = length-append p.known.seen a.caught.others in
+    let len = ap (λ (h : Pass). length h.known.seen) a.is in
+    let more = length-append a.before (e ∷ []) in
+    (omega arith, omega arith)
 
 pub adds_finish : (meanings : Meanings) (p q : Pass) (i : ℕ) (args : Args) (reply : Reply) → Acts p (Finish i (stage_answer meanings p.known.setting.plan.stages i args)) reply q → AddsWork meanings (Some (i, args)) p q None
 adds_finish meanings p q i args reply a =
@@ -175,6 +191,7 @@ adds_finish meanings p q i args reply a =
       owes_then = refl;
       once = λ i. omega arith;
       fresh = λ i h. absurd (omega arith);
+      placed = (acts_placed p q call reply a).1;
       spent = λ i h. absurd (omega arith);
     }
 
@@ -200,6 +217,7 @@ adds_claim meanings p q i reply a ready = record {
   owes_then = owed_claim (length a.before + 1) i reply;
   once = λ j. few_claims (j == i);
   fresh = λ j h. subst (λ k. is_claimable (stage_at (state_of p.known) k) ≡ true) (sym (eqb-true j i (one_claim (j == i) h))) (ready-claimable (stage_at (state_of p.known) i) ready);
+  placed = (acts_placed p q (Claim i) reply a).1;
   spent = λ j h. subst (λ k. is_claimable (stage_at (state_of q.known) k) ≡ false) (sym (eqb-true j i (one_claim (j == i) h))) (claim_spent p q i reply a ready);
 }
 
@@ -214,6 +232,7 @@ adds_owing meanings owed owes then p q e a = record {
   owes_then = a.owes_then ∙ e;
   once = a.once;
   fresh = a.fresh;
+  placed = a.placed;
   spent = a.spent;
 }
 
@@ -247,6 +266,9 @@ adds_then meanings owed then owes p q r a b =
             | inl l ↦ a.fresh i l
             | inr l ↦ before_too (is_claimable (stage_at (state_of p.known) i)) (is_claimable (stage_at (state_of q.known) i)) (still_spent p q a.seen i a.same.1 a.goes_on) (b.fresh i (omega arith))
           ]);
+      placed = (let whole = last_place-append (length p.known.seen) a.more b.more in
+          let later = last_place-mono (last_place (length p.known.seen) a.more) (length q.known.seen) b.more a.placed in
+          let end = b.placed in omega arith);
       spent = λ i h. (let c = claims-append i a.more b.more in
           elim (cases_lt 0 (claims_of i b.more)) [
             | inl l ↦ b.spent i l
@@ -297,7 +319,7 @@ does_follows meanings p q r a f g =
 
 -- a claim that wasn't granted
 pub does_claim : (meanings : Meanings) (p q : Pass) (i : ℕ) (reply : Reply) → Acts p (Claim i) reply q → HasRoom p → is_ready (stage_at (state_of p.known) i) ≡ true → granted_by reply ≡ None
-    → AddsCounted meanings None p q (record { run = 0; won = 0; late = 0 }) × (length p.records < length q.records)
+    → DoesJob meanings p q (record { run = 0; won = 0; late = 0 }) × (length p.records < length q.records)
 unfolding adds_claim adds_owing
 does_claim meanings p q i reply a room ready none =
     let adds = adds_claim meanings p q i reply a ready in
@@ -306,12 +328,15 @@ does_claim meanings p q i reply a room ready none =
     let g = grant_claim (length a.before + 1) i reply in
     let z : grants_as (granted_by reply) ≡ 0 = ap grants_as none in (
       record {
-        adds = adds_owing meanings None (owed_as i (granted_by reply)) None p q (ap (owed_as i) none) adds;
-        counts = record { run = omega arith; won = refl; late = refl };
-        run_few = omega arith;
-        won_few = omega arith;
-        late_few = omega arith;
-        room = omega arith;
+        does = record {
+          adds = adds_owing meanings None (owed_as i (granted_by reply)) None p q (ap (owed_as i) none) adds;
+          counts = record { run = omega arith; won = refl; late = refl };
+          run_few = omega arith;
+          won_few = omega arith;
+          late_few = omega arith;
+          room = omega arith;
+        };
+        later = (acts_placed p q (Claim i) reply a).0;
       },
       omega arith,
     )
@@ -322,7 +347,7 @@ adds_granted meanings p q i reply args a ready given = subst (λ (x : Option Arg
 
 pub does_both : (meanings : Meanings) (p q r : Pass) (i : ℕ) (reply finished : Reply) (args : Args) (done : Done) → Acts p (Claim i) reply q → is_ready (stage_at (state_of p.known) i) ≡ true → granted_by reply ≡ Some args
     → Acts q (Finish i (stage_answer meanings q.known.setting.plan.stages i args)) finished r → HasRoom q → done.run ≡ 1 → done.won ≡ won_by finished → done.late ≡ late_by finished
-    → AddsCounted meanings None p r done × (length p.records < length r.records)
+    → DoesJob meanings p r done × (length p.records < length r.records)
 unfolding adds_claim adds_owing adds_finish adds_then
 does_both meanings p q r i reply finished args done a ready given b room run won late =
     let adds = adds_claim meanings p q i reply a ready in
@@ -335,12 +360,15 @@ does_both meanings p q r i reply finished args done a ready given b room run won
     let x = won_by-few finished in
     let y = late_by-few finished in (
       record {
-        adds = adds_then meanings None (Some (i, args)) None p q r (adds_owing meanings None (owed_as i (granted_by reply)) (Some (i, args)) p q (ap (owed_as i) given) adds) (adds_finish meanings q r i args finished b);
-        counts = record { run = omega arith; won = omega arith; late = omega arith };
-        run_few = omega arith;
-        won_few = omega arith;
-        late_few = omega arith;
-        room = omega arith;
+        does = record {
+          adds = adds_then meanings None (Some (i, args)) None p q r (adds_owing meanings None (owed_as i (granted_by reply)) (Some (i, args)) p q (ap (owed_as i) given) adds) (adds_finish meanings q r i args finished b);
+          counts = record { run = omega arith; won = omega arith; late = omega arith };
+          run_few = omega arith;
+          won_few = omega arith;
+          late_few = omega arith;
+          room = omega arith;
+        };
+        later = (let claimed = acts_placed p q (Claim i) reply a in let done = acts_placed q r call finished b in omega arith);
       },
       omega arith,
     )
@@ -366,20 +394,69 @@ ready_there k i e =
 pub ready_is : (k : Known) (i : ℕ) → lowest_ready_of (state_of k) ≡ Some i → is_ready (stage_at (state_of k) i) ≡ true
 ready_is k i e = lowest_ready-is_ready (state_of k) i e
 
-pub due_stops : (d : Desk) (p q : Pass) (i : ℕ) (fault : DeskFault) → Follows p q → i < length p.known.setting.plan.stages → IsDue q d (event_by p.known.caller (Claim i)) fault → IsDueToStop d q fault
-due_stops d p q i NoStage f there due = absurd (due (subst (λ x. i < length x.plan.stages) (sym (ap (λ (h : Pass). h.known.setting) f.is)) there))
-due_stops d p q i PassFull f there due = due.1
-due_stops d p q i LogFull f there due = due.2
+-- ---- a call that met a fault
 
--- looks stay counted
-pub looked_same : (p q r : Pass) (d : Desk) → length q.known.seen ≤ length r.known.seen → r.known.looks ≡ q.known.looks → HasLooked 0 p q d → HasLooked 0 p r d
-looked_same p q r d longer same (inl a) = inl (omega arith)
-looked_same p q r d longer same (inr a) = inr (omega arith)
+pub claim_meets : (meanings : Meanings) (d : Desk) (p q : Pass) (i : ℕ) (fault : DeskFault) → lowest_ready_of (state_of p.known) ≡ Some i → Follows p q → q.known.looks ≡ p.known.looks → IsDue q d (event_by p.known.caller (Claim i)) fault
+    → StopsJob meanings d p q fault
+claim_meets meanings d p q i fault ready left looks due = record {
+  stood = p;
+  owes = None;
+  adds = adds_itself meanings None p;
+  meets = record { call = Claim i; next = (i, ready, refl); there = ready_there p.known i ready; left = left; looks = looks; due = due };
+}
+
+pub finish_meets : (meanings : Meanings) (d : Desk) (p q : Pass) (i : ℕ) (args : Args) (answer : Answer) (r : Result Reply DeskFault) → answer ≡ stage_answer meanings d.setting.plan.stages i args → p.known.setting ≡ d.setting → i < length p.known.setting.plan.stages
+    → OnErr r (Follows p q) → q.known.looks ≡ p.known.looks → IfErr r (IsDue q d (event_by p.known.caller (Finish i answer))) → IfErr r (MeetsFault meanings d (Some (i, args)) p q)
+finish_meets meanings d p q i args answer (Ok reply) is of there left looks due = tt
+finish_meets meanings d p q i args answer (Err fault) is of there left looks due =
+    record { call = Finish i answer; next = ap (Finish i) (is ∙ ap (λ (x : Setting). stage_answer meanings x.plan.stages i args) (sym of)); there = there; left = left; looks = looks; due = due }
+
+pub finish_stops : (meanings : Meanings) (d : Desk) (p q r : Pass) (owes : Owed) (fault : DeskFault) → AddsWork meanings None p q owes → MeetsFault meanings d owes q r fault → StopsJob meanings d p r fault
+finish_stops meanings d p q r owes fault a m = record { stood = q; owes = owes; adds = a; meets = m }
+
+-- what was done before
+pub adds_stops : (meanings : Meanings) (d : Desk) (p q : Pass) (fault : DeskFault) → StopsJob meanings d p q fault → (owes : Owed) × AddsWork meanings None p q owes
+adds_stops meanings d p q fault s = (s.owes, adds_then meanings None s.owes s.owes p s.stood q s.adds (adds_follows meanings s.owes s.stood q s.meets.left))
+
+pub stops_then : (meanings : Meanings) (d : Desk) (p q r : Pass) (fault : DeskFault) → AddsWork meanings None p q None → StopsJob meanings d q r fault → Stops meanings d p r fault
+unfolding adds_works
+stops_then meanings d p q r fault a s =
+    let all = adds_then meanings None None s.owes p q s.stood a s.adds in record {
+      stood = s.stood;
+      works = adds_works meanings p s.stood s.owes all;
+      meets = subst (λ (o : Owed). MeetsFault meanings d o s.stood r fault) (sym all.owes_then) s.meets;
+    }
+
+-- ---- the turns of a worker
+
+-- what it did, and that it looked before its last record alone
+pub record Turned (meanings : Meanings) (p q : Pass) (done : Done) : Type 0 where
+  pub does : AddsCounted meanings None p q done
+  pub looked : LooksBefore (length p.known.seen) (last_place (length p.known.seen) does.adds.more) p.known.looks q.known.looks
+
+pub turned_none : (meanings : Meanings) (p : Pass) → length p.records ≤ p.calls → Turned meanings p p (record { run = 0; won = 0; late = 0 })
+unfolding does_itself adds_itself
+turned_none meanings p room = record { does = does_itself meanings p room; looked = looks_none (length p.known.seen) p.known.looks }
 
 pub adds_longer : (meanings : Meanings) (owed owes : Owed) (p q : Pass) → AddsWork meanings owed p q owes → length p.known.seen ≤ length q.known.seen
 adds_longer meanings owed owes p q a = let e = ap length a.goes_on in let l = length-append p.known.seen a.seen in omega arith
 
-pub looked_less_on : (n : ℕ) (p q r : Pass) (d : Desk) → length q.known.seen ≤ length r.known.seen → HasLooked 0 p q d → HasLooked n q r d → HasLooked 0 p r d
-looked_less_on n p q r d longer (inl a) (inl b) = inl (omega arith)
-looked_less_on n p q r d longer (inl a) (inr b) = inr b
-looked_less_on n p q r d longer (inr a) b = inr (omega arith)
+-- a find, and the job that it gave
+pub turned_then : (meanings : Meanings) (p q r s : Pass) (a b : Done) → Turned meanings p q a → Follows q r → DoesJob meanings r s b → s.known.looks ≡ r.known.looks → Turned meanings p s (sum_of a b)
+unfolding does_then does_follows adds_then adds_follows
+turned_then meanings p q r s a b t f job same =
+    let before = does_follows meanings p q r a t.does f in record {
+      does = does_then meanings p r s a b before job.does;
+      looked = subst (λ (l : List Rec). LooksBefore (length p.known.seen) (last_place (length p.known.seen) (l ++ job.does.adds.more)) p.known.looks s.known.looks) (sym (append-nil t.does.adds.more))
+          (looks_on q r s (length p.known.seen) p.known.looks t.does.adds.more job.does.adds.more (adds_longer meanings None None p q t.does.adds) t.does.adds.placed f job.later same t.looked);
+    }
+
+-- the last looks, which found nothing
+pub turned_waits : (meanings : Meanings) (d : Desk) (patience : ℕ) (p q r : Pass) (a : Done) → Turned meanings p q a → Follows q r → Idles d patience (length q.known.seen) q.known.looks r → Waits d patience p r
+turned_waits meanings d patience p q r a t f i = record {
+  more = t.does.adds.more;
+  records = ap (λ (h : Pass). h.records) f.is ∙ t.does.adds.records;
+  looks = q.known.looks;
+  before = t.looked;
+  idles = idles_since d patience (length q.known.seen) (last_place (length p.known.seen) t.does.adds.more) q.known.looks r t.does.adds.placed i;
+}

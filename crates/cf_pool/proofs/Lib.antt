@@ -1,4 +1,6 @@
+pub mod Waiting
 pub mod Jobs
+pub mod OpenClaims
 pub mod Pools
 pub mod Runs
 pub mod Racing

@@ -1,23 +1,26 @@
 -- Passes that workers have worked with, one after another.
-use Rattle.std.proofs.Common.{◌≡◌, ℕ, zero, suc, ◌+◌, ◌<◌, ◌≤◌, Bool, true, false, Option, Some, None, List, [], ◌∷◌, ◌++◌, length, map, All, sym, refl, ap, ◌∙◌, subst, append-nil, append_assoc, length-append, take, get_or, arith}
+use Rattle.std.proofs.Common.{◌≡◌, ℕ, suc, ◌+◌, ◌<◌, ◌≤◌, Bool, true, false, Option, Some, None, List, [], ◌∷◌, ◌++◌, length, map, All, sym, refl, ap, ◌∙◌, subst, append_assoc, eqb, length-append, take, get_or, arith}
 use Rattle.std.specs.Prelude.{nat_lt, slice_index_or}
 use Rattle.std.specs.List.{AllZip}
 use Rattle.std.proofs.lemmas.List.{take_more}
-use Rattle.std.proofs.lemmas.List.Elements.{All-cons, All-head, All-nil, All-tail, All-push, All-weaker, Contains-append_left, Contains-push}
+use Rattle.std.proofs.lemmas.List.Elements.{All-head, All-tail, All-push, All-weaker, Contains-append_left, Contains-push, filter-append}
 use borrow.Author.Tests.{ltb-true, ltb-false}
 use mathlib.Core.List.{map-append}
 use Rattle.cf_plan.specs.declared.forms.Answer.{Answer}
 use Rattle.cf_plan.specs.declared.forms.Args.{Args}
 use Rattle.cf_desk.specs.declared.faults.DeskFault.{DeskFault}
-use Rattle.cf_desk.specs.Rule.{AllShort, blank, fresh}
-use Rattle.cf_desk.specs.Views.{Pass, Meets, Desk, knowns, new_pass, opened}
+use Rattle.cf_core.specs.declared.events.Event.{Event}
+use Rattle.cf_event.specs.Words.{who_of}
+use Rattle.cf_desk.specs.Log.{Catches}
+use Rattle.cf_desk.specs.Rule.{AllShort}
+use Rattle.cf_desk.specs.Views.{Pass, Meets, Desk, knowns}
 use Rattle.cf_desk.proofs.Gathers.{short_push}
 use Rattle.cf_desk.proofs.Meets.{short_more}
+use Rattle.cf_desk.proofs.Passes.{none_new}
 use Rattle.cf_pool.specs.declared.pool.Met.{Met}
 use Rattle.cf_pool.specs.declared.pool.Worked.{Worked}
 use Rattle.cf_pool.specs.Runs.{EndsIf, IsFirst, IsWorkedFrom, SeesMore, Stop, first_with, lower_of, stop_of}
 use Rattle.cf_plan.specs.Meanings.{meanings_of}
-use Rattle.cf_pool.specs.Works.{IsOf}
 
 -- ---- the lowest caller that was stopped
 
@@ -64,35 +67,42 @@ zip_kept P f W (h ∷ hs) (w ∷ ws) same all each =
 
 -- ---- passes that see more
 
+catches_then : (c : ℕ) (xs ys zs : List Event) → Catches c xs ys → Catches c ys zs → Catches c xs zs
+catches_then c xs ys zs f g = record {
+  others = f.others ++ g.others;
+  joined = g.joined ∙ ap (λ l. l ++ g.others) f.joined ∙ append_assoc xs f.others g.others;
+  none = filter-append (λ x. eqb (who_of x) c) f.others g.others ∙ (rw (f.none, g.none) refl);
+}
+
 pub sees_itself : (p : Pass) → SeesMore p p
-sees_itself p = record { same = (refl, refl, refl, refl); seen = []; goes_on = sym (append-nil p.known.seen); records = refl }
+sees_itself p = record { same = (refl, refl, refl, refl); caught = none_new p.known.caller p.known.seen; records = refl; looks = refl }
 
 pub sees_then : (p q r : Pass) → SeesMore p q → SeesMore q r → SeesMore p r
 sees_then p q r a b = record {
   same = (b.same.0 ∙ a.same.0, b.same.1 ∙ a.same.1, b.same.2 ∙ a.same.2, b.same.3 ∙ a.same.3);
-  seen = a.seen ++ b.seen;
-  goes_on = b.goes_on ∙ ap (λ l. l ++ b.seen) a.goes_on ∙ append_assoc p.known.seen a.seen b.seen;
+  caught = catches_then p.known.caller p.known.seen q.known.seen r.known.seen a.caught (subst (λ (c : ℕ). Catches c q.known.seen r.known.seen) a.same.2 b.caught);
   records = b.records ∙ a.records;
+  looks = b.looks ∙ a.looks;
 }
 
 pub sees_left : (p q p' q' : Pass) → Meets p q p' q' → SeesMore p p'
 sees_left p q p' q' m = record {
   same = (ap (λ (h : Pass). h.table) m.left, ap (λ (h : Pass). h.known.setting) m.left, ap (λ (h : Pass). h.known.caller) m.left, ap (λ (h : Pass). h.calls) m.left);
-  seen = m.begins_left.others;
-  goes_on = ap (λ (h : Pass). h.known.seen) m.left ∙ m.begins_left.joined;
+  caught = subst (λ (h : Pass). Catches p.known.caller p.known.seen h.known.seen) (sym m.left) m.begins_left;
   records = ap (λ (h : Pass). h.records) m.left;
+  looks = ap (λ (h : Pass). h.known.looks) m.left;
 }
 
 pub sees_right : (p q p' q' : Pass) → Meets p q p' q' → SeesMore q q'
 sees_right p q p' q' m = record {
   same = (ap (λ (h : Pass). h.table) m.right, ap (λ (h : Pass). h.known.setting) m.right, ap (λ (h : Pass). h.known.caller) m.right, ap (λ (h : Pass). h.calls) m.right);
-  seen = m.begins_right.others;
-  goes_on = ap (λ (h : Pass). h.known.seen) m.right ∙ m.begins_right.joined;
+  caught = subst (λ (h : Pass). Catches q.known.caller q.known.seen h.known.seen) (sym m.right) m.begins_right;
   records = ap (λ (h : Pass). h.records) m.right;
+  looks = ap (λ (h : Pass). h.known.looks) m.right;
 }
 
 pub sees_longer : (p q : Pass) → SeesMore p q → length p.known.seen ≤ length q.known.seen
-sees_longer p q a = let e = ap length a.goes_on in let l = length-append p.known.seen a.seen in omega arith
+sees_longer p q a = let e = ap length a.caught.joined in let l = length-append p.known.seen a.caught.others in omega arith
 
 -- the other passes, with one more that has met the caller's
 pub short_met : (p q p' q' : Pass) (qs : List Pass) → Meets p q p' q' → AllShort (length p.known.seen) (knowns qs) → AllShort (length p'.known.seen) (knowns (qs ++ q' ∷ []))
@@ -118,14 +128,6 @@ parts_step f hs now h p rest all parts same items =
 pub all_step : {H : Type 0} (P : H → Type 0) (hs now : List H) (h : H) → now ≡ hs ++ h ∷ [] → All P hs → P h → All P now
 all_step P hs now h items all one = subst (All P) (sym items) (All-push P hs h all one)
 
-pub work_same : {F : Type 0} (meaning : F → Args → Answer) (fns now : List F) (d e : Desk) (p : Pass) (w : Worked) → d ≡ e → fns ≡ now → IsWorkedFrom (meanings_of meaning fns) d p w → IsWorkedFrom (meanings_of meaning now) e p w
-work_same meaning fns now d e p w same_desk same_fns h =
-    subst (λ (x : Desk). IsWorkedFrom (meanings_of meaning now) x p w) same_desk (subst (λ fs. IsWorkedFrom (meanings_of meaning fs) d p w) same_fns h)
-
-fresh_of : (d : Desk) (calls c n : ℕ) → All (IsOf d) (map (new_pass d.table calls) (fresh d.setting c n))
-fresh_of d calls c zero = All-nil (IsOf d)
-fresh_of d calls c (suc n) = All-cons (IsOf d) (new_pass d.table calls (blank d.setting c)) (map (new_pass d.table calls) (fresh d.setting (suc c) n)) (refl, refl) (fresh_of d calls (suc c) n)
-
--- the passes of a desk that was just opened are of it
-pub opened_of : (d : Desk) (calls : ℕ) → All (IsOf d) (opened d.table d.setting calls)
-opened_of d calls = fresh_of d calls 0 d.setting.callers
+pub work_same : {F : Type 0} (meaning : F → Args → Answer) (fns now : List F) (d e : Desk) (patience : ℕ) (p : Pass) (w : Worked) → d ≡ e → fns ≡ now → IsWorkedFrom (meanings_of meaning fns) d patience p w → IsWorkedFrom (meanings_of meaning now) e patience p w
+work_same meaning fns now d e patience p w same_desk same_fns h =
+    subst (λ (x : Desk). IsWorkedFrom (meanings_of meaning now) x patience p w) same_desk (subst (λ fs. IsWorkedFrom (meanings_of meaning fs) d patience p w) same_fns h)

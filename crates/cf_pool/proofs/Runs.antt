@@ -2,35 +2,46 @@
 use Rattle.std.proofs.Common.{◌≡◌, ℕ, zero, suc, ◌+◌, ◌<◌, ◌≤◌, leb, ⊎_elim, Bool, true, false, Option, Some, None, List, [], ◌∷◌, ◌++◌, length, map, All, sym, refl, ap, ◌∙◌, subst, append-nil, append_assoc, length-append, take, drop, arith}
 use Rattle.std.specs.Prelude.{slice_index_or}
 use Rattle.std.specs.List.{AllZip, Contains, insert}
-use Rattle.std.proofs.lemmas.List.Elements.{All-head, All-tail, All-nil, All-cons, All-contains, Contains-append_cases, Contains-append_left, Contains-append_right}
+use Rattle.std.proofs.lemmas.List.Elements.{All-head, All-tail, All-nil, All-cons, All-contains, All-weaker, Contains-append_cases, Contains-append_left, Contains-append_right}
 use Rattle.cf_core.specs.declared.events.Event.{Event}
+use Rattle.cf_core.specs.Ranges.{EventFits}
 use Rattle.cf_core.specs.States.{State, lowest_ready_of}
+use Rattle.cf_event.specs.Words.{who_of}
+use Rattle.cf_desk.specs.declared.calls.Call.{Call}
 use Rattle.cf_desk.specs.declared.calls.Closed.{Closed}
 use Rattle.cf_desk.specs.declared.calls.Kept.{Kept}
 use Rattle.cf_desk.specs.declared.faults.DeskFault.{DeskFault}
 use Rattle.cf_desk.specs.declared.faults.DeskFault.TheVariants.{LogFull, NoStage, PassFull}
 use Rattle.cf_desk.specs.declared.row.Known.{Known}
 use Rattle.cf_desk.specs.declared.row.Setting.{Setting}
-use Rattle.cf_desk.specs.Keepings.{AllFit, AreKept, pass_kept}
-use Rattle.cf_desk.specs.Log.{Catches, state_from}
+use Rattle.cf_desk.specs.Calls.{event_by}
+use Rattle.cf_desk.specs.Faults.{IsDue, IsOnStage}
+use Rattle.cf_desk.specs.Keepings.{AllFit, AreKept, IsKeptFit, pass_kept}
+use Rattle.cf_desk.specs.Log.{Catches, IsEventOf, state_from}
 use Rattle.cf_desk.specs.Rule.{AllShort, longer_if, longest}
-use Rattle.cf_desk.specs.Views.{Closes, Pass, Desk, knowns, state_of}
+use Rattle.cf_desk.specs.Views.{Closes, Follows, IsOf, Pass, Desk, knowns, state_of}
 use Rattle.cf_desk.proofs.Gathers.{all_at}
+use Rattle.cf_desk.proofs.Meets.{short_more}
+use Rattle.cf_desk.proofs.Passes.{same_follows}
 use Rattle.cf_plan.specs.Meanings.{Meanings}
 use Rattle.cf_pool.specs.declared.pool.Met.{Met}
 use Rattle.cf_pool.specs.declared.pool.Worked.{Worked}
-use Rattle.cf_pool.specs.Runs.{EndsBelow, EndsIf, HasWorked, IsFirst, IsLowest, IsMet, IsTold, IsWorkedFrom, SeesMore, SeesOn, Stop, first_with, stop_of}
-use Rattle.cf_pool.specs.Works.{AreWork, IsDueToStop, IsDueToTell, IsOf, Ran, RanOut, Works, WorksOut}
-use Rattle.cf_desk.proofs.Meets.{short_more}
+use Rattle.cf_pool.specs.Closings.{IsDueToTell, IsTold, Ran, RanOut}
+use Rattle.cf_pool.specs.Runs.{EndsBelow, EndsIf, HasEnded, HasWorked, IsFirst, IsLowest, IsMet, IsWorkedFrom, OfEach, SeesMore, SeesOn, Stop, WasStopped, first_with, stop_of}
+use Rattle.cf_pool.specs.Stops.{Stops}
+use Rattle.cf_pool.specs.Waits.{Ends, Waits, last_place}
+use Rattle.cf_pool.specs.Works.{AreWork, Works, WorksOut}
+use Rattle.cf_pool.proofs.OpenClaims.{were_open}
 use Rattle.cf_pool.proofs.Pools.{first_more, sees_itself, sees_longer}
+use Rattle.cf_pool.proofs.Waiting.{idles_since, last_place-mono, looks_from}
 
 -- ---- work, and then or before it only more that was seen
 
 pub works_before : (meanings : Meanings) (p q r : Pass) → Works meanings p q → SeesMore q r → Works meanings p r
 works_before meanings p q r w s = record {
   same = (s.same.0 ∙ w.same.0, s.same.1 ∙ w.same.1, s.same.2 ∙ w.same.2, s.same.3 ∙ w.same.3);
-  seen = w.seen ++ s.seen;
-  goes_on = s.goes_on ∙ ap (λ l. l ++ s.seen) w.goes_on ∙ append_assoc p.known.seen w.seen s.seen;
+  seen = w.seen ++ s.caught.others;
+  goes_on = s.caught.joined ∙ ap (λ l. l ++ s.caught.others) w.goes_on ∙ append_assoc p.known.seen w.seen s.caught.others;
   more = w.more;
   records = s.records ∙ w.records;
   work = w.work;
@@ -40,8 +51,8 @@ works_before meanings p q r w s = record {
 pub works_after : (meanings : Meanings) (p q r : Pass) → SeesMore p q → Works meanings q r → Works meanings p r
 works_after meanings p q r s w = record {
   same = (w.same.0 ∙ s.same.0, w.same.1 ∙ s.same.1, w.same.2 ∙ s.same.2, w.same.3 ∙ s.same.3);
-  seen = s.seen ++ w.seen;
-  goes_on = w.goes_on ∙ ap (λ l. l ++ w.seen) s.goes_on ∙ append_assoc p.known.seen s.seen w.seen;
+  seen = s.caught.others ++ w.seen;
+  goes_on = w.goes_on ∙ ap (λ l. l ++ w.seen) s.caught.joined ∙ append_assoc p.known.seen s.caught.others w.seen;
   more = w.more;
   records = w.records ∙ ap (λ l. l ++ w.more) s.records;
   work = subst (λ (x : Setting). AreWork meanings x.plan None w.more) s.same.1 w.work;
@@ -52,94 +63,153 @@ pub out_before : (meanings : Meanings) (p q r : Pass) → WorksOut meanings p q 
 unfolding works_before
 out_before meanings p q r w s = record { works = works_before meanings p q r w.works s; owes = w.owes }
 
-pub out_after : (meanings : Meanings) (p q r : Pass) → SeesMore p q → WorksOut meanings q r → WorksOut meanings p r
+out_after : (meanings : Meanings) (p q r : Pass) → SeesMore p q → WorksOut meanings q r → WorksOut meanings p r
 unfolding works_after
 out_after meanings p q r s w = record { works = works_after meanings p q r s w.works; owes = w.owes }
 
-pub worked_after : (meanings : Meanings) (d : Desk) (p q r : Pass) (fault : Option DeskFault) → SeesMore p q → HasWorked meanings d q r fault → HasWorked meanings d p r fault
-worked_after meanings d p q r None s h = record { works = works_after meanings p q r s h.works; met = out_after meanings p q r s h.met }
-worked_after meanings d p q r (Some fault) s h = record { works = works_after meanings p q r s h.works; met = h.met }
+stops_after : (meanings : Meanings) (d : Desk) (p q r : Pass) (fault : DeskFault) → SeesMore p q → Stops meanings d q r fault → Stops meanings d p r fault
+unfolding works_after
+stops_after meanings d p q r fault s h = record { stood = h.stood; works = works_after meanings p q h.stood s h.works; meets = h.meets }
 
--- a reason to stop stays one
-pub due_still : (d : Desk) (p q : Pass) (fault : DeskFault) → SeesMore p q → IsDueToStop d p fault → IsDueToStop d q fault
-due_still d p q LogFull s h = let l = sees_longer p q s in omega arith
-due_still d p q PassFull s h = ap length s.records ∙ h ∙ sym s.same.3
-due_still d p q NoStage s h = h
+waits_after : (d : Desk) (patience : ℕ) (p q r : Pass) → SeesMore p q → Waits d patience q r → Waits d patience p r
+waits_after d patience p q r s w =
+    let longer = sees_longer p q s in record {
+      more = w.more;
+      records = w.records ∙ ap (λ l. l ++ w.more) s.records;
+      looks = w.looks;
+      before = looks_from (length p.known.seen) (length q.known.seen) w.more p.known.looks q.known.looks w.looks longer s.looks w.before;
+      idles = idles_since d patience (last_place (length q.known.seen) w.more) (last_place (length p.known.seen) w.more) w.looks r (last_place-mono (length p.known.seen) (length q.known.seen) w.more longer) w.idles;
+    }
+
+ends_after : (meanings : Meanings) (d : Desk) (patience : ℕ) (p q r : Pass) → SeesMore p q → Ends meanings d patience q r → Ends meanings d patience p r
+ends_after meanings d patience p q r s e = record { out = out_after meanings p q r s e.out; none = e.none; waits = waits_after d patience p q r s e.waits }
+
+pub worked_after : (meanings : Meanings) (d : Desk) (patience : ℕ) (p q r : Pass) (fault : Option DeskFault) → SeesMore p q → HasWorked meanings d patience q r fault → HasWorked meanings d patience p r fault
+worked_after meanings d patience p q r None s h = record { works = works_after meanings p q r s h.works; met = ends_after meanings d patience p q r s h.met }
+worked_after meanings d patience p q r (Some fault) s h = record { works = works_after meanings p q r s h.works; met = stops_after meanings d p q r fault s h.met }
 
 -- ---- one pass after another
 
-pub all_work : (meanings : Meanings) (d : Desk) (ps qs : List Pass) (ws : List Worked) → AllZip (IsWorkedFrom meanings d) ps ws → AllZip SeesOn ws qs → AllZip (Works meanings) ps qs
-all_work meanings d [] [] [] f g = tt
-all_work meanings d [] [] (w ∷ ws) f g = absurd f
-all_work meanings d [] (q ∷ qs) [] f g = absurd g
-all_work meanings d [] (q ∷ qs) (w ∷ ws) f g = absurd f
-all_work meanings d (p ∷ ps) [] [] f g = absurd f
-all_work meanings d (p ∷ ps) [] (w ∷ ws) f g = absurd g
-all_work meanings d (p ∷ ps) (q ∷ qs) [] f g = absurd f
-all_work meanings d (p ∷ ps) (q ∷ qs) (w ∷ ws) f g = (works_before meanings p w.pass q f.0.works g.0, all_work meanings d ps qs ws f.1 g.1)
+pub all_work : (meanings : Meanings) (d : Desk) (patience : ℕ) (ps qs : List Pass) (ws : List Worked) → AllZip (IsWorkedFrom meanings d patience) ps ws → AllZip SeesOn ws qs → AllZip (Works meanings) ps qs
+all_work meanings d patience [] [] [] f g = tt
+all_work meanings d patience [] [] (w ∷ ws) f g = absurd f
+all_work meanings d patience [] (q ∷ qs) [] f g = absurd g
+all_work meanings d patience [] (q ∷ qs) (w ∷ ws) f g = absurd f
+all_work meanings d patience (p ∷ ps) [] [] f g = absurd f
+all_work meanings d patience (p ∷ ps) [] (w ∷ ws) f g = absurd g
+all_work meanings d patience (p ∷ ps) (q ∷ qs) [] f g = absurd f
+all_work meanings d patience (p ∷ ps) (q ∷ qs) (w ∷ ws) f g = (works_before meanings p w.pass q f.0.works g.0, all_work meanings d patience ps qs ws f.1 g.1)
 
-ended : (meanings : Meanings) (d : Desk) (p q : Pass) (fault : Option DeskFault) → fault ≡ None → HasWorked meanings d p q fault → WorksOut meanings p q
-ended meanings d p q None e h = h.met
-ended meanings d p q (Some fault) e h = cc
+pub ended : (meanings : Meanings) (d : Desk) (patience : ℕ) (p q : Pass) (fault : Option DeskFault) → fault ≡ None → HasWorked meanings d patience p q fault → Ends meanings d patience p q
+ended meanings d patience p q None e h = h.met
+ended meanings d patience p q (Some fault) e h = cc
 
-all_out : (meanings : Meanings) (d : Desk) (ps qs : List Pass) (ws : List Worked) → AllZip (IsWorkedFrom meanings d) ps ws → AllZip SeesOn ws qs → All (λ (x : Stop). x.1 ≡ None) (map stop_of ws) → AllZip (WorksOut meanings) ps qs
-all_out meanings d [] [] [] f g h = tt
-all_out meanings d [] [] (w ∷ ws) f g h = absurd f
-all_out meanings d [] (q ∷ qs) [] f g h = absurd g
-all_out meanings d [] (q ∷ qs) (w ∷ ws) f g h = absurd f
-all_out meanings d (p ∷ ps) [] [] f g h = absurd f
-all_out meanings d (p ∷ ps) [] (w ∷ ws) f g h = absurd g
-all_out meanings d (p ∷ ps) (q ∷ qs) [] f g h = absurd f
-all_out meanings d (p ∷ ps) (q ∷ qs) (w ∷ ws) f g h = (
-  out_before meanings p w.pass q (ended meanings d p w.pass w.fault (All-head (λ (x : Stop). x.1 ≡ None) (stop_of w) (map stop_of ws) h) f.0) g.0,
-  all_out meanings d ps qs ws f.1 g.1 (All-tail (λ (x : Stop). x.1 ≡ None) (stop_of w) (map stop_of ws) h),
+has_ended : (meanings : Meanings) (d : Desk) (patience : ℕ) (p r q : Pass) (fault : Option DeskFault) → HasWorked meanings d patience p r fault → SeesMore r q → fault ≡ None → HasEnded meanings d patience p q
+has_ended meanings d patience p r q fault h s none = record { ended = r; ends = ended meanings d patience p r fault none h; since = s }
+
+all_ended : (meanings : Meanings) (d : Desk) (patience : ℕ) (ps qs : List Pass) (ws : List Worked) → AllZip (IsWorkedFrom meanings d patience) ps ws → AllZip SeesOn ws qs → All (λ (x : Stop). x.1 ≡ None) (map stop_of ws) → AllZip (HasEnded meanings d patience) ps qs
+all_ended meanings d patience [] [] [] f g h = tt
+all_ended meanings d patience [] [] (w ∷ ws) f g h = absurd f
+all_ended meanings d patience [] (q ∷ qs) [] f g h = absurd g
+all_ended meanings d patience [] (q ∷ qs) (w ∷ ws) f g h = absurd f
+all_ended meanings d patience (p ∷ ps) [] [] f g h = absurd f
+all_ended meanings d patience (p ∷ ps) [] (w ∷ ws) f g h = absurd g
+all_ended meanings d patience (p ∷ ps) (q ∷ qs) [] f g h = absurd f
+all_ended meanings d patience (p ∷ ps) (q ∷ qs) (w ∷ ws) f g h = (
+  has_ended meanings d patience p w.pass q w.fault f.0 g.0 (All-head (λ (x : Stop). x.1 ≡ None) (stop_of w) (map stop_of ws) h),
+  all_ended meanings d patience ps qs ws f.1 g.1 (All-tail (λ (x : Stop). x.1 ≡ None) (stop_of w) (map stop_of ws) h),
 )
 
-all_below : (meanings : Meanings) (d : Desk) (caller : ℕ) (ps qs : List Pass) (ws : List Worked) → AllZip (IsWorkedFrom meanings d) ps ws → AllZip SeesOn ws qs → All (EndsIf caller) (map stop_of ws) → AllZip (EndsBelow meanings caller) ps qs
-all_below meanings d caller [] [] [] f g h = tt
-all_below meanings d caller [] [] (w ∷ ws) f g h = absurd f
-all_below meanings d caller [] (q ∷ qs) [] f g h = absurd g
-all_below meanings d caller [] (q ∷ qs) (w ∷ ws) f g h = absurd f
-all_below meanings d caller (p ∷ ps) [] [] f g h = absurd f
-all_below meanings d caller (p ∷ ps) [] (w ∷ ws) f g h = absurd g
-all_below meanings d caller (p ∷ ps) (q ∷ qs) [] f g h = absurd f
-all_below meanings d caller (p ∷ ps) (q ∷ qs) (w ∷ ws) f g h = (
-  (λ l. (let same = g.0.same.2 in out_before meanings p w.pass q (ended meanings d p w.pass w.fault (All-head (EndsIf caller) (stop_of w) (map stop_of ws) h (omega arith)) f.0) g.0)),
-  all_below meanings d caller ps qs ws f.1 g.1 (All-tail (EndsIf caller) (stop_of w) (map stop_of ws) h),
+ends_below : (meanings : Meanings) (d : Desk) (caller patience : ℕ) (p r q : Pass) (fault : Option DeskFault) → HasWorked meanings d patience p r fault → SeesMore r q → EndsIf caller (r.known.caller, fault) → EndsBelow meanings d caller patience p q
+ends_below meanings d caller patience p r q fault h s below l = has_ended meanings d patience p r q fault h s (below (let same = s.same.2 in omega arith))
+
+all_below : (meanings : Meanings) (d : Desk) (caller patience : ℕ) (ps qs : List Pass) (ws : List Worked) → AllZip (IsWorkedFrom meanings d patience) ps ws → AllZip SeesOn ws qs → All (EndsIf caller) (map stop_of ws) → AllZip (EndsBelow meanings d caller patience) ps qs
+all_below meanings d caller patience [] [] [] f g h = tt
+all_below meanings d caller patience [] [] (w ∷ ws) f g h = absurd f
+all_below meanings d caller patience [] (q ∷ qs) [] f g h = absurd g
+all_below meanings d caller patience [] (q ∷ qs) (w ∷ ws) f g h = absurd f
+all_below meanings d caller patience (p ∷ ps) [] [] f g h = absurd f
+all_below meanings d caller patience (p ∷ ps) [] (w ∷ ws) f g h = absurd g
+all_below meanings d caller patience (p ∷ ps) (q ∷ qs) [] f g h = absurd f
+all_below meanings d caller patience (p ∷ ps) (q ∷ qs) (w ∷ ws) f g h = (
+  ends_below meanings d caller patience p w.pass q w.fault f.0 g.0 (All-head (EndsIf caller) (stop_of w) (map stop_of ws) h),
+  all_below meanings d caller patience ps qs ws f.1 g.1 (All-tail (EndsIf caller) (stop_of w) (map stop_of ws) h),
 )
+
+-- ---- the worker that was stopped
+
+-- what stopped it, whatever its patience was
+StopsAs : Meanings → Desk → Pass → Worked → Type 0
+StopsAs meanings d p w = (fault : DeskFault) → w.fault ≡ Some fault → Stops meanings d p w.pass fault
+
+stops_as : (meanings : Meanings) (d : Desk) (patience : ℕ) (p q : Pass) (fault : Option DeskFault) → HasWorked meanings d patience p q fault → (x : DeskFault) → fault ≡ Some x → Stops meanings d p q x
+stops_as meanings d patience p q None h x e = cc
+stops_as meanings d patience p q (Some fault) h x e = let same : fault ≡ x = cc in subst (Stops meanings d p q) same h.met
+
+all_stops : (meanings : Meanings) (d : Desk) (patience : ℕ) (ps : List Pass) (ws : List Worked) → AllZip (IsWorkedFrom meanings d patience) ps ws → AllZip (StopsAs meanings d) ps ws
+unfolding StopsAs
+all_stops meanings d patience [] [] f = tt
+all_stops meanings d patience [] (w ∷ ws) f = absurd f
+all_stops meanings d patience (p ∷ ps) [] f = absurd f
+all_stops meanings d patience (p ∷ ps) (w ∷ ws) f = (stops_as meanings d patience p w.pass w.fault f.0, all_stops meanings d patience ps ws f.1)
+
+-- it is the same caller's
+stops_caller : (meanings : Meanings) (d : Desk) (p q : Pass) (fault : DeskFault) → Stops meanings d p q fault → q.known.caller ≡ p.known.caller
+stops_caller meanings d p q fault s = (same_follows s.stood q s.meets.left).2 ∙ s.works.same.2
 
 -- the pass of a caller that was stopped
-record Stopped (d : Desk) (qs : List Pass) (caller : ℕ) (fault : DeskFault) : Type 0 where
-  by : Pass
-  there : Contains qs by
-  is : by.known.caller ≡ caller
-  due : IsDueToStop d by fault
+record Stopped (meanings : Meanings) (d : Desk) (ps qs : List Pass) (caller : ℕ) (fault : DeskFault) : Type 0 where
+  before : Pass
+  was_there : Contains ps before
+  after : Pass
+  there : Contains qs after
+  is : before.known.caller ≡ caller
+  stopped : WasStopped meanings d fault before after
 
-stopped_more : (d : Desk) (q : Pass) (qs : List Pass) (caller : ℕ) (fault : DeskFault) → Stopped d qs caller fault → Stopped d (q ∷ qs) caller fault
-stopped_more d q qs caller fault s = record { by = s.by; there = Contains-append_right (q ∷ []) qs s.by s.there; is = s.is; due = s.due }
+stopped_more : (meanings : Meanings) (d : Desk) (p q : Pass) (ps qs : List Pass) (caller : ℕ) (fault : DeskFault) → Stopped meanings d ps qs caller fault → Stopped meanings d (p ∷ ps) (q ∷ qs) caller fault
+stopped_more meanings d p q ps qs caller fault s =
+    record { before = s.before; was_there = Contains-append_right (p ∷ []) ps s.before s.was_there; after = s.after; there = Contains-append_right (q ∷ []) qs s.after s.there; is = s.is; stopped = s.stopped }
 
-stopped_here : (meanings : Meanings) (d : Desk) (p r q : Pass) (now : Option DeskFault) (fault : DeskFault) → now ≡ Some fault → HasWorked meanings d p r now → SeesMore r q → IsDueToStop d q fault
-stopped_here meanings d p r q None fault e h s = cc
-stopped_here meanings d p r q (Some now) fault e h s = let same : now ≡ fault = cc in subst (IsDueToStop d q) same (due_still d r q now s h.met)
-
-stopped_at : (meanings : Meanings) (d : Desk) (caller : ℕ) (fault : DeskFault) (ps qs : List Pass) (ws : List Worked) → AllZip (IsWorkedFrom meanings d) ps ws → AllZip SeesOn ws qs
-    → (k : ℕ) → k < length (map stop_of ws) → slice_index_or (map stop_of ws) k (caller, Some fault) ≡ (caller, Some fault) → Stopped d qs caller fault
+stopped_at : (meanings : Meanings) (d : Desk) (caller : ℕ) (fault : DeskFault) (ps qs : List Pass) (ws : List Worked) → AllZip (StopsAs meanings d) ps ws → AllZip SeesOn ws qs
+    → (k : ℕ) → k < length (map stop_of ws) → slice_index_or (map stop_of ws) k (caller, Some fault) ≡ (caller, Some fault) → Stopped meanings d ps qs caller fault
+unfolding StopsAs
 stopped_at meanings d caller fault ps qs [] f g k l e = absurd (omega arith)
 stopped_at meanings d caller fault [] qs (w ∷ ws) f g k l e = absurd f
 stopped_at meanings d caller fault (p ∷ ps) [] (w ∷ ws) f g k l e = absurd g
-stopped_at meanings d caller fault (p ∷ ps) (q ∷ qs) (w ∷ ws) f g zero l e = record {
-  by = q;
-  there = (0, omega arith, refl);
-  is = g.0.same.2 ∙ ap (λ (x : Stop). x.0) e;
-  due = stopped_here meanings d p w.pass q w.fault fault (ap (λ (x : Stop). x.1) e) f.0 g.0;
-}
-stopped_at meanings d caller fault (p ∷ ps) (q ∷ qs) (w ∷ ws) f g (suc k) l e = stopped_more d q qs caller fault (stopped_at meanings d caller fault ps qs ws f.1 g.1 k (omega arith) e)
+stopped_at meanings d caller fault (p ∷ ps) (q ∷ qs) (w ∷ ws) f g zero l e =
+    let stops = f.0 fault (ap (λ (x : Stop). x.1) e) in record {
+      before = p;
+      was_there = (0, omega arith, refl);
+      after = q;
+      there = (0, omega arith, refl);
+      is = sym (stops_caller meanings d p w.pass fault stops) ∙ ap (λ (x : Stop). x.0) e;
+      stopped = record { stopped = w.pass; stops = stops; since = g.0 };
+    }
+stopped_at meanings d caller fault (p ∷ ps) (q ∷ qs) (w ∷ ws) f g (suc k) l e = stopped_more meanings d p q ps qs caller fault (stopped_at meanings d caller fault ps qs ws f.1 g.1 k (omega arith) e)
 
-pub all_met : (meanings : Meanings) (d : Desk) (ps qs : List Pass) (ws : List Worked) (first : Option Met) → AllZip (IsWorkedFrom meanings d) ps ws → AllZip SeesOn ws qs → IsFirst (map stop_of ws) first → IsMet meanings d ps qs first
-all_met meanings d ps qs ws None f g h = all_out meanings d ps qs ws f g h
-all_met meanings d ps qs ws (Some met) f g h =
-    let s = stopped_at meanings d met.caller met.fault ps qs ws f g h.0.0 h.0.1 h.0.2 in
-    record { by = s.by; there = s.there; is = s.is; due = s.due; below = all_below meanings d met.caller ps qs ws f g h.1 }
+-- the caller's own worker, with its patience, and the others with theirs
+pub all_met : (meanings : Meanings) (d : Desk) (p q : Pass) (fault : Option DeskFault) (ps qs : List Pass) (ws : List Worked) (first : Option Met) → HasWorked meanings d 1 p q fault → AllZip (IsWorkedFrom meanings d 1000) ps ws → AllZip SeesOn ws qs
+    → IsFirst ((q.known.caller, fault) ∷ map stop_of ws) first → IsMet meanings d (p ∷ ps) (q ∷ qs) first
+unfolding StopsAs
+all_met meanings d p q fault ps qs ws None own f g h = (
+  has_ended meanings d 1 p q q fault own (sees_itself q) (All-head (λ (x : Stop). x.1 ≡ None) (q.known.caller, fault) (map stop_of ws) h),
+  all_ended meanings d 1000 ps qs ws f g (All-tail (λ (x : Stop). x.1 ≡ None) (q.known.caller, fault) (map stop_of ws) h),
+)
+all_met meanings d p q fault ps qs ws (Some met) own f g h =
+    let mine : Worked = record { pass = q; fault = fault } in
+    let s = stopped_at meanings d met.caller met.fault (p ∷ ps) (q ∷ qs) (mine ∷ ws) (stops_as meanings d 1 p q fault own, all_stops meanings d 1000 ps ws f) (sees_itself q, g) h.0.0 h.0.1 h.0.2 in
+    record {
+      before = s.before;
+      was_there = s.was_there;
+      after = s.after;
+      there = s.there;
+      is = s.is;
+      stopped = s.stopped;
+      below = (
+        ends_below meanings d met.caller 1 p q q fault own (sees_itself q) (All-head (EndsIf met.caller) (q.known.caller, fault) (map stop_of ws) h.1),
+        all_below meanings d met.caller 1000 ps qs ws f g (All-tail (EndsIf met.caller) (q.known.caller, fault) (map stop_of ws) h.1),
+      );
+    }
 
 -- ---- the caller's own pass, which comes first
 
@@ -160,25 +230,23 @@ first_rotated stops stop (Some met) h = (
 -- what is known when all have come back
 pub record Back (meanings : Meanings) (d : Desk) (mine met done : Pass) (ps qs : List Pass) (ws : List Worked) (others : Option Met) (fault : Option DeskFault) : Type 0 where
   pub of : All (IsOf d) (mine ∷ ps)
-  pub work : AllZip (IsWorkedFrom meanings d) ps ws
+  pub work : AllZip (IsWorkedFrom meanings d 1000) ps ws
   pub sees : AllZip SeesOn ws qs
   pub mine_sees : SeesMore mine met
-  pub mine_works : HasWorked meanings d met done fault
+  pub mine_works : HasWorked meanings d 1 met done fault
   pub short : AllShort (length met.known.seen) (knowns qs)
   pub first : IsFirst (map stop_of ws) others
 
-back_work : (meanings : Meanings) (d : Desk) (mine met done : Pass) (ps qs : List Pass) (ws : List Worked) (others : Option Met) (fault : Option DeskFault) → Back meanings d mine met done ps qs ws others fault
-    → AllZip (IsWorkedFrom meanings d) (mine ∷ ps) (record { pass = done; fault = fault } ∷ ws)
-back_work meanings d mine met done ps qs ws others fault b = (worked_after meanings d mine met done fault b.mine_sees b.mine_works, b.work)
+back_own : (meanings : Meanings) (d : Desk) (mine met done : Pass) (ps qs : List Pass) (ws : List Worked) (others : Option Met) (fault : Option DeskFault) → Back meanings d mine met done ps qs ws others fault → HasWorked meanings d 1 mine done fault
+back_own meanings d mine met done ps qs ws others fault b = worked_after meanings d 1 mine met done fault b.mine_sees b.mine_works
 
 pub back_works : (meanings : Meanings) (d : Desk) (mine met done : Pass) (ps qs : List Pass) (ws : List Worked) (others : Option Met) (fault : Option DeskFault) → Back meanings d mine met done ps qs ws others fault → AllZip (Works meanings) (mine ∷ ps) (done ∷ qs)
-back_works meanings d mine met done ps qs ws others fault b =
-    all_work meanings d (mine ∷ ps) (done ∷ qs) (record { pass = done; fault = fault } ∷ ws) (back_work meanings d mine met done ps qs ws others fault b) (sees_itself done, b.sees)
+back_works meanings d mine met done ps qs ws others fault b = ((back_own meanings d mine met done ps qs ws others fault b).works, all_work meanings d 1000 ps qs ws b.work b.sees)
 
 pub back_met : (meanings : Meanings) (d : Desk) (mine met done : Pass) (ps qs : List Pass) (ws : List Worked) (others : Option Met) (fault : Option DeskFault) → Back meanings d mine met done ps qs ws others fault
     → IsMet meanings d (mine ∷ ps) (done ∷ qs) (first_with others done.known.caller fault)
 back_met meanings d mine met done ps qs ws others fault b =
-    all_met meanings d (mine ∷ ps) (done ∷ qs) (record { pass = done; fault = fault } ∷ ws) (first_with others done.known.caller fault) (back_work meanings d mine met done ps qs ws others fault b) (sees_itself done, b.sees)
+    all_met meanings d mine done fault ps qs ws (first_with others done.known.caller fault) (back_own meanings d mine met done ps qs ws others fault b) b.work b.sees
     (first_rotated (map stop_of ws) (done.known.caller, fault) (first_with others done.known.caller fault) (first_more (map stop_of ws) others done.known.caller fault b.first))
 
 -- the passes are still of the desk
@@ -194,7 +262,7 @@ pub back_of : (meanings : Meanings) (d : Desk) (mine met done : Pass) (ps qs : L
 back_of meanings d mine met done ps qs ws others fault b = still_of meanings d (mine ∷ ps) (done ∷ qs) b.of (back_works meanings d mine met done ps qs ws others fault b)
 
 -- the passes that come from the workers are of the desk
-pub worked_of : (meanings : Meanings) (d : Desk) (ps : List Pass) (ws : List Worked) → All (IsOf d) ps → AllZip (IsWorkedFrom meanings d) ps ws → All (λ (w : Worked). w.pass.table ≡ d.table) ws
+pub worked_of : (meanings : Meanings) (d : Desk) (ps : List Pass) (ws : List Worked) → All (IsOf d) ps → AllZip (IsWorkedFrom meanings d 1000) ps ws → All (λ (w : Worked). w.pass.table ≡ d.table) ws
 worked_of meanings d [] [] h f = All-nil (λ (w : Worked). w.pass.table ≡ d.table)
 worked_of meanings d [] (w ∷ ws) h f = absurd f
 worked_of meanings d (p ∷ ps) [] h f = absurd f
@@ -222,58 +290,101 @@ no_more xs [] zs e l = e ∙ append-nil xs
 no_more xs (y ∷ ys) zs e l = absurd (let a = ap length e in let b = length-append xs (y ∷ ys) in omega arith)
 
 -- what the caller's pass has seen is the whole history
-whole_seen : (setting : Setting) (done : Pass) (qs : List Pass) (history : List Event) → Closes setting (done ∷ qs) history → AllShort (length done.known.seen) (knowns qs) → history ≡ done.known.seen
-whole_seen setting done qs history c short =
+whole_seen : (d : Desk) (done : Pass) (qs : List Pass) (history : List Event) → Closes d (done ∷ qs) history → AllShort (length done.known.seen) (knowns qs) → history ≡ done.known.seen
+whole_seen d done qs history c short =
     let begins : Catches done.known.caller done.known.seen history = All-head (λ (p : Pass). Catches p.known.caller p.known.seen history) done qs c.begins in
     let few : length (longest (knowns (done ∷ qs))) ≤ length done.known.seen = longest_short (length done.known.seen) (knowns (done ∷ qs)) (omega arith, short) in
     let e = ap length c.longest in
     no_more done.known.seen begins.others history begins.joined (omega arith)
 
-pub back_ran : (meanings : Meanings) (d : Desk) (mine met done : Pass) (ps qs : List Pass) (ws : List Worked) (others : Option Met) (fault : Option DeskFault) → Back meanings d mine met done ps qs ws others fault
-    → (history : List Event) (kept : List Kept) (graph : State) → Closes d.setting (done ∷ qs) history → AreKept kept (done ∷ qs) → AllFit d.setting.plan history (map pass_kept kept) → graph ≡ state_from d.setting.plan history
-    → Ran meanings d.setting (mine ∷ ps) history kept graph
-back_ran meanings d mine met done ps qs ws others fault b history kept graph closes are fit is = record {
-  qs = done ∷ qs;
-  closes = closes;
-  kept_are = are;
-  works = back_works meanings d mine met done ps qs ws others fault b;
+-- the desk, closed
+pub record Shut (d : Desk) (qs : List Pass) (history : List Event) (kept : List Kept) (graph : State) : Type 0 where
+  pub closes : Closes d qs history
+  pub kept_are : AreKept kept qs
+  pub fit : AllFit d.setting.plan history (map pass_kept kept)
+  pub graph_is : graph ≡ state_from d.setting.plan history
+
+pub shut_of : (d : Desk) (qs items : List Pass) (history : List Event) (kept : List Kept) (graph : State) → items ≡ qs → Closes d items history → AreKept kept items → AllFit d.setting.plan history (map pass_kept kept) → graph ≡ state_from d.setting.plan history
+    → Shut d qs history kept graph
+shut_of d qs items history kept graph same closes are fit is = record {
+  closes = subst (λ (l : List Pass). Closes d l history) same closes;
+  kept_are = subst (λ (l : List Pass). AreKept kept l) same are;
   fit = fit;
   graph_is = is;
 }
 
+back_ran : (meanings : Meanings) (d : Desk) (mine met done : Pass) (ps qs : List Pass) (ws : List Worked) (others : Option Met) (fault : Option DeskFault) → Back meanings d mine met done ps qs ws others fault
+    → (history : List Event) (kept : List Kept) (graph : State) → Shut d (done ∷ qs) history kept graph → Ran meanings d (mine ∷ ps) history kept graph
+back_ran meanings d mine met done ps qs ws others fault b history kept graph s = record {
+  qs = done ∷ qs;
+  closes = s.closes;
+  kept_are = s.kept_are;
+  works = back_works meanings d mine met done ps qs ws others fault b;
+  fit = s.fit;
+  graph_is = s.graph_is;
+}
+
+ended_out : (meanings : Meanings) (d : Desk) (patience : ℕ) (p q : Pass) → HasEnded meanings d patience p q → WorksOut meanings p q
+ended_out meanings d patience p q h = out_before meanings p h.ended q h.ends.out h.since
+
+zip_out : (meanings : Meanings) (d : Desk) (patience : ℕ) (ps qs : List Pass) → AllZip (HasEnded meanings d patience) ps qs → AllZip (WorksOut meanings) ps qs
+zip_out meanings d patience [] [] h = tt
+zip_out meanings d patience [] (q ∷ qs) h = absurd h
+zip_out meanings d patience (p ∷ ps) [] h = absurd h
+zip_out meanings d patience (p ∷ ps) (q ∷ qs) h = (ended_out meanings d patience p q h.0, zip_out meanings d patience ps qs h.1)
+
+pub each_out : (meanings : Meanings) (d : Desk) (ps qs : List Pass) → OfEach (HasEnded meanings d) ps qs → AllZip (WorksOut meanings) ps qs
+each_out meanings d [] qs h = absurd h
+each_out meanings d (p ∷ ps) [] h = absurd h
+each_out meanings d (p ∷ ps) (q ∷ qs) h = (ended_out meanings d 1 p q h.0, zip_out meanings d 1000 ps qs h.1)
+
+pub first_none : (others : Option Met) (caller : ℕ) (fault : Option DeskFault) → first_with others caller fault ≡ None → fault ≡ None
+first_none None caller None e = refl
+first_none (Some met) caller None e = refl
+first_none None caller (Some fault) e = cc
+first_none (Some met) caller (Some fault) e = cc
+
 pub back_out : (meanings : Meanings) (d : Desk) (mine met done : Pass) (ps qs : List Pass) (ws : List Worked) (others : Option Met) (fault : Option DeskFault) → Back meanings d mine met done ps qs ws others fault
-    → (history : List Event) (kept : List Kept) (graph : State) → Closes d.setting (done ∷ qs) history → AreKept kept (done ∷ qs) → AllFit d.setting.plan history (map pass_kept kept) → graph ≡ state_from d.setting.plan history
-    → first_with others done.known.caller fault ≡ None → lowest_ready_of (state_of done.known) ≡ None
-    → RanOut meanings d.setting (mine ∷ ps) history kept graph
+    → (history : List Event) (kept : List Kept) (graph : State) → Shut d (done ∷ qs) history kept graph → first_with others done.known.caller fault ≡ None → RanOut meanings d (mine ∷ ps) history kept graph
 unfolding back_ran
-back_out meanings d mine met done ps qs ws others fault b history kept graph closes are fit is none ready =
+back_out meanings d mine met done ps qs ws others fault b history kept graph s none =
     let of : IsOf d done = All-head (IsOf d) done qs (back_of meanings d mine met done ps qs ws others fault b) in
     let longer : length met.known.seen ≤ length done.known.seen = (let e = ap length b.mine_works.works.goes_on in let l = length-append met.known.seen b.mine_works.works.seen in omega arith) in
-    let whole : history ≡ done.known.seen = whole_seen d.setting done qs history closes (short_more (length met.known.seen) (length done.known.seen) longer (knowns qs) b.short) in
-    let same : graph ≡ state_of done.known = is ∙ (λ i. state_from ((sym of.1 i).plan) (whole i)) in
+    let whole : history ≡ done.known.seen = whole_seen d done qs history s.closes (short_more (length met.known.seen) (length done.known.seen) longer (knowns qs) b.short) in
+    let same : graph ≡ state_of done.known = s.graph_is ∙ (λ i. state_from ((sym of.1 i).plan) (whole i)) in
+    let each : OfEach (HasEnded meanings d) (mine ∷ ps) (done ∷ qs) = subst (IsMet meanings d (mine ∷ ps) (done ∷ qs)) none (back_met meanings d mine met done ps qs ws others fault b) in
     record {
-      ran = back_ran meanings d mine met done ps qs ws others fault b history kept graph closes are fit is;
-      out = subst (IsMet meanings d (mine ∷ ps) (done ∷ qs)) none (back_met meanings d mine met done ps qs ws others fault b);
-      none = ap lowest_ready_of same ∙ ready;
+      ran = back_ran meanings d mine met done ps qs ws others fault b history kept graph s;
+      ended = each;
+      none = ap lowest_ready_of same ∙ (ended meanings d 1 met done fault (first_none others done.known.caller fault none) b.mine_works).none;
+      claims = were_open meanings d.setting.plan d.setting.callers history graph (mine ∷ ps) (done ∷ qs) (each_out meanings d (mine ∷ ps) (done ∷ qs) each)
+          (subst (All (IsKeptFit d.setting.plan history)) s.kept_are s.fit.each) s.closes.each
+          (All-weaker (IsEventOf d.setting) (λ e. who_of e < d.setting.callers) (λ e h. h.caller) history s.closes.events) s.graph_is;
     }
 
-due_told : (d : Desk) (setting : Setting) (qs : List Pass) (by : Pass) (history : List Event) (fault : DeskFault) → Closes setting qs history → Contains qs by → IsDueToStop d by fault → IsDueToTell d.words qs history fault
-due_told d setting qs by history LogFull c there due =
-    let begins : Catches by.known.caller by.known.seen history = All-contains (λ (p : Pass). Catches p.known.caller p.known.seen history) qs by c.begins there in
-    let e = ap length begins.joined in let l = length-append by.known.seen begins.others in omega arith
-due_told d setting qs by history PassFull c there due = (by, there, due)
-due_told d setting qs by history NoStage c there due = due
+-- why the fault is told
+due_told : (d : Desk) (qs : List Pass) (stood stopped after : Pass) (history : List Event) (call : Call) (fault : DeskFault) → Closes d qs history → Contains qs after → Follows stood stopped → SeesMore stopped after
+    → IsOnStage stood (event_by stood.known.caller call) → IsDue stopped d (event_by stood.known.caller call) fault → IsDueToTell d.words qs history fault
+due_told d qs stood stopped after history call LogFull c there f s stage due =
+    let begins : Catches after.known.caller after.known.seen history = All-contains (λ (p : Pass). Catches p.known.caller p.known.seen history) qs after c.begins there in
+    let longer = sees_longer stopped after s in
+    let full : length stopped.known.seen ≡ d.words = due.2 in
+    let e = ap length begins.joined in let l = length-append after.known.seen begins.others in let few = c.room in omega arith
+due_told d qs stood stopped after history call PassFull c there f s stage due = (after, there, ap length s.records ∙ due.1 ∙ sym s.same.3)
+due_told d qs stood stopped after history call NoStage c there f s stage due =
+    absurd (due (subst (λ (x : Setting). EventFits (length x.plan.stages) (event_by stood.known.caller call)) (sym (same_follows stood stopped f).1) stage))
 
 pub back_told : (meanings : Meanings) (d : Desk) (mine met done : Pass) (ps qs : List Pass) (ws : List Worked) (others : Option Met) (fault : Option DeskFault) → Back meanings d mine met done ps qs ws others fault
-    → (closed : Closed) → Closes d.setting (done ∷ qs) closed.history.items → AreKept closed.passes.items (done ∷ qs) → AllFit d.setting.plan closed.history.items (map pass_kept closed.passes.items) → closed.graph.state ≡ state_from d.setting.plan closed.history.items
+    → (closed : Closed) → Shut d (done ∷ qs) closed.history.items closed.passes.items closed.graph.state
     → (first : Met) → first_with others done.known.caller fault ≡ Some first
     → IsTold meanings d (mine ∷ ps) first.fault closed
 unfolding back_ran
-back_told meanings d mine met done ps qs ws others fault b closed closes are fit is first some =
+back_told meanings d mine met done ps qs ws others fault b closed shut first some =
     let lowest : IsLowest meanings d (mine ∷ ps) (done ∷ qs) first.caller first.fault = subst (IsMet meanings d (mine ∷ ps) (done ∷ qs)) some (back_met meanings d mine met done ps qs ws others fault b) in
+    let stops = lowest.stopped.stops in
     record {
-      ran = back_ran meanings d mine met done ps qs ws others fault b closed.history.items closed.passes.items closed.graph.state closes are fit is;
-      due = due_told d d.setting (done ∷ qs) lowest.by closed.history.items first.fault closes lowest.there lowest.due;
+      ran = back_ran meanings d mine met done ps qs ws others fault b closed.history.items closed.passes.items closed.graph.state shut;
+      due = due_told d (done ∷ qs) stops.stood lowest.stopped.stopped lowest.after closed.history.items stops.meets.call first.fault shut.closes lowest.there stops.meets.left lowest.stopped.since stops.meets.there stops.meets.due;
       caller = first.caller;
       lowest = lowest;
     }
@@ -285,9 +396,3 @@ first_and (y ∷ xs) rest x l e r = (λ i. sym e i ∷ sym r i)
 
 pub inserted_first : {A : Type 0} (xs : List A) (x : A) → insert xs 0 x ≡ x ∷ xs
 inserted_first xs x = refl
-
-pub first_none : (others : Option Met) (caller : ℕ) (fault : Option DeskFault) → first_with others caller fault ≡ None → fault ≡ None
-first_none None caller None e = refl
-first_none (Some met) caller None e = refl
-first_none None caller (Some fault) e = cc
-first_none (Some met) caller (Some fault) e = cc

@@ -6,8 +6,7 @@ use Rattle.cf_desk.specs.Keepings.{IsFit}
 use Rattle.cf_desk.specs.Laws.{call_of}
 use Rattle.cf_desk.specs.Log.{own}
 use Rattle.cf_desk.specs.Records.{dids}
-use Rattle.cf_desk.specs.Views.{Pass, Desk}
-use Rattle.cf_pool.specs.Works.{IsOf}
+use Rattle.cf_desk.specs.Views.{Desk, IsOf, Pass, SeesFull}
 
 -- caller 0 has done the first of the steps in order, so many of them
 pub record HasTaken (d : Desk) (steps : List Event) (taken : ℕ) (p : Pass) : Type 0 where
@@ -22,7 +21,7 @@ pub record HasDoneSteps (d : Desk) (steps : List Event) (p : Pass) : Type 0 wher
   pub taken : ℕ
   pub few : taken ≤ length steps
   pub done : HasTaken d steps taken p
-  pub all : (taken ≡ length steps) ⊎ (d.words ≤ length p.known.seen)
+  pub all : (taken ≡ length steps) ⊎ SeesFull d p
 
 -- a pass of the desk with room for so many records that has seen and recorded nothing
 pub record IsIdle (d : Desk) (calls : ℕ) (p : Pass) : Type 0 where

@@ -9,10 +9,13 @@ use Rattle.cf_core.specs.Claims.{is_claimable}
 use Rattle.cf_core.specs.States.{stage_at}
 use Rattle.cf_plan.specs.Meanings.{Meanings}
 use Rattle.cf_desk.specs.declared.calls.Rec.{Rec}
-use Rattle.cf_desk.specs.Views.{Pass, IsSamePass, state_of}
+use Rattle.cf_desk.specs.declared.faults.DeskFault.{DeskFault}
+use Rattle.cf_desk.specs.Views.{Desk, Pass, IsSamePass, state_of}
 use Rattle.cf_pool.specs.declared.worker.Done.{Done}
 use Rattle.cf_pool.specs.Works.{Owed, AreWork, owed_after, claims_of}
 use Rattle.cf_pool.specs.Counting.{Counts}
+use Rattle.cf_pool.specs.Stops.{MeetsFault}
+use Rattle.cf_pool.specs.Waits.{last_place}
 
 -- The same pass has seen more, and has done work: where this was owed before, that is owed after. Each stage that it claimed
 -- could be claimed before in what it had seen, and can't be claimed any more after.
@@ -26,7 +29,15 @@ pub record AddsWork (meanings : Meanings) (owed : Owed) (p q : Pass) (owes : Owe
   pub owes_then : owed_after owed more ≡ owes
   pub once : (i : ℕ) → claims_of i more ≤ 1
   pub fresh : (i : ℕ) → 0 < claims_of i more → is_claimable (stage_at (state_of p.known) i) ≡ true
+  pub placed : last_place (length p.known.seen) more ≤ length q.known.seen
   pub spent : (i : ℕ) → 0 < claims_of i more → is_claimable (stage_at (state_of q.known) i) ≡ false
+
+-- a job's work, up to a call that met a fault
+pub record StopsJob (meanings : Meanings) (d : Desk) (p q : Pass) (fault : DeskFault) : Type 0 where
+  pub stood : Pass
+  pub owes : Owed
+  pub adds : AddsWork meanings None p stood owes
+  pub meets : MeetsFault meanings d owes stood q fault
 
 -- the counts with more of them
 abbrev pub sum_of : Done → Done → Done
@@ -40,6 +51,11 @@ pub record AddsCounted (meanings : Meanings) (owed : Owed) (p q : Pass) (done : 
   pub won_few : done.won + length p.records ≤ length q.records
   pub late_few : done.late + length p.records ≤ length q.records
   pub room : length q.records ≤ q.calls
+
+-- a job's counts, and that its records came after all that the pass had seen
+pub record DoesJob (meanings : Meanings) (p q : Pass) (done : Done) : Type 0 where
+  pub does : AddsCounted meanings None p q done
+  pub later : length p.known.seen < last_place (length p.known.seen) does.adds.more
 
 -- the arguments that a reply grants
 abbrev pub granted_by : Reply → Option Args

@@ -1,7 +1,11 @@
 pub mod Works
+pub mod Stops
+pub mod Waits
 pub mod Jobs
 pub mod Counting
+pub mod Claims
 pub mod Runs
+pub mod Closings
 pub mod Records
 pub mod Races
 pub mod Beginnings

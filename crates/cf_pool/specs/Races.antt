@@ -1,12 +1,14 @@
 -- What a race does and leaves.
 use Rattle.std.specs.Prelude.{◌≡◌, ℕ, ◌+◌, ◌*◌, ◌<◌, ◌≤◌, true, Some, List, [], ◌∷◌, ◌++◌, length}
 use Rattle.cf_plan.specs.Plans.{Planned, IsBuilt}
+use Rattle.std.specs.List.{All}
 use Rattle.cf_core.specs.declared.events.Event.{Event}
 use Rattle.cf_core.specs.declared.events.Event.TheVariants.{Claim as Claims, Finish as Finishes}
 use Rattle.cf_core.specs.States.{State, start, outcome_at}
 use Rattle.cf_core.specs.Events.{answered, state_after}
 use Rattle.cf_core.specs.Calls.{is_from_outside}
 use Rattle.cf_core.specs.Ranges.{EventFits}
+use Rattle.cf_event.specs.Words.{who_of}
 use Rattle.cf_plan.specs.declared.forms.Args.{Args}
 use Rattle.cf_pool.specs.declared.races.RaceFault.{RaceFault}
 use Rattle.cf_pool.specs.declared.races.RaceFault.TheVariants.{Size, NoMemory}
@@ -35,27 +37,32 @@ IsWorkHistory meanings granted s [] = Unit {0}
 IsWorkHistory meanings granted s (e ∷ events) =
     IsWorkEvent meanings granted s e × IsWorkHistory meanings (granted_with granted e ((answered s e).0)) ((answered s e).1) events
 
+-- an event of caller 0 or of one of so many workers, whose numbers begin with 1
+abbrev pub IsByWorker : ℕ → Event → Type 0
+IsByWorker workers e = who_of e ≤ workers
+
 -- The plan is one that a builder built, and the state comes after a history that begins with the steps, goes on with work alone,
--- and leaves nothing ready or claimed.
-pub record IsRaced (meanings : Meanings) (plan : Planned) (steps : List Event) (s : State) : Type 0 where
+-- by no more callers than so many workers, and leaves nothing ready or claimed.
+pub record IsRaced (meanings : Meanings) (plan : Planned) (steps : List Event) (workers : ℕ) (s : State) : Type 0 where
   pub built : IsBuilt plan
   pub work : List Event
   pub done : IsWorkHistory meanings (grants_after nothing_granted (start plan) steps) (state_after (start plan) steps) work
+  pub by : All (IsByWorker workers) work
   pub state : s ≡ state_after (start plan) (steps ++ work)
   pub quiet : IsQuiet s
 
 -- However many workers there were and whatever they did first, a race of a plain plan with plain steps ends as the expressions say.
 abbrev pub RacedIsExpression : Type 0
 RacedIsExpression =
-    (plan : Planned) (steps : List Event) (meanings : Meanings) (s : State) (i : ℕ) →
-    IsPlainPlan plan → IsPlain meanings nothing_granted (start plan) steps → IsRaced meanings plan steps s →
+    (plan : Planned) (steps : List Event) (meanings : Meanings) (workers : ℕ) (s : State) (i : ℕ) →
+    IsPlainPlan plan → IsPlain meanings nothing_granted (start plan) steps → IsRaced meanings plan steps workers s →
     i < length plan.stages → outcome_at s i ≡ expr plan steps meanings i
 
 -- So two races that begin with the same plain steps end alike.
 abbrev pub RacesEndAlike : Type 0
 RacesEndAlike =
-    (plan : Planned) (steps : List Event) (meanings : Meanings) (s r : State) (i : ℕ) →
-    IsPlainPlan plan → IsPlain meanings nothing_granted (start plan) steps → IsRaced meanings plan steps s → IsRaced meanings plan steps r →
+    (plan : Planned) (steps : List Event) (meanings : Meanings) (few many : ℕ) (s r : State) (i : ℕ) →
+    IsPlainPlan plan → IsPlain meanings nothing_granted (start plan) steps → IsRaced meanings plan steps few s → IsRaced meanings plan steps many r →
     i < length plan.stages → outcome_at s i ≡ outcome_at r i
 
 -- why there is no race

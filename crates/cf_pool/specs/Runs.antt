@@ -1,35 +1,52 @@
--- What a run of workers is told by each of them, and what it tells.
-use Rattle.std.specs.Prelude.{◌≡◌, ℕ, ◌<◌, nat_lt, Bool, true, false, Option, Some, None, MatchOption, List, ◌++◌}
+-- What a run of workers is told by each of them.
+use Rattle.std.specs.Prelude.{◌≡◌, ℕ, ◌<◌, nat_lt, Bool, true, false, Option, Some, None, MatchOption, List, ◌∷◌}
 use Rattle.std.specs.List.{All, AllZip, Contains}
-use Rattle.cf_core.specs.declared.events.Event.{Event}
 use Rattle.cf_plan.specs.Meanings.{Meanings}
-use Rattle.cf_desk.specs.declared.calls.Closed.{Closed}
 use Rattle.cf_desk.specs.declared.faults.DeskFault.{DeskFault}
+use Rattle.cf_desk.specs.Log.{Catches}
 use Rattle.cf_desk.specs.Views.{Pass, IsSamePass, Desk}
-use Rattle.cf_pool.specs.declared.faults.PoolFault.{PoolFault}
-use Rattle.cf_pool.specs.declared.faults.PoolFault.TheVariants.{Desk as ToldDesk, NoMemory}
 use Rattle.cf_pool.specs.declared.pool.Met.{Met}
 use Rattle.cf_pool.specs.declared.pool.Worked.{Worked}
-use Rattle.cf_pool.specs.Works.{IsDueToStop, IsDueToTell, Ran, Works, WorksOut}
+use Rattle.cf_pool.specs.Stops.{Stops}
+use Rattle.cf_pool.specs.Waits.{Ends}
+use Rattle.cf_pool.specs.Works.{Works}
 
--- a worker has worked, and has ended or stopped with this fault
-pub record HasWorked (meanings : Meanings) (d : Desk) (p q : Pass) (fault : Option DeskFault) : Type 0 where
+-- a worker has worked, and has ended with this patience or stopped with this fault
+pub record HasWorked (meanings : Meanings) (d : Desk) (patience : ℕ) (p q : Pass) (fault : Option DeskFault) : Type 0 where
   pub works : Works meanings p q
-  pub met : MatchOption fault (WorksOut meanings p q) (IsDueToStop d q)
+  pub met : MatchOption fault (Ends meanings d patience p q) (Stops meanings d p q)
 
-abbrev pub IsWorkedFrom : Meanings → Desk → Pass → Worked → Type 0
-IsWorkedFrom meanings d p w = HasWorked meanings d p w.pass w.fault
+abbrev pub IsWorkedFrom : Meanings → Desk → ℕ → Pass → Worked → Type 0
+IsWorkedFrom meanings d patience p w = HasWorked meanings d patience p w.pass w.fault
 
--- the same pass, which has only seen more
+-- the same pass, which has only seen more events of others, and looked for none
 pub record SeesMore (p q : Pass) : Type 0 where
   pub same : IsSamePass p q
-  pub seen : List Event
-  pub goes_on : q.known.seen ≡ p.known.seen ++ seen
+  pub caught : Catches p.known.caller p.known.seen q.known.seen
   pub records : q.records ≡ p.records
+  pub looks : q.known.looks ≡ p.known.looks
 
 -- a worker's pass, which has seen more since
 abbrev pub SeesOn : Worked → Pass → Type 0
 SeesOn w q = SeesMore w.pass q
+
+-- a worker ended, and its pass has seen more since
+pub record HasEnded (meanings : Meanings) (d : Desk) (patience : ℕ) (p q : Pass) : Type 0 where
+  pub ended : Pass
+  pub ends : Ends meanings d patience p ended
+  pub since : SeesMore ended q
+
+-- a worker was stopped by this fault, and its pass has seen more since
+pub record WasStopped (meanings : Meanings) (d : Desk) (fault : DeskFault) (p q : Pass) : Type 0 where
+  pub stopped : Pass
+  pub stops : Stops meanings d p stopped fault
+  pub since : SeesMore stopped q
+
+-- The same of each pass, by how often it looks before it ends: the caller's own, which comes first, once, and each worker's 1,000
+-- times.
+abbrev pub OfEach : (ℕ → Pass → Pass → Type 0) → List Pass → List Pass → Type 0
+OfEach R (p ∷ ps) (q ∷ qs) = R 1 p q × AllZip (R 1000) ps qs
+OfEach R ps qs = ⊥
 
 -- the number of the caller, and the fault that stopped it, if one did
 abbrev pub Stop : Type 0
@@ -57,28 +74,19 @@ first_with None caller (Some fault) = Some (record { caller = caller; fault = fa
 first_with (Some met) caller (Some fault) = Some (lower_of (nat_lt caller met.caller) met (record { caller = caller; fault = fault }))
 
 -- the worker ended, if its caller's number is below this one
-abbrev pub EndsBelow : Meanings → ℕ → Pass → Pass → Type 0
-EndsBelow meanings caller p q = q.known.caller < caller → WorksOut meanings p q
+abbrev pub EndsBelow : Meanings → Desk → ℕ → ℕ → Pass → Pass → Type 0
+EndsBelow meanings d caller patience p q = q.known.caller < caller → HasEnded meanings d patience p q
 
--- the fault of the lowest caller that met one
+-- this caller's worker was stopped by this fault, and that of each lower one ended
 pub record IsLowest (meanings : Meanings) (d : Desk) (ps qs : List Pass) (caller : ℕ) (fault : DeskFault) : Type 0 where
-  pub by : Pass
-  pub there : Contains qs by
-  pub is : by.known.caller ≡ caller
-  pub due : IsDueToStop d by fault
-  pub below : AllZip (EndsBelow meanings caller) ps qs
+  pub before : Pass
+  pub was_there : Contains ps before
+  pub after : Pass
+  pub there : Contains qs after
+  pub is : before.known.caller ≡ caller
+  pub stopped : WasStopped meanings d fault before after
+  pub below : OfEach (EndsBelow meanings d caller) ps qs
 
 -- all workers ended, or this is the fault of the lowest that stopped
 abbrev pub IsMet : Meanings → Desk → List Pass → List Pass → Option Met → Type 0
-IsMet meanings d ps qs met = MatchOption met (AllZip (WorksOut meanings) ps qs) (λ x. IsLowest meanings d ps qs x.caller x.fault)
-
--- the closed desk after a fault: why it is told, and that it is the fault of the lowest caller that met one
-pub record IsTold (meanings : Meanings) (d : Desk) (ps : List Pass) (fault : DeskFault) (closed : Closed) : Type 0 where
-  pub ran : Ran meanings d.setting ps closed.history.items closed.passes.items closed.graph.state
-  pub due : IsDueToTell d.words ran.qs closed.history.items fault
-  pub caller : ℕ
-  pub lowest : IsLowest meanings d ps ran.qs caller fault
-
-abbrev pub IsRefused : Meanings → Desk → List Pass → PoolFault → Type 0
-IsRefused meanings d ps NoMemory = Unit {0}
-IsRefused meanings d ps (ToldDesk fault closed) = IsTold meanings d ps fault closed
+IsMet meanings d ps qs met = MatchOption met (OfEach (HasEnded meanings d) ps qs) (λ x. IsLowest meanings d ps qs x.caller x.fault)

@@ -1,12 +1,11 @@
 //! Workers on threads of their own.
-ghost use Rattle.std.specs.Prelude.{◌≡◌, ◌+◌, ◌<◌, ◌≤◌, nat_lt, [], All, IfErr, IfOk, None, map, length, vec_capacity, vec_len};
+ghost use Rattle.std.specs.Prelude.{◌≡◌, ◌+◌, ◌<◌, ◌≤◌, nat_lt, [], All, IfErr, IfOk, map, length, vec_capacity, vec_len};
 ghost use Rattle.std.specs.List.{AllZip};
 ghost use Rattle.cf_desk.specs.Rule.{AllShort};
-ghost use Rattle.cf_core.specs.States.{lowest_ready_of};
-ghost use Rattle.cf_desk.specs.Views.{knowns, state_of};
-ghost use Rattle.cf_pool.specs.Runs.{IsFirst, IsRefused, IsWorkedFrom, SeesMore, SeesOn, first_with, lower_of, stop_of};
+ghost use Rattle.cf_desk.specs.Views.{IsOf, knowns};
+ghost use Rattle.cf_pool.specs.Closings.{IsRefused, RanOut};
+ghost use Rattle.cf_pool.specs.Runs.{IsFirst, IsWorkedFrom, SeesMore, SeesOn, first_with, lower_of, stop_of};
 ghost use Rattle.cf_plan.specs.Meanings.{meanings_of};
-ghost use Rattle.cf_pool.specs.Works.{IsOf, RanOut};
 
 use crate::faults::PoolFault;
 use crate::gate::Gate;
@@ -58,10 +57,10 @@ impl<'a, F: StageFn> Promise<Worked> for WorkOf<'a, F> {
     ghost use Rattle.cf_pool.specs.Runs.{IsWorkedFrom};
     ghost use Rattle.cf_plan.specs.Meanings.{meanings_of};
 
-    ghost kept_by = { λ p r. IsWorkedFrom (meanings_of F.meaning p.fns.now) p.desk.now p.was.value r };
+    ghost kept_by = { λ p r. IsWorkedFrom (meanings_of F.meaning p.fns.now) p.desk.now 1000 p.was.value r };
 }
 
-/// Works with a pass, and tells what stopped it. If nothing did, nothing is ready in what the pass has seen.
+/// Works with a pass, and tells what stopped it, if anything did.
 fn work_on<F: StageFn, G: Gate>(
     desk: &Desk,
     mut pass: Pass,
@@ -71,8 +70,7 @@ fn work_on<F: StageFn, G: Gate>(
 ) -> Worked
     requires pass { IsOf desk.now pass }
     requires patience { 0 < patience }
-    ensures works { IsWorkedFrom (meanings_of F.meaning fns.now) desk.now pass result }
-    ensures ready { result.fault ≡ None → lowest_ready_of (state_of result.pass.known) ≡ None }
+    ensures { IsWorkedFrom (meanings_of F.meaning fns.now) desk.now patience pass result }
 {
     let fault = work(desk, &mut pass, fns, gate, patience).err();
     Worked { pass, fault }
@@ -98,7 +96,7 @@ fn start<'s, E, F: StageFn + Sync, G: Gate + Sync>(
         promise,
         move || -> Worked
             requires { IsOf desk.now pass }
-            ensures { IsWorkedFrom (meanings_of F.meaning fns.entry.now) desk.entry.now pass result }
+            ensures { IsWorkedFrom (meanings_of F.meaning fns.entry.now) desk.entry.now 1000 pass result }
         { work_on(desk, pass, fns, gate, PATIENCE) },
     );
     match started {
@@ -139,14 +137,14 @@ fn spread<R: Threads + Wait + Sync, F: StageFn + Sync, G: Gate + Sync>(
     gate: &G,
 ) -> Result<Vec<Worked>, AllocError>
     requires { All (IsOf desk.now) passes.items }
-    ensures { IfOk result (λ v. AllZip (IsWorkedFrom (meanings_of F.meaning fns.now) desk.now) passes.items v.items) }
+    ensures { IfOk result (λ v. AllZip (IsWorkedFrom (meanings_of F.meaning fns.now) desk.now 1000) passes.items v.items) }
 {
     thread::scope(
         thread::scope_env(),
         rt,
         |scope| -> Result<Vec<Worked>, AllocError>
             requires { All (IsOf desk.now) passes.items }
-            ensures { IfOk result (λ v. AllZip (IsWorkedFrom (meanings_of F.meaning fns.entry.now) desk.entry.now) passes.items v.items) }
+            ensures { IfOk result (λ v. AllZip (IsWorkedFrom (meanings_of F.meaning fns.entry.now) desk.entry.now 1000) passes.items v.items) }
         {
             let handles = start_all(scope, alloc, desk, passes, fns, gate)?;
             match join_promised(rt, handles) {
@@ -214,7 +212,8 @@ fn meet_all(desk: &Desk, mine: &mut Pass, worked: Vec<Worked>, mut back: Vec<Pas
 /// are workers. `passes` holds all its passes, the caller's own first. A function's number without a function is
 /// answered by nil.
 ///
-/// After it nothing is ready, and each stage whose claim a worker was granted is finished. After a fault the desk is
+/// After it nothing is ready, each worker has waited for its patience, and no claim is open but those that were granted
+/// and not finished before. After a fault, which is that of the lowest caller of whom a call was refused, the desk is
 /// closed too, and a claim that was granted may be open.
 pub fn run<R: Threads + Wait + Sync, F: StageFn + Sync, G: Gate + Sync>(
     rt: &R,
@@ -226,7 +225,7 @@ pub fn run<R: Threads + Wait + Sync, F: StageFn + Sync, G: Gate + Sync>(
 ) -> Result<Closed, PoolFault>
     requires workers { (0 < workers) × (workers ≤ 32) × (desk.setting.callers ≡ workers + 1) }
     requires passes { All (IsOf desk) passes.items × (vec_len passes ≡ workers + 1) }
-    ensures ran { IfOk result (λ closed. RanOut (meanings_of F.meaning fns.now) desk.setting passes.items closed.history.items closed.passes.items closed.graph.state) }
+    ensures ran { IfOk result (λ closed. RanOut (meanings_of F.meaning fns.now) desk passes.items closed.history.items closed.passes.items closed.graph.state) }
     ensures refused { IfErr result (IsRefused (meanings_of F.meaning fns.now) desk passes.items) }
 {
     let alloc = *passes.allocator();

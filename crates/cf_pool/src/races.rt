@@ -29,7 +29,7 @@ pub enum RaceFault {
 }
 
 /// Does these steps as caller 0's, in order, and then lets so many workers, 1 to 32, work on threads of their own until
-/// nothing is ready. It gives the graph as the whole history leaves it.
+/// nothing is ready. No caller has a number above theirs. It gives the graph as the whole history leaves it.
 pub fn race<R: Threads + Wait + Sync, F: StageFn + Sync, G: Gate + Sync>(
     rt: &R,
     alloc: Global,
@@ -41,7 +41,7 @@ pub fn race<R: Threads + Wait + Sync, F: StageFn + Sync, G: Gate + Sync>(
 ) -> Result<Graph, RaceFault>
     requires workers { (0 < workers) × (workers ≤ 32) }
     requires steps { All (IsStep (length plan.stages)) steps.now }
-    ensures raced { IfOk result (λ g. IsRaced (meanings_of F.meaning fns.now) plan steps.now g.state) }
+    ensures raced { IfOk result (λ g. IsRaced (meanings_of F.meaning fns.now) plan steps.now workers g.state) }
     ensures size { IfOk result (λ g. log_words (length steps.now) (length plan.stages) workers ≤ 65535) }
     ensures fault { IfErr result (IsDueToRefuse (log_words (length steps.now) (length plan.stages) workers)) }
 {

@@ -1,5 +1,5 @@
 ghost use Rattle.std.specs.Prelude.{◌≡◌, ◌+◌, ◌≤◌, All, IfOk, vec_len};
-ghost use Rattle.cf_pool.specs.Works.{IsOf};
+ghost use Rattle.cf_desk.specs.Views.{IsOf};
 
 use crate::{Done, Gate, NoGate, PoolFault, run, work};
 use cf_core::Event;

@@ -1,13 +1,15 @@
 //! What one worker does with its pass.
-ghost use Rattle.std.specs.Prelude.{◌≡◌, ◌<◌, IfErr, IfOk, None, OnErr, OnOk, Some, length};
+ghost use Rattle.std.specs.Prelude.{◌≡◌, ◌<◌, IfErr, IfOk, None, OnOk, Some, length};
 ghost use Rattle.cf_core.specs.States.{lowest_ready_of};
 ghost use Rattle.cf_desk.specs.declared.calls.Call.TheVariants.{Finish};
 ghost use Rattle.cf_desk.specs.Faults.{HasRoom};
-ghost use Rattle.cf_desk.specs.Views.{Acts, Follows, HasLooked, IsSamePass, state_of};
+ghost use Rattle.cf_desk.specs.Views.{Acts, Follows, IsOf, IsSamePass, state_of};
 ghost use Rattle.cf_pool.specs.Counting.{EndedWith, late_by, won_by};
-ghost use Rattle.cf_pool.specs.Jobs.{AddsCounted, AddsWork, granted_by};
+ghost use Rattle.cf_pool.specs.Jobs.{AddsWork, DoesJob, StopsJob, granted_by};
 ghost use Rattle.cf_plan.specs.Meanings.{meanings_of, stage_answer};
-ghost use Rattle.cf_pool.specs.Works.{IsDueToStop, IsOf, Owed, Works};
+ghost use Rattle.cf_pool.specs.Stops.{MeetsFault, Stops};
+ghost use Rattle.cf_pool.specs.Waits.{Idles, Waits};
+ghost use Rattle.cf_pool.specs.Works.{Owed, Works};
 
 use crate::gate::Gate;
 use cf_core::{Claimed, Finished, Reply};
@@ -30,7 +32,8 @@ pub struct Done {
 /// again and again. It ends after so many looks in a row that found nothing ready, at least one. The pass is one of this
 /// desk's. A function's number without a function is answered by nil.
 ///
-/// On a fault it stops. The last claim that it was granted may then stay open.
+/// It stops where its claim or its finish is refused, with that fault. The last claim that it was granted may then stay
+/// open.
 pub fn work<F: StageFn, G: Gate>(
     desk: &Desk,
     pass: &mut Pass,
@@ -44,8 +47,8 @@ pub fn work<F: StageFn, G: Gate>(
     ensures works { Works (meanings_of F.meaning fns.now) pass.old pass.new }
     ensures done { IfOk result (λ done. EndedWith (meanings_of F.meaning fns.now) pass.old pass.new done) }
     ensures nothing_ready { OnOk result (lowest_ready_of (state_of pass.new.known) ≡ None) }
-    ensures looks { OnOk result (HasLooked patience pass.old pass.new desk.now) }
-    ensures fault { IfErr result (IsDueToStop desk.now pass.new) }
+    ensures waits { OnOk result (Waits desk.now patience pass.old pass.new) }
+    ensures stops { IfErr result (Stops (meanings_of F.meaning fns.now) desk.now pass.old pass.new) }
 {
     let room = pass.left();
     let mut done = Done {
@@ -68,8 +71,7 @@ fn next_ready(desk: &Desk, pass: &mut Pass, patience: u32) -> Option<u16>
     requires patience { 0 < patience }
     ensures seen { Follows pass.old pass.new }
     ensures told { result ≡ lowest_ready_of (state_of pass.new.known) }
-    ensures once { HasLooked 1 pass.old pass.new desk.now }
-    ensures looks { result ≡ None → HasLooked patience pass.old pass.new desk.now }
+    ensures idles { result ≡ None → Idles desk.now patience (length pass.old.known.seen) pass.old.known.looks pass.new }
 {
     'looks: for _ in 0..patience {
         let ready = desk.ready(pass);
@@ -91,10 +93,10 @@ fn take_job<F: StageFn, G: Gate>(
     requires pass { IsOf desk.now pass.old }
     requires ready { lowest_ready_of (state_of pass.old.known) ≡ Some stage }
     ensures adds { (owes : Owed) × AddsWork (meanings_of F.meaning fns.now) None pass.old pass.new owes }
-    ensures done { IfOk result (λ done. AddsCounted (meanings_of F.meaning fns.now) None pass.old pass.new done) }
+    ensures done { IfOk result (λ done. DoesJob (meanings_of F.meaning fns.now) pass.old pass.new done) }
     ensures more { OnOk result (length pass.old.records < length pass.new.records) }
     ensures looks { OnOk result (pass.new.known.looks ≡ pass.old.known.looks) }
-    ensures fault { IfErr result (IsDueToStop desk.now pass.new) }
+    ensures stops { IfErr result (StopsJob (meanings_of F.meaning fns.now) desk.now pass.old pass.new) }
 {
     let reply = desk.act(pass, Call::Claim(stage))?;
     match granted(reply) {
@@ -133,8 +135,8 @@ fn finish<F: StageFn, G: Gate>(
     requires stage { stage < length pass.old.known.setting.plan.stages }
     ensures done { IfOk result (λ reply. Acts pass.old (Finish stage (stage_answer (meanings_of F.meaning fns.now) pass.old.known.setting.plan.stages stage args)) reply pass.new) }
     ensures room { OnOk result (HasRoom pass.old) }
-    ensures refused { OnErr result (Follows pass.old pass.new) }
-    ensures fault { IfErr result (IsDueToStop desk.now pass.new) }
+    ensures meets { IfErr result (MeetsFault (meanings_of F.meaning fns.now) desk.now (Some (stage, args)) pass.old pass.new) }
+    ensures looks { pass.new.known.looks ≡ pass.old.known.looks }
 {
     gate.before(stage, pass.caller());
     let answer = answer_of(desk, fns, stage, &args);

@@ -1,5 +1,5 @@
 -- How the passes of a race begin.
-use Rattle.std.proofs.Common.{◌≡◌, ◌==◌, ℕ, zero, suc, ◌+◌, ◌<◌, ◌≤◌, ◌⊎◌, inl, inr, true, List, [], ◌∷◌, ◌++◌, length, map, take, drop, get_or, sym, refl, ap, ◌∙◌, subst, arith, length-append}
+use Rattle.std.proofs.Common.{◌≡◌, ◌==◌, ℕ, zero, suc, ◌+◌, ◌<◌, ◌⊎◌, inl, inr, true, List, [], ◌∷◌, ◌++◌, length, map, take, drop, get_or, sym, refl, ap, ◌∙◌, subst, arith, length-append}
 use Rattle.std.specs.List.{All}
 use Rattle.std.proofs.lemmas.List.{take_more}
 use Rattle.std.proofs.lemmas.List.Elements.{All-nil, All-cons, All-get_or, All-weaker}
@@ -19,9 +19,8 @@ use Rattle.cf_desk.specs.Laws.{call_of}
 use Rattle.cf_desk.specs.Log.{own}
 use Rattle.cf_desk.specs.Records.{dids, Fits}
 use Rattle.cf_desk.specs.Rule.{blank, fresh, with_seen}
-use Rattle.cf_desk.specs.Views.{Acts, Follows, Pass, Meets, Desk, new_pass, opened}
+use Rattle.cf_desk.specs.Views.{Acts, Follows, IsOf, Pass, Meets, Desk, SeesFull, new_pass, opened}
 use Rattle.cf_desk.proofs.Recs.{fits_did, fits_more, fits_new, own_call}
-use Rattle.cf_pool.specs.Works.{IsOf}
 use Rattle.cf_desk.specs.Calls.{as_call, event_by}
 use Rattle.cf_core.specs.Calls.{is_from_outside}
 use Rattle.cf_pool.specs.Races.{IsStep}
@@ -81,7 +80,7 @@ none_more d steps k p q h f = subst (HasTaken d steps k) (sym f.is) (record {
 })
 
 -- is refused for a full log
-pub log_full : (p : Pass) (d : Desk) (e : Event) (fault : DeskFault) → IsDue p d e fault → IsOnStage p e → length p.records < p.calls → d.words ≤ length p.known.seen
+pub log_full : (p : Pass) (d : Desk) (e : Event) (fault : DeskFault) → IsDue p d e fault → IsOnStage p e → length p.records < p.calls → SeesFull d p
 log_full p d e NoStage due there room = absurd (due there)
 log_full p d e PassFull due there room = absurd (let full = due.1 in omega arith)
 log_full p d e LogFull due there room = due.2

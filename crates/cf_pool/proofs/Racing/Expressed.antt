@@ -41,7 +41,7 @@ all_work meanings granted s (e ∷ events) h =
     All-cons (λ e. is_work e ≡ true) e events (event_is_work meanings granted s e h.0) (all_work meanings (granted_with granted e ((answered s e).0)) ((answered s e).1) events h.1)
 
 pub raced_is_expression : RacedIsExpression
-raced_is_expression plan steps meanings s i plain_plan plain raced l =
+raced_is_expression plan steps meanings workers s i plain_plan plain raced l =
     let granted = grants_after nothing_granted (start plan) steps in
     let then = state_after (start plan) steps in
     let all = plain_append meanings nothing_granted (start plan) steps raced.work plain (work_is_plain meanings granted then raced.work raced.done) in
@@ -50,5 +50,5 @@ raced_is_expression plan steps meanings s i plain_plan plain raced l =
     ∙ work_keeps_expressions plan (steps ++ raced.work) steps meanings i (without_work-append steps raced.work (all_work meanings granted then raced.work raced.done))
 
 pub races_end_alike : RacesEndAlike
-races_end_alike plan steps meanings s r i plain_plan plain first second l =
-    raced_is_expression plan steps meanings s i plain_plan plain first l ∙ sym (raced_is_expression plan steps meanings r i plain_plan plain second l)
+races_end_alike plan steps meanings few many s r i plain_plan plain first second l =
+    raced_is_expression plan steps meanings few s i plain_plan plain first l ∙ sym (raced_is_expression plan steps meanings many r i plain_plan plain second l)

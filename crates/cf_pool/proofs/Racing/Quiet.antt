@@ -132,7 +132,7 @@ linked_to_claims : (x : Option Outcome) (s : State) (i j : ℕ) → (linked_to x
 linked_to_claims (Some o) s i j = refl
 linked_to_claims None s i j = refl
 
-landed_claims : (where_to : Landing) (s : State) (i : ℕ) → (landed s i where_to).claims ≡ s.claims
+pub landed_claims : (where_to : Landing) (s : State) (i : ℕ) → (landed s i where_to).claims ≡ s.claims
 landed_claims (Lands o) s i = refl
 landed_claims (Links j) s i = linked_to_claims (outcome_at s j) s i j
 

@@ -27,15 +27,16 @@ use Rattle.cf_desk.specs.declared.row.Setting.{Setting}
 use Rattle.cf_desk.specs.Keepings.{IsKeptFit, pass_did}
 use Rattle.cf_desk.specs.Log.{Catches, IsEventOf, own, state_from}
 use Rattle.cf_desk.specs.Rule.{count_in}
-use Rattle.cf_desk.specs.Views.{Closes, Pass, Desk, knowns}
+use Rattle.cf_desk.specs.Views.{Closes, Pass, Desk, SeesFull, knowns}
 use Rattle.cf_desk.proofs.Recs.{plan_stays}
-use Rattle.cf_pool.specs.Works.{IsDueToTell, Owed, Works, WorksOut, Ran, RanOut, owed_after}
+use Rattle.cf_pool.specs.Closings.{IsDueToTell, Ran, RanOut}
+use Rattle.cf_pool.specs.Works.{Owed, Works, WorksOut, owed_after}
 use Rattle.cf_pool.specs.Records.{recorded}
-use Rattle.cf_pool.specs.Races.{IsRaced, IsStep, IsWorkHistory, log_words}
+use Rattle.cf_pool.specs.Races.{IsByWorker, IsRaced, IsStep, IsWorkHistory, log_words}
 use Rattle.cf_pool.specs.Beginnings.{HaveBegun, IsApart, HasDoneSteps}
 use Rattle.cf_core.proofs.ClaimedStages.{is_claimed, outside_leaves_unclaimed}
 use Rattle.cf_expr.proofs.Quiet.{is_quiet}
-use Rattle.cf_pool.proofs.Runs.{all_front}
+use Rattle.cf_pool.proofs.Runs.{all_front, each_out}
 use Rattle.cf_pool.proofs.Racing.Counts.{AllBelow, ByCaller, history_at_most, recorded_below}
 use Rattle.cf_pool.proofs.Racing.Ending.{Whole, all_share, back_all, first_begun, others_begun, own_none, seen_is, weigh_zero}
 use Rattle.cf_pool.proofs.Racing.Joining.{HadBegun, Shares, absent_records, all_room, each_pass, has_room, owes_none, shares, shares_few}
@@ -95,12 +96,12 @@ apart_none d calls meanings history first q others qs zeroth w zip apart fit c m
 all_taken : (d : Desk) (steps : List Event) (first : Pass) (t : HasDoneSteps d steps first) (history : List Event) → first.known.seen ≡ take t.taken steps → length first.known.seen ≤ length history → length history < d.words → first.known.seen ≡ steps
 all_taken d steps first t history is begins short = split t.all
   where
-    split : (t.taken ≡ length steps) ⊎ (d.words ≤ length first.known.seen) → first.known.seen ≡ steps
+    split : (t.taken ≡ length steps) ⊎ SeesFull d first → first.known.seen ≡ steps
     split (inl e) = is ∙ ap (λ (k : ℕ). take k steps) e ∙ take-length steps
     split (inr l) = absurd (omega arith)
 
 ended : (meanings : Meanings) (d : Desk) (steps : List Event) (calls workers : ℕ) (first q : Pass) (others qs : List Pass) (history : List Event) → HasDoneSteps d steps first → first.calls ≡ calls → All (IsApart d calls first.known.seen) others
-    → AllZip (Works meanings) (first ∷ others) (q ∷ qs) → Closes d.setting (q ∷ qs) history → All (IsKeptFit d.setting.plan history) (map pass_did (q ∷ qs))
+    → AllZip (Works meanings) (first ∷ others) (q ∷ qs) → Closes d (q ∷ qs) history → All (IsKeptFit d.setting.plan history) (map pass_did (q ∷ qs))
     → d.setting.callers ≡ workers + 1 → d.words ≡ log_words (length steps) (length d.setting.plan.stages) workers → length steps + 2 * length d.setting.plan.stages < calls
     → Ended meanings d steps calls (first ∷ others) (q ∷ qs) history
 ended meanings d steps calls workers first q others qs history t room apart zip closes fit callers words enough =
@@ -137,14 +138,14 @@ ended meanings d steps calls workers first q others qs history t room apart zip 
     }
 
 ended_any : (meanings : Meanings) (d : Desk) (steps : List Event) (calls workers : ℕ) (first : Pass) (others qs : List Pass) (history : List Event) → HasDoneSteps d steps first → first.calls ≡ calls → All (IsApart d calls first.known.seen) others
-    → AllZip (Works meanings) (first ∷ others) qs → Closes d.setting qs history → All (IsKeptFit d.setting.plan history) (map pass_did qs)
+    → AllZip (Works meanings) (first ∷ others) qs → Closes d qs history → All (IsKeptFit d.setting.plan history) (map pass_did qs)
     → d.setting.callers ≡ workers + 1 → d.words ≡ log_words (length steps) (length d.setting.plan.stages) workers → length steps + 2 * length d.setting.plan.stages < calls
     → Ended meanings d steps calls (first ∷ others) qs history
 ended_any meanings d steps calls workers first others [] history t room apart zip closes fit callers words enough = absurd zip
 ended_any meanings d steps calls workers first others (q ∷ qs) history t room apart zip closes fit callers words enough =
     ended meanings d steps calls workers first q others qs history t room apart zip closes fit callers words enough
 
-pub run_ended : (meanings : Meanings) (d : Desk) (steps : List Event) (calls workers : ℕ) (ps : List Pass) (history : List Event) (kept : List Kept) (graph : State) → HaveBegun d steps calls ps → (r : Ran meanings d.setting ps history kept graph)
+pub run_ended : (meanings : Meanings) (d : Desk) (steps : List Event) (calls workers : ℕ) (ps : List Pass) (history : List Event) (kept : List Kept) (graph : State) → HaveBegun d steps calls ps → (r : Ran meanings d ps history kept graph)
     → d.setting.callers ≡ workers + 1 → d.words ≡ log_words (length steps) (length d.setting.plan.stages) workers → length steps + 2 * length d.setting.plan.stages < calls
     → Ended meanings d steps calls ps r.qs history
 run_ended meanings d steps calls workers ps history kept graph b r callers words enough =
@@ -157,18 +158,18 @@ run_ended meanings d steps calls workers ps history kept graph b r callers words
 abbrev nobody : ℕ → Owed
 nobody c = None
 
-none_owed : (meanings : Meanings) (setting : Setting) (history seen work : List Event) (most calls : ℕ) (ps qs : List Pass) → Whole meanings setting history seen work → All (HadBegun setting seen most calls) ps → AllZip (WorksOut meanings) ps qs → Closes setting qs history
+none_owed : (meanings : Meanings) (setting : Setting) (history seen work : List Event) (most calls : ℕ) (ps qs : List Pass) → Whole meanings setting history seen work → All (HadBegun setting seen most calls) ps → AllZip (WorksOut meanings) ps qs → ((c : ℕ) → c < setting.callers → count_in c (knowns qs) ≡ 1)
     → All (IsKeptFit setting.plan (seen ++ work)) (map pass_did qs) → (c : ℕ) → owed_after None (recorded c (length seen) (state_from setting.plan seen) work) ≡ None
-none_owed meanings setting history seen work most calls ps qs w begun zip closes fits c = split (cases_lt c setting.callers)
+none_owed meanings setting history seen work most calls ps qs w begun zip each fits c = split (cases_lt c setting.callers)
   where
     split : (c < setting.callers) ⊎ (setting.callers ≤ c) → owed_after None (recorded c (length seen) (state_from setting.plan seen) work) ≡ None
     split (inl l) = each_pass setting.plan (seen ++ work) (WorksOut meanings) (HadBegun setting seen most calls) (λ k. owed_after None (recorded k (length seen) (state_from setting.plan seen) work) ≡ None)
-        (λ a b v. v.works.same.2) (owes_none meanings setting seen work most calls) c ps qs zip begun fits (let one = closes.each c l in omega (arith, one))
+        (λ a b v. v.works.same.2) (owes_none meanings setting seen work most calls) c ps qs zip begun fits (let one = each c l in omega (arith, one))
     split (inr l) = ap (owed_after None) (absent_records setting.callers c (length seen) (state_from setting.plan seen) work l (by_callers setting work (back_all (IsEventOf setting) seen work w.events)))
 
-pub race_ended : (meanings : Meanings) (d : Desk) (steps : List Event) (calls : ℕ) (ps : List Pass) (history : List Event) (kept : List Kept) (graph : State) → IsBuilt d.setting.plan → All (IsStep (length d.setting.plan.stages)) steps
-    → (o : RanOut meanings d.setting ps history kept graph) → Ended meanings d steps calls ps o.ran.qs history → IsRaced meanings d.setting.plan steps graph
-race_ended meanings d steps calls ps history kept graph built are o e =
+pub race_ended : (meanings : Meanings) (d : Desk) (steps : List Event) (calls workers : ℕ) (ps : List Pass) (history : List Event) (kept : List Kept) (graph : State) → d.setting.callers ≡ workers + 1 → IsBuilt d.setting.plan → All (IsStep (length d.setting.plan.stages)) steps
+    → (o : RanOut meanings d ps history kept graph) → Ended meanings d steps calls ps o.ran.qs history → IsRaced meanings d.setting.plan steps workers graph
+race_ended meanings d steps calls workers ps history kept graph callers built are o e =
     let plan = d.setting.plan in
     let s = state_from plan e.seen in
     let is : history ≡ e.seen ++ e.work = e.whole.history_is in
@@ -186,11 +187,12 @@ race_ended meanings d steps calls ps history kept graph built are o e =
       work = e.work;
       done = subst (λ (l : List Event). IsWorkHistory meanings (grants_after nothing_granted (start plan) l) (state_after (start plan) l) e.work) e.steps_are
           (is_work_then meanings plan nobody (grants_after nothing_granted (start plan) e.seen) (length e.seen) s e.work (plan_stays (start plan) e.seen) (λ c i args owed. (let nothing : ⊥ = cc in absurd nothing)) works);
+      by = All-weaker (IsEventOf d.setting) (IsByWorker workers) (λ x h. (let l = h.caller in omega arith)) e.work (back_all (IsEventOf d.setting) e.seen e.work e.whole.events);
       state = state;
       quiet = is_quiet graph (lowest_ready-none graph o.none)
           (λ i. ap (λ (t : State). is_claimed (stage_at t i)) (sym joined) ∙ work_leaves_unclaimed meanings plan nobody (length e.seen) s e.work lengths
           (λ j claimed. (let free = outside_leaves_unclaimed plan e.seen outside j in let nothing : ⊥ = cc in absurd nothing)) works
-          (none_owed meanings d.setting history e.seen e.work (length steps) calls ps o.ran.qs e.whole e.begun o.out o.ran.closes fits) i);
+          (none_owed meanings d.setting history e.seen e.work (length steps) calls ps o.ran.qs e.whole e.begun (each_out meanings d ps o.ran.qs o.ended) o.ran.closes.each fits) i);
     }
 
 -- ---- as the code has it
@@ -202,7 +204,7 @@ pub record IsSized (d : Desk) (plan : Planned) (steps : List Event) (workers cal
   pub calls_are : calls ≡ length steps + 2 * length plan.stages + 1
 
 sized_ended : (meanings : Meanings) (d : Desk) (plan : Planned) (steps : List Event) (calls workers : ℕ) (ps : List Pass) (history : List Event) (kept : List Kept) (graph : State) → IsSized d plan steps workers calls → HaveBegun d steps calls ps
-    → (r : Ran meanings d.setting ps history kept graph) → Ended meanings d steps calls ps r.qs history
+    → (r : Ran meanings d ps history kept graph) → Ended meanings d steps calls ps r.qs history
 sized_ended meanings d plan steps calls workers ps history kept graph z b r =
     let same : d.setting.plan ≡ plan = ap (λ (s : Setting). s.plan) z.setting_is in
     let n : length d.setting.plan.stages ≡ length plan.stages = ap (λ (p : Planned). length p.stages) same in
@@ -212,16 +214,16 @@ sized_ended meanings d plan steps calls workers ps history kept graph z b r =
 
 -- what a run ends with is the race's state
 pub raced : (meanings : Meanings) (d : Desk) (plan : Planned) (steps : List Event) (calls workers : ℕ) (ps : List Pass) (history : List Event) (kept : List Kept) (graph : State) → IsSized d plan steps workers calls → HaveBegun d steps calls ps
-    → IsBuilt plan → All (IsStep (length plan.stages)) steps → RanOut meanings d.setting ps history kept graph → IsRaced meanings plan steps graph
+    → IsBuilt plan → All (IsStep (length plan.stages)) steps → RanOut meanings d ps history kept graph → IsRaced meanings plan steps workers graph
 raced meanings d plan steps calls workers ps history kept graph z b built are o =
     let same : d.setting.plan ≡ plan = ap (λ (s : Setting). s.plan) z.setting_is in
-    subst (λ (p : Planned). IsRaced meanings p steps graph) same
-    (race_ended meanings d steps calls ps history kept graph (subst IsBuilt (sym same) built) (subst (λ (p : Planned). All (IsStep (length p.stages)) steps) (sym same) are) o
+    subst (λ (p : Planned). IsRaced meanings p steps workers graph) same
+    (race_ended meanings d steps calls workers ps history kept graph (ap (λ (s : Setting). s.callers) z.setting_is) (subst IsBuilt (sym same) built) (subst (λ (p : Planned). All (IsStep (length p.stages)) steps) (sym same) are) o
     (sized_ended meanings d plan steps calls workers ps history kept graph z b o.ran))
 
 -- and it meets no fault of the desk
 pub never_full : (meanings : Meanings) (d : Desk) (plan : Planned) (steps : List Event) (calls workers : ℕ) (ps : List Pass) (history : List Event) (kept : List Kept) (graph : State) → IsSized d plan steps workers calls → HaveBegun d steps calls ps
-    → (fault : DeskFault) (r : Ran meanings d.setting ps history kept graph) → IsDueToTell d.words r.qs history fault → ⊥
+    → (fault : DeskFault) (r : Ran meanings d ps history kept graph) → IsDueToTell d.words r.qs history fault → ⊥
 never_full meanings d plan steps calls workers ps history kept graph z b NoStage r due = due
 never_full meanings d plan steps calls workers ps history kept graph z b LogFull r due =
     let short = (sized_ended meanings d plan steps calls workers ps history kept graph z b r).short in

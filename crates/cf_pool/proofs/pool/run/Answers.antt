@@ -1,13 +1,12 @@
 use Rattle.std.proofs.Common.{◌≡◌, ◌∷◌, List, None, Some, false, true, is_ok, not, length, map, sym, ap, ◌∙◌, subst, arith}
 use Rattle.std.specs.List.{All}
 use Rattle.std.proofs.lemmas.List.Elements.{All-head, All-tail, All-weaker}
-use Rattle.cf_desk.specs.Keepings.{AreKept}
-use Rattle.cf_desk.specs.Views.{Closes, Pass}
+use Rattle.cf_desk.specs.Views.{IsOf, Pass}
 use Rattle.cf_pool.specs.declared.pool.Worked.{Worked}
-use Rattle.cf_pool.specs.Runs.{IsFirst, IsTold, first_with, stop_of}
+use Rattle.cf_pool.specs.Closings.{IsTold, RanOut}
+use Rattle.cf_pool.specs.Runs.{IsFirst, first_with, stop_of}
 use Rattle.cf_plan.specs.Meanings.{meanings_of}
-use Rattle.cf_pool.specs.Works.{IsOf, RanOut}
-use Rattle.cf_pool.proofs.Runs.{Back, back_of, back_out, back_told, first_and, first_none, worked_of, zip_length}
+use Rattle.cf_pool.proofs.Runs.{Back, back_of, back_out, back_told, first_and, shut_of, worked_of, zip_length}
 use Rattle.cf_pool.proofs.pool.run.Given.{Over}
 use Rattle.cf_pool.proofs.pool.run.Goals as goal
 use Rattle.cf_pool.proofs.pool.run.Goals.{Else-is_err, In-Ok-spread}
@@ -62,7 +61,7 @@ back g c all = record {
   work = c.in-Ok-spread.ensures;
   sees = c.meet_all-back.ensures.others;
   mine_sees = c.meet_all-back.ensures.mine;
-  mine_works = c.work_on-pass.ensures.works;
+  mine_works = c.work_on-pass.ensures;
   short = c.meet_all-back.ensures.short;
   first = subst (λ (l : List Worked). IsFirst (map stop_of l) c.first_fault-others.result) c.as_slice.ensures.value c.first_fault-others.ensures;
 }
@@ -89,11 +88,9 @@ returns-in-None-clause-ran g c =
     let e = c.in-Ok-close.ensures in
     let none : first_with c.first_fault-others.result c.work_on-pass.result.pass.known.caller c.work_on-pass.result.fault ≡ None =
     ap (λ n. first_with c.first_fault-others.result n c.work_on-pass.result.fault) (sym c.caller.ensures) ∙ sym c.first_of-first.ensures ∙ c.in-None.is in
-    subst (λ (l : List Pass). RanOut (meanings_of g.F.StageFn.meaning c.args.fns.now) c.args.desk.setting l c.in-Ok-close.closed.history.items c.in-Ok-close.closed.passes.items c.in-Ok-close.closed.graph.state) (sym (split g (goal.at.returns-in-None-clause-ran g c).In-Ok-spread))
+    subst (λ (l : List Pass). RanOut (meanings_of g.F.StageFn.meaning c.args.fns.now) c.args.desk l c.in-Ok-close.closed.history.items c.in-Ok-close.closed.passes.items c.in-Ok-close.closed.graph.state) (sym (split g (goal.at.returns-in-None-clause-ran g c).In-Ok-spread))
     (back_out _ _ _ _ _ _ _ _ _ _ (back g at (of g (goal.at.returns-in-None-clause-ran g c).In-Ok-spread)) c.in-Ok-close.closed.history.items c.in-Ok-close.closed.passes.items c.in-Ok-close.closed.graph.state
-    (subst (λ (l : List Pass). Closes c.args.desk.setting l c.in-Ok-close.closed.history.items) (put g at) e.history)
-    (subst (λ (l : List Pass). AreKept c.in-Ok-close.closed.passes.items l) (put g at) e.passes)
-    e.fit e.graph none (c.work_on-pass.ensures.ready (first_none _ _ _ none)))
+    (shut_of _ _ _ _ _ _ (put g at) e.history e.passes e.fit e.graph) none)
 
 pub returns-in-Some-clause-refused : goal.returns-in-Some-clause-refused
 returns-in-Some-clause-refused g c =
@@ -103,6 +100,4 @@ returns-in-Some-clause-refused g c =
     ap (λ n. first_with c.first_fault-others.result n c.work_on-pass.result.fault) (sym c.caller.ensures) ∙ sym c.first_of-first.ensures ∙ c.in-Some.is in
     subst (λ (l : List Pass). IsTold (meanings_of g.F.StageFn.meaning c.args.fns.now) c.args.desk l c.in-Some.met.fault c.in-Ok-close.closed) (sym (split g (goal.at.returns-in-Some-clause-refused g c).In-Ok-spread))
     (back_told _ _ _ _ _ _ _ _ _ _ (back g at (of g (goal.at.returns-in-Some-clause-refused g c).In-Ok-spread)) c.in-Ok-close.closed
-    (subst (λ (l : List Pass). Closes c.args.desk.setting l c.in-Ok-close.closed.history.items) (put g at) e.history)
-    (subst (λ (l : List Pass). AreKept c.in-Ok-close.closed.passes.items l) (put g at) e.passes)
-    e.fit e.graph c.in-Some.met some)
+    (shut_of _ _ _ _ _ _ (put g at) e.history e.passes e.fit e.graph) c.in-Some.met some)

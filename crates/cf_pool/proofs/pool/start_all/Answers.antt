@@ -2,7 +2,7 @@ use Rattle.std.proofs.Common.{◌≡◌, ◌++◌, map, ap, ◌∙◌, subst, ru
 use Rattle.std.specs.List.{All}
 use Rattle.std.specs.Vec.Iter.{into_iter_items}
 use Rattle.cf_desk.proofs.Gathers.{all_at}
-use Rattle.cf_pool.specs.Works.{IsOf}
+use Rattle.cf_desk.specs.Views.{IsOf}
 use Rattle.cf_pool.proofs.Pools.{all_step, parts_step}
 use Rattle.cf_pool.proofs.pool.start_all.Goals as goal
 

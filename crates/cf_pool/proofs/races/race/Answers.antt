@@ -1,5 +1,5 @@
 use Rattle.std.proofs.Common.{◌≡◌, ◌+◌, ◌*◌, ◌∙◌, ap, length, ℕ, subst}
-use Rattle.cf_pool.specs.Runs.{IsRefused}
+use Rattle.cf_pool.specs.Closings.{IsRefused}
 use Rattle.cf_plan.specs.Meanings.{meanings_of}
 use Rattle.cf_pool.specs.Races.{log_words}
 use Rattle.cf_pool.proofs.Racing.Raced.{IsSized, never_full, raced}

@@ -1,16 +1,26 @@
-use Rattle.std.proofs.Common.{◌∙◌, sym, Some, None, rules}
-use Rattle.cf_pool.proofs.Jobs.{adds_claim, adds_follows, adds_granted, adds_then, does_both, does_claim, due_stops, ready_is, ready_there}
+use Rattle.std.proofs.Common.{◌∙◌, sym, Some, rules}
+use Rattle.cf_plan.specs.Meanings.{meanings_of}
+use Rattle.cf_pool.proofs.Jobs.{adds_claim, adds_granted, adds_stops, claim_meets, does_both, does_claim, finish_stops, ready_is}
 use Rattle.cf_pool.proofs.worker.take_job.Goals as goal
 
-pub returns-in_err-reply-clause-fault : goal.returns-in_err-reply-clause-fault
-returns-in_err-reply-clause-fault g c =
-    let e = c.in_err-reply.ensures in let h = due_stops c.args.desk.now c.args.pass.now c.act.new.p c.args.stage _ e.refused (ready_there c.args.pass.now.known c.args.stage c.requires.ready) e.fault in search (rules, h)
+pub returns-in_err-reply-clause-stops : goal.returns-in_err-reply-clause-stops
+returns-in_err-reply-clause-stops g c =
+    let e = c.in_err-reply.ensures in
+    let h = claim_meets (meanings_of g.F.StageFn.meaning c.args.fns.now) c.args.desk.now c.args.pass.now c.act.new.p c.args.stage _ c.requires.ready e.refused e.looks e.fault in
+    search (rules, h)
 
 pub returns-in_err-finished-in-Some-clause-adds : goal.returns-in_err-finished-in-Some-clause-adds
 returns-in_err-finished-in-Some-clause-adds g c =
     let given = sym c.granted.ensures ∙ c.in-Some.is in
     let first = adds_granted _ c.args.pass.now c.act.new.p c.args.stage c.in_ok-reply.reply c.in-Some.args c.in_ok-reply.ensures.done (ready_is c.args.pass.now.known c.args.stage c.requires.ready) given in
-    (_, adds_then _ None (Some (c.args.stage, c.in-Some.args)) _ c.args.pass.now c.act.new.p c.finish.new.pass first (adds_follows _ (Some (c.args.stage, c.in-Some.args)) c.act.new.p c.finish.new.pass c.in_err-finished-in-Some.ensures.refused))
+    adds_stops _ c.args.desk.now c.args.pass.now c.finish.new.pass _ (finish_stops _ c.args.desk.now c.args.pass.now c.act.new.p c.finish.new.pass (Some (c.args.stage, c.in-Some.args)) _ first c.in_err-finished-in-Some.ensures.meets)
+
+pub returns-in_err-finished-in-Some-clause-stops : goal.returns-in_err-finished-in-Some-clause-stops
+returns-in_err-finished-in-Some-clause-stops g c =
+    let given = sym c.granted.ensures ∙ c.in-Some.is in
+    let first = adds_granted _ c.args.pass.now c.act.new.p c.args.stage c.in_ok-reply.reply c.in-Some.args c.in_ok-reply.ensures.done (ready_is c.args.pass.now.known c.args.stage c.requires.ready) given in
+    let h = finish_stops (meanings_of g.F.StageFn.meaning c.args.fns.now) c.args.desk.now c.args.pass.now c.act.new.p c.finish.new.pass (Some (c.args.stage, c.in-Some.args)) _ first c.in_err-finished-in-Some.ensures.meets in
+    search (rules, h)
 
 pub returns-in-None-clause-adds : goal.returns-in-None-clause-adds
 returns-in-None-clause-adds g c = (_, adds_claim _ c.args.pass.now c.act.new.p c.args.stage c.in_ok-reply.reply c.in_ok-reply.ensures.done (ready_is c.args.pass.now.known c.args.stage c.requires.ready))
@@ -23,9 +33,15 @@ pub returns-in_ok-finished-in-Some-clause-adds : goal.returns-in_ok-finished-in-
 returns-in_ok-finished-in-Some-clause-adds g c =
     let d = does_both _ c.args.pass.now c.act.new.p c.finish.new.pass c.args.stage c.in_ok-reply.reply c.in_ok-finished-in-Some.finished c.in-Some.args c.count.result c.in_ok-reply.ensures.done (ready_is c.args.pass.now.known c.args.stage c.requires.ready) (sym c.granted.ensures ∙ c.in-Some.is)
     c.in_ok-finished-in-Some.ensures.done c.in_ok-finished-in-Some.ensures.room c.count.ensures.run c.count.ensures.won c.count.ensures.late in
-    (_, d.0.adds)
+    (_, d.0.does.adds)
 
 pub returns-in_ok-finished-in-Some-clause-done : goal.returns-in_ok-finished-in-Some-clause-done
 returns-in_ok-finished-in-Some-clause-done g c =
     (does_both _ c.args.pass.now c.act.new.p c.finish.new.pass c.args.stage c.in_ok-reply.reply c.in_ok-finished-in-Some.finished c.in-Some.args c.count.result c.in_ok-reply.ensures.done (ready_is c.args.pass.now.known c.args.stage c.requires.ready) (sym c.granted.ensures ∙ c.in-Some.is)
     c.in_ok-finished-in-Some.ensures.done c.in_ok-finished-in-Some.ensures.room c.count.ensures.run c.count.ensures.won c.count.ensures.late).0
+
+pub returns-in-None-clause-looks : goal.returns-in-None-clause-looks
+returns-in-None-clause-looks g c = c.act.ensures.looks
+
+pub returns-in_ok-finished-in-Some-clause-looks : goal.returns-in_ok-finished-in-Some-clause-looks
+returns-in_ok-finished-in-Some-clause-looks g c = c.finish.ensures.looks ∙ c.act.ensures.looks

@@ -1,13 +1,11 @@
-use Rattle.std.proofs.Common.{◌≡◌, ◌+◌, ◌-◌, None, length}
-use Rattle.cf_desk.specs.Views.{HasLooked}
-use Rattle.cf_pool.specs.Jobs.{AddsCounted}
+use Rattle.std.proofs.Common.{◌≡◌, ◌+◌, ◌-◌, length}
+use Rattle.cf_pool.proofs.Jobs.{Turned}
 use Rattle.cf_plan.specs.Meanings.{meanings_of}
 use Rattle.cf_pool.proofs.worker.work.Given as goal
 
 abbrev pub invariant-jobs : goal.invariant-jobs
 invariant-jobs g l = record {
-  does : AddsCounted (meanings_of g.F.StageFn.meaning l.fns) None l.initial.pass l.pass l.done;
-  looks : HasLooked 0 l.initial.pass l.pass l.desk;
+  turned : Turned (meanings_of g.F.StageFn.meaning l.fns) l.initial.pass l.pass l.done;
   room : l.room + length l.initial.pass.records ≡ l.initial.pass.calls;
 }
 

@@ -1,0 +1,51 @@
+-- What a run of workers leaves, and what it tells.
+use Rattle.std.specs.Prelude.{◌≡◌, ℕ, None, List, length, map}
+use Rattle.std.specs.List.{AllZip, Contains}
+use Rattle.cf_core.specs.declared.events.Event.{Event}
+use Rattle.cf_core.specs.States.{State, lowest_ready_of}
+use Rattle.cf_plan.specs.Meanings.{Meanings}
+use Rattle.cf_desk.specs.declared.calls.Closed.{Closed}
+use Rattle.cf_desk.specs.declared.calls.Kept.{Kept}
+use Rattle.cf_desk.specs.declared.faults.DeskFault.{DeskFault}
+use Rattle.cf_desk.specs.declared.faults.DeskFault.TheVariants.{LogFull, NoStage, PassFull}
+use Rattle.cf_desk.specs.Keepings.{AllFit, AreKept, pass_kept}
+use Rattle.cf_desk.specs.Log.{state_from}
+use Rattle.cf_desk.specs.Views.{Closes, Desk, Pass}
+use Rattle.cf_pool.specs.declared.faults.PoolFault.{PoolFault}
+use Rattle.cf_pool.specs.declared.faults.PoolFault.TheVariants.{Desk as ToldDesk, NoMemory}
+use Rattle.cf_pool.specs.Claims.{WereOpen}
+use Rattle.cf_pool.specs.Runs.{HasEnded, IsLowest, OfEach}
+use Rattle.cf_pool.specs.Works.{Works}
+
+-- what a run leaves: the closed desk with the passes as they are then
+pub record Ran (meanings : Meanings) (d : Desk) (ps : List Pass) (history : List Event) (kept : List Kept) (graph : State) : Type 0 where
+  pub qs : List Pass
+  pub closes : Closes d qs history
+  pub kept_are : AreKept kept qs
+  pub works : AllZip (Works meanings) ps qs
+  pub fit : AllFit d.setting.plan history (map pass_kept kept)
+  pub graph_is : graph ≡ state_from d.setting.plan history
+
+-- and each worker has ended, nothing is ready, and no claim is open that wasn't before
+pub record RanOut (meanings : Meanings) (d : Desk) (ps : List Pass) (history : List Event) (kept : List Kept) (graph : State) : Type 0 where
+  pub ran : Ran meanings d ps history kept graph
+  pub ended : OfEach (HasEnded meanings d) ps ran.qs
+  pub none : lowest_ready_of graph ≡ None
+  pub claims : WereOpen ps graph
+
+-- why a run tells a fault with the closed desk: the history fills the log, or one of the passes is full
+abbrev pub IsDueToTell : ℕ → List Pass → List Event → DeskFault → Type 0
+IsDueToTell words qs history LogFull = length history ≡ words
+IsDueToTell words qs history PassFull = (q : Pass) × Contains qs q × (length q.records ≡ q.calls)
+IsDueToTell words qs history NoStage = ⊥
+
+-- the closed desk after a fault: why it is told, and that it is the fault of the lowest caller that met one
+pub record IsTold (meanings : Meanings) (d : Desk) (ps : List Pass) (fault : DeskFault) (closed : Closed) : Type 0 where
+  pub ran : Ran meanings d ps closed.history.items closed.passes.items closed.graph.state
+  pub due : IsDueToTell d.words ran.qs closed.history.items fault
+  pub caller : ℕ
+  pub lowest : IsLowest meanings d ps ran.qs caller fault
+
+abbrev pub IsRefused : Meanings → Desk → List Pass → PoolFault → Type 0
+IsRefused meanings d ps NoMemory = Unit {0}
+IsRefused meanings d ps (ToldDesk fault closed) = IsTold meanings d ps fault closed
