@@ -1,3 +1,5 @@
+mod watched;
+
 ghost use Rattle.std.specs.Prelude.{◌≡◌, ◌+◌, ◌≤◌, All, IfOk, vec_len};
 ghost use Rattle.cf_desk.specs.Views.{IsOf};
 

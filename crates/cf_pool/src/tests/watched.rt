@@ -1,0 +1,252 @@
+//! Workers whose gate and functions keep what happens to them: which function ran how often, and what the gate was told.
+ghost use Rattle.std.specs.Prelude.{◌<◌, ◌≤◌};
+
+use super::{open, supplies};
+use crate::{Gate, race, run, work};
+use cf_core::{Claimed, Reply};
+use cf_desk::{Call, Kept, Rec};
+use cf_outcome::Value;
+use cf_plan::{Answer, Args, StageFn};
+use std::alloc::{AllocError, Global};
+use std::sync::Wait;
+use std::sync::atomic::{AtomicBool, AtomicU32, Ordering};
+use std::test::Fail;
+use std::thread::Threads;
+
+/// What a gate was told, in order, and how often each stage's function was called.
+#[derive(Drop)]
+struct Watch {
+    /// How many workers are to stand at the gate at once.
+    together: u32,
+    /// How many came to the gate, and whether one of them waited in vain.
+    came: AtomicU32,
+    alone: AtomicBool,
+    told: Vec<AtomicU32>,
+    calls: Vec<AtomicU32>,
+    /// Whether a function was called before the gate was told.
+    early: AtomicBool,
+}
+
+/// A stage and a caller as one number above 0.
+fn told_as(stage: u16, caller: u8) -> u32 {
+    u32::from(stage) * 256 + u32::from(caller) + 1
+}
+
+fn zeros(alloc: Global, count: u16) -> Result<Vec<AtomicU32>, AllocError> {
+    let mut zeros = Vec::new(alloc);
+    for _ in 0..count {
+        zeros.push(AtomicU32::new(0))?;
+    }
+    Ok(zeros)
+}
+
+impl Watch {
+    fn new(alloc: Global, stages: u16, together: u8) -> Result<Watch, AllocError> {
+        Ok(Watch {
+            together: u32::from(together),
+            came: AtomicU32::new(0),
+            alone: AtomicBool::new(false),
+            told: zeros(alloc, stages)?,
+            calls: zeros(alloc, stages)?,
+            early: AtomicBool::new(false),
+        })
+    }
+
+    /// When the gate was told of this stage and this caller, counted from 1, or 0 if it wasn't.
+    fn turn_of(&self, stage: u16, caller: u8) -> u32 {
+        let mut turn = 0u32;
+        for told in &self.told {
+            turn = turn.wrapping_add(1);
+            if told.load(Ordering::SeqCst) == told_as(stage, caller) {
+                return turn;
+            }
+        }
+        0
+    }
+
+    /// Whether the gate was told of this stage.
+    fn was_told(&self, stage: u16) -> bool {
+        for told in &self.told {
+            if told.load(Ordering::SeqCst).wrapping_sub(1) / 256 == u32::from(stage) {
+                return true;
+            }
+        }
+        false
+    }
+
+    /// Whether so many workers met at the gate, it was told so often, and after that each function was called once.
+    fn saw_each_once(&self) -> bool {
+        for calls in &self.calls {
+            if calls.load(Ordering::SeqCst) != 1 {
+                return false;
+            }
+        }
+        let came = self.came.load(Ordering::SeqCst) as usize;
+        came == self.told.len()
+            && !self.alone.load(Ordering::SeqCst)
+            && !self.early.load(Ordering::SeqCst)
+    }
+
+    /// Whether the gate was told of the claims that were granted to this pass, in their order.
+    fn saw_claims_of(&self, kept: &Kept) -> bool {
+        let mut last = 0;
+        for record in &kept.records {
+            if let Rec::Did {
+                call: Call::Claim(stage),
+                reply: Reply::Claim(Claimed::Granted(_)),
+                ..
+            } = *record
+            {
+                let turn = self.turn_of(stage, kept.caller);
+                if turn <= last {
+                    return false;
+                }
+                last = turn;
+            }
+        }
+        true
+    }
+
+    /// Whether it was told of workers alone, whose numbers are 1 to this one.
+    fn saw_workers(&self, workers: u8) -> bool {
+        for told in &self.told {
+            let caller = told.load(Ordering::SeqCst).wrapping_sub(1) % 256;
+            if caller == 0 || caller > u32::from(workers) {
+                return false;
+            }
+        }
+        true
+    }
+}
+
+impl Gate for Watch {
+    /// Keeps what it is told, and waits until as many came as are to be here, at most 1,000,000,000 looks.
+    fn before(&self, stage: u16, worker: u8) {
+        let place = self.came.fetch_add(1, Ordering::SeqCst);
+        if let Some(told) = self.told.get(place as usize) {
+            told.store(told_as(stage, worker), Ordering::SeqCst);
+        }
+        for _ in 0..1_000_000_000u32 {
+            if self.came.load(Ordering::SeqCst) >= self.together
+                || self.alone.load(Ordering::SeqCst)
+            {
+                return;
+            }
+        }
+        self.alone.store(true, Ordering::SeqCst);
+    }
+}
+
+/// The function of one stage. It gives nil.
+#[derive(Clone, Copy, Drop)]
+struct Watched<'a> {
+    watch: &'a Watch,
+    stage: u16,
+}
+
+impl<'a> StageFn for Watched<'a> {
+    ghost use Rattle.cf_plan.specs.declared.forms.Answer.TheVariants.{Give};
+    ghost use Rattle.cf_outcome.specs.declared.outcome.Value.TheVariants.{Nil};
+
+    ghost meaning = { λ f args. Give Nil };
+
+    fn call(&self, _args: &Args) -> Answer {
+        if !self.watch.was_told(self.stage) {
+            self.watch.early.store(true, Ordering::SeqCst);
+        }
+        if let Some(calls) = self.watch.calls.get(self.stage as usize) {
+            calls.fetch_add(1, Ordering::SeqCst);
+        }
+        Answer::Give(Value::Nil)
+    }
+}
+
+fn functions(alloc: Global, watch: &Watch, stages: u16) -> Result<Vec<Watched<'_>>, AllocError> {
+    let mut functions = Vec::new(alloc);
+    for stage in 0..stages {
+        functions.push(Watched { watch, stage })?;
+    }
+    Ok(functions)
+}
+
+/// Whether each function was called once, after the gate was told of the claim, the lowest stage first, by one worker on
+/// the thread of its caller.
+fn watch_work(alloc: Global, stages: u16) -> Result<bool, Fail> {
+    let (desk, mut passes) = open(alloc, supplies(alloc, stages)?, 1, 99, 99)?;
+    let watch = Watch::new(alloc, stages, 1)?;
+    let fns = functions(alloc, &watch, stages)?;
+    let Some(mut pass) = passes.pop() else {
+        return Err(Fail::from("a pass is missing"));
+    };
+    let Ok(done) = work(&desk, &mut pass, &fns, &watch, 1) else {
+        return Err(Fail::from("the worker was stopped"));
+    };
+    let mut saw = watch.saw_each_once() && done.run == u32::from(stages);
+    for stage in 0..stages {
+        saw = saw && watch.turn_of(stage, 1) == u32::from(stage) + 1;
+    }
+    Ok(saw)
+}
+
+/// The same of a run of so many workers, as many stages, and a gate at which all of them meet.
+fn watch_run<R: Threads + Wait + Sync>(rt: &R, alloc: Global, workers: u8) -> Result<bool, Fail>
+    requires { (0 < workers) × (workers ≤ 32) }
+{
+    let stages = u16::from(workers);
+    let (desk, passes) = open(alloc, supplies(alloc, stages)?, workers, 2000, 99)?;
+    let watch = Watch::new(alloc, stages, workers)?;
+    let fns = functions(alloc, &watch, stages)?;
+    let Ok(closed) = run(rt, desk, passes, &fns, &watch, workers) else {
+        return Err(Fail::from("the run was refused"));
+    };
+    let mut saw = watch.saw_each_once() && watch.saw_workers(workers);
+    for kept in &closed.passes {
+        saw = saw && watch.saw_claims_of(kept);
+    }
+    Ok(saw)
+}
+
+/// The same of a race, which keeps no records.
+fn watch_race<R: Threads + Wait + Sync>(rt: &R, alloc: Global, workers: u8) -> Result<bool, Fail>
+    requires { (0 < workers) × (workers ≤ 32) }
+{
+    let stages = u16::from(workers);
+    let watch = Watch::new(alloc, stages, workers)?;
+    let fns = functions(alloc, &watch, stages)?;
+    if race(
+        rt,
+        alloc,
+        supplies(alloc, stages)?,
+        &[],
+        &fns,
+        &watch,
+        workers,
+    )
+    .is_err()
+    {
+        return Err(Fail::from("there was no race"));
+    }
+    Ok(watch.saw_each_once() && watch.saw_workers(workers))
+}
+
+#[test]
+fn work_calls_each_function_once_after_the_gate(rt: HostRuntime) -> Result<(), Fail> {
+    assert!(rt; watch_work(rt.alloc(), 3)?);
+    Ok(())
+}
+
+#[test]
+fn runs_call_each_function_once_after_the_gate(rt: HostRuntime) -> Result<(), Fail> {
+    for workers in [1, 4, 32] {
+        assert!(rt; watch_run(&rt, rt.alloc(), workers)?, "{workers} workers");
+    }
+    Ok(())
+}
+
+#[test]
+fn races_call_each_function_once_after_the_gate(rt: HostRuntime) -> Result<(), Fail> {
+    for workers in [1, 4, 32] {
+        assert!(rt; watch_race(&rt, rt.alloc(), workers)?, "{workers} workers");
+    }
+    Ok(())
+}
