@@ -38,12 +38,12 @@ steps_taken n (Nudge k ∷ xs) h fits = absurd (cc (All-head IsForRace (Nudge k)
 
 -- a race of the events ends as one of the steps
 pub ends_of : (workers : ℕ) (s : Script) (events : List Event) (end : State) → events ≡ events_of s.steps → All IsForRace s.steps →
-    IsRaced (meanings_of func_answer s.functions) s.plan events end → log_words (length events) (length s.plan.stages) workers ≤ 65535 → IsRaceEnd workers s end
+    IsRaced (meanings_of func_answer s.functions) s.plan events workers end → log_words (length events) (length s.plan.stages) workers ≤ 65535 → IsRaceEnd workers s end
 ends_of workers s events end is h raced fits =
     let same : length events ≡ length s.steps = ap length is ∙ length-events_of s.steps h in
     record {
       fits = subst (λ k. log_words k (length s.plan.stages) workers ≤ 65535) same fits;
-      raced = subst (λ es. IsRaced (meanings_of func_answer s.functions) s.plan es end) is raced;
+      raced = subst (λ es. IsRaced (meanings_of func_answer s.functions) s.plan es workers end) is raced;
     }
 
 pub too_long : (workers : ℕ) (s : Script) (events : List Event) → events ≡ events_of s.steps → All IsForRace s.steps →
@@ -66,4 +66,4 @@ plain_lines law workers s text race plain =
     let plan_is : race.end.plan ≡ s.plan = ap (λ (r : State). r.plan) raced.state ∙ (state_after-shape (start s.plan) (events ++ raced.work)).plan in
     race.lines
     ∙ ap (λ (p : Planned). stage_lines (outcome_at race.end) 0 p.stages) plan_is
-    ∙ same_lines (outcome_at race.end) (expr s.plan events meanings) 0 s.plan.stages (λ j l u. law s.plan events meanings race.end j plain.plan plain.steps raced (omega arith))
+    ∙ same_lines (outcome_at race.end) (expr s.plan events meanings) 0 s.plan.stages (λ j l u. law s.plan events meanings workers race.end j plain.plan plain.steps raced (omega arith))

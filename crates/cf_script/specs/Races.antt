@@ -30,10 +30,11 @@ abbrev pub IsTooLargeToRace : ℕ → Script → Type 0
 IsTooLargeToRace workers s = 65535 < words_of workers s
 
 -- A race of this script may end in this state: the log isn't too long, and the state comes after a history that begins with the
--- steps and goes on with claims and finishes by the functions' meanings, and nothing is ready or claimed in it.
+-- steps and goes on with claims and finishes by the functions' meanings, by no more than so many workers beside caller 0, and
+-- nothing is ready or claimed in it.
 pub record IsRaceEnd (workers : ℕ) (s : Script) (end : State) : Type 0 where
   pub fits : words_of workers s ≤ 65535
-  pub raced : IsRaced (meanings_of func_answer s.functions) s.plan (events_of s.steps) end
+  pub raced : IsRaced (meanings_of func_answer s.functions) s.plan (events_of s.steps) workers end
 
 -- the lines of the stages, as a race of this script may leave them
 pub record IsRaceText (workers : ℕ) (s : Script) (text : List ℕ) : Type 0 where

@@ -17,9 +17,9 @@ pub returns-in-Ok-race-clause-ends : goal.returns-in-Ok-race-clause-ends
 returns-in-Ok-race-clause-ends g c =
     let evs : c.deref-2.result.now ≡ events_of c.args.script.steps = c.deref-2.ensures.value ∙ c.in-Ok.ensures ∙ ap events_of (c.deref.ensures.value ∙ c.into_parts-plan.ensures.steps) in
     let fns = c.deref-3.ensures.value ∙ c.into_parts-plan.ensures.functions in
-    let raced : IsRaced (meanings_of func_answer c.args.script.functions) c.args.script.plan c.deref-2.result.now c.in-Ok-race.graph.state =
-    subst (λ fs. IsRaced (meanings_of func_answer fs) c.args.script.plan c.deref-2.result.now c.in-Ok-race.graph.state) fns
-    (subst (λ p. IsRaced (meanings_of func_answer c.deref-3.result.now) p c.deref-2.result.now c.in-Ok-race.graph.state) c.into_parts-plan.ensures.plan c.in-Ok-race.ensures.raced) in
+    let raced : IsRaced (meanings_of func_answer c.args.script.functions) c.args.script.plan c.deref-2.result.now c.args.workers c.in-Ok-race.graph.state =
+    subst (λ fs. IsRaced (meanings_of func_answer fs) c.args.script.plan c.deref-2.result.now c.args.workers c.in-Ok-race.graph.state) fns
+    (subst (λ p. IsRaced (meanings_of func_answer c.deref-3.result.now) p c.deref-2.result.now c.args.workers c.in-Ok-race.graph.state) c.into_parts-plan.ensures.plan c.in-Ok-race.ensures.raced) in
     let size : log_words (length c.deref-2.result.now) (length c.args.script.plan.stages) c.args.workers ≤ 65535 = search rules in
     ends_of c.args.workers c.args.script c.deref-2.result.now c.in-Ok-race.graph.state evs c.requires.steps raced size
 
