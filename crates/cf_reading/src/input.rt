@@ -1,6 +1,7 @@
 //! The input, read whole.
-ghost use Rattle.std.specs.Prelude.{◌≡◌, ◌<◌, ◌≤◌, IfErr, IfOk, IfSome, IsErrOf, length, vec_len};
-ghost use Rattle.cf_reading.specs.Input.{IsOfInput};
+ghost use Rattle.std.specs.Prelude.{◌≡◌, ◌+◌, ◌<◌, ◌≤◌, IfErr, IfOk, IfSome, IsErrOf, OnOk, length, vec_len};
+ghost use Rattle.std.specs.Io.KnownBytes.{IsAtEnd};
+ghost use Rattle.cf_reading.specs.Input.{IsOfInput, TakesAtMost};
 
 use crate::fault::ReadingFault;
 use std::alloc::Global;
@@ -12,11 +13,13 @@ pub const MAX_BYTES: usize = 1_048_576;
 /// How many bytes are asked for in one call.
 const PIECE: usize = 4_096;
 
-/// Reads to the end, by a loop over `read` that asks for up to 4,096 bytes at a time. It asks for none once it has more
-/// than `MAX_BYTES`, which is `TooLong`: the reader may then have given up to 4,096 bytes past them. Every error of the
+/// Reads to the end, by a loop over `read` that asks for up to 4,096 bytes at a time, and for none past the first that
+/// is too many: with that one byte it is `TooLong`, and what comes after it is left to the reader. Every error of the
 /// reader is `Read`, `Interrupted` too; a growth that is refused is `NoMemory`. At each fault what was read is dropped.
 pub fn read_input<R: Read>(alloc: Global, r: &mut R) -> Result<Vec<u8>, ReadingFault>
     ensures whole { IfOk result (λ v. IfSome (R.remaining r.old) (λ xs. v.items ≡ xs)) }
+    ensures end { OnOk result (IsAtEnd (R.remaining r.new)) }
+    ensures taken { TakesAtMost (MAX_BYTES + 1) (R.remaining r.old) (R.remaining r.new) }
     ensures fits { IfOk result (λ v. vec_len v ≤ MAX_BYTES) }
     ensures too_long { IsErrOf result ReadingFault.TooLong
         → IfSome (R.remaining r.old) (λ xs. MAX_BYTES < length xs) }
@@ -25,12 +28,13 @@ pub fn read_input<R: Read>(alloc: Global, r: &mut R) -> Result<Vec<u8>, ReadingF
     let mut found = Vec::new(alloc);
     let mut piece = [0u8; PIECE];
     'pieces: while found.len() <= MAX_BYTES {
-        let n = match r.read(&mut piece) {
+        let room = &mut piece[..PIECE.min(MAX_BYTES + 1 - found.len())];
+        let n = match r.read(room) {
             Ok(0) => return Ok(found),
             Ok(n) => n,
             Err(_) => return Err(ReadingFault::Read),
         };
-        if found.extend_from_slice(&piece[..n]).is_err() {
+        if found.extend_from_slice(&room[..n]).is_err() {
             return Err(ReadingFault::NoMemory);
         }
     }

@@ -1,7 +1,7 @@
 //! What a script asks for: the reading of bytes as a plan, its functions and its steps, or the first fault in them.
 //!
-//! A script is a JSON object (RFC 8259). Bytes are read in pieces, to their end or to the piece in which they get too
-//! many, made a JSON value by `serde_json`, and then checked in one fixed order: the top, the version, the three
+//! A script is a JSON object (RFC 8259). Bytes are read in pieces, to their end or to the first that is too many and no
+//! further, made a JSON value by `serde_json`, and then checked in one fixed order: the top, the version, the three
 //! arrays, each stage, each limit, each step. The first thing that is wrong is the fault that is told.
 //! `specs/Reading.antt` is that order as a definition over the JSON value, and `read_script` is proved to give what it
 //! gives. A script that is to be raced is read the same way, and may have fewer steps (`src/purpose.rt`).

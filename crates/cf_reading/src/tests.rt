@@ -123,9 +123,13 @@ fn reads_whole_or_not(rt: HostRuntime) -> Result<(), Fail> {
     let mut blanks = vec![in rt.alloc(); b' '; MAX_BYTES]?;
     let most = read_input(rt.alloc(), &mut blanks.as_slice());
     assert_eq!(rt; most.map(|found| found.len()), Ok(MAX_BYTES));
-    blanks.push(b' ')?;
-    let more = read_input(rt.alloc(), &mut blanks.as_slice());
+    for _ in 0..3 {
+        blanks.push(b' ')?;
+    }
+    let mut input = blanks.as_slice();
+    let more = read_input(rt.alloc(), &mut input);
     assert_eq!(rt; more.map(|found| found.len()), Err(ReadingFault::TooLong));
+    assert_eq!(rt; input.len(), 2, "one byte too many is read");
     Ok(())
 }
 
