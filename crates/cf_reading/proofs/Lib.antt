@@ -1,5 +1,7 @@
 pub mod Counts
 pub mod Drafts
 pub mod Loop
+pub mod RaceSteps
+pub mod RaceReadingLemmas
 pub mod Refusals
 pub mod Texts

@@ -6,7 +6,7 @@ use Rattle.std.specs.Str.{is_utf8}
 use Rattle.serde_json.specs.Data.{Data}
 use Rattle.serde_json.specs.Read.{read}
 use Rattle.cf_reading.specs.declared.purpose.Purpose.{Purpose}
-use Rattle.cf_reading.specs.Reading.{json_of, reading_for, script_of}
+use Rattle.cf_reading.specs.Reading.{json_of, outline, reading_for, script_of}
 
 pub json_found : (bytes : List ℕ) (d : Data) → IsUtf8 bytes → read bytes ≡ Some d → json_of bytes ≡ Some d
 json_found bytes d u e = ap (λ b. if b then read bytes else None) (is_utf8-from_IsUtf8 bytes u) ∙ e
@@ -20,7 +20,7 @@ json_missing bytes h = missing (is_utf8 bytes) (read bytes) (λ e. h (IsUtf8-fro
 
 -- bytes within the limit that are JSON say what their JSON value says
 pub reading_is : (purpose : Purpose) (bytes : List ℕ) (d : Data) → length bytes ≤ 1048576 → IsUtf8 bytes → read bytes ≡ Some d → reading_for purpose bytes ≡ script_of purpose d
-unfolding reading_for
+unfolding outline script_of
 reading_is purpose bytes d few u e =
     let short : nat_lt 1048576 (length bytes) ≡ false = grind (arith, nat_tests) in
     let said : json_of bytes ≡ Some d = json_found bytes d u e in

@@ -10,4 +10,5 @@ pub mod Stages
 pub mod Limits
 pub mod Steps
 pub mod Reading
+pub mod RaceReadings
 pub mod Views

@@ -38,7 +38,7 @@ fn items<'a>(said: Option<&'a Json>) -> Option<&'a [Json]>
 }
 
 /// What a JSON value says to what it is read for.
-#[tactic(auto, unfolding(crate::specs::Reading::script_of))]
+#[tactic(auto, unfolding(crate::specs::Reading::outline_of, crate::specs::Reading::script_of))]
 fn script(alloc: Global, purpose: Purpose, json: &Json) -> Result<Script, ReadingFault>
     ensures says { Gives (λ s. s) result (script_of purpose (view json.now)) }
     ensures taken { IfOk result (λ s. All (IsTaken purpose) s.steps) }
@@ -93,7 +93,7 @@ pub fn read_race(alloc: Global, bytes: &[u8]) -> Result<Script, ReadingFault>
 }
 
 /// The script that the bytes say to what they are read for, or the first fault in them.
-#[tactic(auto, using(crate::proofs::Texts::json_found, crate::proofs::Texts::json_missing), unfolding(crate::specs::Reading::reading_for))]
+#[tactic(auto, using(crate::proofs::Texts::json_found, crate::proofs::Texts::json_missing), unfolding(crate::specs::Reading::outline))]
 fn read_for(alloc: Global, purpose: Purpose, bytes: &[u8]) -> Result<Script, ReadingFault>
     ensures says { Gives (λ s. s) result (reading_for purpose bytes.now) }
     ensures taken { IfOk result (λ s. All (IsTaken purpose) s.steps) }

@@ -11,7 +11,7 @@ use Rattle.cf_reading.specs.declared.fault.ReadingFault.{ReadingFault}
 use Rattle.cf_reading.specs.declared.fault.ReadingFault.TheVariants as readings
 use Rattle.cf_reading.specs.Checks.{Fails}
 use Rattle.cf_reading.specs.Input.{IsOfInput}
-use Rattle.cf_reading.specs.Reading.{race_reading, reading, reading_for}
+use Rattle.cf_reading.specs.Reading.{outline, race_reading, reading}
 use Rattle.cf_reading.specs.Scripts.{Script}
 use Rattle.cf_script.specs.declared.fault.ScriptFault.{ScriptFault}
 use Rattle.cf_script.specs.declared.fault.ScriptFault.TheVariants as faults
@@ -25,11 +25,11 @@ abbrev pub TooLong : (List ℕ → Result Script ReadingFault) → Type 0
 TooLong read = (bytes : List ℕ) → 1048576 < length bytes → read bytes ≡ Err readings.TooLong
 
 pub too_long_to_run : TooLong reading
-unfolding reading_for
+unfolding outline
 too_long_to_run bytes lt = rw (lt-ltb 1048576 (length bytes) lt) refl
 
 pub too_long_to_race : TooLong race_reading
-unfolding reading_for
+unfolding outline
 too_long_to_race bytes lt = rw (lt-ltb 1048576 (length bytes) lt) refl
 
 some_long : (n : ℕ) → 1048576 < n → (bytes : List ℕ) × (1048576 < length bytes)

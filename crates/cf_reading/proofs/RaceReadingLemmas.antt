@@ -1,0 +1,239 @@
+-- What bytes say to a race, beside what they say to a run.
+use Rattle.std.proofs.Common.{◌≡◌, ◌≤◌, ◌+◌, ℕ, suc, List, [], ◌∷◌, ◌++◌, length, All, Bool, true, false, Option, Some, None, Result, Ok, Err, refl, sym, ap, subst, ◌∙◌, arith, inl, inr}
+use Rattle.std.specs.Prelude.{codes, nat_lt, option_and_then, option_map, if◌then◌else◌}
+use Rattle.std.proofs.lemmas.List.{length-append}
+use Rattle.std.proofs.lemmas.List.Elements.{All-nil}
+use Rattle.serde_json.specs.Data.{Data, Items, no_items, item}
+use Rattle.serde_json.specs.Find.{get, as_array, as_object}
+use Rattle.cf_plan.specs.declared.faults.PlanFault.{PlanFault}
+use Rattle.cf_plan.specs.declared.limits.Limit.{Limit}
+use Rattle.cf_plan.specs.Plans.{Planned, PlannedStage, edges_of, stage_fault, limit_fault, with_stage, with_limit}
+use Rattle.cf_reading.specs.declared.fault.Part.TheVariants as parts
+use Rattle.cf_reading.specs.declared.fault.ReadingFault.{ReadingFault}
+use Rattle.cf_reading.specs.declared.fault.ReadingFault.TheVariants as faults
+use Rattle.cf_reading.specs.declared.purpose.Purpose.TheVariants.{Run, Race}
+use Rattle.cf_reading.specs.declared.script.Step.{Step}
+use Rattle.cf_reading.proofs.RaceSteps.{After, Differ, Same, among, at_first, cases, races, runs}
+use Rattle.cf_reading.specs.Checks.{◌>>=◌, fold_items, guard, ok_or, planned_unless}
+use Rattle.cf_reading.specs.Funcs.{function_said}
+use Rattle.cf_reading.specs.Limits.{kind_of, limit_next, number_named}
+use Rattle.cf_reading.specs.Parts.{up_to}
+use Rattle.cf_reading.specs.Purposes.{IsForRace}
+use Rattle.cf_reading.specs.RaceReadings.{first_items, cut_at, reading_up_to, IsNotOfStep, IsFirstWrong, RacesAreReadAsRuns}
+use Rattle.cf_reading.specs.Reading.{Outline, has_version, items_said, json_of, outline, outline_of, with_steps, reading, race_reading}
+use Rattle.cf_reading.specs.Scripts.{Script}
+use Rattle.cf_reading.specs.Stages.{Drafted, form_of, nothing_drafted, number_after, sources_said, source_next, stage_next, with_function}
+
+-- ---- before the steps are read no fault of a step is told
+
+record NeverOfStep {A : Type 0} (r : Result A ReadingFault) : Type 0 where
+  never : (k : ℕ) → r ≡ Err (faults.Step k) → ⊥
+
+of_step : (fault : ReadingFault) (k : ℕ) → fault ≡ faults.Step k → IsNotOfStep fault → ⊥
+of_step fault k e h = subst IsNotOfStep e h
+
+never-ok : {A : Type 0} (x : A) → NeverOfStep {A = A} (Ok x)
+never-ok x = record { never = λ k e. absurd cc }
+
+never-err : {A : Type 0} (fault : ReadingFault) → IsNotOfStep fault → NeverOfStep {A = A} (Err fault)
+never-err fault h = record { never = λ k e. let same : fault ≡ faults.Step k = cc in of_step fault k same h }
+
+never-next : {A B : Type 0} (r : Result A ReadingFault) (next : A → Result B ReadingFault) → NeverOfStep r → ((x : A) → NeverOfStep (next x)) → NeverOfStep (r >>= next)
+never-next (Ok x) next h more = more x
+never-next (Err fault) next h more = record { never = λ k e. let same : fault ≡ faults.Step k = cc in h.never k (ap Err same) }
+
+never-ok_or : {A : Type 0} (fault : ReadingFault) (o : Option A) → IsNotOfStep fault → NeverOfStep (ok_or fault o)
+never-ok_or fault (Some x) h = never-ok x
+never-ok_or fault None h = never-err fault h
+
+never-guard : (b : Bool) (fault : ReadingFault) → IsNotOfStep fault → NeverOfStep (guard b fault)
+never-guard true fault h = never-ok tt
+never-guard false fault h = never-err fault h
+
+never-planned_unless : (refusal : Option PlanFault) (k : ℕ) (plan : Planned) → NeverOfStep (planned_unless refusal k plan)
+never-planned_unless None k plan = never-ok plan
+never-planned_unless (Some refusal) k plan = never-err (faults.Plan refusal k) tt
+
+never-fold : {S : Type 0} (next : S → Data → Result S ReadingFault) → ((s : S) (d : Data) → NeverOfStep (next s d)) → (items : Items) (s : S) → NeverOfStep (fold_items next s items)
+unfolding fold_items
+never-fold next h no_items s = never-ok s
+never-fold next h (item d items) s = never-next (next s d) (λ t. fold_items next t items) (h s d) (never-fold next h items)
+
+never-sources : (fault : ReadingFault) (said : Option Data) → IsNotOfStep fault → NeverOfStep (sources_said fault said)
+never-sources fault None h = never-ok []
+never-sources fault (Some d) h =
+    never-next _ (fold_items (source_next fault) []) (never-ok_or fault (as_array d) h) (λ items.
+    never-fold (source_next fault) (λ found e. never-ok_or fault (option_map (λ n. found ++ n ∷ []) (up_to 65535 e)) h) items [])
+
+never-stage : (drafted : Drafted) (d : Data) → NeverOfStep (stage_next drafted d)
+unfolding stage_next
+never-stage drafted d =
+    let k = length drafted.plan.stages in
+    let wrong = faults.Shape (parts.Stage k) in
+    never-next _ _ (never-ok_or wrong (form_of d) tt) (λ form.
+    never-next _ _ (never-sources wrong (get (codes "of") d) tt) (λ sources.
+    never-next _ _ (never-ok_or (faults.Function k) (function_said (get (codes "fn") d)) tt) (λ function.
+    let stage : PlannedStage = record { form = form; sources = sources; function = number_after drafted.functions function } in
+    never-next _ _ (never-planned_unless (stage_fault k (edges_of drafted.plan.stages) stage) k (with_stage drafted.plan stage)) (λ plan.
+    never-ok (record { plan = plan; functions = with_function drafted.functions function })))))
+
+never-limit : (plan : Planned) (d : Data) → NeverOfStep (limit_next plan d)
+unfolding limit_next
+never-limit plan d =
+    let k = length plan.limits in
+    let wrong = faults.Shape (parts.Limit k) in
+    never-next _ _ (never-ok_or wrong (number_named 65535 (codes "stage") d) tt) (λ stage.
+    never-next _ _ (never-ok_or wrong (number_named 4294967295 (codes "at") d) tt) (λ at.
+    never-next _ _ (never-ok_or wrong (kind_of d) tt) (λ kind.
+    let limit : Limit = record { stage = stage; at = at; kind = kind } in
+    never-planned_unless (limit_fault plan limit.stage) k (with_limit plan limit))))
+
+never-outline_of : (d : Data) → NeverOfStep (outline_of d)
+unfolding outline_of
+never-outline_of d =
+    never-next _ _ (never-ok_or (faults.Shape parts.Top) (as_object d) tt) (λ top.
+    never-next _ _ (never-guard (has_version d) (faults.Shape parts.Version) tt) (λ version.
+    never-next _ _ (never-ok_or (faults.Shape parts.Stages) (option_and_then as_array (get (codes "stages") d)) tt) (λ stages.
+    never-next _ _ (never-ok_or (faults.Shape parts.Limits) (items_said (get (codes "limits") d)) tt) (λ limits.
+    never-next _ _ (never-ok_or (faults.Shape parts.Steps) (items_said (get (codes "steps") d)) tt) (λ steps.
+    never-next _ _ (never-fold stage_next never-stage stages nothing_drafted) (λ drafted.
+    never-next _ _ (never-fold limit_next never-limit limits drafted.plan) (λ plan.
+    never-ok (record { plan = plan; functions = drafted.functions; steps = steps }))))))))
+
+never-if : (b : Bool) (x y : Result Outline ReadingFault) → NeverOfStep x → NeverOfStep y → NeverOfStep (if b then x else y)
+never-if true x y h k = h
+never-if false x y h k = k
+
+never-outline : (bytes : List ℕ) → NeverOfStep (outline bytes)
+unfolding outline
+never-outline bytes =
+    never-if (nat_lt 1048576 (length bytes)) _ _ (never-err faults.TooLong tt) (never-next _ outline_of (never-ok_or faults.NotJson (json_of bytes) tt) never-outline_of)
+
+-- ---- with its steps
+
+module _ (o : Outline) where
+  abbrev made : List Step → Script
+  made steps = record { plan = o.plan; functions = o.functions; steps = steps }
+
+  abbrev n : ℕ
+  n = length o.plan.stages
+
+  made-ok : (r : Result (List Step) ReadingFault) (s : Script) → (r >>= λ steps. Ok (made steps)) ≡ Ok s → r ≡ Ok s.steps
+  made-ok (Ok steps) s e = let f : made steps ≡ s = cc in ap (λ (t : Script). Ok t.steps) f
+  made-ok (Err fault) s e = absurd cc
+
+  made-err : (r : Result (List Step) ReadingFault) (fault : ReadingFault) → (r >>= λ steps. Ok (made steps)) ≡ Err fault → r ≡ Err fault
+  made-err (Ok steps) fault e = absurd cc
+  made-err (Err told) fault e = cc
+
+  module _ (bytes : List ℕ) (is : outline bytes ≡ Ok o) where
+    to_run : reading bytes ≡ (runs n [] o.steps >>= λ steps. Ok (made steps))
+    to_run = ap (λ x. x >>= with_steps Run) is
+
+    to_race : race_reading bytes ≡ (races n [] o.steps >>= λ steps. Ok (made steps))
+    to_race = ap (λ x. x >>= with_steps Race) is
+
+    to_run_up_to : (k : ℕ) → reading_up_to k bytes ≡ (runs n [] (first_items k o.steps) >>= λ steps. Ok (made steps))
+    to_run_up_to k = ap (λ x. x >>= λ p. with_steps Run (cut_at k p)) is
+
+    first_is_told : (k : ℕ) → IsFirstWrong bytes k → race_reading bytes ≡ Err (faults.Step k)
+    first_is_told k w =
+        let reads = made-ok _ w.before (sym (to_run_up_to k) ∙ w.reads) in
+        let count = w.count in
+        let told = at_first n o.steps [] k w.before.steps reads (omega arith) w.for_race (elim w.wrong [
+          | inl e ↦ inl (made-err _ _ (sym to_run ∙ e) ∙ ap (λ j. Err (faults.Step j)) (sym count))
+          | inr alone ↦ (let next : k + 1 ≡ suc k = omega arith in
+              let more = subst (λ j. runs n [] (first_items j o.steps) ≡ Ok alone.script.steps) next (made-ok _ alone.script (sym (to_run_up_to (k + 1)) ∙ alone.reads)) in
+              inr (alone.step, more ∙ ap Ok alone.goes_on, alone.not_taken))
+        ]) in
+        to_race ∙ ap (λ r. r >>= λ steps. Ok (made steps)) told ∙ ap (λ j. Err (faults.Step j)) count
+
+    law-same : Same n [] o.steps → RacesAreReadAsRuns bytes
+    law-same same =
+        let run = to_run ∙ ap (λ r. r >>= λ steps. Ok (made steps)) same.run_ok in
+        let race = to_race ∙ ap (λ r. r >>= λ steps. Ok (made steps)) same.race_ok in
+        record {
+          scripts = λ s. (
+            λ e. (let is_it : made same.steps ≡ s = cc in (run ∙ ap Ok is_it, subst (λ (t : Script). All IsForRace t.steps) is_it same.for_race)),
+            λ h. race ∙ sym run ∙ h.0,
+          );
+          other_faults = λ fault h. (λ e. absurd cc, λ e. absurd cc);
+          steps = λ k. (λ e. absurd cc, first_is_told k);
+          no_later = λ j k e f. absurd cc;
+        }
+
+    law-differ : Differ n [] o.steps → RacesAreReadAsRuns bytes
+    law-differ w =
+        let k0 = length w.before in
+        let race = to_race ∙ ap (λ r. r >>= λ steps. Ok (made steps)) w.race_told in
+        let one : (step : Step) → length (w.before ++ step ∷ []) ≡ length w.before + 1 = λ step. length-append w.before (step ∷ []) in
+        record {
+          scripts = λ s. (λ e. absurd cc, λ h. absurd (not_all s.steps (made-ok _ s (sym to_run ∙ h.0)) h.1));
+          other_faults = λ fault h. (
+            λ e. (let same : fault ≡ faults.Step k0 = cc in absurd (of_step fault k0 same h)),
+            λ e. (let f = its_fault fault (made-err _ fault (sym to_run ∙ e)) in absurd (of_step fault f.0 f.1 h)),
+          );
+          steps = λ k. (λ e. (let same : k0 ≡ k = cc in subst (IsFirstWrong bytes) same is_first), first_is_told k);
+          no_later = λ j k e f. (
+              let here : j ≡ k0 = cc in
+              let told = its_fault (faults.Step k) (made-err _ _ (sym to_run ∙ f)) in
+              let there : k ≡ told.0 = cc in
+              let le = told.2 in
+              omega arith);
+        }
+      where
+        its_fault : (fault : ReadingFault) → runs n [] o.steps ≡ Err fault → (j : ℕ) × (fault ≡ faults.Step j) × (length w.before ≤ j)
+        its_fault fault e = elim w.wrong [
+          | inl told ↦ (let same : fault ≡ faults.Step (length w.before) = cc in (length w.before, same, omega arith))
+          | inr alone ↦ (let behind = subst (After n (w.before ++ alone.step ∷ [])) e alone.rest in
+              let one = length-append w.before (alone.step ∷ []) in
+              let le = behind.2 in
+              (behind.0, behind.1, omega arith))
+        ]
+
+        not_all : (steps : List Step) → runs n [] o.steps ≡ Ok steps → All IsForRace steps → ⊥
+        not_all steps e h = elim w.wrong [
+          | inl told ↦ absurd cc
+          | inr alone ↦ (let behind = subst (After n (w.before ++ alone.step ∷ [])) e alone.rest in
+              let taken = among w.before alone.step behind.0 (subst (All IsForRace) behind.1 h) in
+              let not_taken = alone.not_taken in
+              absurd cc)
+        ]
+
+        is_first : IsFirstWrong bytes (length w.before)
+        is_first =
+            let count = w.count in
+            let m : w.m ≡ length w.before = omega arith in
+            let next : suc w.m ≡ length w.before + 1 = omega arith in
+            record {
+              before = made w.before;
+              reads = to_run_up_to (length w.before) ∙ ap (λ r. r >>= λ steps. Ok (made steps)) (subst (λ j. runs n [] (first_items j o.steps) ≡ Ok w.before) m w.reads);
+              count = refl;
+              for_race = w.for_race;
+              wrong = elim w.wrong [
+                | inl told ↦ inl (to_run ∙ ap (λ r. r >>= λ steps. Ok (made steps)) told)
+                | inr alone ↦ inr (record {
+                  script = made (w.before ++ alone.step ∷ []);
+                  reads = to_run_up_to (length w.before + 1) ∙ ap (λ r. r >>= λ steps. Ok (made steps)) (subst (λ j. runs n [] (first_items j o.steps) ≡ Ok (w.before ++ alone.step ∷ [])) next alone.goes_on);
+                  step = alone.step;
+                  goes_on = refl;
+                  not_taken = alone.not_taken;
+                })
+              ];
+            }
+
+law-by : (bytes : List ℕ) (x : Result Outline ReadingFault) → outline bytes ≡ x → NeverOfStep x → RacesAreReadAsRuns bytes
+law-by bytes (Ok o) is never = elim (cases (length o.plan.stages) o.steps [] (All-nil IsForRace)) [ inl same ↦ law-same o bytes is same | inr w ↦ law-differ o bytes is w ]
+law-by bytes (Err fault) is never =
+    let run : reading bytes ≡ Err fault = ap (λ x. x >>= with_steps Run) is in
+    let race : race_reading bytes ≡ Err fault = ap (λ x. x >>= with_steps Race) is in
+    let told : (k : ℕ) → race_reading bytes ≡ Err (faults.Step k) → ⊥ = λ k e. (let same : fault ≡ faults.Step k = cc in never.never k (ap Err same)) in
+    record {
+      scripts = λ s. (λ e. absurd cc, λ h. let e = h.0 in absurd cc);
+      other_faults = λ f h. (λ e. run ∙ sym race ∙ e, λ e. race ∙ sym run ∙ e);
+      steps = λ k. (λ e. absurd (told k e), λ w. let none : reading_up_to k bytes ≡ Err fault = ap (λ x. x >>= λ p. with_steps Run (cut_at k p)) is in let some = w.reads in absurd cc);
+      no_later = λ j k e f. absurd (told j e);
+    }
+
+pub races_are_read_as_runs : (bytes : List ℕ) → RacesAreReadAsRuns bytes
+races_are_read_as_runs bytes = law-by bytes (outline bytes) refl (never-outline bytes)
