@@ -1,11 +1,13 @@
 //! Scripts with what they print, read and written whole, a byte at a time, up to where a device fails, and where memory is
 //! refused.
 mod devices;
+mod gates;
 mod races;
 mod rows;
 
 use self::devices::{Dripping, Fixed, Sipping, Then};
 use self::rows::{BAD_PLANS, BAD_SHAPES, CALLS, CLAIMS, FORMS, LONG, LongRow, NUDGED, Row};
+use crate::printing::print_given;
 use crate::{Command, CommandFault, Part, PlanFault, ScriptFault, read_command, run_script};
 use std::alloc::{AllocError, Global};
 use std::io::{ErrorKind, Read, Write};
@@ -231,25 +233,35 @@ fn a_failing_writer_holds_a_front(rt: HostRuntime) -> Result<(), Fail> {
     )
 }
 
-/// The longest line of each fault that tells a number, of which no script is long enough for the greatest.
+/// The line of each fault, the longest where it tells a number, of which no script is long enough for the greatest.
 #[test]
-fn the_greatest_numbers_are_told(rt: HostRuntime) -> Result<(), Fail> {
+fn the_line_of_each_fault_is_written(rt: HostRuntime) -> Result<(), Fail> {
     let most = u32::MAX;
+    let stage = Part::Stage(most);
+    let limits = PlanFault::TooManyLimits;
     let rows = [
+        (ScriptFault::TooLong, "fault 1 too long\n"),
+        (ScriptFault::NotJson, "fault 2 not json\n"),
         (
-            ScriptFault::Shape(Part::Stage(most)),
-            "fault 3 shape stage 4294967295",
+            ScriptFault::Shape(stage),
+            "fault 3 shape stage 4294967295\n",
         ),
         (
-            ScriptFault::Plan(PlanFault::TooManyLimits, most),
-            "fault 4 plan 9 at 4294967295",
+            ScriptFault::Plan(limits, most),
+            "fault 4 plan 9 at 4294967295\n",
         ),
-        (ScriptFault::Function(most), "fault 5 function 4294967295"),
-        (ScriptFault::Step(most), "fault 6 step 4294967295"),
+        (ScriptFault::Function(most), "fault 5 function 4294967295\n"),
+        (ScriptFault::Step(most), "fault 6 step 4294967295\n"),
+        (ScriptFault::Read, "fault 7 read\n"),
+        (ScriptFault::NoMemory, "fault 9 memory\n"),
+        (ScriptFault::RaceSize, "fault 10 race size\n"),
     ];
-    for (fault, text) in rows {
-        let shown = format!(in rt.alloc(); "{fault}")?;
-        assert_eq!(rt; shown.as_str(), text);
+    for (fault, line) in rows {
+        let mut out: Vec<u8> = Vec::new(rt.alloc());
+        assert_eq!(rt; print_given(&mut out, Err(fault)), Err(fault));
+        assert_eq!(rt; out.as_slice(), line.as_bytes());
+        let shown = format!(in rt.alloc(); "{fault}\n")?;
+        assert_eq!(rt; shown.as_str(), line);
     }
     Ok(())
 }
