@@ -1,5 +1,5 @@
 //! A command and its script in, a report and a status out.
-ghost use Rattle.std.specs.Prelude.{◌≡◌, ◌<◌, ◌≤◌, List, ℕ};
+ghost use Rattle.std.specs.Prelude.{◌≡◌, List, ℕ};
 ghost use Rattle.std.specs.Process.{exit_status};
 ghost use Rattle.cf_command.specs.Words.{HasWorkers};
 ghost use Rattle.cf_script.specs.Printing.{IsInput};
