@@ -1,5 +1,5 @@
 -- What contracts see of a pass and of a desk.
-use Rattle.cf_plan.specs.Plans.{Planned}
+use Rattle.cf_plan.specs.Plans.{Planned, plan_of}
 use Rattle.std.specs.Prelude.{◌≡◌, ◌<◌, ◌≤◌, ◌+◌, Option, None, ◌⊎◌, length, map, ℕ, List, [], ◌∷◌, ◌++◌}
 use Rattle.atomic_table.specs.Seated.{TableId}
 use Rattle.cf_outcome.specs.declared.outcome.Outcome.{Outcome}
@@ -43,7 +43,7 @@ pub record Desk : Type 0 where
   pub words : ℕ
 
 abbrev pub no_one : Known
-no_one = record { setting = record { plan = record { stages = []; limits = [] }; callers = 0 }; caller = 0; seen = []; looks = [] }
+no_one = record { setting = record { plan = plan_of [] []; callers = 0 }; caller = 0; seen = []; looks = [] }
 
 abbrev pub known_of : List Known → Known
 known_of [] = no_one

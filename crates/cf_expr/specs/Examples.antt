@@ -6,7 +6,7 @@ use Rattle.cf_outcome.specs.declared.outcome.Cause.TheVariants.{Thrown}
 use Rattle.cf_plan.specs.declared.forms.Form.TheVariants.{Source, Apply, Compose, RunEither}
 use Rattle.cf_plan.specs.declared.forms.Answer.TheVariants.{Throw, Link}
 use Rattle.cf_plan.specs.declared.limits.LimitKind.TheVariants.{Timeout}
-use Rattle.cf_plan.specs.Plans.{Planned, IsBuilt}
+use Rattle.cf_plan.specs.Plans.{Planned, IsBuilt, plan_of}
 use Rattle.cf_core.specs.declared.events.Event.{Event}
 use Rattle.cf_core.specs.declared.events.Event.TheVariants.{Complete as Completes, Fail as Fails, Claim as Claims, Finish as Finishes, Tick as Ticks}
 use Rattle.cf_core.specs.States.{start, outcome_at}
@@ -17,10 +17,8 @@ use Rattle.cf_expr.specs.Histories.{IsPlain, IsPlainPlan, IsQuiet, nothing_grant
 
 -- a source, a compose over it, and an apply over the compose
 abbrev pub chain : Planned
-chain = record {
-  stages = record { form = Source; sources = []; function = None } ∷ record { form = Compose; sources = 0 ∷ []; function = Some 0 } ∷ record { form = Apply; sources = 1 ∷ []; function = Some 1 } ∷ [];
-  limits = [];
-}
+chain =
+    plan_of (record { form = Source; sources = []; function = None } ∷ record { form = Compose; sources = 0 ∷ []; function = Some 0 } ∷ record { form = Apply; sources = 1 ∷ []; function = Some 1 } ∷ []) []
 
 -- the compose links to the source, and the apply throws
 abbrev pub meant : Meanings
@@ -36,10 +34,8 @@ answered_wrongly = Completes 0 0 Nil ∷ Claims 3 1 ∷ Finishes 3 1 (Link 0) �
 
 -- two sources and an either form over them
 abbrev pub forked : Planned
-forked = record {
-  stages = record { form = Source; sources = []; function = None } ∷ record { form = Source; sources = []; function = None } ∷ record { form = RunEither; sources = 0 ∷ 1 ∷ []; function = Some 1 } ∷ [];
-  limits = [];
-}
+forked =
+    plan_of (record { form = Source; sources = []; function = None } ∷ record { form = Source; sources = []; function = None } ∷ record { form = RunEither; sources = 0 ∷ 1 ∷ []; function = Some 1 } ∷ []) []
 
 -- the second source fails first
 abbrev pub second_first : List Event
@@ -55,10 +51,8 @@ settled_from_outside = Fails 0 2 4 ∷ Completes 0 0 Nil ∷ Claims 3 1 ∷ Fini
 
 -- a source with a limit, whose moment comes
 abbrev pub limited : Planned
-limited = record {
-  stages = record { form = Source; sources = []; function = None } ∷ [];
-  limits = record { stage = 0; at = 5; kind = Timeout } ∷ [];
-}
+limited =
+    plan_of (record { form = Source; sources = []; function = None } ∷ []) (record { stage = 0; at = 5; kind = Timeout } ∷ [])
 
 abbrev pub too_late : List Event
 too_late = Ticks 0 5 ∷ []

@@ -1,5 +1,5 @@
 -- Plans: the stages in order, each with its form, its sources and its function's number, and the limits.
-use Rattle.std.specs.Prelude.{◌≡◌, ℕ, ◌+◌, ◌<◌, ◌≤◌, ◌==◌, if◌then◌else◌, count_by, replicate, Bool, true, false, not, ◌||◌, Option, Some, None, is_some, is_none, List, [], ◌∷◌, ◌++◌, length, nat_lt, nat_le, slice_get, All}
+use Rattle.std.specs.Prelude.{◌≡◌, ℕ, ◌+◌, ◌-◌, ◌<◌, ◌≤◌, ◌==◌, if◌then◌else◌, count_by, replicate, Bool, true, false, not, ◌||◌, Option, Some, None, is_some, is_none, List, [], ◌∷◌, ◌++◌, length, nat_lt, nat_le, slice_get, take, All}
 use Rattle.std.specs.List.{list_all, sum_by}
 use Rattle.std.specs.Option.{option_map_or}
 use Rattle.cf_plan.specs.declared.forms.Form.{Form}
@@ -14,10 +14,28 @@ pub record PlannedStage : Type 0 where
   pub sources : List ℕ
   pub function : Option ℕ
 
--- a plan
+-- a plan: its stages and limits, with how many stages it was opened, and how many may still be attached to it
 pub record Planned : Type 0 where
   pub stages : List PlannedStage
   pub limits : List Limit
+  pub opened : ℕ
+  pub room : ℕ
+
+-- a plan as it is built: it is opened with all its stages, and has no room for more
+abbrev pub plan_of : List PlannedStage → List Limit → Planned
+plan_of stages limits = record { stages = stages; limits = limits; opened = length stages; room = 0 }
+
+-- the plan with room for so many stages
+abbrev pub with_room : Planned → ℕ → Planned
+with_room plan room = record plan { room = room }
+
+-- the plan with one more stage attached, for which there was room
+abbrev pub and_stage : Planned → PlannedStage → Planned
+and_stage plan new = record plan { stages = plan.stages ++ new ∷ []; room = plan.room - 1 }
+
+-- the plan as it was opened
+abbrev pub opening_of : Planned → Planned
+opening_of plan = plan_of (take plan.opened plan.stages) plan.limits
 
 -- the form, the sources and the function of stage i
 abbrev pub form_at : List PlannedStage → ℕ → Form
@@ -80,9 +98,9 @@ stage_fault stages edges new =
     (unless (list_all (λ j. nat_lt j stages) new.sources) SourceNotLower
     (function_fault edges new)))
 
--- the plan with one more stage
+-- the plan built with one more stage
 abbrev pub with_stage : Planned → PlannedStage → Planned
-with_stage plan new = record { stages = plan.stages ++ new ∷ []; limits = plan.limits }
+with_stage plan new = plan_of (plan.stages ++ new ∷ []) plan.limits
 
 -- how often these sources name stage i
 abbrev pub mentions : ℕ → List ℕ → ℕ
@@ -113,9 +131,9 @@ with_limit_in_order [] new = new ∷ []
 with_limit_in_order (limit ∷ limits) new =
     if nat_le limit.at new.at then limit ∷ with_limit_in_order limits new else new ∷ limit ∷ limits
 
--- the plan with one more limit
+-- the plan built with one more limit
 abbrev pub with_limit : Planned → Limit → Planned
-with_limit plan new = record { stages = plan.stages; limits = with_limit_in_order plan.limits new }
+with_limit plan new = plan_of plan.stages (with_limit_in_order plan.limits new)
 
 -- no moment is later than that of a limit behind it
 abbrev pub IsInFiringOrder : List Limit → Type 0

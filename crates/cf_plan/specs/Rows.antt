@@ -3,7 +3,7 @@ use Rattle.std.specs.Prelude.{◌≡◌, ℕ, ◌+◌, ◌<◌, ◌≤◌, List,
 use Rattle.std.specs.List.{flat_map, sum}
 use Rattle.cf_plan.specs.declared.limits.Limit.{Limit}
 use Rattle.cf_plan.specs.declared.rows.Row.{Row}
-use Rattle.cf_plan.specs.Plans.{IsBuilt, Planned, PlannedStage, dependents_of, edges_of, mentions}
+use Rattle.cf_plan.specs.Plans.{IsBuilt, Planned, PlannedStage, dependents_of, edges_of, mentions, plan_of}
 
 -- the stage that a row stands for
 abbrev pub stage_of : List ℕ → Row → PlannedStage
@@ -14,7 +14,7 @@ stages_of edges rows = map (stage_of edges) rows
 
 -- the plan that is kept so
 abbrev pub planned_of : List Row → List ℕ → List Limit → Planned
-planned_of rows edges limits = record { stages = stages_of edges rows; limits = limits }
+planned_of rows edges limits = plan_of (stages_of edges rows) limits
 
 -- the sources of all stages, one after another
 abbrev pub all_sources : List PlannedStage → List ℕ

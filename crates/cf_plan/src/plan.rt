@@ -1,6 +1,6 @@
 //! Plans, and what is asked of them.
 ghost use Rattle.std.specs.Prelude.{◌≡◌, ℕ, ◌<◌, ◌≤◌, All, IfOk, IsOkUnless, length};
-ghost use Rattle.cf_plan.specs.Plans.{IsBuilt, IsRising, dependents_of, edges_of, form_at, function_at, mentions, sources_at};
+ghost use Rattle.cf_plan.specs.Plans.{IsBuilt, IsRising, dependents_of, edges_of, form_at, function_at, mentions, plan_of, sources_at};
 ghost use Rattle.cf_plan.specs.Rows.{ArePlanned, planned_of};
 
 use crate::dependents::Dependents;
@@ -59,6 +59,7 @@ impl Plan {
         ensures count { result ≡ length self.now.stages }
         ensures few { result ≤ 4096 }
         ensures built { IsBuilt self.now }
+        ensures whole { self.now ≡ plan_of self.now.stages self.now.limits }
     {
         self.rows.len() as u16
     }

@@ -6,7 +6,7 @@ use Rattle.serde_json.specs.Data.{Data}
 use Rattle.serde_json.specs.Find.{get, as_str, as_array}
 use Rattle.cf_plan.specs.declared.forms.Form.{Form}
 use Rattle.cf_plan.specs.declared.forms.Form.TheVariants.{Source, Supply, RunAsync, Apply, Accept, ThenRun, Combine, AcceptBoth, RunBoth, ApplyEither, AcceptEither, RunEither, Compose, Handle, WhenComplete, Exceptionally, AllOf, AnyOf}
-use Rattle.cf_plan.specs.Plans.{Planned, PlannedStage, edges_of, stage_fault, with_stage}
+use Rattle.cf_plan.specs.Plans.{Planned, PlannedStage, edges_of, plan_of, stage_fault, with_stage}
 use Rattle.cf_reading.specs.declared.fault.Part.TheVariants as parts
 use Rattle.cf_reading.specs.declared.fault.ReadingFault.{ReadingFault}
 use Rattle.cf_reading.specs.declared.fault.ReadingFault.TheVariants as faults
@@ -71,7 +71,7 @@ pub record Drafted : Type 0 where
   pub functions : List Func
 
 abbrev pub nothing_drafted : Drafted
-nothing_drafted = record { plan = record { stages = []; limits = [] }; functions = [] }
+nothing_drafted = record { plan = plan_of [] []; functions = [] }
 
 -- a stage's function has the number of functions before it
 abbrev pub number_after : List Func → Option Func → Option ℕ
