@@ -1,6 +1,6 @@
 -- Histories in parts, and stages along them: a stage that is pending no more never is again, and a claim of it leaves one that
 -- nobody can claim.
-use Rattle.std.proofs.Common.{◌≡◌, ℕ, ◌+◌, ◌∷◌, ◌++◌, [], List, Bool, true, false, Option, Some, None, suc, zero, ap, refl, set}
+use Rattle.std.proofs.Common.{◌≡◌, ℕ, ◌∷◌, ◌++◌, [], List, Bool, true, false, Option, Some, None, suc, zero, ap, refl, set}
 use Rattle.std.specs.Prelude.{slice_get, unwrap_or}
 use Rattle.cf_outcome.specs.declared.outcome.Outcome.{Outcome}
 use Rattle.cf_plan.specs.declared.forms.Form.{Form}

@@ -1,6 +1,6 @@
 -- What events keep true of the stages of a plan, if each kind of change does.
-use Rattle.std.proofs.Common.{◌≡◌, ◌==◌, ℕ, ◌+◌, ◌<◌, ◌∷◌, [], List, Bool, true, false, cond, Option, Some, None, length, arith, refl, set}
-use Rattle.std.specs.Prelude.{nat_lt, slice_get}
+use Rattle.std.proofs.Common.{◌≡◌, ◌≢◌, ◌==◌, ℕ, ◌+◌, ◌<◌, ◌∷◌, [], List, Bool, true, false, cond, Option, Some, None, length, arith, refl, set}
+use Rattle.std.specs.Prelude.{nat_lt, slice_get, ◌&&◌}
 use Rattle.std.specs.Option.{option_map_or}
 use Rattle.cf_outcome.specs.declared.outcome.Outcome.{Outcome}
 use Rattle.cf_outcome.specs.declared.outcome.Outcome.TheVariants.{Value as Gives, Fault}
@@ -8,11 +8,11 @@ use Rattle.cf_outcome.specs.declared.outcome.Cause.TheVariants.{Thrown, Cancelle
 use Rattle.cf_outcome.specs.Outcomes.{wrap}
 use Rattle.cf_plan.specs.declared.forms.Answer.{Answer}
 use Rattle.cf_plan.specs.declared.forms.Form.{Form}
-use Rattle.cf_plan.specs.declared.forms.Form.TheVariants.{Compose, WhenComplete}
+use Rattle.cf_plan.specs.declared.forms.Form.TheVariants.{WhenComplete}
 use Rattle.cf_plan.specs.declared.forms.Landing.{Landing}
 use Rattle.cf_plan.specs.declared.forms.Landing.TheVariants.{Settles as Lands, Links}
 use Rattle.cf_plan.specs.declared.limits.Limit.{Limit}
-use Rattle.cf_plan.specs.Forms.{bad_answer, landing}
+use Rattle.cf_plan.specs.Forms.{bad_answer, composes, kept_value, landing}
 use Rattle.cf_plan.specs.Plans.{PlannedStage, form_at}
 use Rattle.cf_core.specs.declared.stage.Stage.{Stage}
 use Rattle.cf_core.specs.declared.stage.Stage.TheVariants.{Pending, Ready, Claimed, Linked, Settled}
@@ -68,21 +68,23 @@ landed-stable P k (Lands o) s i lower e h = after-stable P k s i o h
 landed-stable P k (Links j) s i lower e h = linked_to-stable P k (outcome_at s j) s i j refl e (lower j refl) h
 
 -- a stage may be linked to a lower one alone
-lower_link : (b : Bool) (i j k : ℕ) → nat_lt j i ≡ b → cond b (Links j) bad_answer ≡ Links k → k < i
-lower_link true i j k t e = let same : j ≡ k = cc in let l = ltb-true j i t in omega arith
-lower_link false i j k t e = cc
+lower_link : (b c : Bool) (i j k : ℕ) → nat_lt j i ≡ c → cond (b && c) (Links j) bad_answer ≡ Links k → k < i
+lower_link true true i j k t e = let same : j ≡ k = cc in let l = ltb-true j i t in omega arith
+lower_link true false i j k t e = cc
+lower_link false c i j k t e = cc
+
+gives_no_link : (b : Bool) (o : Outcome) (k : ℕ) → cond b bad_answer (Lands o) ≢ Links k
+gives_no_link true o k e = cc
+gives_no_link false o k e = cc
 
 landing-lower : (form : Form) (i : ℕ) (source : Option Outcome) (answer : Answer) (k : ℕ) → landing form i source answer ≡ Links k → k < i
 landing-lower WhenComplete i (Some (Fault cause wrapped)) answer k e = cc
 landing-lower WhenComplete i (Some (Gives v)) (Throw code) k e = cc
 landing-lower WhenComplete i (Some (Gives v)) (Link j) k e = cc
 landing-lower WhenComplete i (Some (Gives v)) (Give w) k e = cc
-landing-lower Compose i source (Link j) k e = lower_link (nat_lt j i) i j k refl e
-landing-lower Compose i source (Throw code) k e = cc
-landing-lower Compose i source (Give v) k e = cc
 landing-lower form i source (Throw code) k e = cc
-landing-lower form i source (Link j) k e = cc
-landing-lower form i source (Give v) k e = cc
+landing-lower form i source (Link j) k e = lower_link (composes form) (nat_lt j i) i j k refl e
+landing-lower form i source (Give v) k e = absurd (gives_no_link (composes form) (Gives (kept_value form v)) k e)
 
 finished_by-stable : (P : List PlannedStage → List Stage → Type 0) → IsStable P → (x : Option Outcome) (s : State) (i : ℕ) (answer : Answer) → outcome_at s i ≡ x → Holds P s → Holds P ((finished_by x s i answer).1)
 finished_by-stable P k (Some old) s i answer e h = h

@@ -1,5 +1,5 @@
 -- Whose calls events are.
-use Rattle.std.specs.Prelude.{ℕ, ◌==◌, Bool, false}
+use Rattle.std.specs.Prelude.{◌==◌, Bool, false}
 use Rattle.cf_core.specs.declared.events.Event.{Event}
 use Rattle.cf_core.specs.declared.events.Event.TheVariants.{Complete as Completes, Fail as Fails, Cancel as Cancels, Tick as Ticks}
 

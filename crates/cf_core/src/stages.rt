@@ -1,7 +1,7 @@
 //! The stages of a graph, of which some wait for treatment.
 ghost use Rattle.std.specs.Prelude.{◌≡◌, ℕ, ◌+◌, ◌<◌, ◌≤◌, [], IfNone, IfOk, IfSome, None, Some, length, option_and_then, position, replicate, slice_get, slice_set, true, if◌then◌else◌};
-ghost use Rattle.cf_plan.specs.declared.forms.Form.TheVariants.{Compose};
 ghost use Rattle.cf_plan.specs.declared.forms.Landing.TheVariants.{Links as LinksTo};
+ghost use Rattle.cf_plan.specs.Forms.{composes};
 ghost use Rattle.cf_plan.specs.Plans.{form_at, sources_at};
 ghost use Rattle.cf_core.specs.declared.stage.Stage.TheVariants.{Claimed, Linked, Pending, Settled};
 ghost use Rattle.cf_core.specs.States.{is_ready, new_states, outcome_in, outcome_of};
@@ -245,7 +245,7 @@ impl Stages {
         );
     }
 
-    /// Links a claimed compose to a lower stage that isn't settled, in a step of its own. No stage up to it waits for
+    /// Links a claimed stage of a form that composes to a lower stage that isn't settled, in a step of its own. No stage up to it waits for
     /// treatment.
     pub fn link(&mut self, plan: &Plan, d: u16, j: u16)
         requires sound { AreSound plan.now.stages self.old }
@@ -253,7 +253,7 @@ impl Stages {
         requires target { j < d }
         requires treated { AreTreated (d + 1) self.old.marks }
         requires claimed { (kept_at self.old.kept.items d).stage ≡ Claimed }
-        requires compose { form_at plan.now.stages d ≡ Compose }
+        requires composes { composes (form_at plan.now.stages d) ≡ true }
         requires unsettled { outcome_of ((kept_at self.old.kept.items j).stage) ≡ None }
         ensures linked { outlook_of plan.now.stages self.new ≡ slice_set (outlook_of plan.now.stages self.old) d (Linked j) }
         ensures taken { StayTakenBut d self.old.kept.items self.new.kept.items }
@@ -304,7 +304,7 @@ impl Stages {
         requires treated { AreTreated (d + 1) self.old.marks }
         requires claimed { (kept_at self.old.kept.items d).stage ≡ Claimed }
         requires target { (j : ℕ) → at ≡ LinksTo j → j < d }
-        requires compose { (j : ℕ) → at ≡ LinksTo j → form_at plan.now.stages d ≡ Compose }
+        requires composes { (j : ℕ) → at ≡ LinksTo j → composes (form_at plan.now.stages d) ≡ true }
         ensures landed { outlook_of plan.now.stages self.new ≡ landed_stages plan.now.stages (outlook_of plan.now.stages self.old) d at }
         ensures taken { StayTakenBut d self.old.kept.items self.new.kept.items }
         ensures turns { self.new.turns ≡ self.old.turns }

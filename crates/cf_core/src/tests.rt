@@ -113,6 +113,59 @@ fn cancels_through_a_link(rt: HostRuntime) -> Result<(), Fail> {
     Ok(())
 }
 
+/// Two sources, and an exceptionallyCompose of the first.
+fn recovering(alloc: Global) -> Result<Graph, Fail> {
+    let mut builder = PlanBuilder::new(alloc);
+    builder.stage(Form::Source, &[], None)?;
+    builder.stage(Form::Source, &[], None)?;
+    builder.stage(Form::ExceptionallyCompose, &[0], Some(0))?;
+    Ok(Graph::new(alloc, builder.build()?)?)
+}
+
+#[test]
+fn a_value_needs_no_recovery(rt: HostRuntime) -> Result<(), Fail> {
+    let mut graph = recovering(rt.alloc())?;
+    assert!(rt; complete(&rt, &mut graph, 0, 3));
+    assert_eq!(rt; graph.lowest_ready(), None);
+    assert_eq!(rt; claim(&rt, &mut graph, 2), Claimed::Settled);
+    assert_eq!(rt; outcome(&rt, &mut graph, 2), Some(GIVES_3));
+    Ok(())
+}
+
+#[test]
+fn a_fault_is_recovered_through_a_link(rt: HostRuntime) -> Result<(), Fail> {
+    let mut graph = recovering(rt.alloc())?;
+    assert!(rt; graph.has(0));
+    assert!(rt; graph.fail(0, 7));
+    assert_eq!(rt;
+        claim(&rt, &mut graph, 2),
+        Claimed::Granted(Args::Got(fault(Cause::Thrown(7), false)))
+    );
+    assert_eq!(rt; finish(&rt, &mut graph, 2, Answer::Link(1)), Finished::Won);
+    assert_eq!(rt; outcome(&rt, &mut graph, 2), None);
+    assert!(rt; complete(&rt, &mut graph, 1, 3));
+    assert_eq!(rt; outcome(&rt, &mut graph, 2), Some(GIVES_3));
+    Ok(())
+}
+
+#[test]
+fn a_recovery_has_to_link_lower(rt: HostRuntime) -> Result<(), Fail> {
+    for answer in [Answer::Give(Value::Nil), Answer::Link(2), Answer::Link(3)] {
+        let mut graph = recovering(rt.alloc())?;
+        assert!(rt; cancel(&rt, &mut graph, 0));
+        assert_eq!(rt;
+            claim(&rt, &mut graph, 2),
+            Claimed::Granted(Args::Got(fault(Cause::Cancelled, false)))
+        );
+        assert_eq!(rt; finish(&rt, &mut graph, 2, answer), Finished::Won);
+        assert_eq!(rt;
+            outcome(&rt, &mut graph, 2),
+            Some(fault(Cause::BadAnswer, true))
+        );
+    }
+    Ok(())
+}
+
 #[test]
 fn finishes_late(rt: HostRuntime) -> Result<(), Fail> {
     let mut builder = PlanBuilder::new(rt.alloc());

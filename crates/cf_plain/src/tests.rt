@@ -20,7 +20,7 @@ enum Takes {
 }
 
 /// Each form, how many sources it takes, and whether it has a function.
-const FORMS: [(Form, Takes, bool); 18] = [
+const FORMS: [(Form, Takes, bool); 19] = [
     (Form::Source, Takes::None, false),
     (Form::Supply, Takes::None, true),
     (Form::RunAsync, Takes::None, true),
@@ -39,6 +39,7 @@ const FORMS: [(Form, Takes, bool); 18] = [
     (Form::Exceptionally, Takes::One, true),
     (Form::AllOf, Takes::Any, false),
     (Form::AnyOf, Takes::Any, false),
+    (Form::ExceptionallyCompose, Takes::One, true),
 ];
 
 /// How many lists of calls are run on each small plan, and how many calls each has.
@@ -95,11 +96,11 @@ fn plan_of(
     let mut builder = PlanBuilder::new(alloc);
     builder.stage(Form::Source, &[], None)?;
     builder.stage(Form::Source, &[], None)?;
-    if first.0 >= 18 || !add_choice(&mut builder, FORMS[first.0], 2, first.1)? {
+    if first.0 >= 19 || !add_choice(&mut builder, FORMS[first.0], 2, first.1)? {
         return Ok(None);
     }
     if let Some((form, choice)) = second {
-        if form >= 18 || !add_choice(&mut builder, FORMS[form], 3, choice)? {
+        if form >= 19 || !add_choice(&mut builder, FORMS[form], 3, choice)? {
             return Ok(None);
         }
     }
@@ -122,7 +123,7 @@ fn larger_plan(alloc: Global, number: u32) -> Result<Plan, Fail> {
     let mut x = next_number(number);
     for k in 2..8 + (number % 9) as u16 {
         x = next_number(x);
-        let (form, takes, called) = FORMS[(x >> 8) as usize % 18];
+        let (form, takes, called) = FORMS[(x >> 8) as usize % 19];
         let below = if k == 0 { 1 } else { k };
         let of = [
             (x >> 20) as u16 % below,
@@ -323,7 +324,7 @@ fn compare_all(rt: &impl Abort, alloc: Global, plan: &Plan, number: u32) -> Resu
 fn one_stage_over_two_sources(rt: HostRuntime) -> Result<(), Fail> {
     let mut plans: u32 = 0;
     let mut replies: u32 = 0;
-    for form in 0..18 {
+    for form in 0..19 {
         for choice in 0..7 {
             if let Some(plan) = plan_of(rt.alloc(), (form, choice), None)? {
                 plans = plans.wrapping_add(1);
@@ -331,8 +332,8 @@ fn one_stage_over_two_sources(rt: HostRuntime) -> Result<(), Fail> {
             }
         }
     }
-    assert_eq!(rt; plans, 55);
-    assert_eq!(rt; replies, 3520);
+    assert_eq!(rt; plans, 57);
+    assert_eq!(rt; replies, 3648);
     Ok(())
 }
 
@@ -340,9 +341,9 @@ fn one_stage_over_two_sources(rt: HostRuntime) -> Result<(), Fail> {
 fn two_stages_over_two_sources(rt: HostRuntime) -> Result<(), Fail> {
     let mut plans: u32 = 0;
     let mut replies: u32 = 0;
-    for first in 0..18 {
+    for first in 0..19 {
         for choice in 0..7 {
-            for second in 0..18 {
+            for second in 0..19 {
                 for other in 0..13 {
                     if let Some(plan) = plan_of(
                         rt.alloc(),
@@ -356,8 +357,8 @@ fn two_stages_over_two_sources(rt: HostRuntime) -> Result<(), Fail> {
             }
         }
     }
-    assert_eq!(rt; plans, 5720);
-    assert_eq!(rt; replies, 366080);
+    assert_eq!(rt; plans, 6099);
+    assert_eq!(rt; replies, 390336);
     Ok(())
 }
 

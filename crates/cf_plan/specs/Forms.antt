@@ -1,5 +1,5 @@
 -- What a stage takes from its sources, and where the answer of its function lands.
-use Rattle.std.specs.Prelude.{ℕ, true, Option, Some, None, List, [], ◌∷◌, is_some, nat_lt, if◌then◌else◌}
+use Rattle.std.specs.Prelude.{ℕ, Bool, true, false, ◌&&◌, Option, Some, None, List, [], ◌∷◌, is_some, nat_lt, if◌then◌else◌}
 use Rattle.std.specs.List.{list_all}
 use Rattle.cf_outcome.specs.declared.outcome.Value.{Value}
 use Rattle.cf_outcome.specs.declared.outcome.Value.TheVariants.{Nil}
@@ -8,7 +8,7 @@ use Rattle.cf_outcome.specs.declared.outcome.Outcome.{Outcome}
 use Rattle.cf_outcome.specs.declared.outcome.Outcome.TheVariants.{Value as Gives, Fault}
 use Rattle.cf_outcome.specs.Outcomes.{wrap}
 use Rattle.cf_plan.specs.declared.forms.Form.{Form}
-use Rattle.cf_plan.specs.declared.forms.Form.TheVariants.{Source, Supply, RunAsync, Apply, ThenRun, Combine, AcceptBoth, RunBoth, ApplyEither, RunEither, Compose, Handle, WhenComplete, Exceptionally, AllOf, AnyOf}
+use Rattle.cf_plan.specs.declared.forms.Form.TheVariants.{Source, Supply, RunAsync, Apply, ThenRun, Combine, AcceptBoth, RunBoth, ApplyEither, RunEither, Compose, Handle, WhenComplete, Exceptionally, AllOf, AnyOf, ExceptionallyCompose}
 use Rattle.cf_plan.specs.declared.forms.Args.{Args}
 use Rattle.cf_plan.specs.declared.forms.Args.TheVariants.{None as NoArgs, One, Two, Got}
 use Rattle.cf_plan.specs.declared.forms.Answer.{Answer}
@@ -29,6 +29,8 @@ due_one Handle o = Needs (Got o)
 due_one WhenComplete o = Needs (Got o)
 due_one Exceptionally (Gives v) = Settles (Gives v)
 due_one Exceptionally (Fault cause wrapped) = Needs (Got (Fault cause wrapped))
+due_one ExceptionallyCompose (Gives v) = Settles (Gives v)
+due_one ExceptionallyCompose (Fault cause wrapped) = Needs (Got (Fault cause wrapped))
 due_one AnyOf o = Settles (wrap o)
 due_one ThenRun o = needed_or_passed (λ _. NoArgs) o
 due_one RunEither o = needed_or_passed (λ _. NoArgs) o
@@ -88,13 +90,17 @@ kept_value form v = Nil
 abbrev pub bad_answer : Landing
 bad_answer = Lands (Fault BadAnswer true)
 
--- Where stage i lands with the answer of its function. A whenComplete keeps what its source has, and only a compose may
--- link to a stage, which has to be lower.
+-- whether the function of a form answers with a stage
+abbrev pub composes : Form → Bool
+composes Compose = true
+composes ExceptionallyCompose = true
+composes form = false
+
+-- Where stage i lands with the answer of its function. A whenComplete keeps what its source has. A form that composes has
+-- to link to a stage, which has to be lower, and no other form may link.
 abbrev pub landing : Form → ℕ → Option Outcome → Answer → Landing
 landing WhenComplete i (Some (Fault cause wrapped)) answer = Lands (Fault cause true)
 landing form i source (Throw code) = Lands (Fault (Thrown code) true)
-landing Compose i source (Link j) = if nat_lt j i then Links j else bad_answer
-landing form i source (Link j) = bad_answer
-landing Compose i source (Give v) = bad_answer
+landing form i source (Link j) = if composes form && nat_lt j i then Links j else bad_answer
 landing WhenComplete i (Some (Gives v)) (Give w) = Lands (Gives v)
-landing form i source (Give v) = Lands (Gives (kept_value form v))
+landing form i source (Give v) = if composes form then bad_answer else Lands (Gives (kept_value form v))

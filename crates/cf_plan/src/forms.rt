@@ -41,6 +41,9 @@ pub enum Form {
     AllOf,
     /// Any number of sources, of which the first to settle decides: `anyOf`.
     AnyOf,
+    /// One source, whose fault alone its function is told; the function names the stage that it takes its outcome
+    /// from: `exceptionallyCompose`.
+    ExceptionallyCompose,
 }
 
 /// What a stage's function is called with.
@@ -63,7 +66,7 @@ pub enum Answer {
     Give(Value),
     /// It throws, with this code.
     Throw(u32),
-    /// It returns the stage of this number, as the function of `thenCompose` does.
+    /// It returns the stage of this number, as the functions of `thenCompose` and `exceptionallyCompose` do.
     Link(u16),
 }
 

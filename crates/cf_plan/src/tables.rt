@@ -3,7 +3,7 @@
 //! They are those of Java SE 17's `CompletionStage`: a stage that doesn't handle a fault passes it on inside a
 //! completion exception, which `wrap` says, and one that handles it is told the outcome as it is stored.
 ghost use Rattle.std.specs.Prelude.{◌≡◌, ℕ};
-ghost use Rattle.cf_plan.specs.Forms.{due_one, due_two, kept_value, landing};
+ghost use Rattle.cf_plan.specs.Forms.{composes, due_one, due_two, kept_value, landing};
 
 use crate::forms::{Answer, Args, Due, Form, Landing};
 use cf_outcome::{Cause, Outcome, Value, is_exceptional, wrap};
@@ -15,8 +15,10 @@ pub fn due_one(form: Form, o: Outcome) -> Due
 {
     match (form, o) {
         (Form::Handle | Form::WhenComplete, _) => Due::Needs(Args::Got(o)),
-        (Form::Exceptionally, Outcome::Value(_)) => Due::Settles(o),
-        (Form::Exceptionally, Outcome::Fault { .. }) => Due::Needs(Args::Got(o)),
+        (Form::Exceptionally | Form::ExceptionallyCompose, Outcome::Value(_)) => Due::Settles(o),
+        (Form::Exceptionally | Form::ExceptionallyCompose, Outcome::Fault { .. }) => {
+            Due::Needs(Args::Got(o))
+        }
         (Form::AnyOf, _) => Due::Settles(wrap(o)),
         (Form::ThenRun | Form::RunEither, Outcome::Value(_)) => Due::Needs(Args::None),
         (_, Outcome::Value(v)) => Due::Needs(Args::One(v)),
@@ -44,7 +46,8 @@ pub fn due_two(form: Form, a: Outcome, b: Outcome) -> Due
 
 /// Where the answer of stage `stage`'s function lands. The form has a function; for `WhenComplete` `source` is its
 /// source's outcome, and for the others it isn't looked at. An answer that the form has no use for is the fault
-/// `BadAnswer`: a link by any form but `Compose`, or to a stage that isn't lower, and a value by `Compose`.
+/// `BadAnswer`: a link by any form but `Compose` and `ExceptionallyCompose`, or to a stage that isn't lower, and a value
+/// by these two.
 pub fn landing(form: Form, stage: u16, source: Option<Outcome>, answer: Answer) -> Landing
     ensures { result ≡ landing form stage source answer }
 {
@@ -63,18 +66,25 @@ pub fn landing(form: Form, stage: u16, source: Option<Outcome>, answer: Answer) 
             wrapped: true,
         }),
         Answer::Link(j) => {
-            if form == Form::Compose && j < stage {
+            if composes(form) && j < stage {
                 Landing::Links(j)
             } else {
                 Landing::Settles(bad)
             }
         }
         Answer::Give(v) => match (form, source) {
-            (Form::Compose, _) => Landing::Settles(bad),
+            (Form::Compose | Form::ExceptionallyCompose, _) => Landing::Settles(bad),
             (Form::WhenComplete, Some(o)) => Landing::Settles(o),
             _ => Landing::Settles(Outcome::Value(kept(form, v))),
         },
     }
+}
+
+/// Whether the function of a form answers with a stage.
+fn composes(form: Form) -> bool
+    ensures { result ≡ composes form }
+{
+    matches!(form, Form::Compose | Form::ExceptionallyCompose)
 }
 
 /// The value that a stage keeps of the one that its function gave.

@@ -81,6 +81,13 @@ fn one_source_decides(rt: HostRuntime) {
         (Form::WhenComplete, RAW, Due::Needs(Args::Got(RAW))),
         (Form::Exceptionally, THREE, Due::Settles(THREE)),
         (Form::Exceptionally, RAW, Due::Needs(Args::Got(RAW))),
+        (Form::ExceptionallyCompose, THREE, Due::Settles(THREE)),
+        (Form::ExceptionallyCompose, RAW, Due::Needs(Args::Got(RAW))),
+        (
+            Form::ExceptionallyCompose,
+            WRAPPED,
+            Due::Needs(Args::Got(WRAPPED)),
+        ),
         (Form::AnyOf, THREE, Due::Settles(THREE)),
         (Form::AnyOf, RAW, Due::Settles(WRAPPED)),
     ] {
@@ -130,6 +137,30 @@ fn an_answer_lands(rt: HostRuntime) {
             Landing::Settles(BAD),
         ),
         (Form::Compose, Some(NIL), three, Landing::Settles(BAD)),
+        (
+            Form::ExceptionallyCompose,
+            Some(RAW),
+            Answer::Link(4),
+            Landing::Links(4),
+        ),
+        (
+            Form::ExceptionallyCompose,
+            Some(RAW),
+            Answer::Link(5),
+            Landing::Settles(BAD),
+        ),
+        (
+            Form::ExceptionallyCompose,
+            Some(RAW),
+            three,
+            Landing::Settles(BAD),
+        ),
+        (
+            Form::ExceptionallyCompose,
+            Some(RAW),
+            Answer::Throw(7),
+            Landing::Settles(THROWN),
+        ),
         (Form::WhenComplete, Some(NIL), three, Landing::Settles(NIL)),
         (
             Form::WhenComplete,

@@ -6,7 +6,7 @@ use Rattle.std.proofs.lemmas.Bool.Decides.{nat_tests}
 use Rattle.cf_outcome.specs.declared.outcome.Outcome.{Outcome}
 use Rattle.cf_outcome.specs.declared.outcome.Outcome.TheVariants.{Value as Gives, Fault}
 use Rattle.cf_plan.specs.declared.forms.Form.{Form}
-use Rattle.cf_plan.specs.declared.forms.Form.TheVariants.{Source, Supply, RunAsync, Apply, Accept, ThenRun, Combine, AcceptBoth, RunBoth, ApplyEither, AcceptEither, RunEither, Compose, Handle, WhenComplete, Exceptionally, AllOf, AnyOf}
+use Rattle.cf_plan.specs.declared.forms.Form.TheVariants.{Source, Supply, RunAsync, Apply, Accept, ThenRun, Combine, AcceptBoth, RunBoth, ApplyEither, AcceptEither, RunEither, Compose, Handle, WhenComplete, Exceptionally, AllOf, AnyOf, ExceptionallyCompose}
 use Rattle.cf_plan.specs.declared.forms.Due.{Due}
 use Rattle.cf_plan.specs.declared.forms.Due.TheVariants.{Waits, Settles}
 use Rattle.cf_plan.specs.Forms.{follows, due_of_first, due_of_both, due_two, first_there, first_fault}
@@ -243,3 +243,4 @@ due_grows step Handle q r g = first_grows step Handle q r g
 due_grows step WhenComplete q r g = first_grows step WhenComplete q r g
 due_grows step Exceptionally q r g = first_grows step Exceptionally q r g
 due_grows step AnyOf q r g = first_grows step AnyOf q r g
+due_grows step ExceptionallyCompose q r g = first_grows step ExceptionallyCompose q r g

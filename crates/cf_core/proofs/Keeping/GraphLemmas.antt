@@ -16,7 +16,7 @@ use Rattle.cf_core.specs.declared.stage.Stage.{Stage}
 use Rattle.cf_core.specs.declared.stage.Stage.TheVariants.{Pending, Ready, Claimed, Linked, Settled}
 use Rattle.cf_core.specs.declared.replies.Claimed.{Claimed as ClaimReply}
 use Rattle.cf_core.specs.declared.replies.Claimed.TheVariants.{Granted}
-use Rattle.cf_core.specs.States.{State, outcome_of, outcome_in, outcome_at, stage_at, claim_at, new_states, after, stages_after}
+use Rattle.cf_core.specs.States.{State, outcome_of, outcome_in, outcome_at, stage_at, claim_at, new_states, stages_after}
 use Rattle.cf_core.specs.Events.{settled_by, settling, claimed_by, claiming, finished_by, finishing, landed, linked_to, source_outcome}
 use Rattle.cf_core.specs.declared.replies.Finished.TheVariants.{Won, Late, NotYours}
 use Rattle.cf_core.specs.declared.kept.KeptStage.{KeptStage}

@@ -1,12 +1,12 @@
 -- Each kind of move of a call: it keeps what is true between calls, and leads to what the sequential graph's move does.
-use Rattle.std.proofs.Common.{◌≡◌, ◌≢◌, ℕ, ◌+◌, ◌<◌, ◌≤◌, ◌∷◌, [], List, All, Bool, true, false, Some, None, Contains, length, suc, zero, arith, ap, sym, ◌∙◌, subst, refl, set, map, inl, inr, length-set}
+use Rattle.std.proofs.Common.{◌≡◌, ◌≢◌, ℕ, ◌+◌, ◌<◌, ◌≤◌, ◌∷◌, [], List, All, Bool, true, false, cond, Some, None, Contains, length, suc, zero, arith, ap, sym, ◌∙◌, subst, refl, set, map, inl, inr, length-set}
 use Rattle.std.specs.Prelude.{slice_get, option_and_then, unwrap_or}
 use Rattle.std.specs.Option.{option_map}
 use Rattle.std.proofs.lemmas.Bool.Decides.{eqb_tells}
 use Rattle.std.proofs.lemmas.List.Elements.{All-head, All-tail, All-cons, All-set}
 use Rattle.cf_outcome.specs.declared.outcome.Outcome.{Outcome}
 use Rattle.cf_plan.specs.declared.forms.Args.{Args}
-use Rattle.cf_plan.specs.declared.forms.Form.TheVariants.{Compose}
+use Rattle.cf_plan.specs.Forms.{composes}
 use Rattle.cf_plan.specs.Plans.{PlannedStage, form_at, dependents_of}
 use Rattle.cf_core.specs.declared.stage.Stage.TheVariants.{Ready, Claimed, Linked, Settled}
 use Rattle.cf_core.specs.States.{outcome_of, outcome_in, new_states}
@@ -102,9 +102,9 @@ module _ (plan : List PlannedStage) (kept : List KeptStage) (marks ready : List 
       let edges = h.few_edges in
       omega (arith, some, left, few, edges)
 
-  pub link_sound : (d j : ℕ) → d < length plan → j < d → (kept_at kept d).stage ≡ Claimed → form_at plan d ≡ Compose → dated_in kept j ≡ None →
+  pub link_sound : (d j : ℕ) → d < length plan → j < d → (kept_at kept d).stage ≡ Claimed → composes (form_at plan d) ≡ true → dated_in kept j ≡ None →
       IsSound plan (set kept d (record { stage = Linked j; step = steps + 1 })) marks (set ready d false) (set links j (d ∷ list_at links j)) (steps + 1) turns
-  link_sound d j l lower e compose open_target =
+  link_sound d j l lower e composing open_target =
       let new : KeptStage = record { stage = Linked j; step = steps + 1 } in
       let k = kept_at kept d in
       let there = kept_there kept d (omega (arith, h.all_kept)) in
@@ -112,7 +112,7 @@ module _ (plan : List PlannedStage) (kept : List KeptStage) (marks ready : List 
       let in_links : j < length links = omega (arith, h.all_links) in
       let two = ap steps_of e in
       let budget = ap (marks_of plan d) e in
-      let one = ap link_marks compose in
+      let one : link_marks (form_at plan d) ≡ 1 = ap (λ b. cond b 1 0) composing in
       let longer = sum_by-set_at {X = List ℕ} length links j (list_at links j) (d ∷ list_at links j) (list_there links j in_links) in
       let P : ℕ → Type 0 = λ i. is_bound ((kept_at (set kept d new) i).stage) ≡ true in
       let here : P d = ap (λ (x : KeptStage). is_bound x.stage) (kept_is (set kept d new) d new (get-set_same kept d new (there_within kept d k there))) in

@@ -6,7 +6,7 @@ use Rattle.std.proofs.lemmas.Bool.Decides.{nat_tests}
 use Rattle.std.proofs.lemmas.List.{map-append}
 use Rattle.cf_outcome.specs.declared.outcome.Outcome.{Outcome}
 use Rattle.cf_plan.specs.declared.forms.Form.{Form}
-use Rattle.cf_plan.specs.declared.forms.Form.TheVariants.{Source, Supply, RunAsync, Apply, Accept, ThenRun, Combine, AcceptBoth, RunBoth, ApplyEither, AcceptEither, RunEither, Compose, Handle, WhenComplete, Exceptionally, AllOf, AnyOf}
+use Rattle.cf_plan.specs.declared.forms.Form.TheVariants.{Source, Supply, RunAsync, Apply, Accept, ThenRun, Combine, AcceptBoth, RunBoth, ApplyEither, AcceptEither, RunEither, Compose, Handle, WhenComplete, Exceptionally, AllOf, AnyOf, ExceptionallyCompose}
 use Rattle.cf_plan.specs.declared.forms.Due.{Due}
 use Rattle.cf_plan.specs.declared.forms.Due.TheVariants.{Waits, Settles, Needs}
 use Rattle.cf_plan.specs.Forms.{follows, due_of_first, first_there}
@@ -53,6 +53,7 @@ due_at_start Handle q h = ap (due_of_first Handle) (earliest-first q h)
 due_at_start WhenComplete q h = ap (due_of_first WhenComplete) (earliest-first q h)
 due_at_start Exceptionally q h = ap (due_of_first Exceptionally) (earliest-first q h)
 due_at_start AnyOf q h = ap (due_of_first AnyOf) (earliest-first q h)
+due_at_start ExceptionallyCompose q h = ap (due_of_first ExceptionallyCompose) (earliest-first q h)
 
 dated-new : (below : List KeptStage) (j : ℕ) → StepsUpTo 0 below → step_part (dated_in below j) ≤ 0
 dated-new [] j h = omega arith

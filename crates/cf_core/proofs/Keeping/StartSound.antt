@@ -1,5 +1,5 @@
 -- What is true between calls is true at the start.
-use Rattle.std.proofs.Common.{◌≡◌, ℕ, ◌+◌, ◌*◌, ◌<◌, ◌≤◌, ◌∷◌, [], List, All, Bool, true, false, cond, Option, Some, None, length, suc, zero, arith, ap, sym, ◌∙◌, refl, map, set, drop, get_or, replicate, add-one, length-set}
+use Rattle.std.proofs.Common.{◌≡◌, ℕ, ◌+◌, ◌*◌, ◌<◌, ◌≤◌, ◌∷◌, [], List, All, Bool, true, false, cond, Option, Some, None, length, suc, zero, arith, ap, sym, ◌∙◌, refl, map, set, drop, get_or, replicate, add-one}
 use Rattle.std.specs.Prelude.{slice_get, count_by}
 use Rattle.std.specs.List.{range_with_len, sum_by}
 use Rattle.std.proofs.Math.Seq.{drop-cons}
@@ -8,7 +8,7 @@ use Rattle.std.proofs.lemmas.List.Elements.{All-nil, All-replicate}
 use Rattle.std.proofs.lemmas.List.Sums.{sum_by-cons}
 use Rattle.cf_outcome.specs.declared.outcome.Outcome.{Outcome}
 use Rattle.cf_plan.specs.declared.forms.Form.{Form}
-use Rattle.cf_plan.specs.declared.forms.Form.TheVariants.{Source, Supply, RunAsync, Apply, Accept, ThenRun, Combine, AcceptBoth, RunBoth, ApplyEither, AcceptEither, RunEither, Compose, Handle, WhenComplete, Exceptionally, AllOf, AnyOf}
+use Rattle.cf_plan.specs.declared.forms.Form.TheVariants.{Source, Supply, RunAsync, Apply, Accept, ThenRun, Combine, AcceptBoth, RunBoth, ApplyEither, AcceptEither, RunEither, Compose, Handle, WhenComplete, Exceptionally, AllOf, AnyOf, ExceptionallyCompose}
 use Rattle.cf_plan.specs.declared.forms.Due.{Due}
 use Rattle.cf_plan.specs.declared.forms.Due.TheVariants.{Waits}
 use Rattle.cf_plan.specs.Forms.{due_of_both, due_of_first}
@@ -55,6 +55,7 @@ unstarted_waits Handle sources e = first-none Handle sources
 unstarted_waits WhenComplete sources e = first-none WhenComplete sources
 unstarted_waits Exceptionally sources e = first-none Exceptionally sources
 unstarted_waits AnyOf sources e = first-none AnyOf sources
+unstarted_waits ExceptionallyCompose sources e = first-none ExceptionallyCompose sources
 
 dated-none : (n j : ℕ) → dated_in (replicate n untreated) j ≡ None
 dated-none zero j = refl
@@ -136,6 +137,7 @@ one_each Handle sources = omega arith
 one_each WhenComplete sources = omega arith
 one_each Exceptionally sources = omega arith
 one_each AnyOf sources = omega arith
+one_each ExceptionallyCompose sources = omega arith
 
 marks_at_start : (whole : List PlannedStage) (i : ℕ) (plan : List PlannedStage) (marks : List Bool) → ((j : ℕ) → form_at whole (i + j) ≡ form_at plan j) →
     count_by (λ b. b) (mark_starts i plan marks) + marks_from whole i (replicate (length plan) untreated)

@@ -2,7 +2,7 @@
 use Rattle.std.specs.Prelude.{◌≡◌, ℕ, ◌+◌, ◌*◌, ◌<◌, ◌≤◌, Bool, true, false, None, Some, List, [], ◌∷◌, length, map, slice_get, slice_set, unwrap_or, if◌then◌else◌, count_by, position, All, Contains, MatchOption, ◌≢◌}
 use Rattle.std.specs.List.{sum_by}
 use Rattle.cf_plan.specs.declared.forms.Form.{Form}
-use Rattle.cf_plan.specs.declared.forms.Form.TheVariants.{Compose}
+use Rattle.cf_plan.specs.Forms.{composes}
 use Rattle.cf_plan.specs.Plans.{PlannedStage, HasLowerSources, dependents_of, edges_of, form_at}
 use Rattle.cf_core.specs.declared.stage.Stage.{Stage}
 use Rattle.cf_core.specs.declared.stage.Stage.TheVariants.{Pending, Claimed, Linked, Settled}
@@ -75,8 +75,7 @@ steps_of stage = 2
 
 -- how many marks can still come of a stage that isn't settled: one for each mention, and one for its link
 abbrev pub link_marks : Form → ℕ
-link_marks Compose = 1
-link_marks form = 0
+link_marks form = if composes form then 1 else 0
 
 abbrev pub marks_of : List PlannedStage → ℕ → Stage → ℕ
 marks_of plan i (Settled o) = 0

@@ -40,4 +40,4 @@ returns-clause-sound c =
     let h = c.requires.sound in
     let open_target : dated_in s.kept.items c.args.j ≡ None = undated s.kept.items c.args.j (omega (arith, c.requires.target, c.requires.stage, h.all_kept)) c.requires.unsettled in
     IsSound-same plan t.kept.items _ t.marks _ t.ready _ t.links _ t.steps _ t.turns _ c.put.ensures.kept c.put.ensures.marks c.put.ensures.ready (c.put.ensures.links ∙ c.push.ensures) c.put.ensures.steps c.put.ensures.turns
-    (link_sound plan s.kept.items s.marks s.ready s.links s.steps s.turns h c.args.d c.args.j c.requires.stage c.requires.target c.requires.claimed c.requires.compose open_target)
+    (link_sound plan s.kept.items s.marks s.ready s.links s.steps s.turns h c.args.d c.args.j c.requires.stage c.requires.target c.requires.claimed c.requires.composes open_target)
