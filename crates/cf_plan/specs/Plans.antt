@@ -1,9 +1,11 @@
 -- Plans: the stages in order, each with its form, its sources and its function's number, and the limits.
-use Rattle.std.specs.Prelude.{◌≡◌, ℕ, ◌+◌, ◌-◌, ◌<◌, ◌≤◌, ◌==◌, if◌then◌else◌, count_by, replicate, Bool, true, false, not, ◌||◌, Option, Some, None, is_some, is_none, List, [], ◌∷◌, ◌++◌, length, nat_lt, nat_le, slice_get, take, All}
+use Rattle.std.specs.Prelude.{◌≡◌, ℕ, ◌+◌, ◌-◌, ◌<◌, ◌≤◌, ◌==◌, if◌then◌else◌, count_by, replicate, Bool, true, false, not, ◌&&◌, ◌||◌, Option, Some, None, is_some, is_none, List, [], ◌∷◌, ◌++◌, length, nat_lt, nat_le, slice_get, take, All}
 use Rattle.std.specs.List.{list_all, sum_by}
 use Rattle.std.specs.Option.{option_map_or}
 use Rattle.cf_plan.specs.declared.forms.Form.{Form}
 use Rattle.cf_plan.specs.declared.forms.Form.TheVariants.{Source, Supply, RunAsync, Combine, AcceptBoth, RunBoth, ApplyEither, AcceptEither, RunEither, AllOf, AnyOf}
+use Rattle.cf_plan.specs.declared.forms.Of.{Of}
+use Rattle.cf_plan.specs.declared.forms.Of.TheVariants.{None as NoSource, One, Two}
 use Rattle.cf_plan.specs.declared.faults.PlanFault.{PlanFault}
 use Rattle.cf_plan.specs.declared.faults.PlanFault.TheVariants.{TooManyStages, SourceNotLower, WrongSourceCount, FunctionMissing, FunctionUnwanted, TooManyEdges, NoSuchStage, TooManyLimits}
 use Rattle.cf_plan.specs.declared.limits.Limit.{Limit}
@@ -77,6 +79,21 @@ calls_function Source = false
 calls_function AllOf = false
 calls_function AnyOf = false
 calls_function form = true
+
+-- whether a stage of the form takes so many sources, and has a function where the form calls one, and only there
+abbrev pub fits_form : Form → ℕ → Bool → Bool
+fits_form form sources has_function =
+    fits_count form sources && (has_function || not (calls_function form)) && (not has_function || calls_function form)
+
+-- the sources of an attached stage, in the order of its arguments
+abbrev pub sources_of : Of → List ℕ
+sources_of NoSource = []
+sources_of (One a) = a ∷ []
+sources_of (Two a b) = a ∷ b ∷ []
+
+-- a stage as it is attached
+abbrev pub attached_stage : Form → Of → Option ℕ → PlannedStage
+attached_stage form of function = record { form = form; sources = sources_of of; function = function }
 
 -- the fault where the test fails, and else what comes next
 abbrev pub unless : Bool → PlanFault → Option PlanFault → Option PlanFault

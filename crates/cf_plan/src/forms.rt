@@ -1,4 +1,7 @@
 //! Forms of stages, and what their functions take and answer.
+ghost use Rattle.std.specs.Prelude.{◌≡◌, length};
+ghost use Rattle.cf_plan.specs.Plans.{sources_of};
+
 use cf_outcome::{Outcome, Value};
 
 /// How a stage depends on its sources, named for the methods of Java SE 17's `CompletionStage` and
@@ -44,6 +47,30 @@ pub enum Form {
     /// One source, whose fault alone its function is told; the function names the stage that it takes its outcome
     /// from: `exceptionallyCompose`.
     ExceptionallyCompose,
+}
+
+/// The sources of a stage that is attached to a graph, in the order of its arguments. One may stand twice.
+#[derive(Clone, Copy, Debug, PartialEq, Eq)]
+pub enum Of {
+    /// No source.
+    None,
+    /// This one.
+    One(u16),
+    /// These two.
+    Two(u16, u16),
+}
+
+impl Of {
+    /// How many sources they are.
+    pub fn count(self) -> u16
+        ensures { result ≡ length (sources_of self) }
+    {
+        match self {
+            Of::None => 0,
+            Of::One(_) => 1,
+            Of::Two(_, _) => 2,
+        }
+    }
 }
 
 /// What a stage's function is called with.

@@ -11,6 +11,7 @@
 mod builder;
 mod dependents;
 mod faults;
+mod fitting;
 mod forms;
 mod functions;
 pub mod laws;
@@ -23,7 +24,8 @@ mod tests;
 
 pub use builder::{MAX_EDGES, MAX_LIMITS, MAX_STAGES, PlanBuilder};
 pub use faults::PlanFault;
-pub use forms::{Answer, Args, Due, Form, Landing};
+pub use fitting::fits_form;
+pub use forms::{Answer, Args, Due, Form, Landing, Of};
 pub use functions::StageFn;
 pub use limits::{Limit, LimitKind};
 pub use plan::Plan;

@@ -180,6 +180,26 @@ fn an_answer_lands(rt: HostRuntime) {
 }
 
 #[test]
+fn stages_fit_their_form(rt: HostRuntime) {
+    for (form, of, has_function, fits) in [
+        (Form::Source, Of::None, false, true),
+        (Form::Source, Of::None, true, false),
+        (Form::Supply, Of::None, true, true),
+        (Form::Apply, Of::One(0), true, true),
+        (Form::Apply, Of::One(0), false, false),
+        (Form::Apply, Of::Two(0, 1), true, false),
+        (Form::RunEither, Of::Two(1, 1), true, true),
+        (Form::RunEither, Of::None, true, false),
+        (Form::AllOf, Of::Two(0, 1), false, true),
+        (Form::AnyOf, Of::One(0), true, false),
+        (Form::ExceptionallyCompose, Of::One(0), true, true),
+        (Form::ExceptionallyCompose, Of::None, true, false),
+    ] {
+        assert_eq!(rt; fits_form(form, of.count(), has_function), fits, "{form:?}");
+    }
+}
+
+#[test]
 fn limits_stand_in_firing_order(rt: HostRuntime) -> Result<(), Fail> {
     let give = LimitKind::Give(Value::Int(1));
     let want = [
