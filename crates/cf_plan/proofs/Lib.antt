@@ -4,3 +4,5 @@ pub mod RowLemmas
 pub mod DependentLemmas
 pub mod Filling
 pub mod FillingRows
+pub mod ThreadLemmas
+pub mod GrowingLemmas

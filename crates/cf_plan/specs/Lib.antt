@@ -1,5 +1,7 @@
 pub mod Forms
+pub mod Growing
 pub mod Laws
 pub mod Meanings
 pub mod Plans
 pub mod Rows
+pub mod Threads

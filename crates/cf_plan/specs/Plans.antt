@@ -1,5 +1,5 @@
 -- Plans: the stages in order, each with its form, its sources and its function's number, and the limits.
-use Rattle.std.specs.Prelude.{◌≡◌, ℕ, ◌+◌, ◌-◌, ◌<◌, ◌≤◌, ◌==◌, if◌then◌else◌, count_by, replicate, Bool, true, false, not, ◌&&◌, ◌||◌, Option, Some, None, is_some, is_none, List, [], ◌∷◌, ◌++◌, length, nat_lt, nat_le, slice_get, take, All}
+use Rattle.std.specs.Prelude.{◌≡◌, ℕ, ◌+◌, ◌-◌, ◌*◌, ◌<◌, ◌≤◌, ◌==◌, if◌then◌else◌, count_by, replicate, Bool, true, false, not, ◌&&◌, ◌||◌, Option, Some, None, is_some, is_none, List, [], ◌∷◌, ◌++◌, length, nat_lt, nat_le, slice_get, take, All}
 use Rattle.std.specs.List.{list_all, sum_by}
 use Rattle.std.specs.Option.{option_map_or}
 use Rattle.cf_plan.specs.declared.forms.Form.{Form}
@@ -167,3 +167,10 @@ pub record IsBuilt (plan : Planned) : Type 0 where
   pub called : All (λ (s : PlannedStage). is_some s.function ≡ calls_function s.form) plan.stages
   pub named : All (λ (limit : Limit). limit.stage < length plan.stages) plan.limits
   pub in_order : IsInFiringOrder plan.limits
+
+-- what is true of every plan that grows: it is built, and so will be what it grows to
+pub record IsGrowing (plan : Planned) : Type 0 where
+  pub built : IsBuilt plan
+  pub opened : plan.opened ≤ length plan.stages
+  pub few_stages : length plan.stages + plan.room ≤ 4096
+  pub few_edges : edges_of plan.stages + 2 * plan.room ≤ 16384

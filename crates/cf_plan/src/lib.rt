@@ -6,6 +6,10 @@
 //! forms are those of Java SE 17's `CompletionStage` and `CompletableFuture`; what a stage of a form does when its
 //! sources settle, and what becomes of its function's answer, is said by three tables: `due_one`, `due_two` and
 //! `landing`. What a stage's function does is a `StageFn`, whose answers depend on its arguments alone.
+//!
+//! A `GrowingPlan` is a built plan with room for stages that are attached later, each with at most two sources. They
+//! stand behind those of the opening, whose dependents stay where they are: each stage has beside them a list of the
+//! attached stages that name it.
 #![tactic(auto)]
 
 mod builder;
@@ -14,6 +18,7 @@ mod faults;
 mod fitting;
 mod forms;
 mod functions;
+mod growing;
 pub mod laws;
 mod limits;
 mod plan;
@@ -21,12 +26,15 @@ mod rows;
 mod tables;
 #[cfg(test)]
 mod tests;
+mod threads;
 
 pub use builder::{MAX_EDGES, MAX_LIMITS, MAX_STAGES, PlanBuilder};
 pub use faults::PlanFault;
 pub use fitting::fits_form;
 pub use forms::{Answer, Args, Due, Form, Landing, Of};
 pub use functions::StageFn;
+pub use growing::GrowingPlan;
 pub use limits::{Limit, LimitKind};
 pub use plan::Plan;
 pub use tables::{due_one, due_two, landing};
+pub use threads::Later;

@@ -1,0 +1,210 @@
+//! Plans to which stages are attached.
+#[cfg(test)]
+mod tests;
+
+ghost use Rattle.std.specs.Prelude.{◌≡◌, ℕ, ◌+◌, ◌*◌, ◌<◌, ◌≤◌, ◌++◌, true, All, IfOk, is_some, length, reverse};
+ghost use Rattle.cf_plan.specs.Growing.{attached_of};
+ghost use Rattle.cf_plan.specs.Plans.{IsGrowing, and_stage, attached_stage, dependents_of, edges_of, fits_form, form_at, function_at, opening_of, sources_at, sources_of, with_room};
+
+use crate::forms::{Form, Of};
+use crate::limits::Limit;
+use crate::plan::Plan;
+use crate::threads::{Later, Threads};
+use std::alloc::{AllocError, Global};
+use std::marker::Model;
+
+/// A stage that was attached. Its sources are the first `count` of the two.
+#[derive(Clone, Copy)]
+pub(crate) struct AttachedRow {
+    form: Form,
+    function: Option<u16>,
+    sources: [u16; 2],
+    count: u16,
+}
+
+/// A plan to which stages may be attached, as many as it has room for. The room is made at the opening, so that attaching
+/// takes no memory.
+///
+/// The plan that it was opened with stays as it is, so the dependents of a stage stand in two places: those of the opening
+/// in one slice, in rising order, and those attached since in a list, the newest first.
+#[derive(Drop)]
+pub struct GrowingPlan {
+    opening: Plan,
+    rows: Vec<AttachedRow>,
+    threads: Threads,
+    room: u16,
+}
+
+impl Model for GrowingPlan {
+    ghost use Rattle.cf_plan.specs.Plans.{Planned};
+
+    ghost Value = { Planned };
+
+    ghost use Rattle.std.specs.Vec.{vec_capacity};
+    ghost use Rattle.cf_plan.specs.Growing.{AreGrowing, grown_of};
+
+    ghost view = { λ p. grown_of p.opening p.rows.items p.room };
+
+    ghost invariant = { λ p.
+        AreGrowing p.opening p.rows.items p.threads.heads.items p.threads.cells.items p.room (vec_capacity p.rows) (vec_capacity p.threads.cells) };
+}
+
+impl GrowingPlan {
+    /// The plan with room for so many stages, which together with its own are at most `MAX_STAGES`; with two edges for
+    /// each, its edges are at most `MAX_EDGES`. It fails only where there is no memory.
+    pub fn new(alloc: Global, opening: Plan, room: u16) -> Result<GrowingPlan, AllocError>
+        requires stages { length opening.stages + room ≤ 4096 }
+        requires edges { edges_of opening.stages + 2 * room ≤ 16384 }
+        ensures { IfOk result (λ plan. plan ≡ with_room opening room) }
+    {
+        let stages = opening.stages() as usize + room as usize;
+        let rows = Vec::with_capacity(alloc, room as usize)?;
+        let threads = Threads::new(alloc, stages, 2 * room as usize)?;
+        Ok(GrowingPlan {
+            opening,
+            rows,
+            threads,
+            room,
+        })
+    }
+
+    /// The plan that it was opened with.
+    pub fn opening(&self) -> &Plan
+        ensures { result.now ≡ opening_of self.now }
+    {
+        &self.opening
+    }
+
+    /// How many stages it has by now, at most `MAX_STAGES` with those for which there is room.
+    pub fn stages(&self) -> u16
+        ensures count { result ≡ length self.now.stages }
+        ensures growing { IsGrowing self.now }
+    {
+        self.opening.stages() + self.rows.len() as u16
+    }
+
+    /// How many stages may still be attached.
+    pub fn room(&self) -> u16
+        ensures { result ≡ self.now.room }
+    {
+        self.room
+    }
+
+    /// The form of stage i.
+    pub fn form(&self, i: u16) -> Form
+        requires { i < length self.now.stages }
+        ensures { result ≡ form_at self.now.stages i }
+    {
+        let opened = self.opening.stages();
+        if i < opened {
+            self.opening.form(i)
+        } else {
+            self.rows[(i - opened) as usize].form
+        }
+    }
+
+    /// The sources of stage i, in the order of its arguments: each is below it, and one may stand twice.
+    pub fn sources(&self, i: u16) -> &[u16]
+        requires { i < length self.now.stages }
+        ensures sources { result.now ≡ sources_at self.now.stages i }
+        ensures lower { All (λ j. j < i) result.now }
+    {
+        let opened = self.opening.stages();
+        if i < opened {
+            self.opening.sources(i)
+        } else {
+            let row = &self.rows[(i - opened) as usize];
+            &row.sources[..row.count as usize]
+        }
+    }
+
+    /// The number of stage i's function, if its form has one.
+    pub fn function(&self, i: u16) -> Option<u16>
+        requires { i < length self.now.stages }
+        ensures { result ≡ function_at self.now.stages i }
+    {
+        let opened = self.opening.stages();
+        if i < opened {
+            self.opening.function(i)
+        } else {
+            self.rows[(i - opened) as usize].function
+        }
+    }
+
+    /// The limits in firing order, all of stages of the opening.
+    pub fn limits(&self) -> &[Limit]
+        ensures { result.now ≡ self.now.limits }
+    {
+        self.opening.limits()
+    }
+
+    /// How many edges it has by now.
+    pub fn edges(&self) -> u32
+        ensures { result ≡ edges_of self.now.stages }
+    {
+        self.opening.edges() + self.threads.cells() as u32
+    }
+
+    /// The stages of the opening that name stage i as a source, in rising order, once for each mention.
+    pub fn dependents(&self, i: u16) -> &[u16]
+        requires { i < length self.now.stages }
+        ensures dependents { result.now ≡ dependents_of (opening_of self.now).stages i }
+        ensures above { All (λ k. i < k) result.now }
+        ensures below { All (λ k. k < length self.now.stages) result.now }
+    {
+        if i < self.opening.stages() {
+            self.opening.dependents(i)
+        } else {
+            &[]
+        }
+    }
+
+    /// The attached stages that name stage i as a source, the newest first, once for each mention: behind those of the
+    /// opening they are, the other way round, the rest of its dependents.
+    pub fn later(&self, i: u16) -> Later<'_>
+        requires { i < length self.now.stages }
+        ensures rest { dependents_of self.now.stages i ≡ dependents_of (opening_of self.now).stages i ++ reverse result }
+        ensures above { All (λ k. i < k) result }
+        ensures below { All (λ k. k < length self.now.stages) result }
+    {
+        self.threads.list(i)
+    }
+
+    /// Attaches a stage, whose number is that of the stages so far.
+    pub fn attach(&mut self, form: Form, of: Of, function: Option<u16>)
+        requires room { 0 < self.old.room }
+        requires fits { fits_form form (length (sources_of of)) (is_some function) ≡ true }
+        requires sources { All (λ j. j < length self.old.stages) (sources_of of) }
+        ensures { self.new ≡ and_stage self.old (attached_stage form of function) }
+    {
+        let number = self.opening.stages() + self.rows.len() as u16;
+        self.rows.push_reserved(row_of(form, of, function));
+        self.room -= 1;
+        match of {
+            Of::None => {}
+            Of::One(a) => self.threads.push(a, number),
+            Of::Two(a, b) => {
+                self.threads.push(a, number);
+                self.threads.push(b, number);
+            }
+        }
+    }
+}
+
+/// The row of an attached stage.
+fn row_of(form: Form, of: Of, function: Option<u16>) -> AttachedRow
+    ensures stage { attached_of result ≡ attached_stage form of function }
+    ensures count { result.count ≡ length (sources_of of) }
+{
+    let (sources, count) = match of {
+        Of::None => ([0, 0], 0),
+        Of::One(a) => ([a, 0], 1),
+        Of::Two(a, b) => ([a, b], 2),
+    };
+    AttachedRow {
+        form,
+        function,
+        sources,
+        count,
+    }
+}

@@ -1,0 +1,119 @@
+//! Lists of attached stages, one for each stage, threaded through one block of cells.
+ghost use Rattle.std.specs.Prelude.{◌≡◌, ◌+◌, ◌<◌, ◌≤◌, [], ◌∷◌, ◌++◌, IfOk, IfSome, drop, length, replicate, slice_get, slice_set};
+ghost use Rattle.std.specs.Vec.{vec_capacity};
+ghost use Rattle.cf_plan.specs.Threads.{IsThread, head_at, list_of};
+
+use std::alloc::{AllocError, Global};
+use std::marker::Model;
+
+/// The first cell of a list, and how many it has.
+#[derive(Clone, Copy)]
+pub(crate) struct Head {
+    first: u16,
+    count: u16,
+}
+
+/// A stage in a list, and the cell behind its own.
+#[derive(Clone, Copy)]
+pub(crate) struct Cell {
+    stage: u16,
+    next: u16,
+}
+
+/// For each stage a list of stages. No call but `new` takes memory.
+#[derive(Drop)]
+pub(crate) struct Threads {
+    heads: Vec<Head>,
+    cells: Vec<Cell>,
+}
+
+impl Threads {
+    /// An empty list for each of so many stages, with room for so many cells in all.
+    pub(crate) fn new(alloc: Global, stages: usize, cells: usize) -> Result<Threads, AllocError>
+        ensures heads { IfOk result (λ made. made.heads.items ≡ replicate stages (record { first = 0; count = 0 })) }
+        ensures cells { IfOk result (λ made. made.cells.items ≡ []) }
+        ensures room { IfOk result (λ made. vec_capacity made.cells ≡ cells) }
+    {
+        let heads = vec![in alloc; Head { first: 0, count: 0 }; stages]?;
+        let cells = Vec::with_capacity(alloc, cells)?;
+        Ok(Threads { heads, cells })
+    }
+
+    /// Puts a stage at the head of the list of `target`.
+    pub(crate) fn push(&mut self, target: u16, stage: u16)
+        requires target { target < length self.old.heads.items }
+        requires room { length self.old.cells.items < vec_capacity self.old.cells }
+        requires few { length self.old.cells.items < 65535 }
+        requires short { (head_at self.old.heads.items target).count < 65535 }
+        ensures heads { self.new.heads.items ≡ slice_set self.old.heads.items target (record { first = length self.old.cells.items; count = (head_at self.old.heads.items target).count + 1 }) }
+        ensures cells { self.new.cells.items ≡ self.old.cells.items ++ record { stage = stage; next = (head_at self.old.heads.items target).first } ∷ [] }
+        ensures room { vec_capacity self.new.cells ≡ vec_capacity self.old.cells }
+    {
+        let head = self.heads[target as usize];
+        let first = self.cells.len() as u16;
+        self.cells.push_reserved(Cell {
+            stage,
+            next: head.first,
+        });
+        self.heads[target as usize] = Head {
+            first,
+            count: head.count + 1,
+        };
+    }
+
+    /// How many cells are taken.
+    pub(crate) fn cells(&self) -> usize
+        ensures { result ≡ length self.now.cells.items }
+    {
+        self.cells.len()
+    }
+
+    /// The list of a stage.
+    pub(crate) fn list(&self, i: u16) -> Later<'_>
+        requires stage { i < length self.now.heads.items }
+        requires thread { IsThread (head_at self.now.heads.items i).count self.now.cells.items (head_at self.now.heads.items i).first }
+        ensures { result ≡ list_of self.now.cells.items (head_at self.now.heads.items i) }
+    {
+        Later {
+            cells: &self.cells,
+            head: self.heads[i as usize],
+        }
+    }
+}
+
+/// The attached stages that name a stage as a source, one after another: the newest first, once for each mention.
+#[derive(Drop)]
+pub struct Later<'a> {
+    cells: &'a [Cell],
+    head: Head,
+}
+
+impl<'a> Model for Later<'a> {
+    ghost use Rattle.std.specs.Prelude.{List, ℕ};
+
+    ghost Value = { List ℕ };
+
+    ghost use Rattle.cf_plan.specs.Threads.{IsThread, list_of};
+
+    ghost view = { λ s. list_of s.cells.now s.head };
+
+    ghost invariant = { λ s. IsThread s.head.count s.cells.now s.head.first };
+}
+
+impl<'a> Later<'a> {
+    /// Takes the first one.
+    pub fn pop(&mut self) -> Option<u16>
+        ensures first { result ≡ slice_get self.old 0 }
+        ensures rest { self.new ≡ drop 1 self.old }
+    {
+        if self.head.count == 0 {
+            return None;
+        }
+        let cell = self.cells[self.head.first as usize];
+        self.head = Head {
+            first: cell.next,
+            count: self.head.count - 1,
+        };
+        Some(cell.stage)
+    }
+}
