@@ -1,6 +1,5 @@
 -- Threaded lists, as a stage is put in or taken out.
-use Rattle.std.proofs.Common.{◌≡◌, ◌≢◌, ℕ, ◌+◌, ◌-◌, ◌<◌, ◌≤◌, ◌==◌, ◌∷◌, ◌++◌, [], List, Bool, true, false, cond, Some, length, suc, zero, arith, ap, sym, ◌∙◌, subst, refl, set, drop, replicate, inl, inr, add-one, length-set, length-append, get_or-set_same, get_or-set_other}
-use Rattle.std.specs.Prelude.{slice_get}
+use Rattle.std.proofs.Common.{◌≡◌, ◌≢◌, ℕ, ◌+◌, ◌<◌, ◌≤◌, ◌==◌, ◌∷◌, ◌++◌, [], List, Bool, true, false, cond, length, suc, zero, arith, ap, sym, ◌∙◌, subst, refl, set, replicate, inl, inr, add-one, length-set, length-append, get_or-set_same, get_or-set_other}
 use Rattle.std.proofs.Math.Seq.{get_or-append_seam}
 use Rattle.std.proofs.lemmas.List.{get_or_append_left, length-replicate}
 use Rattle.std.proofs.lemmas.Bool.Decides.{eqb_tells}
@@ -124,21 +123,3 @@ AreThreads-same heads cells part new_part h same = record { threads = h.threads;
 -- a list is as long as its part
 pub count_is : (heads : List Head) (cells : List Cell) (part : ℕ → List ℕ) (i : ℕ) → AreThreads heads cells part → i < length heads → (head_at heads i).count ≡ length (part i)
 count_is heads cells part i h l = sym (length-walk (head_at heads i).count cells (head_at heads i).first) ∙ ap length (h.parts i l)
-
--- ---- out
-
-pub walk-first : (n : ℕ) (cells : List Cell) (c : ℕ) → (n ≡ 0 → ⊥) → slice_get (walk n cells c) 0 ≡ Some (cell_at cells c).stage
-walk-first zero cells c h = absurd (h refl)
-walk-first (suc n) cells c h = refl
-
-pub walk-rest : (n : ℕ) (cells : List Cell) (c : ℕ) → (n ≡ 0 → ⊥) → walk (n - 1) cells (cell_at cells c).next ≡ drop 1 (walk n cells c)
-walk-rest zero cells c h = absurd (h refl)
-walk-rest (suc n) cells c h = let e : suc n - 1 ≡ n = omega arith in ap (λ m. walk m cells (cell_at cells c).next) e
-
-pub thread-rest : (n : ℕ) (cells : List Cell) (c : ℕ) → (n ≡ 0 → ⊥) → IsThread n cells c → IsThread (n - 1) cells (cell_at cells c).next
-thread-rest zero cells c h t = absurd (h refl)
-thread-rest (suc n) cells c h t = let e : suc n - 1 ≡ n = omega arith in subst (λ m. IsThread m cells (cell_at cells c).next) (sym e) t.1
-
-pub thread-there : (n : ℕ) (cells : List Cell) (c : ℕ) → (n ≡ 0 → ⊥) → IsThread n cells c → c < length cells
-thread-there zero cells c h t = absurd (h refl)
-thread-there (suc n) cells c h t = t.0

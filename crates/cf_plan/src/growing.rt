@@ -131,7 +131,7 @@ impl GrowingPlan {
         }
     }
 
-    /// The limits in firing order, all of stages of the opening.
+    /// The limits in firing order: those of the opening.
     pub fn limits(&self) -> &[Limit]
         ensures { result.now ≡ self.now.limits }
     {
