@@ -4,13 +4,13 @@ ghost use Rattle.std.specs.List.{list_all};
 ghost use Rattle.cf_plan.specs.Plans.{sources_of};
 
 use super::GrowingPlan;
-use crate::builder::{MAX_STAGES, PlanBuilder};
+use crate::builder::{MAX_EDGES, MAX_STAGES, PlanBuilder};
 use crate::faults::PlanFault;
 use crate::fitting::fits_form;
 use crate::forms::{Form, Of};
 use crate::limits::LimitKind;
 use crate::plan::Plan;
-use std::alloc::Global;
+use std::alloc::{AllocError, Global};
 use std::process::Abort;
 use std::test::Fail;
 
@@ -44,7 +44,10 @@ fn dependents(
     let mut all = Vec::from_slice(alloc, plan.dependents(i))?;
     let first = all.len();
     let mut later = plan.later(i);
-    while let Some(k) = later.pop() {
+    for _ in 0..plan.edges() {
+        let Some(k) = later.pop() else {
+            break;
+        };
         let place = first.min(all.len());
         all.insert(place, k)?;
     }
@@ -82,17 +85,33 @@ fn opening(alloc: Global) -> Result<PlanBuilder, PlanFault> {
     Ok(builder)
 }
 
-/// The plan with room for four stages. Where memory is refused, it is asked for again.
-fn with_room(alloc: Global) -> Result<GrowingPlan, Fail> {
-    match GrowingPlan::new(alloc, opening(alloc)?.build()?, 4) {
+/// The plan with room for so many stages.
+fn with_room(
+    rt: &impl Abort,
+    alloc: Global,
+    plan: Plan,
+    room: u16,
+) -> Result<GrowingPlan, AllocError> {
+    assert!(rt; plan.stages() as usize + room as usize <= MAX_STAGES);
+    assert!(rt; plan.edges() as usize + 2 * room as usize <= MAX_EDGES);
+    GrowingPlan::new(alloc, plan, room)
+}
+
+/// The opening with room for four stages. Where memory is refused, it is asked for again.
+fn with_four(rt: &impl Abort, alloc: Global) -> Result<GrowingPlan, Fail> {
+    let plan = opening(alloc)?.build()?;
+    match with_room(rt, alloc, plan, 4) {
         Ok(plan) => Ok(plan),
-        Err(_) => Ok(GrowingPlan::new(alloc, opening(alloc)?.build()?, 4)?),
+        Err(_) => {
+            let plan = opening(alloc)?.build()?;
+            Ok(with_room(rt, alloc, plan, 4)?)
+        }
     }
 }
 
 #[test]
 fn stages_are_attached_behind_the_opening(rt: HostRuntime) -> Result<(), Fail> {
-    let mut plan = with_room(rt.alloc())?;
+    let mut plan = with_four(&rt, rt.alloc())?;
     let mut builder = opening(rt.alloc())?;
     for (form, of, list, function) in [
         (Form::Combine, Of::Two(0, 0), [0u16, 0].as_slice(), Some(7)),
@@ -116,7 +135,7 @@ fn stages_are_attached_behind_the_opening(rt: HostRuntime) -> Result<(), Fail> {
 
 #[test]
 fn the_newest_comes_first(rt: HostRuntime) -> Result<(), Fail> {
-    let mut plan = with_room(rt.alloc())?;
+    let mut plan = with_four(&rt, rt.alloc())?;
     attach(&rt, &mut plan, Form::Apply, Of::One(1), Some(0));
     attach(&rt, &mut plan, Form::AllOf, Of::Two(1, 1), None);
     assert!(rt; plan.stages() == 5);
@@ -133,7 +152,7 @@ fn the_newest_comes_first(rt: HostRuntime) -> Result<(), Fail> {
 #[test]
 fn as_many_are_attached_as_there_may_be(rt: HostRuntime) -> Result<(), Fail> {
     let empty = PlanBuilder::new(rt.alloc()).build()?;
-    let mut plan = GrowingPlan::new(rt.alloc(), empty, MAX_STAGES as u16)?;
+    let mut plan = with_room(&rt, rt.alloc(), empty, MAX_STAGES as u16)?;
     let mut builder = PlanBuilder::new(rt.alloc());
     attach(&rt, &mut plan, Form::Source, Of::None, None);
     builder.stage(Form::Source, &[], None)?;
