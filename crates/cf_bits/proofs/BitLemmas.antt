@@ -1,13 +1,12 @@
 -- Bits of words, as flags.
-use Rattle.std.proofs.Common.{◌≡◌, ◌≢◌, ℕ, ◌+◌, ◌*◌, ◌/◌, ◌%◌, ◌^◌, ◌<◌, ◌≤◌, List, Bool, true, false, Some, None, length, suc, zero, min, arith, ap, sym, ◌∙◌, refl, map, get_or, set, eqb, cond, length-set, get_or-set_same, get_or-set_other, ext_get_or, inl, inr, subst}
+use Rattle.std.proofs.Common.{◌≡◌, ◌≢◌, ℕ, ◌+◌, ◌*◌, ◌/◌, ◌%◌, ◌^◌, ◌<◌, ◌≤◌, ◌∷◌, ◌++◌, [], List, Bool, false, Some, None, length, suc, zero, min, arith, ap, sym, ◌∙◌, refl, map, get_or, set, eqb, length-set, get_or-set_same, get_or-set_other, ext_get_or, inl, inr}
 use Rattle.std.specs.Int.{bit_at}
 use Rattle.std.specs.List.{range_with_len, position}
-use Rattle.std.specs.Prelude.{slice_get, replicate, nat_lt}
-use Rattle.std.proofs.lemmas.List.FromFn.{length-map-range_with_len, get_or-map-range_with_len}
-use Rattle.std.proofs.lemmas.List.Sums.{position_or_len_is}
+use Rattle.std.specs.Prelude.{slice_get, replicate}
+use Rattle.std.proofs.lemmas.List.FromFn.{length-map-range_with_len, get_or-map-range_with_len, map-range_with_len_more}
 use Rattle.std.proofs.lemmas.List.{length-replicate}
-use Rattle.std.proofs.lemmas.Bool.{cases_lt, lt-ltb}
-use Rattle.std.proofs.lemmas.Bool.Decides.{eqb_tells, nat_tests}
+use Rattle.std.proofs.lemmas.Bool.{cases_lt}
+use Rattle.std.proofs.lemmas.Bool.Decides.{eqb_tells}
 use Rattle.std.proofs.lemmas.Option.{slice_get-get_or}
 use Rattle.std.proofs.lemmas.Nat.Bits.{bit_at-zero, same_from_bits_below}
 use Rattle.cf_bits.proofs.Positions.{position_is, position_is_none}
@@ -89,6 +88,16 @@ AreBits-remove len top words i word upper h within s here others =
 -- there is a flag for each number below the length
 pub length-flags : (len : ℕ) (words : List ℕ) → length (flags len words) ≡ len
 length-flags len words = length-map-range_with_len (λ k. eqb (bit_in words k) 1) 0 len
+
+-- one number more, whose bit isn't set
+pub flags-grow : (len top : ℕ) (words : List ℕ) → AreBits len top words → len < 4096 → flags (len + 1) words ≡ flags len words ++ false ∷ []
+flags-grow len top words h few =
+    let at : 0 + len ≡ len = omega arith in
+    map-range_with_len_more (λ k. eqb (bit_in words k) 1) 0 len len at
+    ∙ ap (λ b. flags len words ++ eqb b 1 ∷ []) (h.above len (omega arith) few)
+
+pub AreBits-grow : (len top : ℕ) (words : List ℕ) → AreBits len top words → len < 4096 → AreBits (len + 1) top words
+AreBits-grow len top words h few = record { few = omega arith; count = h.count; tops = h.tops; above = λ i l. h.above i (omega arith) }
 
 -- where a number's word is
 pub in_words : (len top : ℕ) (words : List ℕ) (value : List Bool) (i : ℕ) → AreBits len top words → flags len words ≡ value → i < length value → i < len

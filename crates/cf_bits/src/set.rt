@@ -1,5 +1,5 @@
 //! The set.
-ghost use Rattle.std.specs.Prelude.{◌≡◌, ◌<◌, ◌≤◌, IfOk, Some, false, length, position, replicate, slice_get, slice_set, true};
+ghost use Rattle.std.specs.Prelude.{◌≡◌, ◌<◌, ◌≤◌, ◌∷◌, ◌++◌, [], IfOk, Some, false, length, position, replicate, slice_get, slice_set, true};
 
 use crate::word::{has_bit, lowest_bit, with_bit, without_bit};
 use std::alloc::{AllocError, Global};
@@ -44,6 +44,15 @@ impl BitSet {
         ensures few { result ≤ 4096 }
     {
         self.len
+    }
+
+    /// Raises its bound by one. The number that this adds isn't in.
+    pub fn grow(&mut self)
+        requires { length self.old < 4096 }
+        ensures { self.new ≡ self.old ++ false ∷ [] }
+    {
+        let bound = &mut self.len;
+        *bound += 1;
     }
 
     /// Puts a number in. One that is in stays in.

@@ -28,3 +28,15 @@ fn finds_the_least_number(rt: HostRuntime) -> Result<(), Fail> {
     }
     Ok(())
 }
+
+#[test]
+fn grows_by_a_number_that_is_not_in(rt: HostRuntime) -> Result<(), Fail> {
+    let mut set = BitSet::new(rt.alloc(), 63)?;
+    set.grow();
+    set.grow();
+    assert!(rt; set.bound() == 65);
+    assert_eq!(rt; set.lowest(), None);
+    set.insert(64);
+    assert_eq!(rt; set.lowest(), Some(64));
+    Ok(())
+}
