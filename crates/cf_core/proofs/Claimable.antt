@@ -1,11 +1,11 @@
 -- How many stages may still be claimed: the measure by which serving all ready stages ends.
 use Rattle.std.proofs.Common.{◌≡◌, ℕ, ◌+◌, ◌<◌, ◌≤◌, ◌∷◌, ◌++◌, [], List, Bool, true, false, cond, Option, Some, None, suc, zero, arith, ap, ◌∙◌, refl, set}
 use Rattle.std.specs.Prelude.{count_by, slice_get, unwrap_or}
-use Rattle.std.proofs.lemmas.List.Sums.{sum_by-cons}
+use Rattle.std.proofs.lemmas.List.Sums.{sum_by-cons, sum_by-append}
 use Rattle.cf_outcome.specs.declared.outcome.Outcome.{Outcome}
 use Rattle.cf_plan.specs.declared.forms.Args.{Args}
 use Rattle.cf_plan.specs.declared.forms.Form.{Form}
-use Rattle.cf_plan.specs.Plans.{PlannedStage}
+use Rattle.cf_plan.specs.Plans.{Planned, PlannedStage}
 use Rattle.cf_core.specs.declared.stage.Stage.{Stage}
 use Rattle.cf_core.specs.declared.stage.Stage.TheVariants.{Pending, Ready, Claimed, Linked, Settled}
 use Rattle.cf_core.specs.declared.replies.Claimed.TheVariants.{Granted}
@@ -14,7 +14,9 @@ use Rattle.cf_core.specs.States.{State, outcome_in, stage_at, linked_state, next
 use Rattle.cf_core.specs.Events.{claimed_by, claiming, state_after}
 use Rattle.cf_core.specs.Claims.{is_claimable, claimable_count}
 use Rattle.cf_core.specs.Laws.{NeverMoreClaimable, GrantsLeaveFewer, NeverReadyAgain}
-use Rattle.cf_core.proofs.Moves.{IsKept, answered-kept, state_after-kept, there}
+use Rattle.cf_core.proofs.Moves.{IsKept, answered-kept, attaching-kept, state_after-kept, there}
+use Rattle.cf_core.proofs.Shape.{answered-frame}
+use Rattle.cf_core.specs.Growth.{AttachingFreesNone, AttachingTakesRoom}
 
 count-cons : (x : Stage) (xs : List Stage) → count_by is_claimable (x ∷ xs) ≡ cond (is_claimable x) 1 0 + count_by is_claimable xs
 count-cons x xs = sum_by-cons (λ y. cond (is_claimable y) 1 0) x xs
@@ -59,25 +61,38 @@ new_states-count below (p ∷ plan) (x ∷ xs) =
     let rest = new_states-count (below ++ new ∷ []) plan xs in
     rw (count-cons new (new_states (below ++ new ∷ []) plan xs), count-cons x xs) (omega (arith, here, rest))
 
-NoMore : List Stage → List Stage → Type 0
-NoMore xs ys = count_by is_claimable ys ≤ count_by is_claimable xs
+NoMore : List Stage → ℕ → List Stage → ℕ → Type 0
+NoMore xs a ys b = count_by is_claimable ys + b ≤ count_by is_claimable xs + a
 
 no_more-kept : IsKept NoMore
 unfolding NoMore
 no_more-kept = record {
-  same = λ xs. omega arith;
-  then = λ xs ys zs f g. omega (arith, f, g);
-  settles = λ plan xs d o unsettled.
+  same = λ xs a. omega arith;
+  then = λ xs a ys b zs c f g. omega (arith, f, g);
+  settles = λ plan xs a d o unsettled.
       let new = new_states-count [] plan (set xs d (Settled o)) in
       let written = count-set xs d (Settled o) refl in omega (arith, new, written);
-  claims = λ xs i args ready. count-set xs i Claimed refl;
-  links = λ xs i j unsettled. count-set xs i (Linked j) refl;
+  claims = λ xs a i args ready. (let written = count-set xs i Claimed refl in omega (arith, written));
+  links = λ xs a i j unsettled. (let written = count-set xs i (Linked j) refl in omega (arith, written));
+  attaches = λ plan xs a.
+      let new = new_states-count [] plan (xs ++ Pending ∷ []) in
+      let pushed = sum_by-append (λ y. cond (is_claimable y) 1 0) xs (Pending ∷ []) in
+      let one = count-cons Pending [] in
+      let none : count_by is_claimable [] ≡ 0 = refl in omega (arith, new, pushed, one, none);
 }
 
 -- no event makes more stages claimable
 pub answered-claimable : NeverMoreClaimable
 unfolding NoMore
-answered-claimable s e = answered-kept NoMore no_more-kept e s
+answered-claimable s e =
+    let all = answered-kept NoMore no_more-kept e s in
+    let room = ap (λ (p : Planned). p.room) ((answered-frame s e).plan) in
+    omega (arith, all, room)
+
+-- and no attached stage, if the room is counted
+pub attaching-claimable : AttachingTakesRoom
+unfolding NoMore
+attaching-claimable s new = attaching-kept NoMore no_more-kept s new
 
 -- a granted claim makes one fewer
 claimed_by-claimable : (x : Stage) (s : State) (who i : ℕ) (args : Args) → stage_at s i ≡ x → (claimed_by x s who i).0 ≡ Granted args → claimable_count ((claimed_by x s who i).1) < claimable_count s
@@ -113,17 +128,23 @@ new_states-not_claimable below (p ∷ plan) [] i e = e
 new_states-not_claimable below (p ∷ plan) (x ∷ xs) zero e = next_of-not_claimable below p.form p.sources x e
 new_states-not_claimable below (p ∷ plan) (x ∷ xs) (suc i) e = new_states-not_claimable (below ++ next_of below p.form p.sources x ∷ []) plan xs i e
 
-StaysUnclaimable : ℕ → List Stage → List Stage → Type 0
-StaysUnclaimable i xs ys = is_claimable (unwrap_or (slice_get xs i) Pending) ≡ false → is_claimable (unwrap_or (slice_get ys i) Pending) ≡ false
+push-not_claimable : (xs : List Stage) (i : ℕ) → is_claimable (unwrap_or (slice_get xs i) Pending) ≡ false → is_claimable (unwrap_or (slice_get (xs ++ Pending ∷ []) i) Pending) ≡ false
+push-not_claimable [] i e = cc
+push-not_claimable (x ∷ xs) zero e = e
+push-not_claimable (x ∷ xs) (suc i) e = push-not_claimable xs i e
+
+StaysUnclaimable : ℕ → List Stage → ℕ → List Stage → ℕ → Type 0
+StaysUnclaimable i xs a ys b = is_claimable (unwrap_or (slice_get xs i) Pending) ≡ false → is_claimable (unwrap_or (slice_get ys i) Pending) ≡ false
 
 stays_unclaimable-kept : (i : ℕ) → IsKept (StaysUnclaimable i)
 unfolding StaysUnclaimable
 stays_unclaimable-kept i = record {
-  same = λ xs e. e;
-  then = λ xs ys zs f g e. g (f e);
-  settles = λ plan xs d o unsettled e. new_states-not_claimable [] plan (set xs d (Settled o)) i (set-not_claimable xs d i (Settled o) refl e);
-  claims = λ xs d args ready e. set-not_claimable xs d i Claimed refl e;
-  links = λ xs d j unsettled e. set-not_claimable xs d i (Linked j) refl e;
+  same = λ xs a e. e;
+  then = λ xs a ys b zs c f g e. g (f e);
+  settles = λ plan xs a d o unsettled e. new_states-not_claimable [] plan (set xs d (Settled o)) i (set-not_claimable xs d i (Settled o) refl e);
+  claims = λ xs a d args ready e. set-not_claimable xs d i Claimed refl e;
+  links = λ xs a d j unsettled e. set-not_claimable xs d i (Linked j) refl e;
+  attaches = λ plan xs a e. new_states-not_claimable [] plan (xs ++ Pending ∷ []) i (push-not_claimable xs i e);
 }
 
 -- it stays so, whatever events come
@@ -140,6 +161,11 @@ not_claimable-not_ready (Settled o) e = refl
 
 pub never_ready_again : NeverReadyAgain
 never_ready_again s events i e = not_claimable-not_ready (stage_at (state_after s events) i) (state_after-not_claimable s events i e)
+
+-- nor is it once a stage is attached
+pub attaching_frees_none : AttachingFreesNone
+unfolding StaysUnclaimable
+attaching_frees_none s new i e = attaching-kept (StaysUnclaimable i) (stays_unclaimable-kept i) s new e
 
 -- the claim of a ready stage is granted
 claimed_by-granted : (x : Stage) (s : State) (who i : ℕ) → is_ready x ≡ true → (args : Args) × ((claimed_by x s who i).0 ≡ Granted args)

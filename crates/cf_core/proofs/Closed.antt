@@ -18,7 +18,8 @@ use Rattle.cf_core.specs.States.{outcome_of, outcome_in, due_state, linked_state
 use Rattle.cf_core.specs.Events.{state_after}
 use Rattle.cf_core.specs.Laws.{AreLinkedLower, IsClosed, KeepsClosed, PendingHasNoneSettled, ReachedAreClosed, ReachedLinkLower, is_decided_by_first}
 use Rattle.cf_core.proofs.StateLemmas.{due_one-decides, new_states-at, outcome_in-take}
-use Rattle.cf_core.proofs.Stable.{IsStable, state_after-stable}
+use Rattle.cf_core.specs.Growth.{AttachingKeepsClosed, AttachingLinksLower}
+use Rattle.cf_core.proofs.Stable.{IsStable, attaching-stable, state_after-stable}
 use Rattle.cf_core.proofs.Shape.{length-new_states, state_after-shape}
 
 -- ---- only the outcomes of the stages below count
@@ -127,7 +128,11 @@ closed-stable = record {
   settles = λ plan xs d o c e. new_states-twice [] plan (set xs d (Settled o));
   claims = λ plan xs i args c is. written_closed [] plan xs i Claimed c (ap (option_and_then outcome_of) is) refl (λ form sources. refl);
   links = λ plan xs i j c e is l. written_closed [] plan xs i (Linked j) c e refl (λ form sources. ap (linked_state j) (none_below xs i j is));
+  attaches = λ plan xs new c. new_states-twice [] (plan ++ new ∷ []) (xs ++ Pending ∷ []);
 }
+
+pub attaching_keeps_closed : AttachingKeepsClosed
+attaching_keeps_closed s new c = attaching-stable (λ plan xs. new_states [] plan xs ≡ xs) closed-stable s new c
 
 pub keeps_closed : KeepsClosed
 keeps_closed s events c = state_after-stable (λ plan xs. new_states [] plan xs ≡ xs) closed-stable s events c
@@ -177,12 +182,23 @@ set-link (x ∷ xs) (suc d) (suc i) j y e = elim (set-link xs d i j y e) [ inl h
 lower_by : (xs : List Stage) (d i j : ℕ) (y : Stage) → AreLinkedLower xs → (y ≡ Linked j → j < d) → slice_get (set xs d y) i ≡ Some (Linked j) → j < i
 lower_by xs d i j y h new e = elim (set-link xs d i j y e) [ inl w ↦ (let l = new w.1 in let same = w.0 in omega arith) | inr w ↦ h i j w ]
 
+-- a pending stage behind the others isn't linked
+push-link : (xs : List Stage) (i j : ℕ) → slice_get (xs ++ Pending ∷ []) i ≡ Some (Linked j) → slice_get xs i ≡ Some (Linked j)
+push-link [] zero j e = cc
+push-link [] (suc i) j e = cc
+push-link (x ∷ xs) zero j e = e
+push-link (x ∷ xs) (suc i) j e = push-link xs i j e
+
 lower-stable : IsStable (λ plan xs. AreLinkedLower xs)
 lower-stable = record {
   settles = λ plan xs d o h e i j is. lower_by xs d i j (Settled o) h (λ p. cc) (new_states-link [] plan (set xs d (Settled o)) i j is);
   claims = λ plan xs d args h at i j is. lower_by xs d i j Claimed h (λ p. cc) is;
   links = λ plan xs d k h e is l i j at. lower_by xs d i j (Linked k) h (λ p. (let same : k ≡ j = cc in omega arith)) at;
+  attaches = λ plan xs new h i j at. h i j (push-link xs i j (new_states-link [] (plan ++ new ∷ []) (xs ++ Pending ∷ []) i j at));
 }
+
+pub attaching_links_lower : AttachingLinksLower
+attaching_links_lower s new h = attaching-stable (λ plan xs. AreLinkedLower xs) lower-stable s new h
 
 pending-unlinked : (n i j : ℕ) → slice_get (replicate n Pending) i ≡ Some (Linked j) → ⊥
 pending-unlinked zero i j e = cc

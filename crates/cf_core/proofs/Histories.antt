@@ -48,17 +48,23 @@ new_states-not_pending below (p ∷ plan) [] i e = e
 new_states-not_pending below (p ∷ plan) (x ∷ xs) zero e = next_of-not_pending below p.form p.sources x e
 new_states-not_pending below (p ∷ plan) (x ∷ xs) (suc i) e = new_states-not_pending (below ++ next_of below p.form p.sources x ∷ []) plan xs i e
 
-StaysStarted : ℕ → List Stage → List Stage → Type 0
-StaysStarted i xs ys = is_pending (unwrap_or (slice_get xs i) Pending) ≡ false → is_pending (unwrap_or (slice_get ys i) Pending) ≡ false
+push-not_pending : (xs : List Stage) (i : ℕ) → is_pending (unwrap_or (slice_get xs i) Pending) ≡ false → is_pending (unwrap_or (slice_get (xs ++ Pending ∷ []) i) Pending) ≡ false
+push-not_pending [] i e = cc
+push-not_pending (x ∷ xs) zero e = e
+push-not_pending (x ∷ xs) (suc i) e = push-not_pending xs i e
+
+StaysStarted : ℕ → List Stage → ℕ → List Stage → ℕ → Type 0
+StaysStarted i xs a ys b = is_pending (unwrap_or (slice_get xs i) Pending) ≡ false → is_pending (unwrap_or (slice_get ys i) Pending) ≡ false
 
 stays_started-kept : (i : ℕ) → IsKept (StaysStarted i)
 unfolding StaysStarted
 stays_started-kept i = record {
-  same = λ xs e. e;
-  then = λ xs ys zs f g e. g (f e);
-  settles = λ plan xs d o unsettled e. new_states-not_pending [] plan (set xs d (Settled o)) i (set-not_pending xs d i (Settled o) refl e);
-  claims = λ xs d args ready e. set-not_pending xs d i Claimed refl e;
-  links = λ xs d j unsettled e. set-not_pending xs d i (Linked j) refl e;
+  same = λ xs a e. e;
+  then = λ xs a ys b zs c f g e. g (f e);
+  settles = λ plan xs a d o unsettled e. new_states-not_pending [] plan (set xs d (Settled o)) i (set-not_pending xs d i (Settled o) refl e);
+  claims = λ xs a d args ready e. set-not_pending xs d i Claimed refl e;
+  links = λ xs a d j unsettled e. set-not_pending xs d i (Linked j) refl e;
+  attaches = λ plan xs a e. new_states-not_pending [] plan (xs ++ Pending ∷ []) i (push-not_pending xs i e);
 }
 
 -- it never is again, whatever events come

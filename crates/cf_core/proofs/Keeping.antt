@@ -16,3 +16,4 @@ pub mod Lowest
 pub mod StartSound
 pub mod GraphLemmas
 pub mod TurnLemmas
+pub mod Attaching

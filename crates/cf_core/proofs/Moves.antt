@@ -1,5 +1,5 @@
 -- What events do to the states of stages, and the laws of whole runs.
-use Rattle.std.proofs.Common.{◌≡◌, ◌≢◌, ℕ, ◌+◌, ◌≤◌, ◌==◌, ◌∷◌, ◌++◌, [], List, Bool, true, false, cond, Option, Some, None, length, suc, zero, arith, ap, sym, ◌∙◌, refl, set}
+use Rattle.std.proofs.Common.{◌≡◌, ◌≢◌, ℕ, ◌+◌, ◌-◌, ◌≤◌, ◌==◌, ◌∷◌, ◌++◌, [], List, Bool, true, false, cond, Option, Some, None, length, suc, zero, arith, ap, sym, ◌∙◌, refl, set}
 use Rattle.std.specs.Prelude.{slice_get, unwrap_or, option_and_then, nat_lt}
 use Rattle.std.proofs.lemmas.Bool.Decides.{nat_tests}
 use Rattle.std.specs.Option.{option_map_or}
@@ -24,30 +24,36 @@ use Rattle.cf_core.specs.States.{State, after, stages_after, outcome_of, outcome
 use Rattle.cf_core.specs.declared.events.Event.{Event}
 use Rattle.cf_core.specs.declared.events.Event.TheVariants.{Complete as Completes, Fail as Fails, Cancel as Cancels, Claim as Claims, Finish as Finishes, Tick as Ticks}
 use Rattle.cf_core.specs.declared.events.Reply.TheVariants.{Claim as ToldClaim}
-use Rattle.cf_core.specs.Events.{answered, state_after, settled_by, settling, cancelled_by, claimed_by, finished_by, landed, linked_to, firing, due_limits, limit_outcome, source_outcome}
+use Rattle.cf_core.specs.Events.{answered, state_after, settled_by, settling, cancelled_by, claimed_by, finished_by, landed, linked_to, firing, due_limits, limit_outcome, source_outcome, attached_by, attaching}
+use Rattle.cf_core.specs.Growth.{AttachingKeepsOutcomes}
 use Rattle.cf_core.specs.Laws.{KeepsOutcomes, GrantsOnce, grants_of, is_grant}
 
--- A relation between the states of stages before and after, which each kind of change keeps.
-pub record IsKept (R : List Stage → List Stage → Type 0) : Type 0 where
-  pub same : (xs : List Stage) → R xs xs
-  pub then : (xs ys zs : List Stage) → R xs ys → R ys zs → R xs zs
-  pub settles : (plan : List PlannedStage) (xs : List Stage) (d : ℕ) (o : Outcome) → outcome_in xs d ≡ None → R xs (new_states [] plan (set xs d (Settled o)))
-  pub claims : (xs : List Stage) (i : ℕ) (args : Args) → slice_get xs i ≡ Some (Ready args) → R xs (set xs i Claimed)
-  pub links : (xs : List Stage) (i j : ℕ) → outcome_in xs i ≡ None → R xs (set xs i (Linked j))
+-- A relation between the states of stages, and the room that is left, before and after, which each kind of change keeps.
+pub record IsKept (R : List Stage → ℕ → List Stage → ℕ → Type 0) : Type 0 where
+  pub same : (xs : List Stage) (a : ℕ) → R xs a xs a
+  pub then : (xs : List Stage) (a : ℕ) (ys : List Stage) (b : ℕ) (zs : List Stage) (c : ℕ) → R xs a ys b → R ys b zs c → R xs a zs c
+  pub settles : (plan : List PlannedStage) (xs : List Stage) (a d : ℕ) (o : Outcome) → outcome_in xs d ≡ None → R xs a (new_states [] plan (set xs d (Settled o))) a
+  pub claims : (xs : List Stage) (a i : ℕ) (args : Args) → slice_get xs i ≡ Some (Ready args) → R xs a (set xs i Claimed) a
+  pub links : (xs : List Stage) (a i j : ℕ) → outcome_in xs i ≡ None → R xs a (set xs i (Linked j)) a
+  pub attaches : (plan : List PlannedStage) (xs : List Stage) (a : ℕ) → R xs (suc a) (new_states [] plan (xs ++ Pending ∷ [])) a
 
-stages_after-kept : (R : List Stage → List Stage → Type 0) → IsKept R → (x : Option Outcome) (s : State) (d : ℕ) (o : Outcome) → outcome_at s d ≡ x → R s.stages (stages_after x s.plan.stages s.stages d o)
-stages_after-kept R k (Some old) s d o e = k.same s.stages
-stages_after-kept R k None s d o e = k.settles s.plan.stages s.stages d o e
+-- the relation of two states
+abbrev pub Keeps : (List Stage → ℕ → List Stage → ℕ → Type 0) → State → State → Type 0
+Keeps R s r = R s.stages s.plan.room r.stages r.plan.room
 
-after-kept : (R : List Stage → List Stage → Type 0) → IsKept R → (s : State) (d : ℕ) (o : Outcome) → R s.stages ((after s d o).stages)
+stages_after-kept : (R : List Stage → ℕ → List Stage → ℕ → Type 0) → IsKept R → (x : Option Outcome) (s : State) (d : ℕ) (o : Outcome) → outcome_at s d ≡ x → R s.stages s.plan.room (stages_after x s.plan.stages s.stages d o) s.plan.room
+stages_after-kept R k (Some old) s d o e = k.same s.stages s.plan.room
+stages_after-kept R k None s d o e = k.settles s.plan.stages s.stages s.plan.room d o e
+
+after-kept : (R : List Stage → ℕ → List Stage → ℕ → Type 0) → IsKept R → (s : State) (d : ℕ) (o : Outcome) → Keeps R s (after s d o)
 after-kept R k s d o = stages_after-kept R k (outcome_at s d) s d o refl
 
-settled_by-kept : (R : List Stage → List Stage → Type 0) → IsKept R → (x : Option Outcome) (s : State) (i : ℕ) (o : Outcome) → outcome_at s i ≡ x → R s.stages ((settled_by x s i o).1.stages)
-settled_by-kept R k (Some old) s i o e = k.same s.stages
+settled_by-kept : (R : List Stage → ℕ → List Stage → ℕ → Type 0) → IsKept R → (x : Option Outcome) (s : State) (i : ℕ) (o : Outcome) → outcome_at s i ≡ x → Keeps R s ((settled_by x s i o).1)
+settled_by-kept R k (Some old) s i o e = k.same s.stages s.plan.room
 settled_by-kept R k None s i o e = after-kept R k s i o
 
-cancelled_by-kept : (R : List Stage → List Stage → Type 0) → IsKept R → (x : Option Outcome) (s : State) (i : ℕ) → outcome_at s i ≡ x → R s.stages ((cancelled_by x s i).1.stages)
-cancelled_by-kept R k (Some old) s i e = k.same s.stages
+cancelled_by-kept : (R : List Stage → ℕ → List Stage → ℕ → Type 0) → IsKept R → (x : Option Outcome) (s : State) (i : ℕ) → outcome_at s i ≡ x → Keeps R s ((cancelled_by x s i).1)
+cancelled_by-kept R k (Some old) s i e = k.same s.stages s.plan.room
 cancelled_by-kept R k None s i e = after-kept R k s i (Fault Cancelled false)
 
 -- a stage that isn't pending is there
@@ -55,58 +61,68 @@ pub there : (x : Option Stage) (y : Stage) → unwrap_or x Pending ≡ y → y �
 there None y e ne = absurd (ne (sym e))
 there (Some x) y e ne = ap (λ z. Some z) e
 
-claimed_by-kept : (R : List Stage → List Stage → Type 0) → IsKept R → (x : Stage) (s : State) (who i : ℕ) → stage_at s i ≡ x → R s.stages ((claimed_by x s who i).1.stages)
-claimed_by-kept R k (Ready args) s who i e = k.claims s.stages i args (there (slice_get s.stages i) (Ready args) e (λ h. cc))
-claimed_by-kept R k (Settled o) s who i e = k.same s.stages
-claimed_by-kept R k Claimed s who i e = k.same s.stages
-claimed_by-kept R k (Linked j) s who i e = k.same s.stages
-claimed_by-kept R k Pending s who i e = k.same s.stages
+claimed_by-kept : (R : List Stage → ℕ → List Stage → ℕ → Type 0) → IsKept R → (x : Stage) (s : State) (who i : ℕ) → stage_at s i ≡ x → Keeps R s ((claimed_by x s who i).1)
+claimed_by-kept R k (Ready args) s who i e = k.claims s.stages s.plan.room i args (there (slice_get s.stages i) (Ready args) e (λ h. cc))
+claimed_by-kept R k (Settled o) s who i e = k.same s.stages s.plan.room
+claimed_by-kept R k Claimed s who i e = k.same s.stages s.plan.room
+claimed_by-kept R k (Linked j) s who i e = k.same s.stages s.plan.room
+claimed_by-kept R k Pending s who i e = k.same s.stages s.plan.room
 
-linked_to-kept : (R : List Stage → List Stage → Type 0) → IsKept R → (x : Option Outcome) (s : State) (i j : ℕ) → outcome_at s i ≡ None → R s.stages ((linked_to x s i j).stages)
+linked_to-kept : (R : List Stage → ℕ → List Stage → ℕ → Type 0) → IsKept R → (x : Option Outcome) (s : State) (i j : ℕ) → outcome_at s i ≡ None → Keeps R s (linked_to x s i j)
 linked_to-kept R k (Some o) s i j e = after-kept R k s i (wrap o)
-linked_to-kept R k None s i j e = k.links s.stages i j e
+linked_to-kept R k None s i j e = k.links s.stages s.plan.room i j e
 
-landed-kept : (R : List Stage → List Stage → Type 0) → IsKept R → (at : Landing) (s : State) (i : ℕ) → outcome_at s i ≡ None → R s.stages ((landed s i at).stages)
+landed-kept : (R : List Stage → ℕ → List Stage → ℕ → Type 0) → IsKept R → (at : Landing) (s : State) (i : ℕ) → outcome_at s i ≡ None → Keeps R s (landed s i at)
 landed-kept R k (Lands o) s i e = after-kept R k s i o
 landed-kept R k (Links j) s i e = linked_to-kept R k (outcome_at s j) s i j e
 
-finished_by-kept : (R : List Stage → List Stage → Type 0) → IsKept R → (x : Option Outcome) (s : State) (i : ℕ) (answer : Answer) → outcome_at s i ≡ x → R s.stages ((finished_by x s i answer).1.stages)
-finished_by-kept R k (Some old) s i answer e = k.same s.stages
+finished_by-kept : (R : List Stage → ℕ → List Stage → ℕ → Type 0) → IsKept R → (x : Option Outcome) (s : State) (i : ℕ) (answer : Answer) → outcome_at s i ≡ x → Keeps R s ((finished_by x s i answer).1)
+finished_by-kept R k (Some old) s i answer e = k.same s.stages s.plan.room
 finished_by-kept R k None s i answer e = landed-kept R k (landing (form_at s.plan.stages i) i (source_outcome s i) answer) s i e
 
-firing-kept : (R : List Stage → List Stage → Type 0) → IsKept R → (limits : List Limit) (count : ℕ) (s : State) → R s.stages ((firing count s limits).1.stages)
-firing-kept R k [] count s = k.same s.stages
+firing-kept : (R : List Stage → ℕ → List Stage → ℕ → Type 0) → IsKept R → (limits : List Limit) (count : ℕ) (s : State) → Keeps R s ((firing count s limits).1)
+firing-kept R k [] count s = k.same s.stages s.plan.room
 firing-kept R k (l ∷ limits) count s =
     let done = settling s l.stage (limit_outcome l.kind) in
-    k.then s.stages done.1.stages ((firing count s (l ∷ limits)).1.stages)
+    k.then s.stages s.plan.room done.1.stages done.1.plan.room ((firing count s (l ∷ limits)).1.stages) ((firing count s (l ∷ limits)).1.plan.room)
     (settled_by-kept R k (outcome_at s l.stage) s l.stage (limit_outcome l.kind) refl)
     (firing-kept R k limits (cond done.0 (count + 1) count) done.1)
 
 -- either of two states
-chosen-kept : (R : List Stage → List Stage → Type 0) → {X : Type 0} (xs : List Stage) (b : Bool) (p q : X × State) → R xs p.1.stages → R xs q.1.stages → R xs ((cond b p q).1.stages)
-chosen-kept R xs true p q hp hq = hp
-chosen-kept R xs false p q hp hq = hq
+chosen-kept : (R : List Stage → ℕ → List Stage → ℕ → Type 0) → {X : Type 0} (s : State) (b : Bool) (p q : X × State) → Keeps R s p.1 → Keeps R s q.1 → Keeps R s ((cond b p q).1)
+chosen-kept R s true p q hp hq = hp
+chosen-kept R s false p q hp hq = hq
+
+-- a stage is attached
+attached_by-kept : (R : List Stage → ℕ → List Stage → ℕ → Type 0) → IsKept R → (x : ℕ) (s : State) (new : PlannedStage) → s.plan.room ≡ x → Keeps R s ((attached_by x s new).1)
+attached_by-kept R k zero s new e = k.same s.stages s.plan.room
+attached_by-kept R k (suc room) s new e =
+    let left : s.plan.room - 1 ≡ room = omega arith in
+    rw (left, e) (k.attaches (s.plan.stages ++ new ∷ []) s.stages room)
+
+pub attaching-kept : (R : List Stage → ℕ → List Stage → ℕ → Type 0) → IsKept R → (s : State) (new : PlannedStage) → Keeps R s ((attaching s new).1)
+attaching-kept R k s new = attached_by-kept R k s.plan.room s new refl
 
 -- each event keeps the relation
-pub answered-kept : (R : List Stage → List Stage → Type 0) → IsKept R → (e : Event) (s : State) → R s.stages ((answered s e).1.stages)
+pub answered-kept : (R : List Stage → ℕ → List Stage → ℕ → Type 0) → IsKept R → (e : Event) (s : State) → Keeps R s ((answered s e).1)
 answered-kept R k (Completes who i v) s = settled_by-kept R k (outcome_at s i) s i (Gives v) refl
 answered-kept R k (Fails who i code) s = settled_by-kept R k (outcome_at s i) s i (Fault (Thrown code) false) refl
 answered-kept R k (Cancels who i) s = cancelled_by-kept R k (outcome_at s i) s i refl
 answered-kept R k (Claims who i) s = claimed_by-kept R k (stage_at s i) s who i refl
 answered-kept R k (Finishes who i answer) s =
     let closed : State = record s { claims = set s.claims i None } in
-    chosen-kept R s.stages (option_map_or (λ w. w == who) (claim_at s i) false) (finished_by (outcome_at s i) closed i answer) (NotYours, s)
-    (finished_by-kept R k (outcome_at s i) closed i answer refl) (k.same s.stages)
+    chosen-kept R s (option_map_or (λ w. w == who) (claim_at s i) false) (finished_by (outcome_at s i) closed i answer) (NotYours, s)
+    (finished_by-kept R k (outcome_at s i) closed i answer refl) (k.same s.stages s.plan.room)
 answered-kept R k (Ticks who now) s =
     let fired = firing 0 s (due_limits s now) in
-    chosen-kept R s.stages (nat_lt now s.moment) (Past, s) (Fired fired.0, record fired.1 { moment = now; used = s.used + length (due_limits s now) })
-    (k.same s.stages) (firing-kept R k (due_limits s now) 0 s)
+    chosen-kept R s (nat_lt now s.moment) (Past, s) (Fired fired.0, record fired.1 { moment = now; used = s.used + length (due_limits s now) })
+    (k.same s.stages s.plan.room) (firing-kept R k (due_limits s now) 0 s)
 
 -- and so do all
-pub state_after-kept : (R : List Stage → List Stage → Type 0) → IsKept R → (events : List Event) (s : State) → R s.stages ((state_after s events).stages)
-state_after-kept R k [] s = k.same s.stages
+pub state_after-kept : (R : List Stage → ℕ → List Stage → ℕ → Type 0) → IsKept R → (events : List Event) (s : State) → Keeps R s (state_after s events)
+state_after-kept R k [] s = k.same s.stages s.plan.room
 state_after-kept R k (e ∷ events) s =
-    k.then s.stages ((answered s e).1.stages) ((state_after s (e ∷ events)).stages) (answered-kept R k e s) (state_after-kept R k events ((answered s e).1))
+    k.then s.stages s.plan.room ((answered s e).1.stages) ((answered s e).1.plan.room) ((state_after s (e ∷ events)).stages) ((state_after s (e ∷ events)).plan.room) (answered-kept R k e s) (state_after-kept R k events ((answered s e).1))
 
 -- ---- a settled stage
 
@@ -130,22 +146,33 @@ set-settled xs d i y o unsettled e =
     let ne : i ≢ d = λ same. let h = ap (outcome_in xs) same in cc in
     ap (option_and_then outcome_of) (slice_get-set_other xs d i y ne) ∙ e
 
-KeepsOutcome : ℕ → Outcome → List Stage → List Stage → Type 0
-KeepsOutcome i o xs ys = outcome_in xs i ≡ Some o → outcome_in ys i ≡ Some o
+-- one stage more
+pub push-settled : (xs : List Stage) (i : ℕ) (o : Outcome) → outcome_in xs i ≡ Some o → outcome_in (xs ++ Pending ∷ []) i ≡ Some o
+push-settled [] i o e = cc
+push-settled (x ∷ xs) zero o e = e
+push-settled (x ∷ xs) (suc i) o e = push-settled xs i o e
+
+KeepsOutcome : ℕ → Outcome → List Stage → ℕ → List Stage → ℕ → Type 0
+KeepsOutcome i o xs a ys b = outcome_in xs i ≡ Some o → outcome_in ys i ≡ Some o
 
 outcome-kept : (i : ℕ) (o : Outcome) → IsKept (KeepsOutcome i o)
 unfolding KeepsOutcome
 outcome-kept i o = record {
-  same = λ xs e. e;
-  then = λ xs ys zs f g e. g (f e);
-  settles = λ plan xs d p unsettled e. new_states-settled [] plan (set xs d (Settled p)) i o (set-settled xs d i (Settled p) o unsettled e);
-  claims = λ xs d args ready e. set-settled xs d i Claimed o (ap (option_and_then outcome_of) ready) e;
-  links = λ xs d j unsettled e. set-settled xs d i (Linked j) o unsettled e;
+  same = λ xs a e. e;
+  then = λ xs a ys b zs c f g e. g (f e);
+  settles = λ plan xs a d p unsettled e. new_states-settled [] plan (set xs d (Settled p)) i o (set-settled xs d i (Settled p) o unsettled e);
+  claims = λ xs a d args ready e. set-settled xs d i Claimed o (ap (option_and_then outcome_of) ready) e;
+  links = λ xs a d j unsettled e. set-settled xs d i (Linked j) o unsettled e;
+  attaches = λ plan xs a e. new_states-settled [] plan (xs ++ Pending ∷ []) i o (push-settled xs i o e);
 }
 
 pub keeps_outcomes : KeepsOutcomes
 unfolding KeepsOutcome
 keeps_outcomes s events i o e = state_after-kept (KeepsOutcome i o) (outcome-kept i o) events s e
+
+pub attaching_keeps_outcomes : AttachingKeepsOutcomes
+unfolding KeepsOutcome
+attaching_keeps_outcomes s new i o e = attaching-kept (KeepsOutcome i o) (outcome-kept i o) s new e
 
 -- ---- a stage that has been claimed
 
@@ -186,17 +213,23 @@ new_states-taken below (p ∷ plan) [] i e = e
 new_states-taken below (p ∷ plan) (x ∷ xs) zero e = next_of-taken below p.form p.sources x e
 new_states-taken below (p ∷ plan) (x ∷ xs) (suc i) e = new_states-taken (below ++ next_of below p.form p.sources x ∷ []) plan xs i e
 
-KeepsTaken : ℕ → List Stage → List Stage → Type 0
-KeepsTaken i xs ys = taken_in xs i ≡ true → taken_in ys i ≡ true
+push-taken : (xs : List Stage) (i : ℕ) → taken_in xs i ≡ true → taken_in (xs ++ Pending ∷ []) i ≡ true
+push-taken [] i e = cc
+push-taken (x ∷ xs) zero e = e
+push-taken (x ∷ xs) (suc i) e = push-taken xs i e
+
+KeepsTaken : ℕ → List Stage → ℕ → List Stage → ℕ → Type 0
+KeepsTaken i xs a ys b = taken_in xs i ≡ true → taken_in ys i ≡ true
 
 taken-kept : (i : ℕ) → IsKept (KeepsTaken i)
 unfolding KeepsTaken is_taken
 taken-kept i = record {
-  same = λ xs e. e;
-  then = λ xs ys zs f g e. g (f e);
-  settles = λ plan xs d o unsettled e. new_states-taken [] plan (set xs d (Settled o)) i (set-taken xs d i (Settled o) refl e);
-  claims = λ xs d args ready e. set-taken xs d i Claimed refl e;
-  links = λ xs d j unsettled e. set-taken xs d i (Linked j) refl e;
+  same = λ xs a e. e;
+  then = λ xs a ys b zs c f g e. g (f e);
+  settles = λ plan xs a d o unsettled e. new_states-taken [] plan (set xs d (Settled o)) i (set-taken xs d i (Settled o) refl e);
+  claims = λ xs a d args ready e. set-taken xs d i Claimed refl e;
+  links = λ xs a d j unsettled e. set-taken xs d i (Linked j) refl e;
+  attaches = λ plan xs a e. new_states-taken [] plan (xs ++ Pending ∷ []) i (push-taken xs i e);
 }
 
 -- a ready stage isn't taken

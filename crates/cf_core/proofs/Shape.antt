@@ -1,5 +1,5 @@
 -- What stays the same of a state, whatever events come.
-use Rattle.std.proofs.Common.{◌≡◌, ◌==◌, ℕ, ◌+◌, ◌∷◌, ◌++◌, [], List, Bool, true, false, cond, suc, Option, Some, None, length, length-set, ap, ◌∙◌, refl, set}
+use Rattle.std.proofs.Common.{◌≡◌, ◌==◌, ℕ, ◌+◌, ◌∷◌, ◌++◌, [], List, Bool, true, false, cond, zero, suc, Option, Some, None, length, length-set, length-append, append-nil, arith, sym, ap, ◌∙◌, refl, set}
 use Rattle.std.specs.Prelude.{nat_lt}
 use Rattle.std.specs.Option.{option_map_or}
 use Rattle.cf_outcome.specs.declared.outcome.Outcome.{Outcome}
@@ -10,7 +10,7 @@ use Rattle.cf_plan.specs.declared.forms.Landing.{Landing}
 use Rattle.cf_plan.specs.declared.forms.Landing.TheVariants.{Settles as Lands, Links}
 use Rattle.cf_plan.specs.declared.limits.Limit.{Limit}
 use Rattle.cf_plan.specs.Forms.{landing}
-use Rattle.cf_plan.specs.Plans.{PlannedStage, form_at}
+use Rattle.cf_plan.specs.Plans.{Planned, PlannedStage, form_at}
 use Rattle.cf_core.specs.declared.stage.Stage.{Stage}
 use Rattle.cf_core.specs.declared.stage.Stage.TheVariants.{Pending, Ready, Claimed, Linked, Settled}
 use Rattle.cf_core.specs.declared.replies.Finished.TheVariants.{NotYours}
@@ -18,8 +18,9 @@ use Rattle.cf_core.specs.declared.replies.Ticked.TheVariants.{Fired, Past}
 use Rattle.cf_core.specs.declared.events.Event.{Event}
 use Rattle.cf_core.specs.declared.events.Event.TheVariants.{Complete as Completes, Fail as Fails, Cancel as Cancels, Claim as Claims, Finish as Finishes, Tick as Ticks}
 use Rattle.cf_core.specs.States.{State, outcome_at, stage_at, claim_at, next_of, new_states}
-use Rattle.cf_core.specs.Events.{answered, settled_by, settling, cancelled_by, claimed_by, finished_by, landed, linked_to, firing, due_limits, limit_outcome, source_outcome}
+use Rattle.cf_core.specs.Events.{answered, settled_by, settling, cancelled_by, claimed_by, finished_by, landed, linked_to, firing, due_limits, limit_outcome, source_outcome, attached_by}
 use Rattle.cf_core.specs.Laws.{KeepsShape, SameShape}
+use Rattle.cf_core.specs.Growth.{AttachingGrows, Grows}
 use Rattle.cf_core.proofs.Moves.{IsKept, answered-kept}
 
 pub length-new_states : (below : List Stage) (plan : List PlannedStage) (xs : List Stage) → length (new_states below plan xs) ≡ length xs
@@ -27,22 +28,20 @@ length-new_states below [] xs = refl
 length-new_states below (p ∷ plan) [] = refl
 length-new_states below (p ∷ plan) (x ∷ xs) = ap suc (length-new_states (below ++ next_of below p.form p.sources x ∷ []) plan xs)
 
-SameLength : List Stage → List Stage → Type 0
-SameLength xs ys = length ys ≡ length xs
+-- each stage that is attached takes its place of the room
+SameLength : List Stage → ℕ → List Stage → ℕ → Type 0
+SameLength xs a ys b = length ys + b ≡ length xs + a
 
 same_length-kept : IsKept SameLength
 unfolding SameLength
 same_length-kept = record {
-  same = λ xs. refl;
-  then = λ xs ys zs f g. g ∙ f;
-  settles = λ plan xs d o unsettled. length-new_states [] plan (set xs d (Settled o)) ∙ length-set xs d (Settled o);
-  claims = λ xs i args ready. length-set xs i Claimed;
-  links = λ xs i j unsettled. length-set xs i (Linked j);
+  same = λ xs a. refl;
+  then = λ xs a ys b zs c f g. g ∙ f;
+  settles = λ plan xs a d o unsettled. (let e = length-new_states [] plan (set xs d (Settled o)) ∙ length-set xs d (Settled o) in omega (arith, e));
+  claims = λ xs a i args ready. (let e = length-set xs i Claimed in omega (arith, e));
+  links = λ xs a i j unsettled. (let e = length-set xs i (Linked j) in omega (arith, e));
+  attaches = λ plan xs a. (let e = length-new_states [] plan (xs ++ Pending ∷ []) ∙ length-append xs (Pending ∷ []) in let one : length (Pending ∷ []) ≡ 1 = refl in omega (arith, e, one));
 }
-
-pub answered-stages : (s : State) (e : Event) → length ((answered s e).1.stages) ≡ length s.stages
-unfolding SameLength
-answered-stages s e = answered-kept SameLength same_length-kept e s
 
 -- the plan, and how many claims there are
 pub record SameFrame (s r : State) : Type 0 where
@@ -107,6 +106,13 @@ answered-frame s (Ticks who now) =
     chosen-frame s (nat_lt now s.moment) (Past, s) (Fired fired.0, record fired.1 { moment = now; used = s.used + length (due_limits s now) })
     (same s) (record { plan = done.plan; all_claims = done.all_claims })
 
+pub answered-stages : (s : State) (e : Event) → length ((answered s e).1.stages) ≡ length s.stages
+unfolding SameLength
+answered-stages s e =
+    let all = answered-kept SameLength same_length-kept e s in
+    let room = ap (λ (p : Planned). p.room) ((answered-frame s e).plan) in
+    omega (arith, all, room)
+
 -- one event, and all
 pub answered-shape : (s : State) (e : Event) → SameShape s ((answered s e).1)
 answered-shape s e =
@@ -119,3 +125,34 @@ state_after-shape s (e ∷ events) =
     let first = answered-shape s e in
     let rest = state_after-shape ((answered s e).1) events in
     record { plan = rest.plan ∙ first.plan; all_stages = rest.all_stages ∙ first.all_stages; all_claims = rest.all_claims ∙ first.all_claims }
+
+-- ---- a stage is attached
+
+attached_by-grows : (x : ℕ) (s : State) (new : PlannedStage) → s.plan.room ≡ x → Grows s ((attached_by x s new).1)
+attached_by-grows zero s new e =
+    let none : length {A = PlannedStage} [] ≡ 0 = refl in
+    record {
+      more = [];
+      stages = sym (append-nil s.plan.stages);
+      limits = refl;
+      opened = refl;
+      room = omega (arith, none);
+      all_stages = omega (arith, none);
+      all_claims = omega (arith, none);
+    }
+attached_by-grows (suc room) s new e =
+    let one : length (new ∷ []) ≡ 1 = refl in
+    let stages = length-new_states [] (s.plan.stages ++ new ∷ []) (s.stages ++ Pending ∷ []) ∙ length-append s.stages (Pending ∷ []) in
+    let claims = length-append s.claims (None ∷ []) in
+    record {
+      more = new ∷ [];
+      stages = refl;
+      limits = refl;
+      opened = refl;
+      room = omega (arith, e, one);
+      all_stages = stages;
+      all_claims = claims;
+    }
+
+pub attaching-grows : AttachingGrows
+attaching-grows s new = attached_by-grows s.plan.room s new refl

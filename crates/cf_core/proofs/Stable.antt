@@ -1,5 +1,5 @@
 -- What events keep true of the stages of a plan, if each kind of change does.
-use Rattle.std.proofs.Common.{◌≡◌, ◌≢◌, ◌==◌, ℕ, ◌+◌, ◌<◌, ◌∷◌, [], List, Bool, true, false, cond, Option, Some, None, length, arith, refl, set}
+use Rattle.std.proofs.Common.{◌≡◌, ◌≢◌, ◌==◌, ℕ, ◌+◌, ◌<◌, ◌∷◌, ◌++◌, [], zero, suc, List, Bool, true, false, cond, Option, Some, None, length, arith, refl, set}
 use Rattle.std.specs.Prelude.{nat_lt, slice_get, ◌&&◌}
 use Rattle.std.specs.Option.{option_map_or}
 use Rattle.cf_outcome.specs.declared.outcome.Outcome.{Outcome}
@@ -21,7 +21,7 @@ use Rattle.cf_core.specs.declared.replies.Ticked.TheVariants.{Fired, Past}
 use Rattle.cf_core.specs.declared.events.Event.{Event}
 use Rattle.cf_core.specs.declared.events.Event.TheVariants.{Complete as Completes, Fail as Fails, Cancel as Cancels, Claim as Claims, Finish as Finishes, Tick as Ticks}
 use Rattle.cf_core.specs.States.{State, after, stages_after, outcome_in, outcome_at, stage_at, claim_at, new_states}
-use Rattle.cf_core.specs.Events.{answered, state_after, settled_by, settling, cancelled_by, claimed_by, finished_by, landed, linked_to, firing, due_limits, limit_outcome, source_outcome}
+use Rattle.cf_core.specs.Events.{answered, state_after, settled_by, settling, cancelled_by, claimed_by, finished_by, landed, linked_to, firing, due_limits, limit_outcome, source_outcome, attached_by, attaching}
 use Rattle.cf_core.proofs.Moves.{there}
 use Rattle.cf_plan.specs.declared.forms.Args.{Args}
 use borrow.Author.Tests.{ltb-true}
@@ -32,6 +32,7 @@ pub record IsStable (P : List PlannedStage → List Stage → Type 0) : Type 0 w
   pub settles : (plan : List PlannedStage) (xs : List Stage) (d : ℕ) (o : Outcome) → P plan xs → outcome_in xs d ≡ None → P plan (new_states [] plan (set xs d (Settled o)))
   pub claims : (plan : List PlannedStage) (xs : List Stage) (i : ℕ) (args : Args) → P plan xs → slice_get xs i ≡ Some (Ready args) → P plan (set xs i Claimed)
   pub links : (plan : List PlannedStage) (xs : List Stage) (i j : ℕ) → P plan xs → outcome_in xs i ≡ None → outcome_in xs j ≡ None → j < i → P plan (set xs i (Linked j))
+  pub attaches : (plan : List PlannedStage) (xs : List Stage) (new : PlannedStage) → P plan xs → P (plan ++ new ∷ []) (new_states [] (plan ++ new ∷ []) (xs ++ Pending ∷ []))
 
 -- the fact of a state
 abbrev pub Holds : (List PlannedStage → List Stage → Type 0) → State → Type 0
@@ -100,6 +101,14 @@ firing-stable P k (l ∷ limits) count s h =
 chosen-stable : (P : List PlannedStage → List Stage → Type 0) → {X : Type 0} (b : Bool) (p q : X × State) → Holds P p.1 → Holds P q.1 → Holds P ((cond b p q).1)
 chosen-stable P true p q hp hq = hp
 chosen-stable P false p q hp hq = hq
+
+-- a stage is attached
+attached_by-stable : (P : List PlannedStage → List Stage → Type 0) → IsStable P → (room : ℕ) (s : State) (new : PlannedStage) → Holds P s → Holds P ((attached_by room s new).1)
+attached_by-stable P k zero s new h = h
+attached_by-stable P k (suc room) s new h = k.attaches s.plan.stages s.stages new h
+
+pub attaching-stable : (P : List PlannedStage → List Stage → Type 0) → IsStable P → (s : State) (new : PlannedStage) → Holds P s → Holds P ((attaching s new).1)
+attaching-stable P k s new h = attached_by-stable P k s.plan.room s new h
 
 pub answered-stable : (P : List PlannedStage → List Stage → Type 0) → IsStable P → (s : State) (e : Event) → Holds P s → Holds P ((answered s e).1)
 answered-stable P k s (Completes who i v) h = settled_by-stable P k (outcome_at s i) s i (Gives v) h

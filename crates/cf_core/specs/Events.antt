@@ -1,5 +1,6 @@
 -- Events, and what each is answered and leaves.
 use Rattle.std.specs.Prelude.{ℕ, ◌+◌, ◌==◌, Bool, true, false, Option, Some, None, List, [], ◌∷◌, drop, take, take_while, length, nat_lt, nat_le, slice_get, slice_set, if◌then◌else◌, option_and_then}
+use Rattle.std.proofs.Common.{zero, suc}
 use Rattle.std.specs.Option.{option_map_or}
 use Rattle.cf_outcome.specs.declared.outcome.Cause.TheVariants.{Thrown, Cancelled, TimedOut}
 use Rattle.cf_outcome.specs.declared.outcome.Outcome.{Outcome}
@@ -12,7 +13,7 @@ use Rattle.cf_plan.specs.declared.limits.Limit.{Limit}
 use Rattle.cf_plan.specs.declared.limits.LimitKind.{LimitKind}
 use Rattle.cf_plan.specs.declared.limits.LimitKind.TheVariants.{Timeout, Give as GiveValue}
 use Rattle.cf_plan.specs.Forms.{landing}
-use Rattle.cf_plan.specs.Plans.{Planned, form_at, sources_at}
+use Rattle.cf_plan.specs.Plans.{Planned, PlannedStage, form_at, sources_at}
 use Rattle.cf_core.specs.declared.stage.Stage.{Stage}
 use Rattle.cf_core.specs.declared.stage.Stage.TheVariants.{Pending, Ready, Claimed as IsClaimed, Linked, Settled}
 use Rattle.cf_core.specs.declared.replies.Claimed.{Claimed}
@@ -21,6 +22,8 @@ use Rattle.cf_core.specs.declared.replies.Finished.{Finished}
 use Rattle.cf_core.specs.declared.replies.Finished.TheVariants.{Won, Late, NotYours}
 use Rattle.cf_core.specs.declared.replies.Ticked.{Ticked}
 use Rattle.cf_core.specs.declared.replies.Ticked.TheVariants.{Fired, Past}
+use Rattle.cf_core.specs.declared.replies.Attached.{Attached}
+use Rattle.cf_core.specs.declared.replies.Attached.TheVariants.{At, StagesFull}
 use Rattle.cf_core.specs.declared.asks.Ask.{Ask}
 use Rattle.cf_core.specs.declared.asks.Ask.TheVariants.{Now as AsksNow, Outcome as AsksOutcome}
 use Rattle.cf_core.specs.declared.asks.Told.{Told}
@@ -29,7 +32,7 @@ use Rattle.cf_core.specs.declared.events.Event.{Event}
 use Rattle.cf_core.specs.declared.events.Event.TheVariants.{Complete as Completes, Fail as Fails, Cancel as Cancels, Claim as Claims, Finish as Finishes, Tick as Ticks}
 use Rattle.cf_core.specs.declared.events.Reply.{Reply}
 use Rattle.cf_core.specs.declared.events.Reply.TheVariants.{Flag as ToldFlag, Claim as ToldClaim, Finish as ToldFinish, Tick as ToldTick}
-use Rattle.cf_core.specs.States.{State, after, start, stage_at, outcome_at, claim_at}
+use Rattle.cf_core.specs.States.{State, after, appended, flowed, start, stage_at, outcome_at, claim_at}
 
 -- a stage is settled with o, unless it is settled already
 abbrev pub settled_by : Option Outcome → State → ℕ → Outcome → Bool × State
@@ -104,6 +107,14 @@ ticking s now =
     if nat_lt now s.moment then (Past, s)
     else (let fired = firing 0 s (due_limits s now) in
     (Fired fired.0, record fired.1 { moment = now; used = s.used + length (due_limits s now) }))
+
+-- a stage is attached, if there is room for one
+abbrev pub attached_by : ℕ → State → PlannedStage → Attached × State
+attached_by zero s new = (StagesFull, s)
+attached_by (suc room) s new = (At (length s.plan.stages), flowed (appended s new))
+
+abbrev pub attaching : State → PlannedStage → Attached × State
+attaching s new = attached_by s.plan.room s new
 
 abbrev pub told_as : {A : Type 0} → (A → Reply) → A × State → Reply × State
 told_as tell answer = (tell answer.0, answer.1)

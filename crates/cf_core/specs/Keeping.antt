@@ -8,3 +8,4 @@ pub mod SoundStages
 pub mod Landings
 pub mod Graphs
 pub mod Turns
+pub mod Attaching

@@ -5,6 +5,7 @@ pub mod Ranges
 pub mod Calls
 pub mod Claims
 pub mod Laws
+pub mod Growth
 pub mod Graphs
 -- How the code keeps it.
 pub mod Keeping

@@ -6,7 +6,7 @@ use Rattle.cf_plan.specs.declared.forms.Form.{Form}
 use Rattle.cf_plan.specs.declared.forms.Due.{Due}
 use Rattle.cf_plan.specs.declared.forms.Due.TheVariants.{Waits, Settles, Needs}
 use Rattle.cf_plan.specs.Forms.{follows}
-use Rattle.cf_plan.specs.Plans.{Planned, PlannedStage}
+use Rattle.cf_plan.specs.Plans.{Planned, PlannedStage, and_stage}
 use Rattle.cf_core.specs.declared.stage.Stage.{Stage}
 use Rattle.cf_core.specs.declared.stage.Stage.TheVariants.{Pending, Ready, Linked, Settled}
 
@@ -69,6 +69,14 @@ start plan =
       moment = 0;
       used = 0;
     }
+
+-- the state in which each stage has taken what its sources give
+abbrev pub flowed : State → State
+flowed s = record s { stages = new_states [] s.plan.stages s.stages }
+
+-- the state with one stage more, which is pending
+abbrev pub appended : State → PlannedStage → State
+appended s new = record s { plan = and_stage s.plan new; stages = s.stages ++ Pending ∷ []; claims = s.claims ++ None ∷ [] }
 
 -- stage i, its outcome, and the caller whose claim on it is open
 abbrev pub stage_at : State → ℕ → Stage

@@ -1,4 +1,5 @@
 //! Laws of whole runs of events.
+ghost use Rattle.cf_core.specs.Growth.{AttachingFreesNone, AttachingGrows, AttachingKeepsClosed, AttachingKeepsOutcomes, AttachingLinksLower, AttachingTakesRoom};
 ghost use Rattle.cf_core.specs.Laws.{GrantsLeaveFewer, GrantsOnce, KeepsClosed, KeepsOutcomes, KeepsShape, NeverMoreClaimable, NeverReadyAgain, PendingHasNoneSettled, ReachedAreClosed, ReachedLinkLower};
 
 /// A settled stage keeps its outcome, whatever events come.
@@ -51,4 +52,34 @@ pub fn reached_states_link_lower()
 /// the first source that settles.
 pub fn pending_stages_have_no_settled_source()
     ensures { PendingHasNoneSettled }
+{}
+
+/// A stage that is attached stands behind all others and takes one place of the room.
+pub fn attached_stages_stand_behind_the_others()
+    ensures { AttachingGrows }
+{}
+
+/// A settled stage keeps its outcome when a stage is attached.
+pub fn attaching_keeps_outcomes()
+    ensures { AttachingKeepsOutcomes }
+{}
+
+/// A stage that has been claimed, linked or settled can't be claimed once a stage is attached either.
+pub fn attaching_frees_no_stage()
+    ensures { AttachingFreesNone }
+{}
+
+/// With those that there is room for, an attached stage makes no more stages claimable, now or later.
+pub fn attaching_takes_room()
+    ensures { AttachingTakesRoom }
+{}
+
+/// A state in which nothing is due any more stays so when a stage is attached.
+pub fn attaching_keeps_states_closed()
+    ensures { AttachingKeepsClosed }
+{}
+
+/// Where links are to lower stages they still are when a stage is attached.
+pub fn attaching_links_lower()
+    ensures { AttachingLinksLower }
 {}

@@ -65,5 +65,5 @@ mod treat;
 pub use asks::{Ask, Told};
 pub use events::{Event, Reply};
 pub use graph::{Graph, GraphFault};
-pub use replies::{Claimed, Finished, Ticked};
+pub use replies::{Attached, Claimed, Finished, Ticked};
 pub use stage::Stage;

@@ -1,5 +1,5 @@
 //! The marking of stages that wait for treatment.
-ghost use Rattle.std.specs.Prelude.{◌≡◌, ◌<◌, All, [], length, slice_set};
+ghost use Rattle.std.specs.Prelude.{◌≡◌, ◌<◌, ◌≤◌, All, [], length, slice_set};
 ghost use Rattle.cf_core.specs.Keeping.Links.{list_at};
 ghost use Rattle.cf_core.specs.Keeping.Sound.{is_waiting, mark_all, mark_one};
 
@@ -42,7 +42,8 @@ pub fn mark_each(kept: &[KeptStage], marks: &mut BitSet, stages: &[u16])
 pub fn mark_linked(kept: &[KeptStage], marks: &mut BitSet, links: &mut Links, target: u16)
     requires target { target < length kept.now }
     requires all { length marks.old ≡ length kept.now }
-    requires lists { length links.old ≡ length kept.now }
+    requires lists { length kept.now ≤ length links.old }
+    requires linked { All (λ i. i < length kept.now) (list_at links.old target) }
     ensures marks { marks.new ≡ mark_all kept.now (list_at links.old target) marks.old }
     ensures links { links.new ≡ slice_set links.old target [] }
 {

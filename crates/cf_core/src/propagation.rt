@@ -1,4 +1,5 @@
 //! The laws of late propagation: what may be left for later, and that nobody can tell.
+ghost use Rattle.cf_core.specs.Keeping.Attaching.{AttachingIsAfter};
 ghost use Rattle.cf_core.specs.Keeping.Late.{SettlingIsAfter, TurnsChangeNothing};
 ghost use Rattle.cf_core.specs.Keeping.Marks.{OthersWait, SteadyByStage};
 ghost use Rattle.cf_core.specs.Keeping.Writes.{ClaimingIsAlone, LinkingIsAlone};
@@ -31,4 +32,10 @@ pub fn others_wait()
 /// Linking a stage to a lower one that isn't settled changes nothing else.
 pub fn linking_is_alone()
     ensures { LinkingIsAlone }
+{}
+
+/// Attaching a stage once all others are treated, by what its sources hold then, leads to what appending it and letting
+/// each stage take what its sources give does.
+pub fn attaching_treated_is_attaching_at_once()
+    ensures { AttachingIsAfter }
 {}

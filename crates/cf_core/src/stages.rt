@@ -1,11 +1,12 @@
 //! The stages of a graph, of which some wait for treatment.
-ghost use Rattle.std.specs.Prelude.{◌≡◌, ℕ, ◌+◌, ◌<◌, ◌≤◌, [], IfNone, IfOk, IfSome, None, Some, length, option_and_then, position, replicate, slice_get, slice_set, true, if◌then◌else◌};
+ghost use Rattle.std.specs.Prelude.{◌≡◌, ℕ, ◌+◌, ◌<◌, ◌≤◌, [], All, IfNone, IfOk, IfSome, None, Some, length, option_and_then, position, replicate, slice_get, slice_set, true, if◌then◌else◌};
 ghost use Rattle.cf_plan.specs.declared.forms.Landing.TheVariants.{Links as LinksTo};
 ghost use Rattle.cf_plan.specs.Forms.{composes};
 ghost use Rattle.cf_plan.specs.Plans.{form_at, sources_at};
 ghost use Rattle.cf_core.specs.declared.stage.Stage.TheVariants.{Claimed, Linked, Pending, Settled};
 ghost use Rattle.cf_core.specs.States.{is_ready, new_states, outcome_in, outcome_of};
 ghost use Rattle.cf_core.specs.Keeping.Landings.{landed_stages};
+ghost use Rattle.cf_core.specs.Keeping.Links.{list_at};
 ghost use Rattle.cf_core.specs.Keeping.Sound.{AreTreated, ReadyIsTreated, StayTaken, StayTakenBut, is_taken, kept_at, links_after, marks_after};
 ghost use Rattle.cf_core.specs.Keeping.SoundStages.{AreSound, outlook_of};
 ghost use Rattle.cf_core.specs.Keeping.Turns.{TurnsBelowReady, TurnsUpTo, turned};
@@ -65,7 +66,8 @@ impl Stages {
         requires all_kept { length self.old.kept.items ≡ length plan.now.stages }
         requires all_marks { length self.old.marks ≡ length plan.now.stages }
         requires all_ready { length self.old.ready ≡ length plan.now.stages }
-        requires all_links { length self.old.links ≡ length plan.now.stages }
+        requires all_links { length plan.now.stages ≤ length self.old.links }
+        requires linked { All (λ i. i < length plan.now.stages) (list_at self.old.links d) }
         ensures kept { self.new.kept.items ≡ slice_set self.old.kept.items d new }
         ensures marks { self.new.marks ≡ marks_after plan.now.stages (slice_set self.old.kept.items d new) self.old.links self.old.marks d new.stage }
         ensures ready { self.new.ready ≡ slice_set self.old.ready d (is_ready new.stage) }

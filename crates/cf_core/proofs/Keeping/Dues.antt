@@ -58,7 +58,7 @@ earlier_new : (step : ℕ) (z y : Outcome × ℕ) → z.1 ≡ step + 1 → y.1 �
 earlier_new step z y l m =
     let no : nat_le (z.1) (y.1) ≡ false = grind (arith, nat_tests) in rw no refl
 
-earlier_some : (u : Outcome × ℕ) (z : Option (Outcome × ℕ)) → earlier (Some u) z ≢ None
+pub earlier_some : (u : Outcome × ℕ) (z : Option (Outcome × ℕ)) → earlier (Some u) z ≢ None
 earlier_some u None e = cc
 earlier_some u (Some v) e = chosen (nat_le (u.1) (v.1)) e
   where

@@ -1,10 +1,11 @@
 -- A stage is taken out of the list of linked stages, and marked.
-use Rattle.std.proofs.Common.{◌≡◌, ℕ, ◌<◌, ◌∷◌, [], List, Bool, Some, None, length, suc, zero, arith, ap, ◌∙◌, refl, set, drop, length-set}
+use Rattle.std.proofs.Common.{◌≡◌, ◌≢◌, ℕ, ◌<◌, ◌∷◌, [], List, Bool, Some, None, length, suc, zero, arith, ap, sym, ◌∙◌, refl, set, drop, length-set, subst, All}
 use Rattle.std.specs.Prelude.{slice_get, unwrap_or}
+use Rattle.std.proofs.lemmas.List.Elements.{All-head, All-tail}
 use Rattle.cf_core.specs.declared.kept.KeptStage.{KeptStage}
 use Rattle.cf_core.specs.Keeping.Links.{list_at}
 use Rattle.cf_core.specs.Keeping.Sound.{mark_one, mark_all}
-use Rattle.cf_core.proofs.Keeping.Marking.{get-set_same}
+use Rattle.cf_core.proofs.Keeping.Marking.{get-set_other, get-set_same}
 
 set-twice : {X : Type 0} (xs : List X) (i : ℕ) (a b : X) → set (set xs i a) i b ≡ set xs i b
 set-twice [] i a b = refl
@@ -37,3 +38,21 @@ pop_empties lists new t is = ap (λ xs. set xs t []) is ∙ set-twice lists t (d
 
 pub length-pop : (lists new : List (List ℕ)) (t : ℕ) → new ≡ set lists t (drop 1 (list_at lists t)) → length new ≡ length lists
 length-pop lists new t is = ap length is ∙ length-set lists t (drop 1 (list_at lists t))
+
+-- the stages of a list that are left, and the first of them, are within the same bound
+rest_within : (xs : List ℕ) (n : ℕ) → All (λ i. i < n) xs → All (λ i. i < n) (drop 1 xs)
+rest_within [] n h = h
+rest_within (x ∷ xs) n h = All-tail (λ i. i < n) x xs h
+
+pub pop_within : (lists new : List (List ℕ)) (t n : ℕ) → t < length lists → new ≡ set lists t (drop 1 (list_at lists t)) → All (λ i. i < n) (list_at lists t) → All (λ i. i < n) (list_at new t)
+pop_within lists new t n l is h =
+    subst (λ xs. All (λ i. i < n) xs) (sym (ap (λ xs. list_at xs t) is ∙ list_is lists t l)) (rest_within (list_at lists t) n h)
+
+pub first_within : (xs : List ℕ) (n i : ℕ) → Some i ≡ slice_get xs 0 → All (λ j. j < n) xs → i < n
+first_within [] n i e h = cc
+first_within (x ∷ xs) n i e h = let same : i ≡ x = cc in subst (λ j. j < n) (sym same) (All-head (λ j. j < n) x xs h)
+
+-- the list of a stage, when another one is written
+pub other_within : (lists new : List (List ℕ)) (t d n : ℕ) (xs : List ℕ) → new ≡ set lists t xs → d ≢ t → All (λ i. i < n) (list_at lists d) → All (λ i. i < n) (list_at new d)
+other_within lists new t d n xs is ne h =
+    subst (λ ys. All (λ i. i < n) ys) (sym (ap (λ ys. list_at ys d) is ∙ ap (λ x. unwrap_or x []) (get-set_other lists t d xs ne))) h

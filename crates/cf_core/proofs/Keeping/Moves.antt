@@ -3,7 +3,7 @@ use Rattle.std.proofs.Common.{◌≡◌, ◌≢◌, ℕ, ◌+◌, ◌<◌, ◌�
 use Rattle.std.specs.Prelude.{slice_get, option_and_then, unwrap_or}
 use Rattle.std.specs.Option.{option_map}
 use Rattle.std.proofs.lemmas.Bool.Decides.{eqb_tells}
-use Rattle.std.proofs.lemmas.List.Elements.{All-head, All-tail, All-cons, All-set}
+use Rattle.std.proofs.lemmas.List.Elements.{All-head, All-tail, All-cons, All-nil, All-set}
 use Rattle.cf_outcome.specs.declared.outcome.Outcome.{Outcome}
 use Rattle.cf_plan.specs.declared.forms.Args.{Args}
 use Rattle.cf_plan.specs.Forms.{composes}
@@ -13,7 +13,7 @@ use Rattle.cf_core.specs.States.{outcome_of, outcome_in, new_states}
 use Rattle.cf_core.specs.declared.kept.KeptStage.{KeptStage}
 use Rattle.cf_core.specs.Keeping.Late.{IsSteady, all_treated, dated_in, linked_kept, stages_of, treated}
 use Rattle.cf_core.specs.Keeping.Links.{list_at}
-use Rattle.cf_core.specs.Keeping.Sound.{IsSound, is_bound, kept_at, mark_all, marks_of, link_marks, outlook, steps_of}
+use Rattle.cf_core.specs.Keeping.Sound.{AreBound, IsSound, is_bound, kept_at, mark_all, marks_of, link_marks, outlook, steps_of}
 use Rattle.cf_core.proofs.Keeping.Marking.{get-set_same, get-set_other}
 use Rattle.cf_core.proofs.Keeping.Sums.{sum_by-set_at, sum_by-at, kept_there, kept_is, list_there, there_within}
 use Rattle.cf_core.proofs.Keeping.Waiting.{steady_below, steady_at, treated-take, sources_below}
@@ -21,7 +21,7 @@ use Rattle.cf_core.proofs.Keeping.Turns.{turns_change_nothing}
 use Rattle.cf_core.proofs.Keeping.Settling.{settling_is_after}
 use Rattle.cf_core.proofs.Keeping.Writes.{claiming_is_alone, linking_is_alone}
 use Rattle.cf_core.proofs.Keeping.Marks.{dated_in-set}
-use Rattle.cf_core.proofs.Keeping.Soundness.{settled_sound, unsettled_sound, bound_more, bound_free, kept_lists, listed_unsettled, names_dependents}
+use Rattle.cf_core.proofs.Keeping.Soundness.{All-more, settled_sound, unsettled_sound, bound_within, bound_more, bound_free, kept_lists, listed_unsettled, names_dependents}
 
 pub get-map : {X Y : Type 0} (f : X → Y) (xs : List X) (i : ℕ) → slice_get (map f xs) i ≡ option_map f (slice_get xs i)
 get-map f [] i = refl
@@ -88,6 +88,17 @@ module _ (plan : List PlannedStage) (kept : List KeptStage) (marks ready : List 
   pub claim_same : (d step m : ℕ) (args : Args) → d < length plan → IsSteady [] plan kept m → d < m → (kept_at kept d).stage ≡ Ready args →
       outlook plan (set kept d (record { stage = Claimed; step = step })) ≡ set (outlook plan kept) d Claimed
   claim_same d step m args l steady below e = claiming_is_alone plan kept d step (outcome_there d m l steady below ∙ ap outcome_of e)
+
+  -- ---- the stages that stand in lists are there
+
+  pub links_within : (d : ℕ) → All (λ i. i < length plan) (list_at links d)
+  links_within d = All-more (λ i. is_bound ((kept_at kept i).stage) ≡ true) (λ i. i < length plan) (list_at links d) (λ i e. (let l = bound_within kept i e in omega (arith, l, h.all_kept)))
+      (list_all links d h.bound)
+    where
+      list_all : (links : List (List ℕ)) (d : ℕ) → AreBound kept links → All (λ i. is_bound ((kept_at kept i).stage) ≡ true) (list_at links d)
+      list_all [] d a = All-nil (λ i. is_bound ((kept_at kept i).stage) ≡ true)
+      list_all (xs ∷ links) zero a = All-head (All (λ i. is_bound ((kept_at kept i).stage) ≡ true)) xs links a
+      list_all (xs ∷ links) (suc d) a = list_all links d (All-tail (All (λ i. is_bound ((kept_at kept i).stage) ≡ true)) xs links a)
 
   -- ---- a claimed stage is linked to a lower one
 

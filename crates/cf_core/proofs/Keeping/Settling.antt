@@ -64,7 +64,7 @@ sources_grown : (step : ℕ) (old new : List KeptStage) (sources : List ℕ) →
 sources_grown step old new [] g = tt
 sources_grown step old new (j ∷ sources) g = (Grown-at step old new j g, sources_grown step old new sources g)
 
-sources_part : (new : List KeptStage) (sources : List ℕ) → map (outcome_in (stages_of new)) sources ≡ map outcome_part (map (dated_in new) sources)
+pub sources_part : (new : List KeptStage) (sources : List ℕ) → map (outcome_in (stages_of new)) sources ≡ map outcome_part (map (dated_in new) sources)
 sources_part new [] = refl
 sources_part new (j ∷ sources) =
     let here = outcome_in-stages_of new j in
@@ -127,7 +127,7 @@ one_grows step old new p Claimed at g few = record { same = refl; grows = tt }
 one_grows step old new p (Settled o) at g few = record { same = refl; grows = (refl, few) }
 
 -- one new state more
-longer : (new : List KeptStage) (b : KeptStage) (plan : List PlannedStage) (states : List Stage) → new_states (stages_of (new ++ b ∷ [])) plan states ≡ new_states (stages_of new ++ b.stage ∷ []) plan states
+pub longer : (new : List KeptStage) (b : KeptStage) (plan : List PlannedStage) (states : List Stage) → new_states (stages_of (new ++ b ∷ [])) plan states ≡ new_states (stages_of new ++ b.stage ∷ []) plan states
 longer new b plan states = ap (λ below. new_states below plan states) (map-append (λ (k : KeptStage). k.stage) new (b ∷ []))
 
 -- all stages above

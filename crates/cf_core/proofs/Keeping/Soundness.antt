@@ -1,5 +1,5 @@
 -- What is true of the stages between any two calls stays true.
-use Rattle.std.proofs.Common.{◌≡◌, ◌≢◌, ℕ, ◌+◌, ◌<◌, ◌≤◌, ◌∷◌, [], List, All, Bool, true, false, Option, Some, None, Contains, length, arith, ap, sym, ◌∙◌, subst, refl, set, map, inl, inr, length-set}
+use Rattle.std.proofs.Common.{◌≡◌, ◌≢◌, ℕ, ◌+◌, ◌<◌, ◌≤◌, ◌∷◌, [], List, All, Bool, true, false, Option, Some, None, Contains, length, suc, zero, arith, ap, sym, ◌∙◌, subst, refl, set, map, inl, inr, length-set}
 use Rattle.std.specs.Prelude.{slice_get, option_and_then, unwrap_or, count_by}
 use Rattle.std.specs.Option.{option_map}
 use Rattle.std.specs.List.{sum_by}
@@ -52,7 +52,7 @@ bound_at kept d new l h i b = elim (eqb_tells i d) [
       ap (λ (k : KeptStage). is_bound k.stage) is ∙ b)
 ]
 
-All-more : {X : Type 0} (P Q : X → Type 0) (xs : List X) → ((x : X) → P x → Q x) → All P xs → All Q xs
+pub All-more : {X : Type 0} (P Q : X → Type 0) (xs : List X) → ((x : X) → P x → Q x) → All P xs → All Q xs
 All-more P Q [] h a = All-nil Q
 All-more P Q (x ∷ xs) h a = All-cons Q x xs (h x (All-head P x xs a)) (All-more P Q xs h (All-tail P x xs a))
 
@@ -64,6 +64,11 @@ bound_more kept links d new l h =
     All-more (All P) (All Q) links (λ xs a. All-more P Q xs (bound_at kept d new l h) a)
 
 -- a stage that wasn't linked stands in no list
+pub bound_within : (kept : List KeptStage) (i : ℕ) → is_bound ((kept_at kept i).stage) ≡ true → i < length kept
+bound_within [] i e = cc
+bound_within (k ∷ kept) zero e = omega arith
+bound_within (k ∷ kept) (suc i) e = let h = bound_within kept i e in omega arith
+
 pub bound_free : (kept : List KeptStage) (links : List (List ℕ)) (d : ℕ) → is_bound ((kept_at kept d).stage) ≡ false → AreBound kept links → IsFree links d
 bound_free kept links d e =
     let P : ℕ → Type 0 = λ i. is_bound ((kept_at kept i).stage) ≡ true in
@@ -141,7 +146,7 @@ settled_sound plan kept marks ready links steps turns named h d o step steps2 tu
       sources_lower = h.sources_lower;
       all_kept = length-set kept d new ∙ h.all_kept;
       all_marks = length-mark_all (set kept d new) (list_at links d) marked ∙ length-mark_all (set kept d new) (dependents_of plan d) first ∙ count ∙ h.all_marks;
-      all_links = length-set links d [] ∙ h.all_links;
+      all_links = (let same = length-set links d [] in let enough = h.all_links in omega (arith, same, enough));
       ready_are = ap (λ xs. set xs d false) h.ready_are ∙ sym (map-set (λ (k : KeptStage). is_ready k.stage) kept d new);
       waits = but_closed plan (set kept d new) (mark_all (set kept d new) (list_at links d) marked) d
           (but_settled plan kept links first d new old there unsettled (count ∙ h.all_marks) named h.listed (but_marks plan kept marks first d others h.waits))
@@ -177,7 +182,7 @@ unsettled_sound plan kept marks ready links steps turns h d new steps2 turns2 fi
       sources_lower = h.sources_lower;
       all_kept = length-set kept d new ∙ h.all_kept;
       all_marks = count ∙ h.all_marks;
-      all_links = same_links ∙ h.all_links;
+      all_links = (let enough = h.all_links in omega (arith, same_links, enough));
       ready_are = ap (λ xs. set xs d (is_ready new.stage)) h.ready_are ∙ sym (map-set (λ (k : KeptStage). is_ready k.stage) kept d new);
       waits = but_closed plan (set kept d new) first d (but_unsettled plan kept first d old new there before then (but_marks plan kept marks first d others h.waits))
           (λ p k ep ek em. (let is : Some k ≡ Some new = sym ek ∙ get-set_same kept d new in_kept in let same : k ≡ new = cc in subst (WaitsNow (set kept d new) p) (sym same) (waits p ep em)));
@@ -220,7 +225,7 @@ waiting_unsettled (Ready args) e = cc
 waiting_unsettled Claimed e = cc
 waiting_unsettled (Settled o) e = cc
 
-due_steps : (due : Due) (at step : ℕ) → steps_of ((due_kept due at step).stage) ≤ 2
+pub due_steps : (due : Due) (at step : ℕ) → steps_of ((due_kept due at step).stage) ≤ 2
 due_steps IsWaits at step = omega arith
 due_steps (Settles o) at step = omega arith
 due_steps (Needs args) at step = omega arith
@@ -236,7 +241,7 @@ treated_steps kept p (Ready args) step e = cc
 treated_steps kept p Claimed step e = cc
 treated_steps kept p (Settled o) step e = cc
 
-due_marks : (plan : List PlannedStage) (d : ℕ) (due : Due) (at step : ℕ) → marks_of plan d ((due_kept due at step).stage) ≤ length (dependents_of plan d) + link_marks (form_at plan d)
+pub due_marks : (plan : List PlannedStage) (d : ℕ) (due : Due) (at step : ℕ) → marks_of plan d ((due_kept due at step).stage) ≤ length (dependents_of plan d) + link_marks (form_at plan d)
 due_marks plan d IsWaits at step = omega arith
 due_marks plan d (Settles o) at step = omega arith
 due_marks plan d (Needs args) at step = omega arith

@@ -35,7 +35,7 @@ both-none form (j ∷ sources) = refl
 first-none : (form : Form) (sources : List ℕ) → due_of_first form (outcome_part (earliest (map {B = Option (Outcome × ℕ)} (λ (j : ℕ). None) sources))) ≡ Waits
 first-none form sources = ap (λ x. due_of_first form (outcome_part x)) (earliest-none sources)
 
-unstarted_waits : (form : Form) (sources : List ℕ) → starts form sources ≡ false → (late_due form (map {B = Option (Outcome × ℕ)} (λ (j : ℕ). None) sources)).0 ≡ Waits
+pub unstarted_waits : (form : Form) (sources : List ℕ) → starts form sources ≡ false → (late_due form (map {B = Option (Outcome × ℕ)} (λ (j : ℕ). None) sources)).0 ≡ Waits
 unstarted_waits Source sources e = refl
 unstarted_waits Supply sources e = cc
 unstarted_waits RunAsync sources e = cc
@@ -66,7 +66,7 @@ all-none : (n : ℕ) (sources : List ℕ) → map (dated_in (replicate n untreat
 all-none n [] = refl
 all-none n (j ∷ sources) = let here = dated-none n j in let rest = all-none n sources in cc
 
-waits_kept : (due : Due × ℕ) → due.0 ≡ Waits → due_kept due.0 due.1 0 ≡ untreated
+pub waits_kept : (due : Due × ℕ) → due.0 ≡ Waits → due_kept due.0 due.1 0 ≡ untreated
 waits_kept due e = rw e refl
 
 unstarted : (n : ℕ) (p : PlannedStage) → starts p.form p.sources ≡ false → treated (replicate n untreated) p untreated ≡ untreated
@@ -117,7 +117,7 @@ one_mark true marks i = count-set_true marks i
 one_mark false marks i = omega arith
 
 -- a stage that starts is never linked
-one_each : (form : Form) (sources : List ℕ) → cond (starts form sources) 1 0 + link_marks form ≤ 1
+pub one_each : (form : Form) (sources : List ℕ) → cond (starts form sources) 1 0 + link_marks form ≤ 1
 one_each Source sources = omega arith
 one_each Supply sources = omega arith
 one_each RunAsync sources = omega arith
@@ -194,7 +194,7 @@ start_sound plan few edges lower =
       sources_lower = lower;
       all_kept = length-replicate n untreated;
       all_marks = length-mark_starts 0 plan none ∙ m;
-      all_links = length-replicate {A = List ℕ} n [];
+      all_links = (let same = length-replicate {A = List ℕ} n [] in omega (arith, same));
       ready_are = none_ready n;
       waits = λ i p k ep ek em. (let is = get-replicate n i untreated k ek in
           let at : 0 + i ≡ i = omega arith in

@@ -98,13 +98,13 @@ pub record IsSound (plan : List PlannedStage) (kept : List KeptStage) (marks rea
   pub sources_lower : HasLowerSources 0 plan
   pub all_kept : length kept ≡ length plan
   pub all_marks : length marks ≡ length plan
-  pub all_links : length links ≡ length plan
+  pub all_links : length plan ≤ length links
   pub ready_are : ready ≡ map (λ k. is_ready k.stage) kept
   pub waits : Waits plan kept marks
   pub listed : AreListed kept links
   pub bound : AreBound kept links
   pub kept_steps : StepsUpTo steps kept
-  pub steps_left : steps + sum_by (λ k. steps_of k.stage) kept ≤ 2 * length plan
+  pub steps_left : steps + sum_by (λ k. steps_of k.stage) kept ≤ 3 * length plan
   pub turns_left : turns_in_all plan kept marks links turns ≤ edges_of plan + length plan
 
 -- whether a stage is claimed or settled, so that a claim of it can be open

@@ -4,9 +4,14 @@ use Rattle.cf_core.specs.declared.kept.KeptStage.{KeptStage}
 use Rattle.cf_core.specs.Keeping.Sound.{StayTaken, is_taken, kept_at, outlook}
 use Rattle.cf_core.proofs.Keeping.Marking.{get-set_same}
 use Rattle.cf_core.proofs.Keeping.Sums.{StepsUpTo-at, kept_is, kept_there}
-use Rattle.cf_core.proofs.Keeping.Moves.{claim_same, claim_sound, is_steady}
+use Rattle.cf_core.proofs.Keeping.Moves.{links_within, claim_same, claim_sound, is_steady}
 use Rattle.cf_core.proofs.Keeping.Places.{IsSound-same, StayTaken-set, kept_read, ready_args}
 use Rattle.cf_core.proofs.stages.Stages.claim.Goals as goal
+
+pub put-requires-clause-linked : goal.put-requires-clause-linked
+put-requires-clause-linked c =
+    let s = c.args.self.now in
+    links_within c.args.plan.now.stages s.kept.items s.marks s.ready s.links s.steps s.turns c.requires.sound c.args.d
 
 pub returns-clause-claimed : goal.returns-clause-claimed
 returns-clause-claimed c =

@@ -1,11 +1,19 @@
-use Rattle.std.proofs.Common.{◌≡◌, ◌+◌, ◌∙◌, None, ap, arith, subst, sym}
+use Rattle.std.proofs.Common.{◌≡◌, ◌∷◌, length, ◌+◌, ◌∙◌, None, ap, arith, subst, sym}
 use Rattle.cf_core.specs.declared.stage.Stage.TheVariants.{Linked}
 use Rattle.cf_core.specs.declared.kept.KeptStage.{KeptStage}
 use Rattle.cf_core.specs.Keeping.Late.{dated_in}
+use Rattle.cf_core.specs.Keeping.Links.{list_at}
 use Rattle.cf_core.specs.Keeping.Sound.{StayTakenBut, outlook}
-use Rattle.cf_core.proofs.Keeping.Moves.{is_steady, link_free, link_room, link_same, link_sound}
+use Rattle.cf_core.proofs.Keeping.Moves.{is_steady, links_within, link_free, link_room, link_same, link_sound}
+use Rattle.cf_core.proofs.Keeping.MarkLemmas.{other_within}
 use Rattle.cf_core.proofs.Keeping.Places.{IsSound-same, StayTakenBut-set, undated}
 use Rattle.cf_core.proofs.stages.Stages.link.Goals as goal
+
+pub put-requires-clause-linked : goal.put-requires-clause-linked
+put-requires-clause-linked c =
+    let s = c.args.self.now in
+    other_within s.links c.push.new.self c.args.j c.args.d (length c.args.plan.now.stages) (c.args.d ∷ list_at s.links c.args.j) c.push.ensures (λ same. absurd (omega (arith, c.requires.target)))
+    (links_within c.args.plan.now.stages s.kept.items s.marks s.ready s.links s.steps s.turns c.requires.sound c.args.d)
 
 pub push-requires-clause-room : goal.push-requires-clause-room
 push-requires-clause-room c =

@@ -2,9 +2,14 @@ use Rattle.std.proofs.Common.{◌+◌, ◌∙◌, ap, arith, refl, subst, sym}
 use Rattle.cf_core.specs.declared.stage.Stage.TheVariants.{Settled}
 use Rattle.cf_core.specs.declared.kept.KeptStage.{KeptStage}
 use Rattle.cf_core.specs.Keeping.Sound.{StayTaken, outlook}
-use Rattle.cf_core.proofs.Keeping.Moves.{is_steady, settle_same, settle_sound}
+use Rattle.cf_core.proofs.Keeping.Moves.{is_steady, links_within, settle_same, settle_sound}
 use Rattle.cf_core.proofs.Keeping.Places.{IsSound-same, StayTaken-set}
 use Rattle.cf_core.proofs.stages.Stages.settle.Goals as goal
+
+pub put-requires-clause-linked : goal.put-requires-clause-linked
+put-requires-clause-linked c =
+    let s = c.args.self.now in
+    links_within c.args.plan.now.stages s.kept.items s.marks s.ready s.links s.steps s.turns c.requires.sound c.args.d
 
 pub returns-clause-after : goal.returns-clause-after
 returns-clause-after c =

@@ -3,8 +3,14 @@ use Rattle.cf_plan.specs.Plans.{function_at}
 use Rattle.cf_core.specs.Keeping.Late.{treated}
 use Rattle.cf_core.specs.Keeping.Turns.{planned_at}
 use Rattle.cf_core.specs.Keeping.Sound.{StayTaken, is_waiting, kept_at, marks_after, outlook}
+use Rattle.cf_core.proofs.Keeping.Moves.{links_within}
 use Rattle.cf_core.proofs.Keeping.Places.{IsSound-same, turn_idle, turn_idly, turn_kept, turn_outlook, turn_taken}
 use Rattle.cf_core.proofs.stages.Stages.turn.Goals as goal
+
+pub put-requires-clause-linked : goal.put-requires-clause-linked
+put-requires-clause-linked c =
+    let s = c.args.self.now in
+    links_within c.args.plan.now.stages s.kept.items s.marks s.ready s.links s.steps s.turns c.requires.sound c.args.m
 
 pub returns-then-is_waiting-clause-same : goal.returns-then-is_waiting-clause-same
 returns-then-is_waiting-clause-same c =
