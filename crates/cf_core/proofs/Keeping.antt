@@ -17,3 +17,5 @@ pub mod StartSound
 pub mod GraphLemmas
 pub mod TurnLemmas
 pub mod Attaching
+pub mod AttachSound
+pub mod Takes

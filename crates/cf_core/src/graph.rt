@@ -1,17 +1,19 @@
 //! The graph: what it keeps, how it begins, and what it tells.
 mod answering;
+mod attaching;
 mod claims;
 mod limits;
 mod settling;
 
-ghost use Rattle.std.specs.Prelude.{◌≡◌, ◌+◌, ◌<◌, ◌≤◌, ◌↔◌, IfOk, IsTrue, None, length, nat_lt, replicate};
+ghost use Rattle.std.specs.Prelude.{◌≡◌, ◌+◌, ◌*◌, ◌<◌, ◌≤◌, ◌↔◌, IfOk, IsTrue, None, length, nat_lt, replicate, vec_capacity};
 ghost use Rattle.cf_outcome.specs.Outcomes.{now_of};
+ghost use Rattle.cf_plan.specs.Plans.{IsGrowing, edges_of, function_at, opening_of, with_room};
 ghost use Rattle.cf_core.specs.States.{lowest_ready_of, outcome_at, start};
 ghost use Rattle.cf_core.specs.Graphs.{most_turns};
 
 use crate::stages::Stages;
 use cf_outcome::{Now, Outcome, Value, now_of};
-use cf_plan::Plan;
+use cf_plan::{GrowingPlan, Plan};
 use std::alloc::{AllocError, Global};
 use std::marker::Model;
 
@@ -28,7 +30,7 @@ pub enum GraphFault {
 /// and how many turns were taken.
 #[derive(Drop)]
 pub struct Graph {
-    plan: Plan,
+    plan: GrowingPlan,
     stages: Stages,
     claims: Vec<Option<u8>>,
     moment: u32,
@@ -40,12 +42,13 @@ impl Model for Graph {
 
     ghost Value = { Graph };
 
+    ghost use Rattle.std.specs.Vec.{vec_capacity};
     ghost use Rattle.cf_core.specs.Keeping.SoundStages.{outlook_of};
     ghost use Rattle.cf_core.specs.Keeping.Graphs.{IsInStep};
 
     ghost view = { λ g. record { state = record { plan = g.plan; stages = outlook_of g.plan.stages g.stages; claims = g.claims.items; moment = g.moment; used = g.used }; turns = g.stages.turns } };
 
-    ghost invariant = { λ g. IsInStep g.plan g.stages g.claims.items g.used };
+    ghost invariant = { λ g. IsInStep g.plan g.stages g.claims.items (vec_capacity g.claims) g.used };
 }
 
 impl Graph {
@@ -54,22 +57,49 @@ impl Graph {
     pub fn new(alloc: Global, plan: Plan) -> Result<Graph, GraphFault>
         ensures { IfOk result (λ graph. graph ≡ record { state = start plan; turns = 0 }) }
     {
-        match graph_of(alloc, plan) {
+        let _stages = plan.stages();
+        Graph::new_growing(alloc, plan, 0)
+    }
+
+    /// The graph of a plan, at its start, with room for so many stages that are attached later. It takes all the memory
+    /// that the graph will ever need, also for these, and fails only where there is none.
+    pub fn new_growing(alloc: Global, plan: Plan, room: u16) -> Result<Graph, GraphFault>
+        requires stages { length plan.stages + room ≤ 4096 }
+        requires edges { edges_of plan.stages + 2 * room ≤ 16384 }
+        ensures { IfOk result (λ graph. graph ≡ record { state = start (with_room plan room); turns = 0 }) }
+    {
+        match graph_of(alloc, plan, room) {
             Ok(graph) => Ok(graph),
             Err(_) => Err(GraphFault::NoMemory),
         }
     }
 
-    /// The plan that it was made of.
+    /// The plan that it was opened with.
     pub fn plan(&self) -> &Plan
-        ensures plan { result.now ≡ self.now.state.plan }
+        ensures { result.now ≡ opening_of self.now.state.plan }
+    {
+        self.plan.opening()
+    }
+
+    /// How many stages there are by now, the attached ones too.
+    pub fn stages(&self) -> u16
+        ensures count { result ≡ length self.now.state.plan.stages }
+        ensures growing { IsGrowing self.now.state.plan }
         ensures all_stages { length self.now.state.stages ≡ length self.now.state.plan.stages }
         ensures all_claims { length self.now.state.claims ≡ length self.now.state.plan.stages }
     {
-        &self.plan
+        self.plan.stages()
     }
 
-    /// Whether the plan has such a stage.
+    /// The number of a stage's function, if its form has one.
+    pub fn function(&self, i: u16) -> Option<u16>
+        requires { i < length self.now.state.plan.stages }
+        ensures { result ≡ function_at self.now.state.plan.stages i }
+    {
+        self.plan.function(i)
+    }
+
+    /// Whether there is such a stage by now.
     pub fn has(&self, i: u16) -> bool
         ensures told { result ≡ nat_lt i (length self.now.state.plan.stages) }
         ensures has { IsTrue result ↔ (i < length self.now.state.plan.stages) }
@@ -129,12 +159,15 @@ impl Graph {
     }
 }
 
-/// The graph of a plan.
-fn graph_of(alloc: Global, plan: Plan) -> Result<Graph, AllocError>
-    ensures { IfOk result (λ graph. graph ≡ record { state = start plan; turns = 0 }) }
+/// The graph of a plan with room for so many stages.
+fn graph_of(alloc: Global, plan: Plan, room: u16) -> Result<Graph, AllocError>
+    requires stages { length plan.stages + room ≤ 4096 }
+    requires edges { edges_of plan.stages + 2 * room ≤ 16384 }
+    ensures { IfOk result (λ graph. graph ≡ record { state = start (with_room plan room); turns = 0 }) }
 {
+    let plan = GrowingPlan::new(alloc, plan, room)?;
     let stages = Stages::new(alloc, &plan)?;
-    let claims = no_claims(alloc, plan.stages())?;
+    let claims = no_claims(alloc, plan.stages(), room)?;
     Ok(Graph {
         plan,
         stages,
@@ -144,8 +177,18 @@ fn graph_of(alloc: Global, plan: Plan) -> Result<Graph, AllocError>
     })
 }
 
+/// So many stages that nobody has a claim of, with room for more.
+fn no_claims(alloc: Global, count: u16, room: u16) -> Result<Vec<Option<u8>>, AllocError>
+    ensures claims { IfOk result (λ claims. claims.items ≡ replicate count None) }
+    ensures room { IfOk result (λ claims. count + room ≤ vec_capacity claims) }
+{
+    let mut claims = unclaimed(alloc, count)?;
+    claims.reserve(room as usize)?;
+    Ok(claims)
+}
+
 /// So many stages that nobody has a claim of.
-fn no_claims(alloc: Global, count: u16) -> Result<Vec<Option<u8>>, AllocError>
+fn unclaimed(alloc: Global, count: u16) -> Result<Vec<Option<u8>>, AllocError>
     ensures { IfOk result (λ claims. claims.items ≡ replicate count None) }
 {
     vec![in alloc; None; count as usize]

@@ -48,6 +48,7 @@
 #![tactic(auto)]
 
 mod asks;
+mod attach;
 mod events;
 mod graph;
 mod kept;

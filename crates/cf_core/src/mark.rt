@@ -7,6 +7,7 @@ use crate::kept::KeptStage;
 use crate::links::Links;
 use crate::stage::Stage;
 use cf_bits::BitSet;
+use cf_plan::Later;
 
 /// Whether a stage waits, for its sources or for the stage that it is linked to.
 pub fn is_waiting(stage: Stage) -> bool
@@ -35,6 +36,19 @@ pub fn mark_each(kept: &[KeptStage], marks: &mut BitSet, stages: &[u16])
 {
     for i in stages {
         mark(kept, marks, *i);
+    }
+}
+
+/// Marks those of these stages that wait, one after another.
+pub fn mark_later(kept: &[KeptStage], marks: &mut BitSet, stages: Later<'_>)
+    requires stages { All (λ i. i < length kept.now) stages }
+    requires all { length marks.old ≡ length kept.now }
+    ensures marks { marks.new ≡ mark_all kept.now stages.entry marks.old }
+    ensures all { length marks.new ≡ length kept.now }
+{
+    let mut rest = stages;
+    while let Some(i) = rest.pop() {
+        mark(kept, marks, i);
     }
 }
 

@@ -1,5 +1,7 @@
 //! The stages of a graph, of which some wait for treatment.
-ghost use Rattle.std.specs.Prelude.{◌≡◌, ℕ, ◌+◌, ◌<◌, ◌≤◌, [], All, IfNone, IfOk, IfSome, None, Some, length, option_and_then, position, replicate, slice_get, slice_set, true, if◌then◌else◌};
+mod attaching;
+
+ghost use Rattle.std.specs.Prelude.{◌≡◌, ℕ, ◌+◌, ◌<◌, ◌≤◌, [], All, IfNone, IfOk, IfSome, None, Some, length, option_and_then, position, replicate, slice_get, slice_set, true, vec_capacity, if◌then◌else◌};
 ghost use Rattle.cf_plan.specs.declared.forms.Landing.TheVariants.{Links as LinksTo};
 ghost use Rattle.cf_plan.specs.Forms.{composes};
 ghost use Rattle.cf_plan.specs.Plans.{form_at, sources_at};
@@ -8,18 +10,18 @@ ghost use Rattle.cf_core.specs.States.{is_ready, new_states, outcome_in, outcome
 ghost use Rattle.cf_core.specs.Keeping.Landings.{landed_stages};
 ghost use Rattle.cf_core.specs.Keeping.Links.{list_at};
 ghost use Rattle.cf_core.specs.Keeping.Sound.{AreTreated, ReadyIsTreated, StayTaken, StayTakenBut, is_taken, kept_at, links_after, marks_after};
-ghost use Rattle.cf_core.specs.Keeping.SoundStages.{AreSound, outlook_of};
+ghost use Rattle.cf_core.specs.Keeping.SoundStages.{AreSound, HasRoom, SameRoom, outlook_of};
 ghost use Rattle.cf_core.specs.Keeping.Turns.{TurnsBelowReady, TurnsUpTo, turned};
 ghost use Rattle.cf_core.specs.Keeping.Starts.{mark_starts, starts, untreated};
 
 use crate::kept::KeptStage;
 use crate::links::Links;
-use crate::mark::{is_waiting, mark_each, mark_linked};
+use crate::mark::{is_waiting, mark_each, mark_later, mark_linked};
 use crate::stage::Stage;
 use crate::treat::treated;
 use cf_bits::BitSet;
 use cf_outcome::{Outcome, wrap};
-use cf_plan::{Form, Landing, Plan};
+use cf_plan::{Form, GrowingPlan, Landing};
 use std::alloc::{AllocError, Global};
 
 /// The stages of a plan: what is kept of each, which of them are marked for treatment, which are ready, which are linked
@@ -35,17 +37,20 @@ pub struct Stages {
 }
 
 impl Stages {
-    /// The stages of a plan, none of which was treated. Those that have something to take from the start on are marked.
-    pub fn new(alloc: Global, plan: &Plan) -> Result<Stages, AllocError>
+    /// The stages of a plan, none of which was treated, with room for all that may be attached. Those that have something to
+    /// take from the start on are marked.
+    pub fn new(alloc: Global, plan: &GrowingPlan) -> Result<Stages, AllocError>
         ensures start { IfOk result (λ s. outlook_of plan.now.stages s ≡ new_states [] plan.now.stages (replicate (length plan.now.stages) Pending)) }
         ensures turns { IfOk result (λ s. s.turns ≡ 0) }
         ensures sound { IfOk result (λ s. AreSound plan.now.stages s) }
+        ensures room { IfOk result (λ s. HasRoom (length plan.now.stages + plan.now.room) s) }
     {
         let count = plan.stages();
-        let kept = untreated(alloc, count)?;
+        let room = plan.room();
+        let kept = untreated(alloc, count, room)?;
         let mut marks = BitSet::new(alloc, count)?;
         let ready = BitSet::new(alloc, count)?;
-        let links = Links::new(alloc, count as usize)?;
+        let links = Links::new(alloc, (count + room) as usize)?;
         mark_starts(plan, &mut marks);
         Ok(Stages {
             kept,
@@ -61,7 +66,7 @@ impl Stages {
     ///
     /// It stands in each caller's own code, so that a new stage is written part by part and never read back as a whole.
     #[inline(always)]
-    fn put(&mut self, plan: &Plan, d: u16, new: KeptStage)
+    fn put(&mut self, plan: &GrowingPlan, d: u16, new: KeptStage)
         requires stage { d < length plan.now.stages }
         requires all_kept { length self.old.kept.items ≡ length plan.now.stages }
         requires all_marks { length self.old.marks ≡ length plan.now.stages }
@@ -74,12 +79,14 @@ impl Stages {
         ensures links { self.new.links ≡ links_after self.old.links d new.stage }
         ensures steps { self.new.steps ≡ self.old.steps }
         ensures turns { self.new.turns ≡ self.old.turns }
+        ensures room { SameRoom self.old self.new }
     {
         self.kept[d as usize] = new;
         match new.stage {
             Stage::Settled(_) => {
                 self.ready.remove(d);
                 mark_each(&self.kept, &mut self.marks, plan.dependents(d));
+                mark_later(&self.kept, &mut self.marks, plan.later(d));
                 mark_linked(&self.kept, &mut self.marks, &mut self.links, d);
             }
             Stage::Ready(_) => self.ready.insert(d),
@@ -88,13 +95,14 @@ impl Stages {
     }
 
     /// Treats the lowest marked stage: this is a turn. Nothing else is called a turn.
-    fn turn(&mut self, plan: &Plan, m: u16)
+    fn turn(&mut self, plan: &GrowingPlan, m: u16)
         requires sound { AreSound plan.now.stages self.old }
         requires lowest { position (λ b. b) self.old.marks ≡ Some m }
         ensures turned { self.new.kept.items ≡ turned plan.now.stages self.old.kept.items m }
         ensures counted { self.new.turns ≡ self.old.turns + 1 }
         ensures same { outlook_of plan.now.stages self.new ≡ outlook_of plan.now.stages self.old }
         ensures taken { StayTaken self.old.kept.items self.new.kept.items }
+        ensures room { SameRoom self.old self.new }
         ensures sound { AreSound plan.now.stages self.new }
     {
         self.marks.remove(m);
@@ -106,17 +114,34 @@ impl Stages {
     }
 
     /// Treats all marked stages up to stage `d`, the lowest first.
-    pub fn treat_up_to(&mut self, plan: &Plan, d: u16)
+    pub fn treat_up_to(&mut self, plan: &GrowingPlan, d: u16)
         requires sound { AreSound plan.now.stages self.old }
         requires stage { d < length plan.now.stages }
         ensures treated { AreTreated (d + 1) self.new.marks }
         ensures same { outlook_of plan.now.stages self.new ≡ outlook_of plan.now.stages self.old }
         ensures taken { StayTaken self.old.kept.items self.new.kept.items }
         ensures turns { TurnsUpTo plan.now.stages d self.old self.new }
+        ensures room { SameRoom self.old self.new }
         ensures sound { AreSound plan.now.stages self.new }
     {
         while let Some(m) = self.marked_up_to(d) {
             self.turn(plan, m);
+        }
+    }
+
+    /// Treats all marked stages, the lowest first.
+    pub fn treat_all(&mut self, plan: &GrowingPlan)
+        requires sound { AreSound plan.now.stages self.old }
+        ensures treated { AreTreated (length plan.now.stages) self.new.marks }
+        ensures same { outlook_of plan.now.stages self.new ≡ outlook_of plan.now.stages self.old }
+        ensures taken { StayTaken self.old.kept.items self.new.kept.items }
+        ensures counted { self.old.turns ≤ self.new.turns }
+        ensures room { SameRoom self.old self.new }
+        ensures sound { AreSound plan.now.stages self.new }
+    {
+        let count = plan.stages();
+        if count > 0 {
+            self.treat_up_to(plan, count - 1);
         }
     }
 
@@ -134,12 +159,13 @@ impl Stages {
     }
 
     /// The lowest ready stage. All marked stages below it are treated.
-    pub fn lowest_ready(&mut self, plan: &Plan) -> Option<u16>
+    pub fn lowest_ready(&mut self, plan: &GrowingPlan) -> Option<u16>
         requires sound { AreSound plan.now.stages self.old }
         ensures told { result ≡ position is_ready (outlook_of plan.now.stages self.old) }
         ensures same { outlook_of plan.now.stages self.new ≡ outlook_of plan.now.stages self.old }
         ensures taken { StayTaken self.old.kept.items self.new.kept.items }
         ensures turns { TurnsBelowReady plan.now.stages self.old self.new }
+        ensures room { SameRoom self.old self.new }
         ensures sound { AreSound plan.now.stages self.new }
     {
         while let Some(m) = self.marked_below_ready() {
@@ -165,13 +191,14 @@ impl Stages {
     }
 
     /// Takes at most `k` turns, each of the lowest marked stage, and says how many.
-    pub fn nudge(&mut self, plan: &Plan, k: u32) -> u32
+    pub fn nudge(&mut self, plan: &GrowingPlan, k: u32) -> u32
         requires sound { AreSound plan.now.stages self.old }
         ensures few { result ≤ k }
         ensures counted { self.new.turns ≡ self.old.turns + result }
         ensures all { result < k → position (λ b. b) self.new.marks ≡ None }
         ensures same { outlook_of plan.now.stages self.new ≡ outlook_of plan.now.stages self.old }
         ensures taken { StayTaken self.old.kept.items self.new.kept.items }
+        ensures room { SameRoom self.old self.new }
         ensures sound { AreSound plan.now.stages self.new }
     {
         let mut taken = 0;
@@ -202,7 +229,7 @@ impl Stages {
 
     /// Settles a stage that isn't settled, in a step of its own. No stage up to it waits for treatment.
     #[inline(always)]
-    pub fn settle(&mut self, plan: &Plan, d: u16, o: Outcome)
+    pub fn settle(&mut self, plan: &GrowingPlan, d: u16, o: Outcome)
         requires sound { AreSound plan.now.stages self.old }
         requires stage { d < length plan.now.stages }
         requires treated { AreTreated (d + 1) self.old.marks }
@@ -210,6 +237,7 @@ impl Stages {
         ensures after { outlook_of plan.now.stages self.new ≡ new_states [] plan.now.stages (slice_set (outlook_of plan.now.stages self.old) d (Settled o)) }
         ensures taken { StayTaken self.old.kept.items self.new.kept.items }
         ensures turns { self.new.turns ≡ self.old.turns }
+        ensures room { SameRoom self.old self.new }
         ensures sound { AreSound plan.now.stages self.new }
     {
         self.steps += 1;
@@ -225,7 +253,7 @@ impl Stages {
     }
 
     /// Claims a ready stage. No stage up to it waits for treatment.
-    pub fn claim(&mut self, plan: &Plan, d: u16)
+    pub fn claim(&mut self, plan: &GrowingPlan, d: u16)
         requires sound { AreSound plan.now.stages self.old }
         requires stage { d < length plan.now.stages }
         requires treated { AreTreated (d + 1) self.old.marks }
@@ -234,6 +262,7 @@ impl Stages {
         ensures here { is_taken ((kept_at self.new.kept.items d).stage) ≡ true }
         ensures taken { StayTaken self.old.kept.items self.new.kept.items }
         ensures turns { self.new.turns ≡ self.old.turns }
+        ensures room { SameRoom self.old self.new }
         ensures sound { AreSound plan.now.stages self.new }
     {
         let step = self.kept[d as usize].step;
@@ -249,7 +278,7 @@ impl Stages {
 
     /// Links a claimed stage of a form that composes to a lower stage that isn't settled, in a step of its own. No stage up to it waits for
     /// treatment.
-    pub fn link(&mut self, plan: &Plan, d: u16, j: u16)
+    pub fn link(&mut self, plan: &GrowingPlan, d: u16, j: u16)
         requires sound { AreSound plan.now.stages self.old }
         requires stage { d < length plan.now.stages }
         requires target { j < d }
@@ -260,6 +289,7 @@ impl Stages {
         ensures linked { outlook_of plan.now.stages self.new ≡ slice_set (outlook_of plan.now.stages self.old) d (Linked j) }
         ensures taken { StayTakenBut d self.old.kept.items self.new.kept.items }
         ensures turns { self.new.turns ≡ self.old.turns }
+        ensures room { SameRoom self.old self.new }
         ensures sound { AreSound plan.now.stages self.new }
     {
         self.steps += 1;
@@ -287,7 +317,7 @@ impl Stages {
     }
 
     /// The outcome of a stage's first source. No stage up to it waits for treatment.
-    pub fn source(&self, plan: &Plan, i: u16) -> Option<Outcome>
+    pub fn source(&self, plan: &GrowingPlan, i: u16) -> Option<Outcome>
         requires sound { AreSound plan.now.stages self.now }
         requires stage { i < length plan.now.stages }
         requires treated { AreTreated (i + 1) self.now.marks }
@@ -300,7 +330,7 @@ impl Stages {
     }
 
     /// A claimed stage lands. No stage up to it waits for treatment.
-    pub fn land(&mut self, plan: &Plan, d: u16, at: Landing)
+    pub fn land(&mut self, plan: &GrowingPlan, d: u16, at: Landing)
         requires sound { AreSound plan.now.stages self.old }
         requires stage { d < length plan.now.stages }
         requires treated { AreTreated (d + 1) self.old.marks }
@@ -310,6 +340,7 @@ impl Stages {
         ensures landed { outlook_of plan.now.stages self.new ≡ landed_stages plan.now.stages (outlook_of plan.now.stages self.old) d at }
         ensures taken { StayTakenBut d self.old.kept.items self.new.kept.items }
         ensures turns { self.new.turns ≡ self.old.turns }
+        ensures room { SameRoom self.old self.new }
         ensures sound { AreSound plan.now.stages self.new }
     {
         match at {
@@ -322,8 +353,18 @@ impl Stages {
     }
 }
 
-/// So many stages that were never treated.
-fn untreated(alloc: Global, count: u16) -> Result<Vec<KeptStage>, AllocError>
+/// So many stages that were never treated, with room for more.
+fn untreated(alloc: Global, count: u16, room: u16) -> Result<Vec<KeptStage>, AllocError>
+    ensures kept { IfOk result (λ kept. kept.items ≡ replicate count untreated) }
+    ensures room { IfOk result (λ kept. count + room ≤ vec_capacity kept) }
+{
+    let mut kept = pending_stages(alloc, count)?;
+    kept.reserve(room as usize)?;
+    Ok(kept)
+}
+
+/// So many pending stages.
+fn pending_stages(alloc: Global, count: u16) -> Result<Vec<KeptStage>, AllocError>
     ensures { IfOk result (λ kept. kept.items ≡ replicate count untreated) }
 {
     vec![in alloc; KeptStage {
@@ -333,7 +374,7 @@ fn untreated(alloc: Global, count: u16) -> Result<Vec<KeptStage>, AllocError>
 }
 
 /// Marks the stages that have something to take from the start on.
-fn mark_starts(plan: &Plan, marks: &mut BitSet)
+fn mark_starts(plan: &GrowingPlan, marks: &mut BitSet)
     requires { length marks.old ≡ length plan.now.stages }
     ensures { marks.new ≡ mark_starts 0 plan.now.stages marks.old }
 {
@@ -353,7 +394,7 @@ fn mark_start(form: Form, sources: &[u16], marks: &mut BitSet, i: u16)
 }
 
 /// Whether a stage has something to take from the start on.
-fn starts(form: Form, sources: &[u16]) -> bool
+pub fn starts(form: Form, sources: &[u16]) -> bool
     ensures { result ≡ starts form sources.now }
 {
     match form {

@@ -89,7 +89,7 @@ fn due(kept: &[KeptStage], form: Form, sources: &[u16], step: u32) -> KeptStage
 }
 
 /// A pending stage by what is due, and by the step at which it settles.
-fn keep(due: Due, at: u32, step: u32) -> KeptStage
+pub fn keep(due: Due, at: u32, step: u32) -> KeptStage
     ensures { result ≡ due_kept due at step }
 {
     match due {
@@ -149,7 +149,7 @@ fn latest(kept: &[KeptStage], sources: &[u16]) -> u32
 }
 
 /// The outcome of a source.
-fn outcome_below(kept: &[KeptStage], j: u16) -> Option<Outcome>
+pub fn outcome_below(kept: &[KeptStage], j: u16) -> Option<Outcome>
     requires { j < length kept.now }
     ensures { result ≡ outcome_part (dated_in kept.now j) }
 {
@@ -160,7 +160,7 @@ fn outcome_below(kept: &[KeptStage], j: u16) -> Option<Outcome>
 }
 
 /// What a form of two sources that waits for both does.
-fn due_both(kept: &[KeptStage], form: Form, sources: &[u16]) -> Due
+pub fn due_both(kept: &[KeptStage], form: Form, sources: &[u16]) -> Due
     requires { All (λ j. j < length kept.now) sources.now }
     ensures { result ≡ due_of_both form (map outcome_part (map (dated_in kept.now) sources.now)) }
 {
@@ -184,7 +184,7 @@ fn due_if_both(form: Form, first: Option<Outcome>, second: Option<Outcome>) -> D
 }
 
 /// Whether all sources are settled.
-fn all_settled(kept: &[KeptStage], sources: &[u16]) -> bool
+pub fn all_settled(kept: &[KeptStage], sources: &[u16]) -> bool
     requires { All (λ j. j < length kept.now) sources.now }
     ensures { result ≡ list_all is_some (map outcome_part (map (dated_in kept.now) sources.now)) }
 {
@@ -197,7 +197,7 @@ fn all_settled(kept: &[KeptStage], sources: &[u16]) -> bool
 }
 
 /// The fault at the lowest place, wrapped, or nil where none has failed.
-fn joint_outcome(kept: &[KeptStage], sources: &[u16]) -> Outcome
+pub fn joint_outcome(kept: &[KeptStage], sources: &[u16]) -> Outcome
     requires { All (λ j. j < length kept.now) sources.now }
     ensures { result ≡ first_fault (map outcome_part (map (dated_in kept.now) sources.now)) }
 {

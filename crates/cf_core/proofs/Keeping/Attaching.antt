@@ -140,7 +140,7 @@ new_states-push below (q ∷ plan) (y ∷ states) p x l =
     let rest = new_states-push (below ++ new ∷ []) plan states p x (omega arith) in
     ap (λ r. new ∷ r) (rest ∙ ap (λ b. new_states (below ++ new ∷ []) plan states ++ next_of b p.form p.sources x ∷ []) (append_assoc below (new ∷ []) (new_states (below ++ new ∷ []) plan states)))
 
-pub due_again : (kept : List KeptStage) (p : PlannedStage) (due : Due) (step : ℕ) → due_now kept p ≡ due → treated kept p (due_kept due step 0) ≡ due_kept due step 0
+pub due_again : (kept : List KeptStage) (p : PlannedStage) (due : Due) (step : ℕ) → due_now kept p.form p.sources ≡ due → treated kept p (due_kept due step 0) ≡ due_kept due step 0
 due_again kept p Waits step e =
     let q = map (dated_in kept) p.sources in
     let late = waits_late p.form q e in
@@ -162,15 +162,15 @@ length-stages_of (k ∷ kept) = ap suc (length-stages_of kept)
 
 pub attaching_is_after : AttachingIsAfter
 attaching_is_after plan kept p step l quiet =
-    let k = attached_kept kept p step in
+    let k = attached_kept kept p.form p.sources step in
     let stages = stages_of kept in
     let fixed : new_states [] plan stages ≡ stages = ap (λ ks. new_states [] plan (stages_of ks)) (sym quiet) ∙ still [] plan kept ∙ ap stages_of quiet in
-    let same : treated kept p k ≡ k = due_again kept p (due_now kept p) step refl in
+    let same : treated kept p k ≡ k = due_again kept p (due_now kept p.form p.sources) step refl in
     let left : outlook (plan ++ p ∷ []) (kept ++ k ∷ []) ≡ stages ++ k.stage ∷ [] =
     ap stages_of (all_treated-push [] plan kept p k l ∙ ap (λ ks. ks ++ treated ks p k ∷ []) quiet ∙ ap (λ x. kept ++ x ∷ []) same)
     ∙ map-append (λ (x : KeptStage). x.stage) kept (k ∷ []) in
     let here : k.stage ≡ due_state (follows p.form (map (outcome_in stages) p.sources)) =
-    due_stage (due_now kept p) step ∙ ap (λ r. due_state (follows p.form r)) (sym (sources_part kept p.sources)) in
+    due_stage (due_now kept p.form p.sources) step ∙ ap (λ r. due_state (follows p.form r)) (sym (sources_part kept p.sources)) in
     let right : new_states [] (plan ++ p ∷ []) (stages ++ Pending ∷ []) ≡ stages ++ next_of stages p.form p.sources Pending ∷ [] =
     new_states-push [] plan stages p Pending (length-stages_of kept ∙ l) ∙ ap (λ xs. xs ++ next_of xs p.form p.sources Pending ∷ []) fixed in
     left ∙ ap (λ x. stages ++ x ∷ []) here ∙ sym right ∙ ap (λ ks. new_states [] (plan ++ p ∷ []) (stages_of ks ++ Pending ∷ [])) (sym quiet)

@@ -1,6 +1,8 @@
 -- From the stages that a graph keeps to the state that contracts see.
-use Rattle.std.proofs.Common.{◌≡◌, ℕ, ◌+◌, ◌<◌, ◌∷◌, [], List, true, false, Option, Some, None, length, suc, zero, arith, ap, sym, ◌∙◌, subst, refl, set, inl, inr, replicate, cond, All, ◌==◌}
-use Rattle.std.specs.Prelude.{slice_get, unwrap_or, option_and_then}
+use Rattle.std.proofs.Common.{◌≡◌, ℕ, ◌+◌, ◌-◌, ◌<◌, ◌≤◌, ◌∷◌, ◌++◌, [], List, true, false, Option, Some, None, length, length-append, suc, zero, arith, ap, sym, ◌∙◌, subst, refl, set, inl, inr, replicate, cond, All, ◌==◌}
+use Rattle.std.specs.Prelude.{is_some, slice_get, unwrap_or, option_and_then}
+use Rattle.std.specs.List.{sum_by}
+use Rattle.std.proofs.lemmas.List.Sums.{sum_by-append, sum_by-cons}
 use Rattle.std.specs.Option.{option_map_or}
 use Rattle.std.proofs.lemmas.List.Elements.{All-head}
 use Rattle.std.proofs.lemmas.Bool.Decides.{eqb_tells, nat_tests}
@@ -10,22 +12,28 @@ use Rattle.cf_plan.specs.declared.forms.Args.{Args}
 use Rattle.cf_plan.specs.declared.forms.Answer.{Answer}
 use Rattle.cf_plan.specs.declared.forms.Landing.{Landing}
 use Rattle.cf_plan.specs.declared.forms.Landing.TheVariants.{Settles as Lands, Links}
+use Rattle.cf_plan.specs.declared.forms.Form.{Form}
+use Rattle.cf_plan.specs.declared.forms.Of.{Of}
 use Rattle.cf_plan.specs.Forms.{landing}
-use Rattle.cf_plan.specs.Plans.{PlannedStage, form_at, sources_at}
+use Rattle.cf_plan.specs.Plans.{IsGrowing, Planned, PlannedStage, and_stage, attached_stage, fits_form, sources_of, with_stage, form_at, sources_at}
 use Rattle.cf_core.specs.declared.stage.Stage.{Stage}
 use Rattle.cf_core.specs.declared.stage.Stage.TheVariants.{Pending, Ready, Claimed, Linked, Settled}
 use Rattle.cf_core.specs.declared.replies.Claimed.{Claimed as ClaimReply}
 use Rattle.cf_core.specs.declared.replies.Claimed.TheVariants.{Granted}
 use Rattle.cf_core.specs.States.{State, outcome_of, outcome_in, outcome_at, stage_at, claim_at, new_states, stages_after}
-use Rattle.cf_core.specs.Events.{settled_by, settling, claimed_by, claiming, finished_by, finishing, landed, linked_to, source_outcome}
+use Rattle.cf_core.specs.Events.{settled_by, settling, claimed_by, claiming, finished_by, finishing, landed, linked_to, source_outcome, attached_by, attaching}
+use Rattle.cf_core.specs.declared.replies.Attached.TheVariants.{At, StagesFull}
 use Rattle.cf_core.specs.declared.replies.Finished.TheVariants.{Won, Late, NotYours}
 use Rattle.cf_core.specs.declared.kept.KeptStage.{KeptStage}
 use Rattle.cf_core.specs.declared.stages.Stages.{Stages}
 use Rattle.cf_core.proofs.StateLemmas.{after-unsettled}
 use Rattle.cf_core.specs.Keeping.Sound.{AreTreated, StayTaken, StayTakenBut, is_taken, kept_at}
-use Rattle.cf_core.specs.Keeping.SoundStages.{AreSound, outlook_of}
+use Rattle.cf_core.specs.Keeping.SoundStages.{AreSound, HasRoom, SameRoom, outlook_of}
 use Rattle.cf_core.specs.Keeping.Landings.{linked_stages, landed_stages}
-use Rattle.cf_core.specs.Keeping.Graphs.{AreClaimed}
+use Rattle.cf_core.specs.Keeping.Graphs.{AreClaimed, IsInStep}
+use Rattle.cf_plan.proofs.GrowingLemmas.{IsBuilt-as, may_attach}
+use Rattle.cf_plan.proofs.PlanLemmas.{IsBuilt-with_stage}
+use Rattle.cf_core.proofs.Keeping.AttachSound.{few_sources}
 use Rattle.cf_core.proofs.Keeping.Marking.{get-set_other}
 use Rattle.cf_core.proofs.Keeping.Moves.{is_steady, outcome_there, outlook_at}
 
@@ -41,6 +49,11 @@ told_outcome plan s i h l treated = ap (option_and_then outcome_of) (told_stage 
 pub told_below : (plan : List PlannedStage) (s : Stages) (i j : ℕ) → AreSound plan s → i < length plan → AreTreated (i + 1) s.marks → j < i → outcome_in (outlook_of plan s) j ≡ outcome_of ((kept_at s.kept.items j).stage)
 told_below plan s i j h l treated below =
     outcome_there plan s.kept.items s.marks s.ready s.links s.steps s.turns h j (i + 1) (omega arith) (is_steady plan s.kept.items s.marks s.ready s.links s.steps s.turns h (i + 1) treated) (omega arith)
+
+-- ---- room
+
+pub room_stays : (most : ℕ) (old new : Stages) → HasRoom most old → SameRoom old new → HasRoom most new
+room_stays most old new h same = (let a = h.0 in let e = same.0 in omega (arith, a, e), (let a = h.1 in let e = same.1 in omega (arith, a, e)))
 
 -- ---- settling
 
@@ -153,3 +166,74 @@ finishes_now s who i answer source at seen new same has e from lands is =
     ap (λ xs. (Won, record s { stages = xs; claims = set s.claims i None })) (is ∙ ap (λ xs. landed_stages s.plan.stages xs i at) same)
     ∙ ap (λ r. (Won, r)) (landed_is before i at none ∙ ap (landed before i) at_is)
     ∙ sym (ap (λ b. cond b (finished_by (outcome_at s i) before i answer) (NotYours, s)) has ∙ ap (λ y. finished_by y before i answer) none)
+
+-- ---- attaching
+
+pub attaches_not : (s : State) (new : PlannedStage) → s.plan.room ≡ 0 → (StagesFull, s) ≡ attaching s new
+attaches_not s new e = sym (ap (λ room. attached_by room s new) e)
+
+attaches_by : (room : ℕ) (s : State) (new : PlannedStage) (seen grown : List Stage) → 0 < room → seen ≡ s.stages → grown ≡ new_states [] (s.plan.stages ++ new ∷ []) (seen ++ Pending ∷ []) →
+    (At (length s.plan.stages), record s { plan = and_stage s.plan new; stages = grown; claims = s.claims ++ None ∷ [] }) ≡ attached_by room s new
+attaches_by zero s new seen grown l same is = absurd (omega arith)
+attaches_by (suc room) s new seen grown l same is =
+    ap (λ xs. (At (length s.plan.stages), record s { plan = and_stage s.plan new; stages = xs; claims = s.claims ++ None ∷ [] }))
+    (is ∙ ap (λ xs. new_states [] (s.plan.stages ++ new ∷ []) (xs ++ Pending ∷ [])) same)
+
+pub attaches_now : (s : State) (new : PlannedStage) (seen grown : List Stage) → 0 < s.plan.room → seen ≡ s.stages → grown ≡ new_states [] (s.plan.stages ++ new ∷ []) (seen ++ Pending ∷ []) →
+    (At (length s.plan.stages), record s { plan = and_stage s.plan new; stages = grown; claims = s.claims ++ None ∷ [] }) ≡ attaching s new
+attaches_now s new seen grown l same is = attaches_by s.plan.room s new seen grown l same is
+
+-- nobody has claimed the stage that is attached
+push-open : (claims : List (Option ℕ)) (i who : ℕ) → slice_get (claims ++ None ∷ []) i ≡ Some (Some who) → slice_get claims i ≡ Some (Some who)
+push-open [] zero who e = cc
+push-open [] (suc i) who e = cc
+push-open (x ∷ claims) zero who e = e
+push-open (x ∷ claims) (suc i) who e = push-open claims i who e
+
+pub AreClaimed-push : (claims : List (Option ℕ)) (old new : List KeptStage) → AreClaimed claims old → StayTaken old new → AreClaimed (claims ++ None ∷ []) new
+AreClaimed-push claims old new h stay i who e = stay i (h i who (push-open claims i who e))
+
+-- a plan that grows still does with the stage
+pub growing-and_stage : (plan : Planned) (form : Form) (of : Of) (function : Option ℕ) → IsGrowing plan → 0 < plan.room → fits_form form (length (sources_of of)) (is_some function) ≡ true →
+    All (λ j. j < length plan.stages) (sources_of of) → IsGrowing (and_stage plan (attached_stage form of function))
+growing-and_stage plan form of function h room fits lower =
+    let new = attached_stage form of function in
+    let few = few_sources of in
+    let may = may_attach plan new h room few fits lower in
+    let longer = length-append plan.stages (new ∷ []) in
+    let one : length (new ∷ []) ≡ 1 = refl in
+    let edges = sum_by-append (λ (s : PlannedStage). length s.sources) plan.stages (new ∷ []) in
+    let one_edge = sum_by-cons (λ (s : PlannedStage). length s.sources) new [] in
+    let no_edge : sum_by (λ (s : PlannedStage). length s.sources) [] ≡ 0 = refl in
+    let opened = h.opened in
+    let stages = h.few_stages in
+    let all_edges = h.few_edges in
+    record {
+      built = IsBuilt-as (with_stage plan new) (and_stage plan new) refl refl (IsBuilt-with_stage plan new h.built may);
+      opened = omega (arith, longer, one, opened);
+      few_stages = omega (arith, longer, one, stages);
+      few_edges = omega (arith, edges, one_edge, no_edge, few, all_edges);
+    }
+
+-- what is true of a graph between calls stays true when a stage is attached
+pub attach_in_step : (plan : Planned) (form : Form) (of : Of) (function : Option ℕ) (s t u : Stages) (claims : List (Option ℕ)) (capacity used : ℕ) → IsInStep plan s claims capacity used → 0 < plan.room →
+    fits_form form (length (sources_of of)) (is_some function) ≡ true → All (λ j. j < length plan.stages) (sources_of of) →
+    StayTaken s.kept.items t.kept.items → StayTaken t.kept.items u.kept.items → SameRoom s t → SameRoom t u → AreSound (plan.stages ++ attached_stage form of function ∷ []) u →
+    IsInStep (and_stage plan (attached_stage form of function)) u (claims ++ None ∷ []) capacity used
+attach_in_step plan form of function s t u claims capacity used h room fits lower first then room_first room_then sound =
+    let new = attached_stage form of function in
+    let longer = length-append plan.stages (new ∷ []) in
+    let one : length (new ∷ []) ≡ 1 = refl in
+    let more = length-append claims (None ∷ []) in
+    let all = h.all_claims in
+    let enough = h.claims_room in
+    let same : length (plan.stages ++ new ∷ []) + (plan.room - 1) ≡ length plan.stages + plan.room = omega (arith, longer, one, room) in
+    record {
+      growing = growing-and_stage plan form of function h.growing room fits lower;
+      sound = sound;
+      all_claims = omega (arith, longer, one, more, all);
+      claimed = AreClaimed-push claims s.kept.items u.kept.items h.claimed (λ i e. then i (first i e));
+      stages_room = room_stays _ t u (room_stays _ s t (subst (λ most. HasRoom most s) (sym same) h.stages_room) room_first) room_then;
+      claims_room = omega (arith, same, enough);
+      few_used = h.few_used;
+    }

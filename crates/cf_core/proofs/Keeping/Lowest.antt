@@ -4,6 +4,7 @@ use Rattle.std.specs.Prelude.{slice_get, position, nat_lt, MatchOption}
 use Rattle.std.specs.List.{position_or_len}
 use Rattle.std.specs.Option.{option_map}
 use Rattle.std.proofs.lemmas.Bool.Decides.{eqb_tells, nat_tests}
+use Rattle.std.proofs.Math.Seq.{take-length}
 use Rattle.std.proofs.lemmas.List.{length-map}
 use Rattle.std.proofs.lemmas.List.Quantifiers.{position-Some}
 use Rattle.cf_bits.proofs.Positions.{position_is, position_is_none}
@@ -126,3 +127,12 @@ module _ (plan : List PlannedStage) (kept : List KeptStage) (marks ready : List 
   pub lowest_ready_is : (x : Option ℕ) → position (λ b. b) ready ≡ x → MatchOption x (position (λ b. b) marks ≡ None) (λ r. AreTreated r marks) → position is_ready (outlook plan kept) ≡ x
   lowest_ready_is None e h = ready_none e h
   lowest_ready_is (Some r) e h = ready_first r e h
+
+-- where no stage is marked, all stay as they are when they are treated
+pub all_steady : (plan : List PlannedStage) (kept : List KeptStage) (marks ready : List Bool) (links : List (List ℕ)) (steps turns : ℕ) → IsSound plan kept marks ready links steps turns →
+    AreTreated (length plan) marks → all_treated [] plan kept ≡ kept
+all_steady plan kept marks ready links steps turns h treated =
+    let all = all_treated [] plan kept in
+    let same : length all ≡ length plan = length-all_treated [] plan kept ∙ h.all_kept in
+    sym (take-length all) ∙ ap (λ n. take n all) same ∙ is_steady plan kept marks ready links steps turns h (length plan) treated
+    ∙ ap (λ n. take n kept) (sym h.all_kept) ∙ take-length kept

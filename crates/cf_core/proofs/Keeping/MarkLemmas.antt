@@ -1,10 +1,11 @@
 -- A stage is taken out of the list of linked stages, and marked.
-use Rattle.std.proofs.Common.{◌≡◌, ◌≢◌, ℕ, ◌<◌, ◌∷◌, [], List, Bool, Some, None, length, suc, zero, arith, ap, sym, ◌∙◌, refl, set, drop, length-set, subst, All}
-use Rattle.std.specs.Prelude.{slice_get, unwrap_or}
+use Rattle.std.proofs.Common.{◌≡◌, ◌≢◌, ℕ, ◌<◌, ◌∷◌, ◌++◌, [], List, Bool, true, false, cond, Some, None, length, suc, zero, arith, ap, sym, ◌∙◌, refl, set, drop, length-set, subst, All}
+use Rattle.std.specs.Prelude.{reverse, slice_get, unwrap_or}
+use Rattle.std.proofs.lemmas.List.{reverse-append}
 use Rattle.std.proofs.lemmas.List.Elements.{All-head, All-tail}
 use Rattle.cf_core.specs.declared.kept.KeptStage.{KeptStage}
 use Rattle.cf_core.specs.Keeping.Links.{list_at}
-use Rattle.cf_core.specs.Keeping.Sound.{mark_one, mark_all}
+use Rattle.cf_core.specs.Keeping.Sound.{is_waiting, kept_at, mark_one, mark_all}
 use Rattle.cf_core.proofs.Keeping.Marking.{get-set_other, get-set_same}
 
 set-twice : {X : Type 0} (xs : List X) (i : ℕ) (a b : X) → set (set xs i a) i b ≡ set xs i b
@@ -56,3 +57,39 @@ first_within (x ∷ xs) n i e h = let same : i ≡ x = cc in subst (λ j. j < n)
 pub other_within : (lists new : List (List ℕ)) (t d n : ℕ) (xs : List ℕ) → new ≡ set lists t xs → d ≢ t → All (λ i. i < n) (list_at lists d) → All (λ i. i < n) (list_at new d)
 other_within lists new t d n xs is ne h =
     subst (λ ys. All (λ i. i < n) ys) (sym (ap (λ ys. list_at ys d) is ∙ ap (λ x. unwrap_or x []) (get-set_other lists t d xs ne))) h
+
+-- ---- the order in which stages are marked doesn't matter
+
+set-swap : {X : Type 0} (xs : List X) (i j : ℕ) (y : X) → set (set xs i y) j y ≡ set (set xs j y) i y
+set-swap [] i j y = refl
+set-swap (x ∷ xs) zero zero y = refl
+set-swap (x ∷ xs) zero (suc j) y = refl
+set-swap (x ∷ xs) (suc i) zero y = refl
+set-swap (x ∷ xs) (suc i) (suc j) y = ap (λ r. x ∷ r) (set-swap xs i j y)
+
+mark_two : (a b : Bool) (marks : List Bool) (i j : ℕ) → cond b (set (cond a (set marks i true) marks) j true) (cond a (set marks i true) marks) ≡ cond a (set (cond b (set marks j true) marks) i true) (cond b (set marks j true) marks)
+mark_two true true marks i j = set-swap marks i j true
+mark_two true false marks i j = refl
+mark_two false true marks i j = refl
+mark_two false false marks i j = refl
+
+mark_last : (kept : List KeptStage) (stages : List ℕ) (i : ℕ) (marks : List Bool) → mark_all kept stages (mark_one kept i marks) ≡ mark_one kept i (mark_all kept stages marks)
+mark_last kept [] i marks = refl
+mark_last kept (j ∷ stages) i marks =
+    ap (mark_all kept stages) (mark_two (is_waiting ((kept_at kept i).stage)) (is_waiting ((kept_at kept j).stage)) marks i j)
+    ∙ mark_last kept stages i (mark_one kept j marks)
+
+mark_all-append : (kept : List KeptStage) (xs ys : List ℕ) (marks : List Bool) → mark_all kept (xs ++ ys) marks ≡ mark_all kept ys (mark_all kept xs marks)
+mark_all-append kept [] ys marks = refl
+mark_all-append kept (x ∷ xs) ys marks = mark_all-append kept xs ys (mark_one kept x marks)
+
+mark_all-reverse : (kept : List KeptStage) (stages : List ℕ) (marks : List Bool) → mark_all kept (reverse stages) marks ≡ mark_all kept stages marks
+mark_all-reverse kept [] marks = refl
+mark_all-reverse kept (i ∷ stages) marks =
+    ap (λ xs. mark_all kept xs marks) (reverse-append (i ∷ []) stages) ∙ mark_all-append kept (reverse stages) (i ∷ []) marks
+    ∙ ap (mark_one kept i) (mark_all-reverse kept stages marks) ∙ sym (mark_last kept stages i marks)
+
+-- those that stand first, and the others the other way round
+pub mark_all-both : (kept : List KeptStage) (first rest all : List ℕ) (marks : List Bool) → all ≡ first ++ reverse rest → mark_all kept rest (mark_all kept first marks) ≡ mark_all kept all marks
+mark_all-both kept first rest all marks is =
+    sym (mark_all-reverse kept rest (mark_all kept first marks)) ∙ sym (mark_all-append kept first (reverse rest) marks) ∙ sym (ap (λ xs. mark_all kept xs marks) is)

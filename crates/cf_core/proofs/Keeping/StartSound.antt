@@ -176,15 +176,15 @@ no_steps : (n : ℕ) → StepsUpTo 0 (replicate n untreated)
 no_steps zero = tt
 no_steps (suc n) = (omega arith, no_steps n)
 
-pub start_sound : (plan : List PlannedStage) → length plan ≤ 4096 → edges_of plan ≤ 16384 → HasLowerSources 0 plan →
-    IsSound plan (replicate (length plan) untreated) (mark_starts 0 plan (replicate (length plan) false)) (replicate (length plan) false) (replicate (length plan) []) 0 0
-start_sound plan few edges lower =
+pub start_sound : (plan : List PlannedStage) (most : ℕ) → length plan ≤ most → length plan ≤ 4096 → edges_of plan ≤ 16384 → HasLowerSources 0 plan →
+    IsSound plan (replicate (length plan) untreated) (mark_starts 0 plan (replicate (length plan) false)) (replicate (length plan) false) (replicate most []) 0 0
+start_sound plan most enough few edges lower =
     let n = length plan in
     let none : List Bool = replicate n false in
     let m = length-replicate {A = Bool} n false in
     let start = marks_at_start plan 0 plan none (λ j. (let at : 0 + j ≡ j = omega arith in ap (form_at plan) at)) in
     let unmarked = no_marks n in
-    let lists = no_lists n in
+    let lists = no_lists most in
     let steps = two_each n in
     let all = all_dependents plan lower in
     let P : ℕ → Type 0 = λ i. is_bound ((kept_at (replicate n untreated) i).stage) ≡ true in
@@ -194,14 +194,14 @@ start_sound plan few edges lower =
       sources_lower = lower;
       all_kept = length-replicate n untreated;
       all_marks = length-mark_starts 0 plan none ∙ m;
-      all_links = (let same = length-replicate {A = List ℕ} n [] in omega (arith, same));
+      all_links = (let same = length-replicate {A = List ℕ} most [] in omega (arith, same));
       ready_are = none_ready n;
       waits = λ i p k ep ek em. (let is = get-replicate n i untreated k ek in
           let at : 0 + i ≡ i = omega arith in
           let first = unmarked_unstarted 0 plan none i p (omega (arith, m)) ep (ap (slice_get (mark_starts 0 plan none)) at ∙ em) in
           rw is (unstarted n p first));
       listed = λ i j k ek linked. (let is = get-replicate n i untreated k ek in let stage = ap (λ (x : KeptStage). x.stage) is in cc);
-      bound = All-replicate (All P) n [] (All-nil P);
+      bound = All-replicate (All P) most [] (All-nil P);
       kept_steps = no_steps n;
       steps_left = omega (arith, steps);
       turns_left = omega (arith, start, unmarked, lists, all);

@@ -1,25 +1,42 @@
 -- A stage that is attached to stages that were all treated.
-use Rattle.std.specs.Prelude.{◌≡◌, ℕ, List, [], ◌∷◌, ◌++◌, length, map}
+use Rattle.std.specs.Prelude.{◌≡◌, ℕ, ◌+◌, Bool, ◌||◌, is_some, List, [], ◌∷◌, ◌++◌, length, map}
+use Rattle.std.specs.List.{list_any}
 use Rattle.cf_plan.specs.declared.forms.Due.{Due}
+use Rattle.cf_plan.specs.declared.forms.Form.{Form}
 use Rattle.cf_plan.specs.Forms.{follows}
 use Rattle.cf_plan.specs.Plans.{PlannedStage}
-use Rattle.cf_core.specs.declared.stage.Stage.TheVariants.{Pending}
+use Rattle.cf_core.specs.declared.stage.Stage.{Stage}
+use Rattle.cf_core.specs.declared.stage.Stage.TheVariants.{Pending, Settled}
 use Rattle.cf_core.specs.States.{new_states}
 use Rattle.cf_core.specs.declared.kept.KeptStage.{KeptStage}
 use Rattle.cf_core.specs.Keeping.Late.{all_treated, dated_in, due_kept, outcome_part}
-use Rattle.cf_core.specs.Keeping.Sound.{outlook}
+use Rattle.cf_core.specs.Keeping.Sound.{kept_at, outlook}
+use Rattle.cf_core.specs.Keeping.Starts.{starts}
 
 -- what a stage does by what its sources have now, in argument order
-abbrev pub due_now : List KeptStage → PlannedStage → Due
-due_now kept p = follows p.form (map outcome_part (map (dated_in kept) p.sources))
+abbrev pub due_now : List KeptStage → Form → List ℕ → Due
+due_now kept form sources = follows form (map outcome_part (map (dated_in kept) sources))
 
 -- the stage, attached in this step
-abbrev pub attached_kept : List KeptStage → PlannedStage → ℕ → KeptStage
-attached_kept kept p step = due_kept (due_now kept p) step 0
+abbrev pub attached_kept : List KeptStage → Form → List ℕ → ℕ → KeptStage
+attached_kept kept form sources step = due_kept (due_now kept form sources) step 0
 
 -- Once all stages are treated, a stage is attached by argument order. This leads to what appending it, pending, and letting each take what its sources give does.
 abbrev pub AttachingIsAfter : Type 0
 AttachingIsAfter =
     (plan : List PlannedStage) (kept : List KeptStage) (p : PlannedStage) (step : ℕ) →
     length kept ≡ length plan → all_treated [] plan kept ≡ kept →
-    outlook (plan ++ p ∷ []) (kept ++ attached_kept kept p step ∷ []) ≡ new_states [] (plan ++ p ∷ []) (outlook plan kept ++ Pending ∷ [])
+    outlook (plan ++ p ∷ []) (kept ++ attached_kept kept p.form p.sources step ∷ []) ≡ new_states [] (plan ++ p ∷ []) (outlook plan kept ++ Pending ∷ [])
+
+-- whether a stage that is attached takes something: it starts by itself, or one of its sources is settled
+abbrev pub takes_now : List KeptStage → Form → List ℕ → Bool
+takes_now kept form sources = starts form sources || list_any is_some (map outcome_part (map (dated_in kept) sources))
+
+-- how many of these sources aren't settled
+abbrev pub open_one : Stage → ℕ
+open_one (Settled o) = 0
+open_one stage = 1
+
+abbrev pub open_count : List KeptStage → List ℕ → ℕ
+open_count kept [] = 0
+open_count kept (j ∷ sources) = open_one ((kept_at kept j).stage) + open_count kept sources

@@ -13,7 +13,7 @@ use crate::graph::Graph;
 use crate::replies::{Claimed, Finished};
 use crate::stage::Stage;
 use crate::stages::Stages;
-use cf_plan::{Answer, Form, Landing, Plan, landing};
+use cf_plan::{Answer, Form, GrowingPlan, Landing, landing};
 
 impl Graph {
     /// Hands a ready stage's arguments to a caller, whose claim is open from then until its first finish of the stage, also
@@ -73,7 +73,7 @@ fn has_claim(claims: &[Option<u8>], who: u8, i: u16) -> bool
 }
 
 /// Where a stage lands with an answer. Of all forms `WhenComplete` alone looks at its source.
-fn landing_of(stages: &Stages, plan: &Plan, i: u16, answer: Answer) -> Landing
+fn landing_of(stages: &Stages, plan: &GrowingPlan, i: u16, answer: Answer) -> Landing
     requires sound { AreSound plan.now.stages stages.now }
     requires stage { i < length plan.now.stages }
     requires treated { AreTreated (i + 1) stages.now.marks }

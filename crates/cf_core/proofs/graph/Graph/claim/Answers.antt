@@ -3,7 +3,7 @@ use Rattle.std.specs.Prelude.{slice_get}
 use Rattle.cf_core.specs.declared.stage.Stage.TheVariants.{Pending, Ready, Claimed, Linked, Settled}
 use Rattle.cf_core.specs.declared.replies.Claimed.TheVariants.{Settled as IsSettled, Taken, NotReady}
 use Rattle.cf_core.specs.Keeping.SoundStages.{outlook_of}
-use Rattle.cf_core.proofs.Keeping.GraphLemmas.{AreClaimed-set, AreClaimed-stay, claims_not, claims_now, told_stage}
+use Rattle.cf_core.proofs.Keeping.GraphLemmas.{AreClaimed-set, AreClaimed-stay, claims_not, claims_now, room_stays, told_stage}
 use Rattle.cf_core.proofs.graph.Graph.claim.Goals as goal
 
 pub invariant_of-self : goal.invariant_of-self
@@ -11,11 +11,13 @@ invariant_of-self c =
     let h = c.self.invariant in
     let t = c.treat_up_to.new.self in
     record {
-      built = h.built;
+      growing = h.growing;
       sound = c.claim.ensures.sound;
       all_claims = length-set c.self.inside.claims.items c.args.i (Some c.args.who) ∙ h.all_claims;
       claimed = AreClaimed-set c.self.inside.claims.items t.kept.items c.claim.new.self.kept.items c.args.i c.args.who
           (AreClaimed-stay c.self.inside.claims.items c.self.inside.stages.kept.items t.kept.items h.claimed c.treat_up_to.ensures.taken) c.claim.ensures.taken c.claim.ensures.here;
+      stages_room = room_stays _ t c.claim.new.self (room_stays _ c.self.inside.stages t h.stages_room c.treat_up_to.ensures.room) c.claim.ensures.room;
+      claims_room = h.claims_room;
       few_used = h.few_used;
     }
 

@@ -3,7 +3,7 @@ use Rattle.std.specs.Prelude.{slice_get, unwrap_or}
 use Rattle.std.specs.Option.{option_map_or}
 use Rattle.cf_core.specs.States.{outcome_in}
 use Rattle.cf_core.specs.Keeping.SoundStages.{outlook_of}
-use Rattle.cf_core.proofs.Keeping.GraphLemmas.{AreClaimed-closed, AreClaimed-stay, claim_there, finishes_late, finishes_now, open_claimed, told_outcome}
+use Rattle.cf_core.proofs.Keeping.GraphLemmas.{AreClaimed-closed, AreClaimed-stay, claim_there, finishes_late, finishes_now, open_claimed, room_stays, told_outcome}
 use Rattle.cf_core.proofs.graph.Graph.finish.Goals as goal
 
 pub invariant_of-self-in-Some : goal.invariant_of-self-in-Some
@@ -14,10 +14,12 @@ invariant_of-self-in-Some c =
     let claims = c.self.inside.claims.items in
     let h = c.self.invariant in
     record {
-      built = h.built;
+      growing = h.growing;
       sound = c.treat_up_to.ensures.sound;
       all_claims = length-set claims c.args.i None ∙ h.all_claims;
       claimed = AreClaimed-closed claims s.kept.items t.kept.items c.args.i h.claimed (λ i ne. c.treat_up_to.ensures.taken i);
+      stages_room = room_stays _ s t h.stages_room c.treat_up_to.ensures.room;
+      claims_room = h.claims_room;
       few_used = h.few_used;
     }
 
@@ -40,10 +42,12 @@ invariant_of-self-in-None c =
     let claims = c.self.inside.claims.items in
     let h = c.self.invariant in
     record {
-      built = h.built;
+      growing = h.growing;
       sound = c.land.ensures.sound;
       all_claims = length-set claims c.args.i None ∙ h.all_claims;
       claimed = AreClaimed-closed claims t.kept.items c.land.new.self.kept.items c.args.i (AreClaimed-stay claims s.kept.items t.kept.items h.claimed c.treat_up_to.ensures.taken) c.land.ensures.taken;
+      stages_room = room_stays _ t c.land.new.self (room_stays _ s t h.stages_room c.treat_up_to.ensures.room) c.land.ensures.room;
+      claims_room = h.claims_room;
       few_used = h.few_used;
     }
 

@@ -15,7 +15,7 @@ returns-clause-told c =
     ∙ ap (position is_ready) h.same
 
 pub loop-m-init : goal.loop-m-init
-loop-m-init c = record { same = refl; taken = λ i e. e; turns = no_turn_below c.args.plan.now.stages c.args.self.now; sound = c.requires.sound }
+loop-m-init c = record { same = refl; taken = λ i e. e; turns = no_turn_below c.args.plan.now.stages c.args.self.now; room = (refl, refl); sound = c.requires.sound }
 
 pub loop-m-preserved : goal.loop-m-preserved
 loop-m-preserved c =
@@ -25,5 +25,6 @@ loop-m-preserved c =
       same = t.same ∙ h.same;
       taken = λ i e. t.taken i (h.taken i e);
       turns = one_turn_more_below c.args.plan.now.stages c.in-Some.m c.args.self.now c.loop-m.self c.turn.new.self h.turns below t.turned t.counted;
+      room = (t.room.0 ∙ h.room.0, t.room.1 ∙ h.room.1);
       sound = t.sound;
     }

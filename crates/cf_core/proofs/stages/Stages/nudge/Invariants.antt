@@ -1,6 +1,6 @@
 use Rattle.std.proofs.Common.{◌≡◌, ◌≤◌, ◌+◌, ◌-◌}
 use Rattle.cf_core.specs.Keeping.Sound.{StayTaken}
-use Rattle.cf_core.specs.Keeping.SoundStages.{AreSound, outlook_of}
+use Rattle.cf_core.specs.Keeping.SoundStages.{AreSound, SameRoom, outlook_of}
 use Rattle.cf_core.proofs.stages.Stages.nudge.Given as goal
 
 -- what the stages lead to stays, and each turn so far was counted
@@ -10,6 +10,7 @@ invariant-loop-taken l = record {
   taken : StayTaken l.initial.self.kept.items l.self.kept.items;
   counted : l.self.turns ≡ l.initial.self.turns + l.taken;
   few : l.taken ≤ l.k;
+  room : SameRoom l.initial.self l.self;
   sound : AreSound l.plan.stages l.self;
 }
 

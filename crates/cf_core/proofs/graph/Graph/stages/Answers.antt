@@ -1,7 +1,7 @@
 use Rattle.std.proofs.Common.{◌≡◌, ◌∙◌, length, subst}
 use Rattle.cf_core.specs.Graphs.{Graph}
 use Rattle.cf_core.proofs.Keeping.Lowest.{length-outlook}
-use Rattle.cf_core.proofs.graph.Graph.plan.Goals as goal
+use Rattle.cf_core.proofs.graph.Graph.stages.Goals as goal
 
 pub returns-clause-all_stages : goal.returns-clause-all_stages
 returns-clause-all_stages c =

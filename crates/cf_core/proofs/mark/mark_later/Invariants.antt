@@ -1,0 +1,14 @@
+use Rattle.std.proofs.Common.{◌≡◌, ◌<◌, All, length}
+use Rattle.cf_core.specs.Keeping.Sound.{mark_all}
+use Rattle.cf_core.proofs.mark.mark_later.Given as goal
+
+-- those that are left lead to what all lead to
+abbrev pub invariant-loop-i : goal.invariant-loop-i
+invariant-loop-i l = record {
+  marked : mark_all l.kept l.rest l.marks ≡ mark_all l.kept l.initial.rest l.initial.marks;
+  all : length l.marks ≡ length l.kept;
+  within : All (λ i. i < length l.kept) l.rest;
+}
+
+abbrev pub decreases-loop-i : goal.decreases-loop-i
+decreases-loop-i l = length l.rest

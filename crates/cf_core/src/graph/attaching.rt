@@ -1,0 +1,33 @@
+//! The call by which a graph grows.
+ghost use Rattle.std.specs.Prelude.{◌≡◌, ◌<◌, ◌≤◌, All, is_some, length, true};
+ghost use Rattle.cf_plan.specs.Plans.{attached_stage, fits_form, sources_of};
+ghost use Rattle.cf_core.specs.Events.{attaching};
+ghost use Rattle.cf_core.specs.Graphs.{most_turns};
+
+use crate::graph::Graph;
+use crate::replies::Attached;
+use cf_plan::{Form, Of};
+
+impl Graph {
+    /// Attaches a stage to others, in a step of its own, if there is room for one. It takes at once what its sources hold
+    /// then, in argument order; where some of them had settled before, nobody asks which was first.
+    ///
+    /// All that waits for treatment is treated first. It takes no memory.
+    pub fn attach(&mut self, form: Form, of: Of, function: Option<u16>) -> Attached
+        requires fits { fits_form form (length (sources_of of)) (is_some function) ≡ true }
+        requires sources { All (λ j. j < length self.old.state.plan.stages) (sources_of of) }
+        ensures told { (result, self.new.state) ≡ attaching self.old.state (attached_stage form of function) }
+        ensures counted { self.old.turns ≤ self.new.turns }
+        ensures few { self.new.turns ≤ most_turns self.new.state.plan.stages }
+    {
+        if self.plan.room() == 0 {
+            return Attached::StagesFull;
+        }
+        let d = self.plan.stages();
+        self.stages.treat_all(&self.plan);
+        self.stages.attach(&self.plan, form, of);
+        self.plan.attach(form, of, function);
+        self.claims.push_reserved(None);
+        Attached::At(d)
+    }
+}
