@@ -88,7 +88,7 @@ impl Desk {
         requires { i < length self.now.setting.plan.stages }
         ensures { result ≡ function_at self.now.setting.plan.stages i }
     {
-        self.opening.plan().function(i)
+        self.opening.function(i)
     }
 
     /// How many words the log has, filled or empty.

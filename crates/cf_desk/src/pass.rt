@@ -90,7 +90,7 @@ impl Pass {
         ensures few { result ≤ 4096 }
         ensures caller { (self.now.known.caller < self.now.known.setting.callers) × (self.now.known.setting.callers ≤ 64) }
     {
-        self.copy.plan().stages()
+        self.copy.stages()
     }
 
     /// The outcome of a stage in what the pass has seen.

@@ -73,7 +73,7 @@ pub(crate) fn write_stages(text: &mut String, graph: &mut Graph) -> Result<(), A
     ensures { OnOk result
         (string_bytes text.new ≡ string_bytes text.old ++ stages_lines graph.old.state) }
 {
-    'stages: for i in 0..graph.plan().stages() {
+    'stages: for i in 0..graph.stages() {
         write_stage(text, graph, i)?;
     }
     Ok(())

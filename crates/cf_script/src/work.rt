@@ -7,18 +7,18 @@ ghost use Rattle.cf_script.specs.Working.{worked, worked_once};
 
 use cf_core::{Claimed, Event, Graph, Reply};
 use cf_outcome::Value;
-use cf_plan::{Answer, Args, Plan, StageFn};
+use cf_plan::{Answer, Args, StageFn};
 use cf_reading::Func;
 
 /// The caller that does a script's work.
 const WORKER: u8 = 63;
 
 /// What the function of a stage answers.
-fn answer(plan: &Plan, functions: &[Func], stage: u16, args: &Args) -> Answer
-    requires { stage < length plan.now.stages }
-    ensures { result ≡ stage_answer (meanings_of func_answer functions.now) plan.now.stages stage args.now }
+fn answer(graph: &Graph, functions: &[Func], stage: u16, args: &Args) -> Answer
+    requires { stage < length graph.now.state.plan.stages }
+    ensures { result ≡ stage_answer (meanings_of func_answer functions.now) graph.now.state.plan.stages stage args.now }
 {
-    let number = plan.function(stage).unwrap_or(0);
+    let number = graph.function(stage).unwrap_or(0);
     match functions.get(number as usize) {
         Some(function) => function.call(args),
         None => Answer::Give(Value::Nil),
@@ -35,7 +35,7 @@ fn work_once(graph: &mut Graph, functions: &[Func], stage: u16)
         let finish = Event::Finish {
             who: WORKER,
             stage,
-            answer: answer(graph.plan(), functions, stage, &args),
+            answer: answer(graph, functions, stage, &args),
         };
         graph.answer(&finish);
     }
@@ -46,7 +46,7 @@ fn work_once(graph: &mut Graph, functions: &[Func], stage: u16)
 pub(crate) fn work(graph: &mut Graph, functions: &[Func]) -> u32
     ensures { (result, graph.new.state) ≡ worked functions.now graph.old.state }
 {
-    let stages = u32::from(graph.plan().stages());
+    let stages = u32::from(graph.stages());
     let mut calls = 0;
     'ready: while let Some(stage) = graph.lowest_ready() {
         work_once(graph, functions, stage);

@@ -42,7 +42,7 @@ fn caller_of(event: Event) -> u8 {
 }
 
 fn write_stages(text: &mut String, graph: &mut Graph) -> Result<(), AllocError> {
-    for i in 0..graph.plan().stages() {
+    for i in 0..graph.stages() {
         if graph.has(i) {
             write!(text, "stage {i} ")?;
             write_outcome(text, graph.outcome(i))?;

@@ -7,4 +7,4 @@ use Rattle.cf_desk.proofs.pass.Pass.stages.Goals as goal
 pub returns-clause-count : goal.returns-clause-count
 returns-clause-count c =
     let plan = plan_of (known_of c.self.inside.seat.me.0) _ c.self.invariant.agrees.state in
-    c.stages.ensures.count ∙ ap (λ (p : Planned). length p.stages) c.plan.ensures.plan ∙ ap (λ (p : Planned). length p.stages) plan ∙ ap (λ (h : Pass). length h.known.setting.plan.stages) c.self.view_is
+    c.stages.ensures.count ∙ ap (λ (p : Planned). length p.stages) plan ∙ ap (λ (h : Pass). length h.known.setting.plan.stages) c.self.view_is
