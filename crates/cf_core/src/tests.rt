@@ -1,4 +1,6 @@
 //! Worked examples, each call once, a graph of the greatest size, and a graph whose memory is refused.
+mod attaching;
+
 use crate::graph::{Graph, GraphFault};
 use crate::replies::{Claimed, Finished, Ticked};
 use cf_outcome::{Cause, Now, Outcome, Value};
