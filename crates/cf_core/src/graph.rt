@@ -57,6 +57,7 @@ impl Graph {
     pub fn new(alloc: Global, plan: Plan) -> Result<Graph, GraphFault>
         ensures { IfOk result (λ graph. graph ≡ record { state = start plan; turns = 0 }) }
     {
+        // A plan that was built is within its bounds.
         let _stages = plan.stages();
         Graph::new_growing(alloc, plan, 0)
     }

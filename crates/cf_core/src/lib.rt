@@ -4,7 +4,8 @@
 //! with a function isn't run here: it becomes ready, a caller claims it and is handed the arguments, and later finishes it
 //! with the function's answer. In between any other call may settle the stage; the late finish then closes the claim and
 //! changes nothing. Once settled, a stage keeps its outcome. `Graph::answer` does any call, as an `Event`, and
-//! `Graph::tell` answers any question, as an `Ask`. The forms and their rules are those of Java SE 17's
+//! `Graph::tell` answers any question, as an `Ask`. A graph that was opened with room takes more stages by
+//! `Graph::attach`; its plan then has grown. The forms and their rules are those of Java SE 17's
 //! `CompletableFuture` and `CompletionStage`.
 //!
 //! # What it means
@@ -43,8 +44,14 @@
 //! or from the start, each once. So over a graph's whole life there are at most as many turns as the plan has edges and
 //! stages, which a contract sees as `turns`.
 //!
-//! No call but `Graph::new` takes memory: the marks and the ready stages are sets of bits (`cf_bits`), and the stages
-//! linked to a stage are a list threaded through arrays (`Links`), so that none is searched for.
+//! How a stage is attached, where a graph was opened with room: all that waits is treated first, so that what the sources
+//! hold is what they will hold. Then the stage is appended and takes that in one turn, in argument order; one that has
+//! nothing to take stays pending, without a turn. A turn for it and the marks that can still come of it are at most its
+//! edges and itself, so the bound above counts the plan as it has grown.
+//!
+//! No call but `Graph::new` and `Graph::new_growing` takes memory: the marks and the ready stages are sets of bits
+//! (`cf_bits`), the stages linked to a stage are a list threaded through arrays (`Links`), so that none is searched for,
+//! and each stage that may be attached has its place reserved.
 #![tactic(auto)]
 
 mod asks;

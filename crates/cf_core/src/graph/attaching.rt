@@ -9,8 +9,8 @@ use crate::replies::Attached;
 use cf_plan::{Form, Of};
 
 impl Graph {
-    /// Attaches a stage to others, in a step of its own, if there is room for one. It takes at once what its sources hold
-    /// then, in argument order; where some of them had settled before, nobody asks which was first.
+    /// Attaches a stage to others, in a step of its own, if there is room for one. It takes at once what its sources hold:
+    /// where several of them have settled, the first in argument order decides, whenever they did.
     ///
     /// All that waits for treatment is treated first. It takes no memory.
     pub fn attach(&mut self, form: Form, of: Of, function: Option<u16>) -> Attached

@@ -16,8 +16,8 @@ use cf_plan::{Form, GrowingPlan, Of};
 impl Stages {
     /// Attaches a stage behind all others, in a step of its own. No stage waits for treatment.
     ///
-    /// It takes what its sources hold then, in argument order: all of them had settled before, so nobody can tell which
-    /// was first by the steps of this graph.
+    /// It takes what its sources hold then. Where several of them have settled, argument order decides alone, and not
+    /// their steps.
     pub fn attach(&mut self, plan: &GrowingPlan, form: Form, of: Of)
         requires sound { AreSound plan.now.stages self.old }
         requires treated { AreTreated (length plan.now.stages) self.old.marks }
