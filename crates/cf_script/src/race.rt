@@ -1,6 +1,7 @@
 //! A whole race: from a reader's bytes to the lines of the stages that a writer gets.
-ghost use Rattle.std.specs.Prelude.{◌≡◌, ◌<◌, ◌≤◌, All, IfErr, IfOk, List, ℕ, length, string_bytes};
+ghost use Rattle.std.specs.Prelude.{◌≡◌, ◌+◌, ◌<◌, ◌≤◌, All, IfErr, IfOk, List, ℕ, length, string_bytes};
 ghost use Rattle.cf_pool.specs.Races.{IsStep};
+ghost use Rattle.cf_reading.specs.Input.{TakesAtMost};
 ghost use Rattle.cf_reading.specs.Purposes.{IsForRace};
 ghost use Rattle.cf_reading.specs.Scripts.{IsScript, StepFits};
 ghost use Rattle.cf_script.specs.Reports.{stages_lines};
@@ -12,7 +13,7 @@ use crate::printing::print_given;
 use crate::report::write_stages;
 use cf_core::{Event, Graph};
 use cf_pool::{Gate, RaceFault, race};
-use cf_reading::{Script, Step, read_input, read_race};
+use cf_reading::{MAX_BYTES, Script, Step, read_input, read_race};
 use std::alloc::{AllocError, Global};
 use std::io::{Read, Write};
 use std::sync::Wait;
@@ -73,7 +74,8 @@ fn raced<R: Threads + Wait + Sync, I: Read, G: Gate + Sync>(
     workers: u8,
 ) -> Result<String, ScriptFault>
     requires { (0 < workers) × (workers ≤ 32) }
-    ensures { (input : List ℕ) × IsInput (I.remaining r.old) input × RaceGives workers input (given_by result) }
+    ensures gives { (input : List ℕ) × IsInput (I.remaining r.old) input × RaceGives workers input (given_by result) }
+    ensures taken { TakesAtMost (MAX_BYTES + 1) (I.remaining r.old) (I.remaining r.new) }
 {
     let input = read_input(alloc, r)?;
     let script = read_race(alloc, &input)?;
@@ -84,7 +86,7 @@ fn raced<R: Threads + Wait + Sync, I: Read, G: Gate + Sync>(
     }
 }
 
-/// Reads a script to its end, races it with 1 to 32 workers on threads of their own, and writes the lines of its stages.
+/// Reads a script to its end, or to the first byte that is too many, races it with 1 to 32 workers on threads of their own, and writes the lines of its stages.
 ///
 /// Caller 0 does the steps, each of which is a `complete`, `fail`, `cancel` or `tick`; another is the fault `Step`. Then
 /// each worker claims ready stages, lets the gate pass, calls their functions and finishes them, until none is ready.
@@ -99,8 +101,9 @@ pub fn race_script<R: Threads + Wait + Sync, I: Read, W: Write, G: Gate + Sync>(
     workers: u8,
 ) -> Result<(), ScriptFault>
     requires { (0 < workers) × (workers ≤ 32) }
-    ensures { (input : List ℕ) × IsInput (I.remaining r.old) input
+    ensures prints { (input : List ℕ) × IsInput (I.remaining r.old) input
         × Prints (RaceGives workers input) result (W.contents w.old) (W.contents w.new) }
+    ensures taken { TakesAtMost (MAX_BYTES + 1) (I.remaining r.old) (I.remaining r.new) }
 {
     let given = raced(rt, alloc, r, gate, workers);
     print_given(w, given)

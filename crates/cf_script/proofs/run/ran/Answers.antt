@@ -6,15 +6,15 @@ use Rattle.cf_script.specs.Runs.{IsReport, IsTooLargeToRun, RunGives}
 use Rattle.cf_script.proofs.PrintLemmas.{fault_given, misread, too_long_to_run, unread}
 use Rattle.cf_script.proofs.run.ran.Goals as goal
 
-pub returns-in_err-input : goal.returns-in_err-input
-returns-in_err-input g c =
+pub returns-in_err-input-clause-gives : goal.returns-in_err-input-clause-gives
+returns-in_err-input-clause-gives g c =
     let e = c.in_err-input.field-0.0 in
     let told = c.in_err-input.ensures in
     let found = unread IsReport IsTooLargeToRun reading too_long_to_run (g.R.Read.remaining c.args.r.now) e told.faults (λ long. told.too_long (ap Err long)) in
     (found.0, found.1, fault_given (RunGives found.0) c.from_residual.result (fault_of_reading e) c.from_residual.ensures.1 found.2)
 
-pub returns-in_err-script : goal.returns-in_err-script
-returns-in_err-script g c =
+pub returns-in_err-script-clause-gives : goal.returns-in_err-script-clause-gives
+returns-in_err-script-clause-gives g c =
     let e = c.in_err-script.field-0.0 in
     let input = c.in_ok-input.input.items in
     let said = subst (λ bytes. Fails e (reading bytes)) c.deref.ensures.value c.in_err-script.ensures in
