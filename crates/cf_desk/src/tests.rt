@@ -1,4 +1,5 @@
 mod bounds;
+mod late;
 mod listing;
 mod threads;
 mod turns;
