@@ -1,7 +1,7 @@
-use crate::{Func, MAX_BYTES, ReadingFault, Step, read_input, read_script};
+use crate::{Func, MAX_BYTES, Part, ReadingFault, Step, read_input, read_script};
 use cf_core::{Ask, Event};
 use cf_outcome::{Cause, Outcome, Value};
-use cf_plan::{Answer, Args, Limit, LimitKind, StageFn};
+use cf_plan::{Answer, Args, Limit, LimitKind, PlanFault, StageFn};
 use std::io;
 use std::io::{ErrorKind, Read};
 use std::test::Fail;
@@ -102,6 +102,67 @@ impl<'a> Read for Sipping<'a> {
     }
 }
 
+/// Gives three bytes a call at most, fails at one call alone, and keeps how much it was asked for at most, and how often at
+/// its end.
+#[derive(Drop)]
+struct Stumbling<'a> {
+    rest: &'a [u8],
+    fails_at: usize,
+    calls: usize,
+    asked: usize,
+    ends: usize,
+}
+
+impl<'a> Read for Stumbling<'a> {
+    fn read(&mut self, buf: &mut [u8]) -> io::Result<usize> {
+        let call = self.calls;
+        self.calls = call.wrapping_add(1);
+        self.asked = self.asked.max(buf.len());
+        if call == self.fails_at {
+            return Err(io::Error::from(ErrorKind::Interrupted));
+        }
+        let count = 3.min(buf.len()).min(self.rest.len());
+        if count == 0 {
+            self.ends = self.ends.wrapping_add(1);
+        }
+        buf[..count].copy_from_slice(&self.rest[..count]);
+        self.rest = &self.rest[count..];
+        Ok(count)
+    }
+}
+
+#[test]
+fn asks_for_pieces_up_to_the_end_or_a_failure(rt: HostRuntime) -> Result<(), Fail> {
+    let text = b"{\"cf\":12}";
+    for fails_at in 0..6usize {
+        let mut input = Stumbling {
+            rest: text.as_slice(),
+            fails_at,
+            calls: 0,
+            asked: 0,
+            ends: 0,
+        };
+        let read = read_input(rt.alloc(), &mut input).map(|found| found.len());
+        if fails_at <= 3 {
+            assert_eq!(rt; read, Err(ReadingFault::Read));
+            assert_eq!(rt;
+                input.calls,
+                fails_at.wrapping_add(1),
+                "a failed read is the last"
+            );
+        } else {
+            assert_eq!(rt; read, Ok(text.len()));
+            assert_eq!(rt;
+                (input.calls, input.ends),
+                (4, 1),
+                "the end is asked for once"
+            );
+        }
+        assert_eq!(rt; input.asked, 4_096);
+    }
+    Ok(())
+}
+
 #[test]
 fn reads_whole_or_not(rt: HostRuntime) -> Result<(), Fail> {
     let text = b"{\"cf\":1}";
@@ -131,6 +192,55 @@ fn reads_whole_or_not(rt: HostRuntime) -> Result<(), Fail> {
     assert_eq!(rt; more.map(|found| found.len()), Err(ReadingFault::TooLong));
     assert_eq!(rt; input.len(), 2, "one byte too many is read");
     Ok(())
+}
+
+/// Faults that no row of whole scripts has.
+#[test]
+fn refuses_for_what_is_wrong(rt: HostRuntime) {
+    let limit = ReadingFault::Shape(Part::Limit(0));
+    let rows: [(&[u8], ReadingFault); 10] = [
+        (
+            b"{\"cf\":1,\"stages\":[],\"\xff\":1}",
+            ReadingFault::NotJson,
+        ),
+        (b"{\"cf\":1,\"stages\":[],\"limits\":[0]}", limit),
+        (
+            b"{\"cf\":1,\"stages\":[{\"form\":\"source\"}],\"limits\":[{\"at\":1,\"kind\":\"timeout\"}]}",
+            limit,
+        ),
+        (
+            b"{\"cf\":1,\"stages\":[{\"form\":\"source\"}],\"limits\":[{\"stage\":0,\"at\":-1,\"kind\":\"timeout\"}]}",
+            limit,
+        ),
+        (
+            b"{\"cf\":1,\"stages\":[{\"form\":\"source\"}],\"limits\":[{\"stage\":0,\"at\":1}]}",
+            limit,
+        ),
+        (
+            b"{\"cf\":1,\"stages\":[{\"form\":\"source\"}],\"limits\":[{\"stage\":0,\"at\":1,\"kind\":\"walk\"}]}",
+            limit,
+        ),
+        (
+            b"{\"cf\":1,\"stages\":[{\"form\":\"source\"}],\"limits\":[{\"stage\":0,\"at\":1,\"kind\":\"value\"}]}",
+            limit,
+        ),
+        (
+            b"{\"cf\":1,\"stages\":[{\"form\":\"source\"},{\"form\":\"apply\",\"of\":[0,0],\"fn\":\"neg\"}]}",
+            ReadingFault::Plan(PlanFault::WrongSourceCount, 1),
+        ),
+        (
+            b"{\"cf\":1,\"stages\":[],\"steps\":[0]}",
+            ReadingFault::Step(0),
+        ),
+        (
+            b"{\"cf\":1,\"stages\":[],\"steps\":[[\"work\"],[]]}",
+            ReadingFault::Step(1),
+        ),
+    ];
+    for (bytes, fault) in rows {
+        let refused = read_script(rt.alloc(), bytes).map(|_| ());
+        assert_eq!(rt; refused, Err(fault));
+    }
 }
 
 #[test]
