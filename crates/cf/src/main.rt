@@ -20,6 +20,9 @@ use commands::carry_out;
 use std::io;
 use std::process::ExitCode;
 
+#[cfg(test)]
+mod tests;
+
 fn main(rt: HostRuntime) -> ExitCode {
     match words::command(&rt) {
         Ok(command) => carry_out(
