@@ -3,7 +3,7 @@ ghost use Rattle.std.specs.Prelude.{◌<◌, ◌≤◌};
 
 use super::devices::{Dripping, Sipping, Then};
 use super::lines;
-use crate::{Gate, NoGate, ScriptFault, race_script};
+use crate::{Gate, NoGate, ScriptFault, race_script, run_script};
 use std::alloc::{AllocError, Global};
 use std::io::{ErrorKind, Read, Write};
 use std::process::Abort;
@@ -233,6 +233,25 @@ fn a_log_has_at_most_65535_words(rt: HostRuntime) -> Result<(), Fail> {
     assert_eq!(rt; raced_by_all(&rt, 1_927, 16)?, Ok(()));
     assert_eq!(rt; raced_by_all(&rt, 1_927, 17)?, Err(ScriptFault::RaceSize));
     assert_eq!(rt; raced_by_all(&rt, 1_928, 0)?, Err(ScriptFault::RaceSize));
+    Ok(())
+}
+
+#[test]
+fn the_most_stages_are_run_and_raced(rt: HostRuntime) -> Result<(), Fail> {
+    let script = sources_and_ticks(rt.alloc(), 4_096, 0)?;
+    let mut report = String::new(rt.alloc());
+    for i in 0..4_096u16 {
+        writeln!(report, "stage {i} pending")?;
+    }
+    let mut out: Vec<u8> = Vec::new(rt.alloc());
+    let ran = run_script(rt.alloc(), &mut script.as_str().as_bytes(), &mut out);
+    assert_eq!(rt; ran, Ok(()));
+    assert!(rt; out.as_slice() == report.as_str().as_bytes());
+    let mut out: Vec<u8> = Vec::new(rt.alloc());
+    let mut input = script.as_str().as_bytes();
+    let raced = race_script(&rt, rt.alloc(), &mut input, &mut out, &NoGate, 13);
+    assert_eq!(rt; raced, Ok(()));
+    assert!(rt; out.as_slice() == report.as_str().as_bytes());
     Ok(())
 }
 
