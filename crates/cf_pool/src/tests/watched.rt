@@ -2,9 +2,9 @@
 ghost use Rattle.std.specs.Prelude.{◌<◌, ◌≤◌};
 
 use super::{open, supplies};
-use crate::{Gate, race, run, work};
+use crate::{Gate, PoolFault, race, run, work};
 use cf_core::{Claimed, Reply};
-use cf_desk::{Call, Kept, Rec};
+use cf_desk::{Call, DeskFault, Kept, Rec};
 use cf_outcome::Value;
 use cf_plan::{Answer, Args, StageFn};
 use std::alloc::{AllocError, Global};
@@ -229,6 +229,18 @@ fn watch_race<R: Threads + Wait + Sync>(rt: &R, alloc: Global, workers: u8) -> R
     Ok(watch.saw_each_once() && watch.saw_workers(workers))
 }
 
+/// Whether a worker whose pass has room for one record leaves the second stage to its caller, who lets the gate know too.
+fn watch_caller<R: Threads + Wait + Sync>(rt: &R, alloc: Global) -> Result<bool, Fail> {
+    let (desk, passes) = open(alloc, supplies(alloc, 2)?, 1, 9, 1)?;
+    let watch = Watch::new(alloc, 2, 1)?;
+    let fns = functions(alloc, &watch, 2)?;
+    let Err(PoolFault::Desk(fault, _)) = run(rt, desk, passes, &fns, &watch, 1) else {
+        return Err(Fail::from("no fault of the desk was told"));
+    };
+    let saw = watch.turn_of(0, 1) == 1 && watch.turn_of(1, 0) == 2;
+    Ok(saw && watch.saw_each_once() && fault == DeskFault::PassFull)
+}
+
 #[test]
 fn work_calls_each_function_once_after_the_gate(rt: HostRuntime) -> Result<(), Fail> {
     assert!(rt; watch_work(rt.alloc(), 3)?);
@@ -240,6 +252,12 @@ fn runs_call_each_function_once_after_the_gate(rt: HostRuntime) -> Result<(), Fa
     for workers in [1, 4, 32] {
         assert!(rt; watch_run(&rt, rt.alloc(), workers)?, "{workers} workers");
     }
+    Ok(())
+}
+
+#[test]
+fn a_caller_tells_the_gate_of_its_own_work(rt: HostRuntime) -> Result<(), Fail> {
+    assert!(rt; watch_caller(&rt, rt.alloc())?);
     Ok(())
 }
 
