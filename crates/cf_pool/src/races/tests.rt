@@ -1,11 +1,11 @@
 //! Races of few workers and of many, and how large a race may be.
-ghost use Rattle.std.specs.Prelude.{◌≡◌};
+ghost use Rattle.std.specs.Prelude.{◌≡◌, IfOk, replicate};
 
 use crate::{NoGate, RaceFault, race};
 use cf_core::{Event, Graph};
 use cf_outcome::{Outcome, Value};
 use cf_plan::{Answer, Args, Form, Plan, PlanBuilder, StageFn};
-use std::alloc::Global;
+use std::alloc::{AllocError, Global};
 use std::sync::Wait;
 use std::test::Fail;
 use std::thread::Threads;
@@ -154,5 +154,30 @@ fn the_log_has_at_most_65_535_words(rt: HostRuntime) -> Result<(), Fail> {
         race_after(&rt, rt.alloc(), sources(rt.alloc(), 1_928)?, 0),
         Some(RaceFault::Size)
     );
+    Ok(())
+}
+
+/// So many ticks of caller 0.
+fn ticks(alloc: Global, count: usize) -> Result<Vec<Event>, AllocError>
+    ensures { IfOk result (λ v. v.items ≡ replicate count (Event.Tick 0 0)) }
+{
+    vec![in alloc; Event::Tick { who: 0, now: 0 }; count]
+}
+
+/// Ticks so often, and then races with 32 workers.
+fn race_behind<R: Threads + Wait + Sync>(
+    rt: &R,
+    alloc: Global,
+    plan: Plan,
+    count: usize,
+) -> Result<Option<RaceFault>, Fail> {
+    let steps = ticks(alloc, count)?;
+    Ok(race(rt, alloc, plan, &steps, &FUNCTIONS, &NoGate, 32).err())
+}
+
+#[test]
+fn steps_may_be_many(rt: HostRuntime) -> Result<(), Fail> {
+    let raced = race_behind(&rt, rt.alloc(), sources(rt.alloc(), 1)?, 65_500)?;
+    assert_eq!(rt; raced, None);
     Ok(())
 }
