@@ -11,12 +11,12 @@ use Rattle.cf_core.specs.declared.stage.Stage.TheVariants.{Pending, Ready, Claim
 use Rattle.cf_core.specs.declared.replies.Claimed.TheVariants.{Granted}
 use Rattle.cf_core.specs.declared.events.Event.{Event}
 use Rattle.cf_core.specs.States.{State, outcome_in, stage_at, linked_state, next_of, new_states, is_ready}
-use Rattle.cf_core.specs.Events.{claimed_by, claiming, state_after}
+use Rattle.cf_core.specs.Events.{answered, claimed_by, claiming, state_after}
 use Rattle.cf_core.specs.Claims.{is_claimable, claimable_count}
 use Rattle.cf_core.specs.Laws.{NeverMoreClaimable, GrantsLeaveFewer, NeverReadyAgain}
-use Rattle.cf_core.proofs.Moves.{IsKept, answered-kept, attaching-kept, state_after-kept, there}
+use Rattle.cf_core.proofs.Moves.{IsKept, answered-kept, state_after-kept, there}
 use Rattle.cf_core.proofs.Shape.{answered-frame}
-use Rattle.cf_core.specs.Growth.{AttachingFreesNone, AttachingTakesRoom}
+use Rattle.cf_core.specs.Calls.{is_attach}
 
 count-cons : (x : Stage) (xs : List Stage) → count_by is_claimable (x ∷ xs) ≡ cond (is_claimable x) 1 0 + count_by is_claimable xs
 count-cons x xs = sum_by-cons (λ y. cond (is_claimable y) 1 0) x xs
@@ -84,15 +84,14 @@ no_more-kept = record {
 -- no event makes more stages claimable
 pub answered-claimable : NeverMoreClaimable
 unfolding NoMore
-answered-claimable s e =
-    let all = answered-kept NoMore no_more-kept e s in
-    let room = ap (λ (p : Planned). p.room) ((answered-frame s e).plan) in
-    omega (arith, all, room)
+answered-claimable s e = answered-kept NoMore no_more-kept e s
 
--- and no attached stage, if the room is counted
-pub attaching-claimable : AttachingTakesRoom
-unfolding NoMore
-attaching-claimable s new = attaching-kept NoMore no_more-kept s new
+-- nor without those that there is room for, where none is attached
+pub others-claimable : (s : State) (e : Event) → is_attach e ≡ false → claimable_count ((answered s e).1) ≤ claimable_count s
+others-claimable s e other =
+    let all = answered-claimable s e in
+    let room = ap (λ (p : Planned). p.room) ((answered-frame s e other).plan) in
+    omega (arith, all, room)
 
 -- a granted claim makes one fewer
 claimed_by-claimable : (x : Stage) (s : State) (who i : ℕ) (args : Args) → stage_at s i ≡ x → (claimed_by x s who i).0 ≡ Granted args → claimable_count ((claimed_by x s who i).1) < claimable_count s
@@ -161,11 +160,6 @@ not_claimable-not_ready (Settled o) e = refl
 
 pub never_ready_again : NeverReadyAgain
 never_ready_again s events i e = not_claimable-not_ready (stage_at (state_after s events) i) (state_after-not_claimable s events i e)
-
--- nor is it once a stage is attached
-pub attaching_frees_none : AttachingFreesNone
-unfolding StaysUnclaimable
-attaching_frees_none s new i e = attaching-kept (StaysUnclaimable i) (stays_unclaimable-kept i) s new e
 
 -- the claim of a ready stage is granted
 claimed_by-granted : (x : Stage) (s : State) (who i : ℕ) → is_ready x ≡ true → (args : Args) × ((claimed_by x s who i).0 ≡ Granted args)

@@ -20,7 +20,7 @@ use Rattle.cf_core.specs.declared.stage.Stage.{Stage}
 use Rattle.cf_core.specs.declared.stage.Stage.TheVariants.{Pending, Ready, Claimed, Linked, Settled}
 use Rattle.cf_core.specs.declared.replies.Ticked.TheVariants.{Fired, Past}
 use Rattle.cf_core.specs.declared.events.Event.{Event}
-use Rattle.cf_core.specs.declared.events.Event.TheVariants.{Complete as Completes, Fail as Fails, Cancel as Cancels, Claim as Claims, Finish as Finishes, Tick as Ticks}
+use Rattle.cf_core.specs.declared.events.Event.TheVariants.{Complete as Completes, Fail as Fails, Cancel as Cancels, Claim as Claims, Finish as Finishes, Tick as Ticks, Attach as Attaches}
 use Rattle.cf_core.specs.States.{State, after, start, stages_after, outcome_in, outcome_at, stage_at, due_state, linked_state, next_of, new_states}
 use Rattle.cf_core.specs.Events.{answered, state_after, settled_by, settling, cancelled_by, landed, linked_to, firing, due_limits, limit_outcome}
 use Rattle.cf_core.specs.Calls.{is_from_outside}
@@ -118,6 +118,7 @@ outside_claims (Ticks who now) s h =
     let fired = firing 0 s (due_limits s now) in
     chosen_claims s.stages (nat_lt now s.moment) (Past, s) (Fired fired.0, record fired.1 { moment = now; used = s.used + length (due_limits s now) })
     (λ i e. e) (firing_claims (due_limits s now) 0 s)
+outside_claims (Attaches who form of function) s h = cc
 
 outside_claim_none : (events : List Event) (s : State) → All (λ e. is_from_outside e ≡ true) events → NoneNew s.stages ((state_after s events).stages)
 outside_claim_none [] s h i e = e

@@ -1,5 +1,5 @@
 -- States in which nothing is due any more, and that events keep them so.
-use Rattle.std.proofs.Common.{◌≡◌, ℕ, ◌<◌, ◌∷◌, ◌++◌, [], List, All, true, suc, zero, Option, Some, None, length, map, ◌⊎◌, inl, inr, arith, ap, sym, ◌∙◌, refl, set, take, replicate, append_assoc, append-nil}
+use Rattle.std.proofs.Common.{length-append, ◌≡◌, ℕ, ◌<◌, ◌∷◌, ◌++◌, [], List, All, true, suc, zero, Option, Some, None, length, map, ◌⊎◌, inl, inr, arith, ap, sym, ◌∙◌, refl, set, take, replicate, append_assoc, append-nil}
 use Rattle.std.specs.Prelude.{slice_get, unwrap_or, option_and_then}
 use Rattle.std.specs.Option.{option_map_or}
 use Rattle.std.proofs.lemmas.List.{length-replicate, map-append}
@@ -15,12 +15,12 @@ use Rattle.cf_plan.proofs.PlanLemmas.{lower_at}
 use Rattle.cf_core.specs.declared.stage.Stage.{Stage}
 use Rattle.cf_core.specs.declared.stage.Stage.TheVariants.{Pending, Ready, Claimed, Linked, Settled}
 use Rattle.cf_core.specs.States.{outcome_of, outcome_in, due_state, linked_state, next_of, new_states, start}
+use Rattle.cf_core.specs.declared.events.Event.{Event}
 use Rattle.cf_core.specs.Events.{state_after}
 use Rattle.cf_core.specs.Laws.{AreLinkedLower, IsClosed, KeepsClosed, PendingHasNoneSettled, ReachedAreClosed, ReachedLinkLower, is_decided_by_first}
 use Rattle.cf_core.proofs.StateLemmas.{due_one-decides, new_states-at, outcome_in-take}
-use Rattle.cf_core.specs.Growth.{AttachingKeepsClosed, AttachingLinksLower}
-use Rattle.cf_core.proofs.Stable.{IsStable, attaching-stable, state_after-stable}
-use Rattle.cf_core.proofs.Shape.{length-new_states, state_after-shape}
+use Rattle.cf_core.proofs.Stable.{IsStable, state_after-stable}
+use Rattle.cf_core.proofs.Shape.{length-new_states, state_after-grows}
 
 -- ---- only the outcomes of the stages below count
 
@@ -131,9 +131,6 @@ closed-stable = record {
   attaches = λ plan xs new c. new_states-twice [] (plan ++ new ∷ []) (xs ++ Pending ∷ []);
 }
 
-pub attaching_keeps_closed : AttachingKeepsClosed
-attaching_keeps_closed s new c = attaching-stable (λ plan xs. new_states [] plan xs ≡ xs) closed-stable s new c
-
 pub keeps_closed : KeepsClosed
 keeps_closed s events c = state_after-stable (λ plan xs. new_states [] plan xs ≡ xs) closed-stable s events c
 
@@ -196,9 +193,6 @@ lower-stable = record {
   links = λ plan xs d k h e is l i j at. lower_by xs d i j (Linked k) h (λ p. (let same : k ≡ j = cc in omega arith)) at;
   attaches = λ plan xs new h i j at. h i j (push-link xs i j (new_states-link [] (plan ++ new ∷ []) (xs ++ Pending ∷ []) i j at));
 }
-
-pub attaching_links_lower : AttachingLinksLower
-attaching_links_lower s new h = attaching-stable (λ plan xs. AreLinkedLower xs) lower-stable s new h
 
 pending-unlinked : (n i j : ℕ) → slice_get (replicate n Pending) i ≡ Some (Linked j) → ⊥
 pending-unlinked zero i j e = cc
@@ -268,14 +262,21 @@ pending_closed plan xs i p c lower ep es first =
 start_length : (plan : Planned) → length ((start plan).stages) ≡ length plan.stages
 start_length plan = length-new_states [] plan.stages (replicate (length plan.stages) Pending) ∙ length-replicate (length plan.stages) Pending
 
+-- there is a stage for each that was planned
+pub reached_length : (plan : Planned) (events : List Event) → let s = state_after (start plan) events in length s.stages ≡ length s.plan.stages
+reached_length plan events =
+    let grown = state_after-grows (start plan) events in
+    let planned = ap (λ (stages : List PlannedStage). length stages) grown.stages ∙ length-append plan.stages grown.more in
+    let first = start_length plan in
+    let all = grown.all_stages in
+    omega (arith, planned, first, all)
+
 pub pending_none_settled : PendingHasNoneSettled
 pending_none_settled plan events i built l first pending =
     let s = state_after (start plan) events in
-    let shape = state_after-shape (start plan) events in
-    let p = planned_at plan.stages i l in
-    let c : new_states [] plan.stages s.stages ≡ s.stages = ap (λ (q : Planned). new_states [] q.stages s.stages) (sym shape.plan) ∙ reached_closed plan events in
-    let long : length s.stages ≡ length plan.stages = shape.all_stages ∙ start_length plan in
+    let p = planned_at s.plan.stages i l in
+    let long = reached_length plan events in
     let es = at_within s.stages i Pending (omega (arith, long)) pending in
-    let is_form : form_at plan.stages i ≡ p.0.form = ap (λ x. option_map_or (λ (q : PlannedStage). q.form) x Source) p.1 in
-    let is_sources : sources_at plan.stages i ≡ p.0.sources = ap (λ x. option_map_or (λ (q : PlannedStage). q.sources) x []) p.1 in
-    rw is_sources (pending_closed plan.stages s.stages i p.0 c built.lower p.1 es (sym (ap is_decided_by_first is_form) ∙ first))
+    let is_form : form_at s.plan.stages i ≡ p.0.form = ap (λ x. option_map_or (λ (q : PlannedStage). q.form) x Source) p.1 in
+    let is_sources : sources_at s.plan.stages i ≡ p.0.sources = ap (λ x. option_map_or (λ (q : PlannedStage). q.sources) x []) p.1 in
+    rw is_sources (pending_closed s.plan.stages s.stages i p.0 (reached_closed plan events) built.lower p.1 es (sym (ap is_decided_by_first is_form) ∙ first))

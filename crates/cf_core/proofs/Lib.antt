@@ -2,6 +2,7 @@ pub mod StateLemmas
 pub mod Moves
 pub mod Claimable
 pub mod Shape
+pub mod Growing
 pub mod Firing
 pub mod LowestReady
 pub mod Keeping

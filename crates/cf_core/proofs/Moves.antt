@@ -16,16 +16,15 @@ use Rattle.cf_plan.specs.declared.forms.Landing.{Landing}
 use Rattle.cf_plan.specs.declared.forms.Landing.TheVariants.{Settles as Lands, Links}
 use Rattle.cf_plan.specs.declared.limits.Limit.{Limit}
 use Rattle.cf_plan.specs.Forms.{landing}
-use Rattle.cf_plan.specs.Plans.{PlannedStage, form_at}
+use Rattle.cf_plan.specs.Plans.{PlannedStage, attached_stage, form_at}
 use Rattle.cf_core.proofs.StateLemmas.{slice_get-set_other}
 use Rattle.cf_core.specs.declared.stage.Stage.{Stage}
 use Rattle.cf_core.specs.declared.stage.Stage.TheVariants.{Pending, Ready, Claimed, Linked, Settled}
 use Rattle.cf_core.specs.States.{State, after, stages_after, outcome_of, outcome_in, outcome_at, stage_at, claim_at, linked_state, next_of, new_states}
 use Rattle.cf_core.specs.declared.events.Event.{Event}
-use Rattle.cf_core.specs.declared.events.Event.TheVariants.{Complete as Completes, Fail as Fails, Cancel as Cancels, Claim as Claims, Finish as Finishes, Tick as Ticks}
+use Rattle.cf_core.specs.declared.events.Event.TheVariants.{Complete as Completes, Fail as Fails, Cancel as Cancels, Claim as Claims, Finish as Finishes, Tick as Ticks, Attach as Attaches}
 use Rattle.cf_core.specs.declared.events.Reply.TheVariants.{Claim as ToldClaim}
 use Rattle.cf_core.specs.Events.{answered, state_after, settled_by, settling, cancelled_by, claimed_by, finished_by, landed, linked_to, firing, due_limits, limit_outcome, source_outcome, attached_by, attaching}
-use Rattle.cf_core.specs.Growth.{AttachingKeepsOutcomes}
 use Rattle.cf_core.specs.Laws.{KeepsOutcomes, GrantsOnce, grants_of, is_grant}
 
 -- A relation between the states of stages, and the room that is left, before and after, which each kind of change keeps.
@@ -117,6 +116,7 @@ answered-kept R k (Ticks who now) s =
     let fired = firing 0 s (due_limits s now) in
     chosen-kept R s (nat_lt now s.moment) (Past, s) (Fired fired.0, record fired.1 { moment = now; used = s.used + length (due_limits s now) })
     (k.same s.stages s.plan.room) (firing-kept R k (due_limits s now) 0 s)
+answered-kept R k (Attaches who form of function) s = attaching-kept R k s (attached_stage form of function)
 
 -- and so do all
 pub state_after-kept : (R : List Stage → ℕ → List Stage → ℕ → Type 0) → IsKept R → (events : List Event) (s : State) → Keeps R s (state_after s events)
@@ -169,10 +169,6 @@ outcome-kept i o = record {
 pub keeps_outcomes : KeepsOutcomes
 unfolding KeepsOutcome
 keeps_outcomes s events i o e = state_after-kept (KeepsOutcome i o) (outcome-kept i o) events s e
-
-pub attaching_keeps_outcomes : AttachingKeepsOutcomes
-unfolding KeepsOutcome
-attaching_keeps_outcomes s new i o e = attaching-kept (KeepsOutcome i o) (outcome-kept i o) s new e
 
 -- ---- a stage that has been claimed
 
@@ -255,6 +251,7 @@ not_granted i (Cancels who j) s t = refl
 not_granted i (Claims who j) s t = claim_not_granted i (stage_at s j) s who j refl t
 not_granted i (Finishes who j answer) s t = refl
 not_granted i (Ticks who now) s t = refl
+not_granted i (Attaches who form of function) s t = refl
 
 no_grants : (i : ℕ) (events : List Event) (s : State) → taken_in s.stages i ≡ true → grants_of i s events ≡ 0
 unfolding KeepsTaken
@@ -286,6 +283,7 @@ grant_takes i (Cancels who j) s g = cc
 grant_takes i (Claims who j) s g = claim_takes i (stage_at s j) s who j refl g
 grant_takes i (Finishes who j answer) s g = cc
 grant_takes i (Ticks who now) s g = cc
+grant_takes i (Attaches who form of function) s g = cc
 
 at_most_one : (i : ℕ) (b : Bool) (e : Event) (events : List Event) (s : State) → is_grant i e ((answered s e).0) ≡ b → ((r : State) → grants_of i r events ≤ 1) → grants_of i s (e ∷ events) ≤ 1
 at_most_one i true e events s g rest =

@@ -13,13 +13,13 @@ use Rattle.cf_plan.specs.declared.forms.Landing.{Landing}
 use Rattle.cf_plan.specs.declared.forms.Landing.TheVariants.{Settles as Lands, Links}
 use Rattle.cf_plan.specs.declared.limits.Limit.{Limit}
 use Rattle.cf_plan.specs.Forms.{bad_answer, composes, kept_value, landing}
-use Rattle.cf_plan.specs.Plans.{PlannedStage, form_at}
+use Rattle.cf_plan.specs.Plans.{PlannedStage, attached_stage, form_at}
 use Rattle.cf_core.specs.declared.stage.Stage.{Stage}
 use Rattle.cf_core.specs.declared.stage.Stage.TheVariants.{Pending, Ready, Claimed, Linked, Settled}
 use Rattle.cf_core.specs.declared.replies.Finished.TheVariants.{NotYours}
 use Rattle.cf_core.specs.declared.replies.Ticked.TheVariants.{Fired, Past}
 use Rattle.cf_core.specs.declared.events.Event.{Event}
-use Rattle.cf_core.specs.declared.events.Event.TheVariants.{Complete as Completes, Fail as Fails, Cancel as Cancels, Claim as Claims, Finish as Finishes, Tick as Ticks}
+use Rattle.cf_core.specs.declared.events.Event.TheVariants.{Complete as Completes, Fail as Fails, Cancel as Cancels, Claim as Claims, Finish as Finishes, Tick as Ticks, Attach as Attaches}
 use Rattle.cf_core.specs.States.{State, after, stages_after, outcome_in, outcome_at, stage_at, claim_at, new_states}
 use Rattle.cf_core.specs.Events.{answered, state_after, settled_by, settling, cancelled_by, claimed_by, finished_by, landed, linked_to, firing, due_limits, limit_outcome, source_outcome, attached_by, attaching}
 use Rattle.cf_core.proofs.Moves.{there}
@@ -123,6 +123,7 @@ answered-stable P k s (Ticks who now) h =
     let fired = firing 0 s (due_limits s now) in
     chosen-stable P (nat_lt now s.moment) (Past, s) (Fired fired.0, record fired.1 { moment = now; used = s.used + length (due_limits s now) })
     h (firing-stable P k (due_limits s now) 0 s h)
+answered-stable P k s (Attaches who form of function) h = attaching-stable P k s (attached_stage form of function) h
 
 pub state_after-stable : (P : List PlannedStage → List Stage → Type 0) → IsStable P → (s : State) (events : List Event) → Holds P s → Holds P (state_after s events)
 state_after-stable P k s [] h = h

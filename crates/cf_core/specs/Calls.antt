@@ -1,7 +1,7 @@
 -- Whose calls events are.
-use Rattle.std.specs.Prelude.{◌==◌, Bool, false}
+use Rattle.std.specs.Prelude.{◌==◌, Bool, true, false}
 use Rattle.cf_core.specs.declared.events.Event.{Event}
-use Rattle.cf_core.specs.declared.events.Event.TheVariants.{Complete as Completes, Fail as Fails, Cancel as Cancels, Tick as Ticks}
+use Rattle.cf_core.specs.declared.events.Event.TheVariants.{Complete as Completes, Fail as Fails, Cancel as Cancels, Tick as Ticks, Attach as Attaches}
 
 -- whether it comes from outside, and is no work: what caller 0 completes, fails and cancels, and its ticks
 abbrev pub is_from_outside : Event → Bool
@@ -10,3 +10,8 @@ is_from_outside (Fails who i code) = who == 0
 is_from_outside (Cancels who i) = who == 0
 is_from_outside (Ticks who now) = who == 0
 is_from_outside event = false
+
+-- whether it attaches a stage
+abbrev pub is_attach : Event → Bool
+is_attach (Attaches who form of function) = true
+is_attach event = false

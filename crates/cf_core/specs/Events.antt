@@ -13,7 +13,7 @@ use Rattle.cf_plan.specs.declared.limits.Limit.{Limit}
 use Rattle.cf_plan.specs.declared.limits.LimitKind.{LimitKind}
 use Rattle.cf_plan.specs.declared.limits.LimitKind.TheVariants.{Timeout, Give as GiveValue}
 use Rattle.cf_plan.specs.Forms.{landing}
-use Rattle.cf_plan.specs.Plans.{Planned, PlannedStage, form_at, sources_at}
+use Rattle.cf_plan.specs.Plans.{Planned, PlannedStage, attached_stage, form_at, sources_at}
 use Rattle.cf_core.specs.declared.stage.Stage.{Stage}
 use Rattle.cf_core.specs.declared.stage.Stage.TheVariants.{Pending, Ready, Claimed as IsClaimed, Linked, Settled}
 use Rattle.cf_core.specs.declared.replies.Claimed.{Claimed}
@@ -29,9 +29,9 @@ use Rattle.cf_core.specs.declared.asks.Ask.TheVariants.{Now as AsksNow, Outcome 
 use Rattle.cf_core.specs.declared.asks.Told.{Told}
 use Rattle.cf_core.specs.declared.asks.Told.TheVariants.{Now as ToldNow, Outcome as ToldOutcome}
 use Rattle.cf_core.specs.declared.events.Event.{Event}
-use Rattle.cf_core.specs.declared.events.Event.TheVariants.{Complete as Completes, Fail as Fails, Cancel as Cancels, Claim as Claims, Finish as Finishes, Tick as Ticks}
+use Rattle.cf_core.specs.declared.events.Event.TheVariants.{Complete as Completes, Fail as Fails, Cancel as Cancels, Claim as Claims, Finish as Finishes, Tick as Ticks, Attach as Attaches}
 use Rattle.cf_core.specs.declared.events.Reply.{Reply}
-use Rattle.cf_core.specs.declared.events.Reply.TheVariants.{Flag as ToldFlag, Claim as ToldClaim, Finish as ToldFinish, Tick as ToldTick}
+use Rattle.cf_core.specs.declared.events.Reply.TheVariants.{Flag as ToldFlag, Claim as ToldClaim, Finish as ToldFinish, Tick as ToldTick, Attach as ToldAttach}
 use Rattle.cf_core.specs.States.{State, after, appended, flowed, start, stage_at, outcome_at, claim_at}
 
 -- a stage is settled with o, unless it is settled already
@@ -127,6 +127,7 @@ answered s (Cancels who i) = told_as ToldFlag (cancelling s i)
 answered s (Claims who i) = told_as ToldClaim (claiming s who i)
 answered s (Finishes who i answer) = told_as ToldFinish (finishing s who i answer)
 answered s (Ticks who now) = told_as ToldTick (ticking s now)
+answered s (Attaches who form of function) = told_as ToldAttach (attaching s (attached_stage form of function))
 
 -- the state that these events leave
 abbrev pub state_after : State → List Event → State

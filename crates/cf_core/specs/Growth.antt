@@ -1,11 +1,11 @@
--- Laws of stages that are attached.
-use Rattle.std.specs.Prelude.{◌≡◌, ℕ, ◌+◌, ◌≤◌, ◌++◌, false, length, Some, List}
-use Rattle.cf_outcome.specs.declared.outcome.Outcome.{Outcome}
-use Rattle.cf_plan.specs.Plans.{PlannedStage}
-use Rattle.cf_core.specs.States.{State, outcome_at, stage_at}
-use Rattle.cf_core.specs.Claims.{is_claimable, claimable_count}
-use Rattle.cf_core.specs.Events.{attaching}
-use Rattle.cf_core.specs.Laws.{AreLinkedLower, IsClosed}
+-- Laws of how plans grow.
+use Rattle.std.specs.Prelude.{◌≡◌, ◌+◌, ◌++◌, false, length, List, All}
+use Rattle.cf_plan.specs.Plans.{IsGrowing, PlannedStage}
+use Rattle.cf_core.specs.States.{State}
+use Rattle.cf_core.specs.declared.events.Event.{Event}
+use Rattle.cf_core.specs.Calls.{is_attach}
+use Rattle.cf_core.specs.Events.{state_after}
+use Rattle.cf_core.specs.Ranges.{EventsFit}
 
 -- the plan has more stages behind those that it had, for which there was room, and there is a stage, and a claim or none, for each of them
 pub record Grows (s r : State) : Type 0 where
@@ -17,32 +17,20 @@ pub record Grows (s r : State) : Type 0 where
   pub all_stages : length r.stages ≡ length s.stages + length more
   pub all_claims : length r.claims ≡ length s.claims + length more
 
--- a stage that is attached takes one place of the room
-abbrev pub AttachingGrows : Type 0
-AttachingGrows = (s : State) (new : PlannedStage) → Grows s ((attaching s new).1)
+-- whatever events come, the plan grows
+abbrev pub EventsGrowPlans : Type 0
+EventsGrowPlans = (s : State) (events : List Event) → Grows s (state_after s events)
 
--- a settled stage keeps its outcome
-abbrev pub AttachingKeepsOutcomes : Type 0
-AttachingKeepsOutcomes =
-    (s : State) (new : PlannedStage) (i : ℕ) (o : Outcome) →
-    outcome_at s i ≡ Some o → outcome_at ((attaching s new).1) i ≡ Some o
+-- the plan stays, and there is a stage, and a claim or none, for as many as before
+pub record SameShape (s r : State) : Type 0 where
+  pub plan : r.plan ≡ s.plan
+  pub all_stages : length r.stages ≡ length s.stages
+  pub all_claims : length r.claims ≡ length s.claims
 
--- a stage that has been claimed, linked or settled can't be claimed then either
-abbrev pub AttachingFreesNone : Type 0
-AttachingFreesNone =
-    (s : State) (new : PlannedStage) (i : ℕ) →
-    is_claimable (stage_at s i) ≡ false → is_claimable (stage_at ((attaching s new).1) i) ≡ false
+-- so it is where no event attaches a stage
+abbrev pub OthersKeepShape : Type 0
+OthersKeepShape = (s : State) (events : List Event) → All (λ e. is_attach e ≡ false) events → SameShape s (state_after s events)
 
--- with those that there is room for, there are no more stages to be claimed than before
-abbrev pub AttachingTakesRoom : Type 0
-AttachingTakesRoom =
-    (s : State) (new : PlannedStage) → let r = (attaching s new).1 in
-    claimable_count r + r.plan.room ≤ claimable_count s + s.plan.room
-
--- a closed state stays closed
-abbrev pub AttachingKeepsClosed : Type 0
-AttachingKeepsClosed = (s : State) (new : PlannedStage) → IsClosed s → IsClosed ((attaching s new).1)
-
--- links are to lower stages, as before
-abbrev pub AttachingLinksLower : Type 0
-AttachingLinksLower = (s : State) (new : PlannedStage) → AreLinkedLower s.stages → AreLinkedLower ((attaching s new).1.stages)
+-- a plan that is built, and within its bounds with all that there is room for, is so still once it has grown
+abbrev pub GrownAreGrowing : Type 0
+GrownAreGrowing = (s : State) (events : List Event) → IsGrowing s.plan → EventsFit s events → IsGrowing ((state_after s events).plan)

@@ -38,9 +38,11 @@ grants_of i s (e ∷ events) =
 abbrev pub GrantsOnce : Type 0
 GrantsOnce = (s : State) (events : List Event) (i : ℕ) → grants_of i s events ≤ 1
 
--- no event makes more stages claimable
+-- no event makes more stages claimable, if those that there is room for are counted too
 abbrev pub NeverMoreClaimable : Type 0
-NeverMoreClaimable = (s : State) (e : Event) → claimable_count ((answered s e).1) ≤ claimable_count s
+NeverMoreClaimable =
+    (s : State) (e : Event) → let r = (answered s e).1 in
+    claimable_count r + r.plan.room ≤ claimable_count s + s.plan.room
 
 -- a granted claim leaves fewer
 abbrev pub GrantsLeaveFewer : Type 0
@@ -52,15 +54,6 @@ abbrev pub NeverReadyAgain : Type 0
 NeverReadyAgain =
     (s : State) (events : List Event) (i : ℕ) →
     is_claimable (stage_at s i) ≡ false → is_ready (stage_at (state_after s events) i) ≡ false
-
--- the plan stays, and there is a stage, and a claim or none, for as many as before
-pub record SameShape (s r : State) : Type 0 where
-  pub plan : r.plan ≡ s.plan
-  pub all_stages : length r.stages ≡ length s.stages
-  pub all_claims : length r.claims ≡ length s.claims
-
-abbrev pub KeepsShape : Type 0
-KeepsShape = (s : State) (events : List Event) → SameShape s (state_after s events)
 
 -- each stage has taken what its sources give: treated once more, each stays as it is
 abbrev pub IsClosed : State → Type 0
@@ -97,5 +90,5 @@ is_decided_by_first form = true
 abbrev pub PendingHasNoneSettled : Type 0
 PendingHasNoneSettled =
     (plan : Planned) (events : List Event) (i : ℕ) → let s = state_after (start plan) events in
-    IsBuilt plan → i < length plan.stages → is_decided_by_first (form_at plan.stages i) ≡ true → stage_at s i ≡ Pending →
-    All (λ j. outcome_at s j ≡ None) (sources_at plan.stages i)
+    IsBuilt s.plan → i < length s.plan.stages → is_decided_by_first (form_at s.plan.stages i) ≡ true → stage_at s i ≡ Pending →
+    All (λ j. outcome_at s j ≡ None) (sources_at s.plan.stages i)

@@ -1,17 +1,44 @@
 //! What callers do to a graph, and what it replies.
-use crate::replies::{Claimed, Finished, Ticked};
+use crate::replies::{Attached, Claimed, Finished, Ticked};
 use cf_outcome::Value;
-use cf_plan::Answer;
+use cf_plan::{Answer, Form, Of};
 
 /// One changing call of one caller.
 #[derive(Clone, Copy, Debug, PartialEq, Eq)]
 pub enum Event {
-    Complete { who: u8, stage: u16, value: Value },
-    Fail { who: u8, stage: u16, code: u32 },
-    Cancel { who: u8, stage: u16 },
-    Claim { who: u8, stage: u16 },
-    Finish { who: u8, stage: u16, answer: Answer },
-    Tick { who: u8, now: u32 },
+    Complete {
+        who: u8,
+        stage: u16,
+        value: Value,
+    },
+    Fail {
+        who: u8,
+        stage: u16,
+        code: u32,
+    },
+    Cancel {
+        who: u8,
+        stage: u16,
+    },
+    Claim {
+        who: u8,
+        stage: u16,
+    },
+    Finish {
+        who: u8,
+        stage: u16,
+        answer: Answer,
+    },
+    Tick {
+        who: u8,
+        now: u32,
+    },
+    Attach {
+        who: u8,
+        form: Form,
+        of: Of,
+        function: Option<u16>,
+    },
 }
 
 /// What an event is answered.
@@ -22,4 +49,5 @@ pub enum Reply {
     Claim(Claimed),
     Finish(Finished),
     Tick(Ticked),
+    Attach(Attached),
 }

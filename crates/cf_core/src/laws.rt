@@ -1,6 +1,6 @@
 //! Laws of whole runs of events.
-ghost use Rattle.cf_core.specs.Growth.{AttachingFreesNone, AttachingGrows, AttachingKeepsClosed, AttachingKeepsOutcomes, AttachingLinksLower, AttachingTakesRoom};
-ghost use Rattle.cf_core.specs.Laws.{GrantsLeaveFewer, GrantsOnce, KeepsClosed, KeepsOutcomes, KeepsShape, NeverMoreClaimable, NeverReadyAgain, PendingHasNoneSettled, ReachedAreClosed, ReachedLinkLower};
+ghost use Rattle.cf_core.specs.Growth.{EventsGrowPlans, GrownAreGrowing, OthersKeepShape};
+ghost use Rattle.cf_core.specs.Laws.{GrantsLeaveFewer, GrantsOnce, KeepsClosed, KeepsOutcomes, NeverMoreClaimable, NeverReadyAgain, PendingHasNoneSettled, ReachedAreClosed, ReachedLinkLower};
 
 /// A settled stage keeps its outcome, whatever events come.
 pub fn settled_stages_keep_their_outcomes()
@@ -17,7 +17,7 @@ pub fn claimed_stages_are_never_ready_again()
     ensures { NeverReadyAgain }
 {}
 
-/// No event makes more stages claimable, now or later.
+/// No event makes more stages claimable, now or later, if those that there is room for are counted too.
 pub fn no_event_makes_more_claimable()
     ensures { NeverMoreClaimable }
 {}
@@ -28,9 +28,19 @@ pub fn granted_claims_leave_fewer_claimable()
     ensures { GrantsLeaveFewer }
 {}
 
-/// The plan, and how many stages and claims there are, stay the same, whatever events come.
-pub fn events_keep_the_shape()
-    ensures { KeepsShape }
+/// The plan grows behind what it was, and takes the room for it, whatever events come.
+pub fn events_grow_plans()
+    ensures { EventsGrowPlans }
+{}
+
+/// The plan, and how many stages and claims there are, stay the same while no event attaches a stage.
+pub fn other_events_keep_the_shape()
+    ensures { OthersKeepShape }
+{}
+
+/// A plan that grows by stages that fit stays built and within its bounds.
+pub fn grown_plans_are_growing()
+    ensures { GrownAreGrowing }
 {}
 
 /// A state in which nothing is due any more stays so, whatever events come.
@@ -52,34 +62,4 @@ pub fn reached_states_link_lower()
 /// the first source that settles.
 pub fn pending_stages_have_no_settled_source()
     ensures { PendingHasNoneSettled }
-{}
-
-/// A stage that is attached stands behind all others and takes one place of the room.
-pub fn attached_stages_stand_behind_the_others()
-    ensures { AttachingGrows }
-{}
-
-/// A settled stage keeps its outcome when a stage is attached.
-pub fn attaching_keeps_outcomes()
-    ensures { AttachingKeepsOutcomes }
-{}
-
-/// A stage that has been claimed, linked or settled can't be claimed once a stage is attached either.
-pub fn attaching_frees_no_stage()
-    ensures { AttachingFreesNone }
-{}
-
-/// With those that there is room for, an attached stage makes no more stages claimable, now or later.
-pub fn attaching_takes_room()
-    ensures { AttachingTakesRoom }
-{}
-
-/// A state in which nothing is due any more stays so when a stage is attached.
-pub fn attaching_keeps_states_closed()
-    ensures { AttachingKeepsClosed }
-{}
-
-/// Where links are to lower stages they still are when a stage is attached.
-pub fn attaching_links_lower()
-    ensures { AttachingLinksLower }
 {}

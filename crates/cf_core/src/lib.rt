@@ -66,8 +66,6 @@ pub mod propagation;
 mod replies;
 mod stage;
 mod stages;
-#[cfg(test)]
-mod tests;
 mod treat;
 
 pub use asks::{Ask, Told};

@@ -1,2 +1,3 @@
+pub mod AttachLemmas
 pub mod WordLemmas
 pub mod Replays

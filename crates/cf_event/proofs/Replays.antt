@@ -1,12 +1,12 @@
 -- Events done one after another.
-use Rattle.std.proofs.Common.{◌≡◌, ℕ, ◌+◌, ◌<◌, ◌≤◌, ◌∷◌, [], List, drop, length, get_or, ap, ◌∙◌, add-one, drop-cons, suc, zero, refl}
+use Rattle.std.proofs.Common.{◌≡◌, ℕ, ◌+◌, ◌<◌, ◌≤◌, ◌∷◌, [], List, drop, length, get_or, ap, ◌∙◌, add-one, drop-cons, subst, suc, sym, zero, refl}
 use Rattle.std.specs.Prelude.{slice_get, unwrap_or}
 use Rattle.std.proofs.lemmas.List.{drop_all}
 use Rattle.cf_core.specs.declared.events.Event.{Event}
 use Rattle.cf_core.specs.States.{State}
 use Rattle.cf_core.specs.Graphs.{Graph}
 use Rattle.cf_core.specs.Events.{answered, state_after}
-use Rattle.cf_core.proofs.Shape.{answered-shape}
+use Rattle.cf_core.specs.Ranges.{EventFits, EventsFit}
 use Rattle.cf_event.specs.Replays.{Answers, Nudges, Replays}
 
 first_of_rest : (nudges : List ℕ) (i : ℕ) → slice_get (drop i nudges) 0 ≡ slice_get nudges i
@@ -32,17 +32,28 @@ rest_after nudges events i d g nudged done end l n a rest =
     let others : drop 1 (drop i nudges) ≡ drop (i + 1) nudges = drop_more nudges i in
     rw split (nudged, done, rw first n, a, rw others rest)
 
--- an event leaves the plan
-pub plan_after : (e : Event) (g nudged done : Graph) (k : ℕ) → Nudges k g nudged → Answers e nudged done → done.state.plan ≡ g.state.plan
-plan_after e g nudged done k n a =
-    ap (λ p. p.1.plan) a.told ∙ (answered-shape nudged.state e).plan ∙ ap (λ (s : State). s.plan) n.state
+-- the next event fits, and once it is done the rest does
+next_fits : (s : State) (events : List Event) (i : ℕ) (d : Event) → i < length events → EventsFit s (drop i events) →
+    EventFits (length s.plan.stages) (get_or events i d) × EventsFit ((answered s (get_or events i d)).1) (drop (i + 1) events)
+next_fits s events i d l fits =
+    let split : drop i events ≡ get_or events i d ∷ drop (i + 1) events = rw (add-one, drop-cons events i d) refl in
+    subst (λ (left : List Event). EventsFit s left) split fits
+
+-- a graph that takes turns, and then does an event, is in the state after it
+answered_here : {k : ℕ} (e : Event) (g nudged done : Graph) → Nudges k g nudged → Answers e nudged done → done.state ≡ (answered g.state e).1
+answered_here e g nudged done n a = ap (λ p. p.1) a.told ∙ ap (λ (s : State). (answered s e).1) n.state
+
+-- so the rest fits it
+pub rest_fits : (events : List Event) (i : ℕ) (d : Event) (k : ℕ) (g nudged done : Graph) → i < length events → EventsFit g.state (drop i events) →
+    Nudges k g nudged → Answers (get_or events i d) nudged done → EventsFit done.state (drop (i + 1) events)
+rest_fits events i d k g nudged done l fits n a =
+    subst (λ (s : State). EventsFit s (drop (i + 1) events)) (sym (answered_here (get_or events i d) g nudged done n a)) (next_fits g.state events i d l fits).1
 
 -- events that are done lead to the state after them
 pub replays-state : (nudges : List ℕ) (events : List Event) (old new : Graph) → Replays nudges events old new → new.state ≡ state_after old.state events
 replays-state nudges [] old new e = ap (λ (g : Graph). g.state) e
 replays-state nudges (e ∷ events) old new r =
-    let answered_here : r.1.state ≡ (answered old.state e).1 = ap (λ p. p.1) r.3.told ∙ ap (λ (s : State). (answered s e).1) r.2.state in
-    replays-state (drop 1 nudges) events r.1 new r.4 ∙ ap (λ (s : State). state_after s events) answered_here
+    replays-state (drop 1 nudges) events r.1 new r.4 ∙ ap (λ (s : State). state_after s events) (answered_here e old r.0 r.1 r.2 r.3)
 
 -- where no event is left, nothing happens
 pub replays-all : (nudges : List ℕ) (events : List Event) (i : ℕ) (g : Graph) → length events ≤ i → Replays (drop i nudges) (drop i events) g g

@@ -1,6 +1,6 @@
 -- Words and their fields.
-use Rattle.std.proofs.Common.{◌≡◌, ℕ, zero, suc, List, [], ◌∷◌, ◌++◌, map, replicate, All, ◌/◌, ◌%◌, ◌^◌, ◌<◌, Bool, true, false, Option, Some, None, refl, ap, ◌∙◌, arith, rules}
-use Rattle.std.specs.Prelude.{nat_lt, ◌==◌, ◌&&◌, if◌then◌else◌}
+use Rattle.std.proofs.Common.{◌≡◌, ℕ, zero, suc, List, [], ◌∷◌, ◌++◌, map, replicate, All, ◌/◌, ◌%◌, ◌^◌, ◌<◌, ◌≤◌, false, Option, Some, None, refl, ap, sym, ◌∙◌, arith, rules}
+use Rattle.std.specs.Prelude.{IfSome, nat_lt, ◌==◌, ◌&&◌}
 use Rattle.std.specs.Option.{option_map}
 use Rattle.std.specs.Int.{w32}
 use Rattle.std.proofs.lemmas.Int.{to_z-of_z}
@@ -12,9 +12,10 @@ use Rattle.cf_outcome.specs.declared.outcome.Value.TheVariants.{Nil, Int}
 use Rattle.cf_plan.specs.declared.forms.Answer.{Answer}
 use Rattle.cf_plan.specs.declared.forms.Answer.TheVariants.{Give, Throw, Link}
 use Rattle.cf_core.specs.declared.events.Event.{Event}
-use Rattle.cf_core.specs.declared.events.Event.TheVariants.{Complete as Completes, Fail as Fails, Cancel as Cancels, Claim as Claims, Finish as Finishes, Tick as Ticks}
-use Rattle.cf_event.specs.Words.{IsAnswer, IsEvent, IsValue, answer_low, answer_tag, value_low, value_tag, word_of, word_with}
-use Rattle.cf_event.specs.Decoding.{answer_with, decoded, decoded_with, event_of, event_with, value_with}
+use Rattle.cf_core.specs.declared.events.Event.TheVariants.{Complete as Completes, Fail as Fails, Cancel as Cancels, Claim as Claims, Finish as Finishes, Tick as Ticks, Attach as Attaches}
+use Rattle.cf_event.specs.Words.{IsAnswer, IsEvent, IsValue, answer_low, answer_tag, attach_low, count_of, first_of, value_low, value_tag, word_of, word_with}
+use Rattle.cf_event.specs.Decoding.{answer_with, attach_with, decoded, decoded_with, event_of, event_with, value_with}
+use Rattle.cf_event.proofs.AttachLemmas.{attach_back, attach_small, attach_with_is, chosen, count_small}
 
 -- a word's fields
 kind_in : (kind who i tag low : ℕ) → who < 256 → i < 4096 → tag < 16 → low < 2 ^ 32 → word_with kind who i tag low / 2 ^ 56 ≡ kind
@@ -63,6 +64,10 @@ answer_small (Give v) h = value_small v h
 answer_small (Throw code) h = (omega arith, h)
 answer_small (Link j) h = (omega arith, omega arith)
 
+-- of kind 7 are those that attach
+event_with_attach : (who i tag low : ℕ) → who ≤ 63 → event_with 7 who i tag low ≡ attach_with who i tag low
+event_with_attach who i tag low l = let few : nat_lt 63 who ≡ false = grind (arith, nat_tests) in rw few refl
+
 -- the event of an event's word is that event
 pub event_of_own_word : (e : Event) → IsEvent e → event_of (word_of e) ≡ Some e
 event_of_own_word (Completes who i v) h =
@@ -81,6 +86,11 @@ event_of_own_word (Finishes who i a) h =
     event_of_fields 5 who i (answer_tag a) (answer_low a) (omega (arith, h.0)) (omega (arith, h.1)) small.0 small.1 ∙ grind (arith, common_steps)
 event_of_own_word (Ticks who now) h =
     event_of_fields 6 who 0 0 now (omega (arith, h.0)) (omega arith) (omega arith) h.1 ∙ grind (arith, common_steps)
+event_of_own_word (Attaches who form of function) h =
+    let low = attach_low form of function in
+    event_of_fields 7 who (first_of of) (count_of of) low (omega (arith, h.0)) (omega (arith, h.1)) (count_small of) (attach_small form of function h.2 h.3)
+    ∙ event_with_attach who (first_of of) (count_of of) low h.0
+    ∙ attach_back who form of function h.2 h.3 h.4
 
 -- what a value, and an answer, with these fields is
 value_with_is : (tag low : ℕ) (v : Value) → low < 2 ^ 32 → value_with tag low ≡ Some v → IsValue v × (value_tag v ≡ tag) × (value_low v ≡ low)
@@ -88,11 +98,6 @@ value_with_is tag low v l h = grind (arith, common_steps, nat_tests)
 
 answer_with_is : (tag low : ℕ) (a : Answer) → low < 2 ^ 32 → answer_with tag low ≡ Some a → IsAnswer a × (answer_tag a ≡ tag) × (answer_low a ≡ low)
 answer_with_is tag low a l h = grind (arith, common_steps, nat_tests, value_with_is)
-
--- what is found by one of two ways
-chosen : {A P : Type 0} (b : Bool) (x y : Option A) (z : A) → (b ≡ true → x ≡ Some z → P) → (b ≡ false → y ≡ Some z → P) → (if b then x else y) ≡ Some z → P
-chosen true x y z f g h = f refl h
-chosen false x y z f g h = g refl h
 
 -- what the event with these fields is
 event_with_is : (kind who i tag low : ℕ) (e : Event) → i < 4096 → low < 2 ^ 32 → event_with kind who i tag low ≡ Some e → IsEvent e × (word_of e ≡ word_with kind who i tag low)
@@ -105,7 +110,12 @@ event_with_is kind who i tag low e s l h =
     chosen (kind == 4 && tag == 0 && low == 0) (Some (Claims who i)) _ e (λ k n. grind (arith, common_steps, nat_tests)) (λ k4.
     chosen (kind == 5) (option_map (Finishes who i) (answer_with tag low)) _ e
     (λ k n. grind (arith, common_steps, nat_tests, answer_with_is)) (λ k5.
-    chosen (kind == 6 && tag == 0 && i == 0) (Some (Ticks who low)) None e (λ k n. grind (arith, common_steps, nat_tests)) (λ k6 n. absurd cc))))))) h
+    chosen (kind == 6 && tag == 0 && i == 0) (Some (Ticks who low)) _ e (λ k n. grind (arith, common_steps, nat_tests)) (λ k6.
+    chosen (kind == 7) (attach_with who i tag low) None e
+    (λ k n. (let is : kind ≡ 7 = grind (arith, nat_tests) in
+    let few : who ≤ 63 = grind (arith, nat_tests) in
+    let found = attach_with_is who i tag low e few s l n in
+    (found.0, found.1 ∙ ap (λ m. word_with m who i tag low) (sym is)))) (λ k7 n. absurd cc)))))))) h
 
 -- the event of a word is one, and that is its word
 pub event_of_is : (w : ℕ) (e : Event) → event_of w ≡ Some e → IsEvent e × (word_of e ≡ w)
@@ -113,6 +123,28 @@ unfolding event_of
 event_of_is w e h =
     let found = event_with_is (w / 2 ^ 56) (w / 2 ^ 48 % 2 ^ 8) (w / 2 ^ 36 % 2 ^ 12) (w / 2 ^ 32 % 2 ^ 4) (w % 2 ^ 32) e (omega arith) (omega arith) h in
     (found.0, found.1 ∙ word_of_fields w)
+
+-- a word of kind 7 is that of an attaching, if it is one's
+pub event_of_7 : (w : ℕ) → w / 2 ^ 56 ≡ 7 → w / 2 ^ 48 % 2 ^ 8 ≤ 63 → event_of w ≡ attach_with (w / 2 ^ 48 % 2 ^ 8) (w / 2 ^ 36 % 2 ^ 12) (w / 2 ^ 32 % 2 ^ 4) (w % 2 ^ 32)
+unfolding event_of
+event_of_7 w k l =
+    ap (λ n. event_with n (w / 2 ^ 48 % 2 ^ 8) (w / 2 ^ 36 % 2 ^ 12) (w / 2 ^ 32 % 2 ^ 4) (w % 2 ^ 32)) k
+    ∙ event_with_attach (w / 2 ^ 48 % 2 ^ 8) (w / 2 ^ 36 % 2 ^ 12) (w / 2 ^ 32 % 2 ^ 4) (w % 2 ^ 32) l
+
+-- what is found for a word is its event, and there is no other
+pub found_is : (w : ℕ) (x : Option Event) → event_of w ≡ x → IfSome x (λ e. IsEvent e × (word_of e ≡ w))
+found_is w None h = tt
+found_is w (Some e) h = event_of_is w e h
+
+pub every_is : (w : ℕ) (x : Option Event) → event_of w ≡ x → (e : Event) → IsEvent e → word_of e ≡ w → x ≡ Some e
+every_is w x h e is same = sym h ∙ ap event_of (sym same) ∙ event_of_own_word e is
+
+-- two events with one word are one event
+some_same : {A : Type 0} (a b : A) → Some a ≡ Some b → a ≡ b
+some_same a b e = cc
+
+pub one_to_one : (d e : Event) → IsEvent d → IsEvent e → word_of d ≡ word_of e → d ≡ e
+one_to_one d e h k same = some_same d e (sym (event_of_own_word d h) ∙ ap event_of same ∙ event_of_own_word e k)
 
 -- no word of an event is 0, which is no event's
 pub word_of_filled : (e : Event) → 0 < word_of e
@@ -122,6 +154,7 @@ word_of_filled (Cancels who i) = omega arith
 word_of_filled (Claims who i) = omega arith
 word_of_filled (Finishes who i answer) = omega arith
 word_of_filled (Ticks who now) = omega arith
+word_of_filled (Attaches who form of function) = omega arith
 
 pub event_of_zero : event_of 0 ≡ None
 unfolding event_of

@@ -1,13 +1,19 @@
 -- Words as events.
-use Rattle.std.specs.Prelude.{ℕ, ◌^◌, ◌/◌, ◌%◌, ◌==◌, ◌&&◌, nat_lt, Option, Some, None, List, [], ◌∷◌, if◌then◌else◌}
+use Rattle.std.specs.Prelude.{ℕ, ◌^◌, ◌/◌, ◌%◌, ◌==◌, ◌&&◌, nat_lt, true, false, Option, Some, None, List, [], ◌∷◌, slice_get, option_and_then, if◌then◌else◌}
 use Rattle.std.specs.Int.{w32, cast_signed}
 use Rattle.std.specs.Option.{option_map}
 use Rattle.cf_outcome.specs.declared.outcome.Value.{Value}
 use Rattle.cf_outcome.specs.declared.outcome.Value.TheVariants.{Nil, Int}
 use Rattle.cf_plan.specs.declared.forms.Answer.{Answer}
 use Rattle.cf_plan.specs.declared.forms.Answer.TheVariants.{Give, Throw, Link}
+use Rattle.cf_plan.specs.declared.forms.Form.{Form}
+use Rattle.cf_plan.specs.declared.forms.Form.TheVariants.{Source, Supply, RunAsync, Apply, Accept, ThenRun, Combine, AcceptBoth, RunBoth, ApplyEither, AcceptEither, RunEither, Compose, Handle, WhenComplete, Exceptionally, AllOf, AnyOf, ExceptionallyCompose}
+use Rattle.cf_plan.specs.declared.forms.Of.{Of}
+use Rattle.cf_plan.specs.declared.forms.Of.TheVariants.{None as NoSource, One, Two}
+use Rattle.cf_plan.specs.Plans.{fits_form}
 use Rattle.cf_core.specs.declared.events.Event.{Event}
-use Rattle.cf_core.specs.declared.events.Event.TheVariants.{Complete as Completes, Fail as Fails, Cancel as Cancels, Claim as Claims, Finish as Finishes, Tick as Ticks}
+use Rattle.cf_core.specs.declared.events.Event.TheVariants.{Complete as Completes, Fail as Fails, Cancel as Cancels, Claim as Claims, Finish as Finishes, Tick as Ticks, Attach as Attaches}
+use Rattle.cf_event.specs.Words.{count_of}
 
 -- the value with this tag and low half, if there is one
 abbrev pub value_with : ℕ → ℕ → Option Value
@@ -23,6 +29,30 @@ answer_with tag low =
     else (if tag == 3 then (if nat_lt low (2 ^ 16) then Some (Link low) else None)
     else option_map Give (value_with tag low))
 
+-- all forms, by their numbers
+abbrev pub forms : List Form
+forms = Source ∷ Supply ∷ RunAsync ∷ Apply ∷ Accept ∷ ThenRun ∷ Combine ∷ AcceptBoth ∷ RunBoth ∷ ApplyEither ∷ AcceptEither ∷ RunEither ∷ Compose ∷ Handle ∷ WhenComplete ∷ Exceptionally ∷ AllOf ∷ AnyOf ∷ ExceptionallyCompose ∷ []
+
+-- so many sources with these numbers, if that can be
+abbrev pub of_with : ℕ → ℕ → ℕ → Option Of
+of_with count first second =
+    if count == 0 && first == 0 && second == 0 then Some NoSource
+    else (if count == 1 && second == 0 then Some (One first)
+    else (if count == 2 then Some (Two first second)
+    else None))
+
+-- the attaching of a stage with its function's number, or with 0 where it has no function, if that fits its form
+abbrev pub attach_of : ℕ → Form → Of → ℕ → Option Event
+attach_of who form of function =
+    if fits_form form (count_of of) true then Some (Attaches who form of (Some function))
+    else (if fits_form form (count_of of) false && function == 0 then Some (Attaches who form of None)
+    else None)
+
+-- the attaching with these fields, if there is one
+abbrev pub attach_with : ℕ → ℕ → ℕ → ℕ → Option Event
+attach_with who first count low =
+    option_and_then (λ form. option_and_then (λ of. attach_of who form of (low % 2 ^ 12)) (of_with count first (low / 2 ^ 12 % 2 ^ 12))) (slice_get forms (low / 2 ^ 24))
+
 -- the event with these fields, if there is one
 abbrev pub event_with : ℕ → ℕ → ℕ → ℕ → ℕ → Option Event
 event_with kind who i tag low =
@@ -33,7 +63,8 @@ event_with kind who i tag low =
     else (if kind == 4 && tag == 0 && low == 0 then Some (Claims who i)
     else (if kind == 5 then option_map (Finishes who i) (answer_with tag low)
     else (if kind == 6 && tag == 0 && i == 0 then Some (Ticks who low)
-    else None))))))
+    else (if kind == 7 then attach_with who i tag low
+    else None)))))))
 
 -- the event of a word, if it is the word of one
 unfoldable pub event_of : ℕ → Option Event

@@ -1,12 +1,17 @@
 -- Events as words: `kind * 2^56 + who * 2^48 + stage * 2^36 + tag * 2^32 + low`.
-use Rattle.std.specs.Prelude.{ℕ, ◌+◌, ◌*◌, ◌^◌, ◌<◌, ◌≤◌, FitsSigned, ⊤}
+use Rattle.std.specs.Prelude.{◌≡◌, ℕ, ◌+◌, ◌*◌, ◌^◌, ◌<◌, ◌≤◌, FitsSigned, ⊤, true, Option, is_some, length, unwrap_or}
 use Rattle.std.specs.Int.{w32, cast_unsigned}
 use Rattle.cf_outcome.specs.declared.outcome.Value.{Value}
 use Rattle.cf_outcome.specs.declared.outcome.Value.TheVariants.{Nil, Int}
 use Rattle.cf_plan.specs.declared.forms.Answer.{Answer}
 use Rattle.cf_plan.specs.declared.forms.Answer.TheVariants.{Give, Throw, Link}
+use Rattle.cf_plan.specs.declared.forms.Form.{Form}
+use Rattle.cf_plan.specs.declared.forms.Form.TheVariants.{Source, Supply, RunAsync, Apply, Accept, ThenRun, Combine, AcceptBoth, RunBoth, ApplyEither, AcceptEither, RunEither, Compose, Handle, WhenComplete, Exceptionally, AllOf, AnyOf, ExceptionallyCompose}
+use Rattle.cf_plan.specs.declared.forms.Of.{Of}
+use Rattle.cf_plan.specs.declared.forms.Of.TheVariants.{None as NoSource, One, Two}
+use Rattle.cf_plan.specs.Plans.{fits_form, sources_of}
 use Rattle.cf_core.specs.declared.events.Event.{Event}
-use Rattle.cf_core.specs.declared.events.Event.TheVariants.{Complete as Completes, Fail as Fails, Cancel as Cancels, Claim as Claims, Finish as Finishes, Tick as Ticks}
+use Rattle.cf_core.specs.declared.events.Event.TheVariants.{Complete as Completes, Fail as Fails, Cancel as Cancels, Claim as Claims, Finish as Finishes, Tick as Ticks, Attach as Attaches}
 
 -- the word of these fields
 abbrev pub word_with : ℕ → ℕ → ℕ → ℕ → ℕ → ℕ
@@ -32,7 +37,47 @@ answer_low (Give v) = value_low v
 answer_low (Throw code) = code
 answer_low (Link j) = j
 
--- the word of an event
+-- the number of a form, in the order in which they are declared
+abbrev pub form_number : Form → ℕ
+form_number Source = 0
+form_number Supply = 1
+form_number RunAsync = 2
+form_number Apply = 3
+form_number Accept = 4
+form_number ThenRun = 5
+form_number Combine = 6
+form_number AcceptBoth = 7
+form_number RunBoth = 8
+form_number ApplyEither = 9
+form_number AcceptEither = 10
+form_number RunEither = 11
+form_number Compose = 12
+form_number Handle = 13
+form_number WhenComplete = 14
+form_number Exceptionally = 15
+form_number AllOf = 16
+form_number AnyOf = 17
+form_number ExceptionallyCompose = 18
+
+-- how many sources an attached stage has, the first of them, and the second; 0 for one that isn't there
+abbrev pub count_of : Of → ℕ
+count_of of = length (sources_of of)
+
+abbrev pub first_of : Of → ℕ
+first_of NoSource = 0
+first_of (One a) = a
+first_of (Two a b) = a
+
+abbrev pub second_of : Of → ℕ
+second_of NoSource = 0
+second_of (One a) = 0
+second_of (Two a b) = b
+
+-- the low half of an attached stage: its form, its second source and its function, each 0 if it isn't there
+abbrev pub attach_low : Form → Of → Option ℕ → ℕ
+attach_low form of function = form_number form * 2 ^ 24 + second_of of * 2 ^ 12 + unwrap_or function 0
+
+-- the word of an event; the stage and the tag of one that attaches are its first source and the number of its sources
 abbrev pub word_of : Event → ℕ
 word_of (Completes who i v) = word_with 1 who i (value_tag v) (value_low v)
 word_of (Fails who i code) = word_with 2 who i 0 code
@@ -40,6 +85,7 @@ word_of (Cancels who i) = word_with 3 who i 0 0
 word_of (Claims who i) = word_with 4 who i 0 0
 word_of (Finishes who i answer) = word_with 5 who i (answer_tag answer) (answer_low answer)
 word_of (Ticks who now) = word_with 6 who 0 0 now
+word_of (Attaches who form of function) = word_with 7 who (first_of of) (count_of of) (attach_low form of function)
 
 -- a value, and an answer, whose numbers lie in their types' ranges
 abbrev pub IsValue : Value → Type 0
@@ -51,7 +97,8 @@ IsAnswer (Give v) = IsValue v
 IsAnswer (Throw code) = code < 2 ^ 32
 IsAnswer (Link j) = j < 2 ^ 16
 
--- an event that has a word: its caller is at most 63, its stage at most 4,095, and each number lies in its type's range
+-- an event that has a word: its caller is at most 63, each stage and function that it names at most 4,095, each other number
+-- lies in its type's range, and a stage that it attaches fits its form
 abbrev pub IsEvent : Event → Type 0
 IsEvent (Completes who i v) = (who ≤ 63) × (i ≤ 4095) × IsValue v
 IsEvent (Fails who i code) = (who ≤ 63) × (i ≤ 4095) × (code < 2 ^ 32)
@@ -59,6 +106,8 @@ IsEvent (Cancels who i) = (who ≤ 63) × (i ≤ 4095)
 IsEvent (Claims who i) = (who ≤ 63) × (i ≤ 4095)
 IsEvent (Finishes who i answer) = (who ≤ 63) × (i ≤ 4095) × IsAnswer answer
 IsEvent (Ticks who now) = (who ≤ 63) × (now < 2 ^ 32)
+IsEvent (Attaches who form of function) =
+    (who ≤ 63) × (first_of of ≤ 4095) × (second_of of ≤ 4095) × (unwrap_or function 0 ≤ 4095) × (fits_form form (count_of of) (is_some function) ≡ true)
 
 -- the caller of an event
 abbrev pub who_of : Event → ℕ
@@ -68,3 +117,4 @@ who_of (Cancels who i) = who
 who_of (Claims who i) = who
 who_of (Finishes who i answer) = who
 who_of (Ticks who now) = who
+who_of (Attaches who form of function) = who

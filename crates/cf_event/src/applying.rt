@@ -1,13 +1,14 @@
 //! What events do to a graph.
-ghost use Rattle.std.specs.Prelude.{◌≡◌, ◌≤◌, All, length, slice_get, unwrap_or};
+ghost use Rattle.std.specs.Prelude.{◌≡◌, ◌≤◌, length, slice_get, unwrap_or};
 ghost use Rattle.cf_core.specs.Events.{answered, state_after};
 ghost use Rattle.cf_core.specs.Graphs.{most_turns};
-ghost use Rattle.cf_core.specs.Ranges.{EventFits};
+ghost use Rattle.cf_core.specs.Ranges.{EventFits, EventsFit};
 ghost use Rattle.cf_event.specs.Replays.{Replays};
 
 use cf_core::{Event, Graph, Reply};
 
-/// Does an event to a graph, and gives its reply. The event's stage, if it has one, is in the graph.
+/// Does an event to a graph, and gives its reply. The stages that it names are there, and a stage that it attaches fits its
+/// form.
 pub fn apply(g: &mut Graph, e: &Event) -> Reply
     requires { EventFits (length g.old.state.plan.stages) e.now }
     ensures told { (result, g.new.state) ≡ answered g.old.state e.now }
@@ -18,9 +19,9 @@ pub fn apply(g: &mut Graph, e: &Event) -> Reply
 }
 
 /// Does events to a graph one after another. Before each, the graph does as many turns of work that is still to be done
-/// as `nudges` says at that place, and none where it is shorter. The events' stages are in the graph.
+/// as `nudges` says at that place, and none where it is shorter. Each event fits the graph as those before it leave it.
 pub fn replay(g: &mut Graph, events: &[Event], nudges: &[u32])
-    requires { All (EventFits (length g.old.state.plan.stages)) events.now }
+    requires { EventsFit g.old.state events.now }
     ensures replayed { Replays nudges.now events.now g.old g.new }
     ensures state { g.new.state ≡ state_after g.old.state events.now }
     ensures counted { g.old.turns ≤ g.new.turns }

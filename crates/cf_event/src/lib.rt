@@ -1,8 +1,12 @@
 //! Events as 64-bit words. A word is `kind * 2^56 + who * 2^48 + stage * 2^36 + tag * 2^32 + low`; each event has one
 //! word, no two events share one, no word is 0, and a word that is no event's decodes to nothing.
+//!
+//! In the word of an event that attaches a stage, the stage is its first source, the tag is how many sources it has, and
+//! `low` is `form * 2^24 + second * 2^12 + function`. What it doesn't have is 0.
 #![tactic(auto)]
 
 mod applying;
+mod attaching;
 pub mod laws;
 mod words;
 

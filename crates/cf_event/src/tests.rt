@@ -1,11 +1,13 @@
+mod attaching;
+
 use crate::{Event, Reply, apply, decode, encode, is_event, replay};
 use cf_core::{Claimed, Graph, Ticked};
 use cf_outcome::Value;
-use cf_plan::{Answer, Args, Form, PlanBuilder};
+use cf_plan::{Answer, Args, Form, Of, PlanBuilder};
 use std::test::Fail;
 
 /// Events with their words.
-const ROWS: [(Event, u64); 9] = [
+const ROWS: [(Event, u64); 14] = [
     (
         Event::Complete {
             who: 0,
@@ -57,17 +59,68 @@ const ROWS: [(Event, u64); 9] = [
         0x0500003300000001,
     ),
     (Event::Tick { who: 0, now: 20 }, 0x0600000000000014),
+    (
+        Event::Attach {
+            who: 0,
+            form: Form::Source,
+            of: Of::None,
+            function: None,
+        },
+        0x0700000000000000,
+    ),
+    (
+        Event::Attach {
+            who: 0,
+            form: Form::Apply,
+            of: Of::One(0),
+            function: Some(0),
+        },
+        0x0700000103000000,
+    ),
+    (
+        Event::Attach {
+            who: 63,
+            form: Form::Combine,
+            of: Of::Two(2, 4095),
+            function: Some(4095),
+        },
+        0x073f002206ffffff,
+    ),
+    (
+        Event::Attach {
+            who: 0,
+            form: Form::AnyOf,
+            of: Of::None,
+            function: None,
+        },
+        0x0700000011000000,
+    ),
+    (
+        Event::Attach {
+            who: 0,
+            form: Form::ExceptionallyCompose,
+            of: Of::One(0),
+            function: Some(2),
+        },
+        0x0700000112000002,
+    ),
 ];
 
 /// Words of no event.
-const REFUSED: [u64; 7] = [
+const REFUSED: [u64; 13] = [
     0x0000000000000000,
     0x0100000000000001,
     0x0100000200000000,
     0x0140000000000000,
     0x0500000300010000,
     0x0600001000000000,
-    0x0700000000000000,
+    0x0700000000000001,
+    0x0700001000000000,
+    0x0700000003000000,
+    0x0700000303000000,
+    0x0700000113000002,
+    0x0740000000000000,
+    0x0800000000000000,
 ];
 
 #[test]
@@ -103,7 +156,7 @@ fn one_bit_off_is_another_event_or_none(rt: HostRuntime) {
             }
         }
     }
-    assert_eq!(rt; good, 338);
+    assert_eq!(rt; good, 468);
 }
 
 #[test]

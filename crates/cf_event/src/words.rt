@@ -4,6 +4,7 @@ ghost use Rattle.cf_core.specs.declared.events.Event.{Event};
 ghost use Rattle.cf_event.specs.Words.{IsEvent, answer_low, answer_tag, value_low, value_tag, word_of, word_with};
 ghost use Rattle.cf_event.specs.Decoding.{answer_with, event_of, event_with, value_with};
 
+use crate::attaching::{attach_low, attach_with, count_of, first_of, is_stage, second_of};
 use cf_core::Event;
 use cf_outcome::Value;
 use cf_plan::Answer;
@@ -14,7 +15,8 @@ const LAST_CALLER: u8 = 63;
 /// The greatest stage that a word has room for.
 const LAST_STAGE: u16 = 4095;
 
-/// Whether an event has a word: its caller is at most 63 and its stage at most 4,095.
+/// Whether an event has a word: its caller is at most 63, each stage and function that it names at most 4,095, and a stage
+/// that it attaches fits its form.
 pub fn is_event(e: &Event) -> bool
     ensures { IsTrue result ↔ IsEvent e.now }
 {
@@ -26,6 +28,16 @@ pub fn is_event(e: &Event) -> bool
         Event::Claim { who, stage } => has_room(who, stage),
         Event::Finish { who, stage, .. } => has_room(who, stage),
         Event::Tick { who, .. } => has_room(who, 0),
+        Event::Attach {
+            who,
+            form,
+            of,
+            function,
+        } => {
+            has_room(who, first_of(of))
+                && has_room(who, second_of(of))
+                && is_stage(form, of, function)
+        }
     }
 }
 
@@ -55,6 +67,15 @@ pub fn encode(e: &Event) -> u64
             word(5, who, stage, answer_tag(answer), answer_low(answer))
         }
         Event::Tick { who, now } => word(6, who, 0, 0, now),
+        Event::Attach {
+            who,
+            form,
+            of,
+            function,
+        } => {
+            let low = attach_low(form, of, function);
+            word(7, who, first_of(of), count_of(of), low)
+        }
     }
 }
 
@@ -92,6 +113,7 @@ pub fn decode(w: u64) -> Option<Event>
             answer: answer_with(tag, low)?,
         }),
         6 if tag == 0 && stage == 0 => Some(Event::Tick { who, now: low }),
+        7 => attach_with(who, stage, tag, low),
         _ => None,
     }
 }

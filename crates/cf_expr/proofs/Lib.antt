@@ -3,6 +3,8 @@ pub mod Forms
 pub mod Exprs
 pub mod Settles
 pub mod Writes
+pub mod Attached
+pub mod Named
 pub mod Runs
 pub mod Parts
 pub mod Examples

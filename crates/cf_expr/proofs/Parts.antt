@@ -7,10 +7,10 @@ use Rattle.std.proofs.lemmas.Bool.Decides.{nat_tests}
 use Rattle.cf_plan.specs.declared.forms.Args.{Args}
 use Rattle.cf_core.specs.declared.replies.Claimed.TheVariants.{Granted, Settled, Taken, NotReady}
 use Rattle.cf_core.specs.declared.events.Reply.{Reply}
-use Rattle.cf_core.specs.declared.events.Reply.TheVariants.{Claim as ToldClaim, Flag as ToldFlag, Finish as ToldFinish, Tick as ToldTick}
+use Rattle.cf_core.specs.declared.events.Reply.TheVariants.{Claim as ToldClaim, Flag as ToldFlag, Finish as ToldFinish, Tick as ToldTick, Attach as ToldAttach}
 use Rattle.std.proofs.lemmas.List.Elements.{All-head, All-tail}
 use Rattle.cf_core.specs.declared.events.Event.{Event}
-use Rattle.cf_core.specs.declared.events.Event.TheVariants.{Complete as Completes, Fail as Fails, Cancel as Cancels, Claim as Claims, Finish as Finishes, Tick as Ticks}
+use Rattle.cf_core.specs.declared.events.Event.TheVariants.{Complete as Completes, Fail as Fails, Cancel as Cancels, Claim as Claims, Finish as Finishes, Tick as Ticks, Attach as Attaches}
 use Rattle.cf_core.specs.Events.{answered}
 use Rattle.cf_expr.specs.Expressions.{named_for, first_named, expr_in, exprs_from}
 use Rattle.cf_expr.specs.Histories.{Grants, granted_with, is_work, without_work}
@@ -29,6 +29,7 @@ work_names_none i (Cancels who j) h = cc
 work_names_none i (Claims who j) h = refl
 work_names_none i (Finishes who j answer) h = refl
 work_names_none i (Ticks who now) h = cc
+work_names_none i (Attaches who form of function) h = cc
 
 named_without : (i : ℕ) (b : Bool) (e : Event) (events rest : List Event) → is_work e ≡ b → first_named events i ≡ first_named rest i → first_named (e ∷ events) i ≡ first_named (cond b rest (e ∷ rest)) i
 named_without i true e events rest t h = ap (λ x. option_or x (first_named events i)) (work_names_none i e t) ∙ h
@@ -77,3 +78,4 @@ granted_with-other granted who i w k (ToldClaim NotReady) ne = refl
 granted_with-other granted who i w k (ToldFlag b) ne = refl
 granted_with-other granted who i w k (ToldFinish f) ne = refl
 granted_with-other granted who i w k (ToldTick t) ne = refl
+granted_with-other granted who i w k (ToldAttach a) ne = refl

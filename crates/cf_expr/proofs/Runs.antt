@@ -1,8 +1,9 @@
 -- Plain histories, event by event, and the law.
-use Rattle.std.proofs.Common.{◌≡◌, ◌≢◌, ℕ, ◌+◌, ◌<◌, ◌==◌, ◌∷◌, [], List, Bool, true, false, cond, Option, Some, None, All, length, suc, zero, arith, ap, sym, ◌∙◌, subst, refl, map, drop, set, replicate, get_or}
+use Rattle.std.proofs.Common.{◌≡◌, ◌≢◌, ℕ, ◌+◌, ◌<◌, ◌==◌, ◌∷◌, [], List, Bool, true, false, cond, Option, Some, None, All, length, suc, zero, arith, ap, sym, ◌∙◌, subst, refl, map, drop, set, replicate, get_or, length-append}
 use Rattle.std.specs.Prelude.{slice_get, option_and_then, unwrap_or, nat_lt, nat_le, take_while}
 use Rattle.std.specs.Option.{option_map, option_map_or, option_or}
 use Rattle.std.proofs.lemmas.Bool.Decides.{nat_tests}
+use Rattle.std.proofs.lemmas.List.{length-replicate}
 use Rattle.std.proofs.lemmas.List.Elements.{All-head, All-tail}
 use Rattle.std.proofs.lemmas.Option.{slice_get_within, get_or_from_slice_get, slice_get-get_or}
 use Rattle.cf_outcome.specs.declared.outcome.Outcome.{Outcome}
@@ -16,7 +17,7 @@ use Rattle.cf_plan.specs.declared.forms.Due.TheVariants.{Waits, Needs}
 use Rattle.cf_plan.specs.declared.limits.Limit.{Limit}
 use Rattle.cf_plan.specs.Forms.{follows, landing}
 use Rattle.cf_plan.specs.Meanings.{Meanings, stage_answer}
-use Rattle.cf_plan.specs.Plans.{Planned, PlannedStage, form_at, sources_at, fits_count}
+use Rattle.cf_plan.specs.Plans.{Planned, PlannedStage, attached_stage, form_at, sources_at, fits_count}
 use Rattle.cf_core.specs.declared.stage.Stage.{Stage}
 use Rattle.cf_core.specs.declared.stage.Stage.TheVariants.{Pending, Ready, Claimed, Linked, Settled}
 use Rattle.cf_core.specs.declared.replies.Finished.TheVariants.{Won, NotYours}
@@ -24,11 +25,10 @@ use Rattle.cf_core.specs.declared.replies.Ticked.{Ticked}
 use Rattle.cf_core.specs.declared.replies.Ticked.TheVariants.{Fired, Past}
 use Rattle.cf_core.specs.States.{State, outcome_of, outcome_in, outcome_at, stage_at, claim_at, start}
 use Rattle.cf_core.specs.declared.events.Event.{Event}
-use Rattle.cf_core.specs.declared.events.Event.TheVariants.{Complete as Completes, Fail as Fails, Cancel as Cancels, Claim as Claims, Finish as Finishes, Tick as Ticks}
+use Rattle.cf_core.specs.declared.events.Event.TheVariants.{Complete as Completes, Fail as Fails, Cancel as Cancels, Claim as Claims, Finish as Finishes, Tick as Ticks, Attach as Attaches}
 use Rattle.cf_core.specs.declared.events.Reply.TheVariants.{Claim as ToldClaim}
-use Rattle.cf_core.specs.Events.{answered, state_after, settled_by, cancelled_by, claimed_by, finished_by, firing, due_limits, source_outcome}
-use Rattle.cf_core.proofs.Moves.{new_states-settled, keeps_outcomes}
-use Rattle.cf_core.proofs.Shape.{answered-frame}
+use Rattle.cf_core.specs.Events.{answered, state_after, settled_by, claimed_by, finished_by, firing, due_limits, source_outcome}
+use Rattle.cf_core.proofs.Shape.{answered-grows, length-new_states}
 use Rattle.cf_plan.specs.Plans.{IsBuilt}
 use Rattle.cf_expr.specs.Expressions.{named_for, first_named, landing_expr, due_expr, is_source, expr}
 use Rattle.cf_expr.specs.Histories.{Grants, is_plain_form, IsPlainPlan, granted_with, IsPlainEvent, IsPlain, nothing_granted, is_at_rest, IsQuiet}
@@ -37,11 +37,17 @@ use Rattle.cf_expr.proofs.Forms.{first_same, links_lower}
 use Rattle.cf_expr.proofs.Exprs.{expr_by_stage}
 use Rattle.cf_expr.proofs.Settles.{IsSet, Owes, Waiting, sound_settled, below_there, all_sound, expr_due, more_same, sources_lower}
 use Rattle.cf_expr.proofs.Writes.{Stands, settled_by_stands, closed_stands, landed_stands, claim_stands, claim_closed}
+use Rattle.cf_expr.proofs.Named.{cancelled_same, names_nothing, same_number, was_unsettled}
+use Rattle.cf_expr.proofs.Attached.{attached_stands, in_last, set_so_far}
 
--- what stands before the events that are left: of a source that isn't settled, the first outcome that they name is the one of the whole history
-pub record Good (meanings : Meanings) (named exprs : ℕ → Option Outcome) (granted : Grants) (s : State) (events : List Event) : Type 0 where
+-- What stands before the events that are left, after which the plan's stages are `last`: of a source that isn't settled, or isn't there yet,
+-- the first outcome that they name is the one of the whole history.
+pub record Good (meanings : Meanings) (named exprs : ℕ → Option Outcome) (last : List PlannedStage) (granted : Grants) (s : State) (events : List Event) : Type 0 where
   pub stands : Stands meanings named exprs granted s
-  pub left : (i : ℕ) (p : PlannedStage) → slice_get s.plan.stages i ≡ Some p → is_source p.form ≡ true → outcome_at s i ≡ None → first_named events i ≡ named i
+  pub reaches : (state_after s events).plan.stages ≡ last
+  pub all_stages : length s.stages ≡ length s.plan.stages
+  pub all_claims : length s.claims ≡ length s.plan.stages
+  pub left : (i : ℕ) (p : PlannedStage) → slice_get last i ≡ Some p → is_source p.form ≡ true → outcome_at s i ≡ None → first_named events i ≡ named i
 
 -- ---- a claimed stage
 
@@ -71,49 +77,6 @@ there : (x : Option Stage) {args : Args} → unwrap_or x Pending ≡ Ready args 
 there None e = cc
 there (Some x) e = ap (λ z. Some z) e
 
--- ---- outcomes that are named
-
-same_number : (i : ℕ) → (i == i) ≡ true
-same_number i = grind (arith, nat_tests)
-
-set_there : (xs : List Stage) (i : ℕ) (x : Stage) (o : Outcome) → slice_get xs i ≡ Some x → outcome_in (set xs i (Settled o)) i ≡ Some o
-set_there [] i x o e = cc
-set_there (y ∷ xs) zero x o e = refl
-set_there (y ∷ xs) (suc i) x o e = set_there xs i x o e
-
-settled_by_settles : (y : Option Outcome) (s : State) (i : ℕ) (x : Stage) (o : Outcome) → outcome_at s i ≡ y → slice_get s.stages i ≡ Some x → outcome_at ((settled_by y s i o).1) i ≢ None
-settled_by_settles (Some old) s i x o e there = λ h. cc
-settled_by_settles None s i x o e there = λ h. let k = new_states-settled [] s.plan.stages (set s.stages i (Settled o)) i o (set_there s.stages i x o there) in cc
-
--- a test of numbers
-named_unless : (b : Bool) (i j : ℕ) (o : Outcome) → (i == j) ≡ b → (i ≢ j) → cond b (Some o) None ≡ None
-named_unless true i j o e ne = absurd (ne (grind (arith, nat_tests)))
-named_unless false i j o e ne = refl
-
-by_settling : (s : State) (i j : ℕ) (x : Stage) (o : Outcome) → slice_get s.stages i ≡ Some x → outcome_at ((settled_by (outcome_at s j) s j o).1) i ≡ None → cond (i == j) (Some o) None ≡ None
-by_settling s i j x o there unsettled =
-    named_unless (i == j) i j o refl (λ e. settled_by_settles (outcome_at s j) s j x o refl (ap (slice_get s.stages) (sym e) ∙ there)
-    (ap (outcome_at ((settled_by (outcome_at s j) s j o).1)) (sym e) ∙ unsettled))
-
--- cancelling leaves the state that settling leaves
-cancelled_same : (y : Option Outcome) (s : State) (i : ℕ) → (cancelled_by y s i).1 ≡ (settled_by y s i (Fault Cancelled false)).1
-cancelled_same (Some old) s i = refl
-cancelled_same None s i = refl
-
--- what an event names for a stage settles it
-not_named : (e : Event) (s : State) (i : ℕ) (x : Stage) → slice_get s.stages i ≡ Some x → outcome_at ((answered s e).1) i ≡ None → named_for i e ≡ None
-not_named (Completes who j v) s i x there unsettled = by_settling s i j x (Gives v) there unsettled
-not_named (Fails who j code) s i x there unsettled = by_settling s i j x (Fault (Thrown code) false) there unsettled
-not_named (Cancels who j) s i x there unsettled =
-    by_settling s i j x (Fault Cancelled false) there (ap (λ r. outcome_at r i) (sym (cancelled_same (outcome_at s j) s j)) ∙ unsettled)
-not_named (Claims who j) s i x there unsettled = refl
-not_named (Finishes who j answer) s i x there unsettled = refl
-not_named (Ticks who now) s i x there unsettled = refl
-
-was_unsettled : (y : Option Outcome) (s : State) (e : Event) (i : ℕ) → outcome_at s i ≡ y → outcome_at ((answered s e).1) i ≡ None → outcome_at s i ≡ None
-was_unsettled None s e i h unsettled = h
-was_unsettled (Some o) s e i h unsettled = let k = keeps_outcomes s (e ∷ []) i o h in cc
-
 -- a tick, by whether it is past
 abbrev ticked : Bool → State → ℕ → Ticked × State
 ticked b s now =
@@ -141,18 +104,18 @@ map_below f g i (j ∷ sources) lower h =
     let here = h j (All-head (λ k. k < i) j sources lower) in
     let rest = map_below f g i sources (All-tail (λ k. k < i) j sources lower) h in cc
 
-module _ (meanings : Meanings) (named exprs : ℕ → Option Outcome) where
+module _ (meanings : Meanings) (named exprs : ℕ → Option Outcome) (last : List PlannedStage) (known : IsSet meanings named exprs last) where
   -- ---- sources are settled with the first outcome that is named
-  source_named : (granted : Grants) (s : State) (e : Event) (events : List Event) (i : ℕ) (o : Outcome) → Good meanings named exprs granted s (e ∷ events) →
+  source_named : (granted : Grants) (s : State) (e : Event) (events : List Event) (i : ℕ) (o : Outcome) → Good meanings named exprs last granted s (e ∷ events) →
       form_at s.plan.stages i ≡ Source → named_for i e ≡ Some o → outcome_at s i ≡ None → (p : PlannedStage) → slice_get s.plan.stages i ≡ Some p → exprs i ≡ Some o
   source_named granted s e events i o good source is unsettled p there =
       let form : p.form ≡ Source = ap (λ x. option_map_or (λ (q : PlannedStage). q.form) x Source) (sym there) ∙ source in
       let test : is_source p.form ≡ true = ap is_source form in
       let first : first_named (e ∷ events) i ≡ Some o = ap (λ x. option_or x (first_named events i)) is in
-      let whole = good.left i p there test unsettled in
+      let whole = good.left i p (in_last s (e ∷ events) last i p good.reaches there) test unsettled in
       good.stands.known.by_stage i p there ∙ ap (λ b. cond b (named i) (due_expr meanings exprs i p (follows p.form (map exprs p.sources)))) test ∙ sym whole ∙ first
 
-  by_naming : (granted : Grants) (s : State) (e : Event) (events : List Event) (i : ℕ) (o : Outcome) → Good meanings named exprs granted s (e ∷ events) →
+  by_naming : (granted : Grants) (s : State) (e : Event) (events : List Event) (i : ℕ) (o : Outcome) → Good meanings named exprs last granted s (e ∷ events) →
       form_at s.plan.stages i ≡ Source → named_for i e ≡ Some o → Stands meanings named exprs granted ((settled_by (outcome_at s i) s i o).1)
   by_naming granted s e events i o good source is =
       settled_by_stands meanings named exprs granted (outcome_at s i) s i o refl good.stands (source_named granted s e events i o good source is)
@@ -205,43 +168,54 @@ module _ (meanings : Meanings) (named exprs : ℕ → Option Outcome) where
   ticking_stands granted false s now none h = rw none (record { known = h.known; sound = h.sound })
 
   -- a pending stage of the last state has no expression
-  pending_none : (s : State) (granted : Grants) (i : ℕ) (p : PlannedStage) (b : Bool) → is_source p.form ≡ b → Good meanings named exprs granted s [] → slice_get s.plan.stages i ≡ Some p →
+  pending_none : (s : State) (granted : Grants) (i : ℕ) (p : PlannedStage) (b : Bool) → is_source p.form ≡ b → Good meanings named exprs last granted s [] → slice_get s.plan.stages i ≡ Some p →
       outcome_at s i ≡ None → follows p.form (map (outcome_at s) p.sources) ≡ Waits → ((j : ℕ) → j < i → outcome_at s j ≡ exprs j) → exprs i ≡ None
   pending_none s granted i p true test good e unsettled waits below =
-      good.stands.known.by_stage i p e ∙ rw test (sym (good.left i p e test unsettled))
+      good.stands.known.by_stage i p e ∙ rw test (sym (good.left i p (in_last s [] last i p good.reaches e) test unsettled))
   pending_none s granted i p false test good e unsettled waits below =
       let same = map_below (outcome_at s) exprs i p.sources (sources_lower meanings named exprs s.plan.stages good.stands.known i p e) below in
       good.stands.known.by_stage i p e ∙ rw (test, ← same, waits) refl
 
   -- ---- every event
-  event_stands : (granted : Grants) (e : Event) (s : State) (events : List Event) → Good meanings named exprs granted s (e ∷ events) → IsPlainEvent meanings granted s e →
+  event_stands : (granted : Grants) (e : Event) (s : State) (events : List Event) → Good meanings named exprs last granted s (e ∷ events) → IsPlainEvent meanings granted s e →
       Stands meanings named exprs (granted_with granted e ((answered s e).0)) ((answered s e).1)
   event_stands granted (Completes who i v) s events good plain =
-      by_naming granted s (Completes who i v) events i (Gives v) good plain (ap (λ b. cond b (Some (Gives v)) None) (same_number i))
+      by_naming granted s (Completes who i v) events i (Gives v) good plain.1 (ap (λ b. cond b (Some (Gives v)) None) (same_number i))
   event_stands granted (Fails who i code) s events good plain =
-      by_naming granted s (Fails who i code) events i (Fault (Thrown code) false) good plain (ap (λ b. cond b (Some (Fault (Thrown code) false)) None) (same_number i))
+      by_naming granted s (Fails who i code) events i (Fault (Thrown code) false) good plain.1 (ap (λ b. cond b (Some (Fault (Thrown code) false)) None) (same_number i))
   event_stands granted (Cancels who i) s events good plain =
       subst (Stands meanings named exprs granted) (sym (cancelled_same (outcome_at s i) s i))
-      (by_naming granted s (Cancels who i) events i (Fault Cancelled false) good plain (ap (λ b. cond b (Some (Fault Cancelled false)) None) (same_number i)))
+      (by_naming granted s (Cancels who i) events i (Fault Cancelled false) good plain.1 (ap (λ b. cond b (Some (Fault Cancelled false)) None) (same_number i)))
   event_stands granted (Claims who i) s events good plain = claimed_stands granted (stage_at s i) s who i refl good.stands
   event_stands granted (Finishes who i answer) s events good plain =
       finishing_stands granted (option_map_or (λ w. w == who) (claim_at s i) false) s who i answer refl good.stands plain
   event_stands granted (Ticks who now) s events good plain =
       ticking_stands granted (nat_lt now s.moment) s now (no_limits s.plan.limits s.used now plain) good.stands
+  event_stands granted (Attaches who form of function) s events good plain =
+      attached_stands meanings named exprs granted s.plan.room s (attached_stage form of function) refl good.stands good.all_stages good.all_claims
+      (set_so_far meanings named exprs ((answered s (Attaches who form of function)).1) events last good.reaches known)
 
-  event_good : (granted : Grants) (e : Event) (s : State) (events : List Event) → Good meanings named exprs granted s (e ∷ events) → IsPlainEvent meanings granted s e →
-      Good meanings named exprs (granted_with granted e ((answered s e).0)) ((answered s e).1) events
-  event_good granted e s events good plain = record {
-    stands = event_stands granted e s events good plain;
-    left = λ i p is source unsettled.
-        (let here : slice_get s.plan.stages i ≡ Some p = ap (λ (q : Planned). slice_get q.stages i) (sym ((answered-frame s e).plan)) ∙ is in
-        let f = good.stands.sound i p here in
-        let before = good.left i p here source (was_unsettled (outcome_at s i) s e i refl unsettled) in
-        ap (λ x. option_or x (first_named events i)) (sym (not_named e s i f.stage f.there unsettled)) ∙ before);
-  }
+  event_good : (granted : Grants) (e : Event) (s : State) (events : List Event) → Good meanings named exprs last granted s (e ∷ events) → IsPlainEvent meanings granted s e →
+      Good meanings named exprs last (granted_with granted e ((answered s e).0)) ((answered s e).1) events
+  event_good granted e s events good plain =
+      let g = answered-grows s e in
+      let more = ap length g.stages ∙ length-append s.plan.stages g.more in
+      let a = g.all_stages in
+      let b = g.all_claims in
+      let c = good.all_stages in
+      let d = good.all_claims in
+      record {
+        stands = event_stands granted e s events good plain;
+        reaches = good.reaches;
+        all_stages = omega (arith, a, c, more);
+        all_claims = omega (arith, b, d, more);
+        left = λ i p is source unsettled.
+            (let before = good.left i p is source (was_unsettled (outcome_at s i) s e i refl unsettled) in
+            ap (λ x. option_or x (first_named events i)) (sym (names_nothing meanings granted e s i plain good.all_stages unsettled)) ∙ before);
+      }
 
   -- ---- the last state
-  rest_is : (s : State) (granted : Grants) (i : ℕ) (p : PlannedStage) (x : Stage) → Good meanings named exprs granted s [] → slice_get s.plan.stages i ≡ Some p → slice_get s.stages i ≡ Some x →
+  rest_is : (s : State) (granted : Grants) (i : ℕ) (p : PlannedStage) (x : Stage) → Good meanings named exprs last granted s [] → slice_get s.plan.stages i ≡ Some p → slice_get s.stages i ≡ Some x →
       Owes exprs (outcome_at s) (λ w. granted w i) (claim_at s i) i p x → Waiting (outcome_at s) p x → is_at_rest x ≡ true → ((j : ℕ) → j < i → outcome_at s j ≡ exprs j) → outcome_of x ≡ exprs i
   rest_is s granted i p Pending good e there owes waits rest below = sym (pending_none s granted i p (is_source p.form) refl good e (ap (option_and_then outcome_of) there) waits below)
   rest_is s granted i p (Ready args) good e there owes waits rest below = cc
@@ -249,7 +223,7 @@ module _ (meanings : Meanings) (named exprs : ℕ → Option Outcome) where
   rest_is s granted i p (Linked j) good e there owes waits rest below = sym (owes.2 ∙ ap (option_map wrap) (sym (below j owes.1) ∙ waits))
   rest_is s granted i p (Settled o) good e there owes waits rest below = sym owes
 
-  rest_below : (s : State) (granted : Grants) → Good meanings named exprs granted s [] → IsQuiet s → (n i : ℕ) (p : PlannedStage) → i < n → slice_get s.plan.stages i ≡ Some p → outcome_at s i ≡ exprs i
+  rest_below : (s : State) (granted : Grants) → Good meanings named exprs last granted s [] → IsQuiet s → (n i : ℕ) (p : PlannedStage) → i < n → slice_get s.plan.stages i ≡ Some p → outcome_at s i ≡ exprs i
   rest_below s granted good quiet zero i p l e = absurd (omega arith)
   rest_below s granted good quiet (suc n) i p l e =
       let f = good.stands.sound i p e in
@@ -257,12 +231,11 @@ module _ (meanings : Meanings) (named exprs : ℕ → Option Outcome) where
       ∙ rest_is s granted i p f.stage good e f.there f.owes f.waits (all_at (λ x. is_at_rest x ≡ true) s.stages i f.stage quiet f.there)
       (λ j m. let q = below_there s.plan.stages i j p e m in rest_below s granted good quiet n j q.0 (omega arith) q.1)
 
-  pub run_is : (events : List Event) (s : State) (granted : Grants) (i : ℕ) (p : PlannedStage) → Good meanings named exprs granted s events → IsPlain meanings granted s events →
-      IsQuiet (state_after s events) → slice_get s.plan.stages i ≡ Some p → outcome_at (state_after s events) i ≡ exprs i
-  run_is [] s granted i p good plain quiet e = rest_below s granted good quiet (suc i) i p (omega arith) e
+  pub run_is : (events : List Event) (s : State) (granted : Grants) (i : ℕ) (p : PlannedStage) → Good meanings named exprs last granted s events → IsPlain meanings granted s events →
+      IsQuiet (state_after s events) → slice_get last i ≡ Some p → outcome_at (state_after s events) i ≡ exprs i
+  run_is [] s granted i p good plain quiet e = rest_below s granted good quiet (suc i) i p (omega arith) (ap (λ xs. slice_get xs i) good.reaches ∙ e)
   run_is (event ∷ events) s granted i p good plain quiet e =
-      run_is events ((answered s event).1) (granted_with granted event ((answered s event).0)) i p (event_good granted event s events good plain.0) plain.1 quiet
-      (ap (λ (q : Planned). slice_get q.stages i) ((answered-frame s event).plan) ∙ e)
+      run_is events ((answered s event).1) (granted_with granted event ((answered s event).0)) i p (event_good granted event s events good plain.0) plain.1 quiet e
 
 -- ---- the start
 
@@ -276,28 +249,36 @@ no_claim zero i = refl
 no_claim (suc n) zero = refl
 no_claim (suc n) (suc i) = no_claim n i
 
-start_good : (meanings : Meanings) (plan : Planned) (events : List Event) → IsBuilt plan → IsPlainPlan plan →
-    Good meanings (first_named events) (expr plan events meanings) nothing_granted (start plan) events
-start_good meanings plan events built plain =
+set_of : (meanings : Meanings) (plan : Planned) (events : List Event) → IsBuilt plan → IsPlainPlan plan → IsSet meanings (first_named events) (expr plan events meanings) plan.stages
+set_of meanings plan events built plain = record {
+  lower = built.lower;
+  counted = λ i p e. all_at (λ (q : PlannedStage). fits_count q.form (length q.sources) ≡ true) plan.stages i p built.fitting e;
+  plain = λ i p e. all_at (λ (q : PlannedStage). is_plain_form q.form ≡ true) plan.stages i p plain e;
+  by_stage = expr_by_stage meanings (first_named events) plan.stages built.lower;
+}
+
+start_good : (meanings : Meanings) (plan : Planned) (events : List Event) (named exprs : ℕ → Option Outcome) (last : List PlannedStage) → named ≡ first_named events → IsSet meanings named exprs last →
+    (state_after (start plan) events).plan.stages ≡ last → Good meanings named exprs last nothing_granted (start plan) events
+start_good meanings plan events named exprs last first known reaches =
     let n = length plan.stages in
-    let known : IsSet meanings (first_named events) (expr plan events meanings) plan.stages = record {
-      lower = built.lower;
-      counted = λ i p e. all_at (λ (q : PlannedStage). fits_count q.form (length q.sources) ≡ true) plan.stages i p built.fitting e;
-      plain = λ i p e. all_at (λ (q : PlannedStage). is_plain_form q.form ≡ true) plan.stages i p plain e;
-      by_stage = expr_by_stage meanings (first_named events) plan.stages built.lower;
-    } in
     record {
       stands = record {
-        known = known;
-        sound = all_sound meanings (first_named events) (expr plan events meanings) plan.stages known (λ j. None) nothing_granted (claim_at (start plan)) (replicate n Pending)
+        known = set_so_far meanings named exprs (start plan) events last reaches known;
+        sound = all_sound meanings named exprs plan.stages (set_so_far meanings named exprs (start plan) events last reaches known) (λ j. None) nothing_granted (claim_at (start plan)) (replicate n Pending)
             (λ i p e. record { stage = Pending; there = replicate_at n i (slice_get_within plan.stages i p e); owes = no_claim n i })
             (λ j o h. cc);
       };
-      left = λ i p e source unsettled. refl;
+      reaches = reaches;
+      all_stages = length-new_states [] plan.stages (replicate n Pending) ∙ length-replicate {A = Stage} n Pending;
+      all_claims = length-replicate {A = Option ℕ} n None;
+      left = λ i p e source unsettled. ap (λ f. f i) (sym first);
     }
 
 pub quiet_is_expression : QuietIsExpression
 quiet_is_expression plan events meanings i built plain history quiet l =
+    let last = state_after (start plan) events in
+    let known = set_of meanings last.plan events built plain in
     let d : PlannedStage = record { form = Source; sources = []; function = None } in
-    run_is meanings (first_named events) (expr plan events meanings) events (start plan) nothing_granted i (get_or plan.stages i d) (start_good meanings plan events built plain) history quiet
-    (slice_get-get_or plan.stages i d l)
+    run_is meanings (first_named events) (expr last.plan events meanings) last.plan.stages known events (start plan) nothing_granted i (get_or last.plan.stages i d)
+    (start_good meanings plan events (first_named events) (expr last.plan events meanings) last.plan.stages refl known refl) history quiet
+    (slice_get-get_or last.plan.stages i d l)

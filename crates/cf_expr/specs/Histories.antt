@@ -1,5 +1,5 @@
 -- Plain histories, whose outcomes the expressions tell, and quiet states.
-use Rattle.std.specs.Prelude.{◌≡◌, ℕ, ◌<◌, ◌==◌, ◌&&◌, Bool, true, false, Option, Some, None, List, [], ◌∷◌, if◌then◌else◌, All}
+use Rattle.std.specs.Prelude.{◌≡◌, ℕ, length, ◌<◌, ◌==◌, ◌&&◌, Bool, true, false, Option, Some, None, List, [], ◌∷◌, if◌then◌else◌, All}
 use Rattle.cf_plan.specs.declared.forms.Form.{Form}
 use Rattle.cf_plan.specs.declared.forms.Form.TheVariants.{Source, ApplyEither, AcceptEither, RunEither, AnyOf}
 use Rattle.cf_plan.specs.declared.forms.Args.{Args}
@@ -11,7 +11,7 @@ use Rattle.cf_core.specs.declared.stage.Stage.TheVariants.{Ready, Claimed}
 use Rattle.cf_core.specs.declared.replies.Claimed.TheVariants.{Granted}
 use Rattle.cf_core.specs.declared.replies.Finished.TheVariants.{Won}
 use Rattle.cf_core.specs.declared.events.Event.{Event}
-use Rattle.cf_core.specs.declared.events.Event.TheVariants.{Complete as Completes, Fail as Fails, Cancel as Cancels, Claim as Claims, Finish as Finishes, Tick as Ticks}
+use Rattle.cf_core.specs.declared.events.Event.TheVariants.{Complete as Completes, Fail as Fails, Cancel as Cancels, Claim as Claims, Finish as Finishes, Tick as Ticks, Attach as Attaches}
 use Rattle.cf_core.specs.declared.events.Reply.{Reply}
 use Rattle.cf_core.specs.declared.events.Reply.TheVariants.{Claim as ToldClaim}
 use Rattle.cf_core.specs.States.{State}
@@ -46,17 +46,22 @@ abbrev pub grants_after : Grants → State → List Event → Grants
 grants_after granted s [] = granted
 grants_after granted s (e ∷ events) = grants_after (granted_with granted e ((answered s e).0)) ((answered s e).1) events
 
--- Sources alone are settled from outside, no limit comes due, and a finish that wins has the answer that the stage's function
+-- stage i is there, and is a source
+abbrev pub IsSource : List PlannedStage → ℕ → Type 0
+IsSource stages i = (i < length stages) × (form_at stages i ≡ Source)
+
+-- Sources alone are settled from outside, once they are there, no limit comes due, and a finish that wins has the answer that the stage's function
 -- means for the arguments that its claim was granted.
 abbrev pub IsPlainEvent : Meanings → Grants → State → Event → Type 0
-IsPlainEvent meanings granted s (Completes who i v) = form_at s.plan.stages i ≡ Source
-IsPlainEvent meanings granted s (Fails who i code) = form_at s.plan.stages i ≡ Source
-IsPlainEvent meanings granted s (Cancels who i) = form_at s.plan.stages i ≡ Source
+IsPlainEvent meanings granted s (Completes who i v) = IsSource s.plan.stages i
+IsPlainEvent meanings granted s (Fails who i code) = IsSource s.plan.stages i
+IsPlainEvent meanings granted s (Cancels who i) = IsSource s.plan.stages i
 IsPlainEvent meanings granted s (Claims who i) = Unit {0}
 IsPlainEvent meanings granted s (Finishes who i answer) =
     (finishing s who i answer).0 ≡ Won → (args : Args) → granted who i ≡ Some args →
     answer ≡ stage_answer meanings s.plan.stages i args
 IsPlainEvent meanings granted s (Ticks who now) = All (λ (l : Limit). now < l.at) s.plan.limits
+IsPlainEvent meanings granted s (Attaches who form of function) = Unit {0}
 
 -- each of these events is plain where it stands
 abbrev pub IsPlain : Meanings → Grants → State → List Event → Type 0

@@ -8,12 +8,13 @@ use Rattle.cf_plan.specs.Meanings.{Meanings}
 use Rattle.cf_expr.specs.Expressions.{expr}
 use Rattle.cf_expr.specs.Histories.{Grants, IsPlain, IsPlainPlan, IsQuiet, grants_after, nothing_granted, without_work}
 
--- After a plain history that ends quiet, the outcome of each stage is its expression's.
+-- After a plain history that ends quiet, the outcome of each stage of the plan that was reached is its expression's.
 abbrev pub QuietIsExpression : Type 0
 QuietIsExpression =
     (plan : Planned) (events : List Event) (meanings : Meanings) (i : ℕ) →
-    IsBuilt plan → IsPlainPlan plan → IsPlain meanings nothing_granted (start plan) events → IsQuiet (state_after (start plan) events) →
-    i < length plan.stages → outcome_at (state_after (start plan) events) i ≡ expr plan events meanings i
+    let last = state_after (start plan) events in
+    IsBuilt last.plan → IsPlainPlan last.plan → IsPlain meanings nothing_granted (start plan) events → IsQuiet last →
+    i < length last.plan.stages → outcome_at last i ≡ expr last.plan events meanings i
 
 -- Claims and finishes change no expression, whoever does them, in whatever order and wherever they stand among the other
 -- events: two histories that differ in them alone have the same expressions.

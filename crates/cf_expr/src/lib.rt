@@ -3,9 +3,10 @@
 //! The expression of a stage (`expr`) is what the stage ends as by the meanings of the functions and by what the sources
 //! are settled with. It knows no states, no claims and no order of work. The theorem here is about plain histories that
 //! end quiet, and not about every history: where each answer is what the stage's function means, no stage is an either
-//! form or an anyOf, sources alone are settled from outside, no limit comes due (`IsPlain`, `IsPlainPlan`), and nothing
-//! is ready or claimed any more (`IsQuiet`), the outcome of each stage is its expression's. So it is the same for every
-//! order in which the work was done, and for any number of workers.
+//! form or an anyOf, sources alone are settled from outside and none before it is there, no limit comes due (`IsPlain`,
+//! `IsPlainPlan`), and nothing is ready or claimed any more (`IsQuiet`), the outcome of each stage is its expression's. So
+//! it is the same for every order in which the work was done, and for any number of workers. The plan is the one that was
+//! reached: the stages that were attached are in it, and are told of as the others are.
 //!
 //! Each function here is a law: it does nothing, and its contract is the statement. The statements speak of the same
 //! definitions as the contracts of `cf_core`'s calls, so they are about these calls: a graph answers each call, and is
@@ -16,7 +17,8 @@ ghost use Rattle.cf_expr.specs.Examples.{PremisesAreMet, PremisesAreNeeded};
 ghost use Rattle.cf_expr.specs.Laws.{PlainPartsJoin, QuietIsExpression, WorkKeepsExpressions};
 ghost use Rattle.cf_expr.specs.Stagewise.{NewStatesByStage};
 
-/// After a plain history that ends quiet, the outcome of each stage is its expression's.
+/// After a plain history that ends quiet, the outcome of each stage, attached ones among them, is its expression's in the
+/// plan that was reached.
 pub fn quiet_stages_hold_their_expressions()
     ensures { QuietIsExpression }
 {}
@@ -37,13 +39,15 @@ pub fn new_states_are_by_stage()
     ensures { NewStatesByStage }
 {}
 
-/// The premises of the law of expressions can be met, by a history in which stages settle.
+/// The premises of the law of expressions can be met, by a history in which stages settle, and by one in which the plan
+/// grows.
 pub fn quiet_plain_histories_exist()
     ensures { PremisesAreMet }
 {}
 
 /// Outcomes can differ from the expressions where a function answers what it doesn't mean, in a plan with an either form,
-/// before the history is quiet, where another stage than a source is settled from outside, and where a limit comes due.
+/// before the history is quiet, where another stage than a source is settled from outside, where a source is before it is
+/// attached, and where a limit comes due.
 pub fn other_histories_leave_their_expressions()
     ensures { PremisesAreNeeded }
 {}

@@ -1,12 +1,14 @@
 //! The plain graph: how it begins, and what it tells without a change.
+mod attaching;
 mod changes;
 mod limits;
 
-ghost use Rattle.std.specs.Prelude.{◌≡◌, ◌<◌, ◌≤◌, ◌↔◌, IfOk, IsTrue, None, length, position, replicate};
-ghost use Rattle.cf_plan.specs.Plans.{IsBuilt};
+ghost use Rattle.std.specs.Prelude.{◌≡◌, ◌+◌, ◌*◌, ◌<◌, ◌≤◌, ◌↔◌, IfOk, IsTrue, None, length, position, replicate};
+ghost use Rattle.cf_plan.specs.Plans.{edges_of, with_room};
 ghost use Rattle.cf_core.specs.declared.stage.Stage.TheVariants.{Pending};
 ghost use Rattle.cf_core.specs.States.{is_ready, lowest_ready_of, outcome_at, start};
 
+use crate::plan::PlainPlan;
 use crate::stages::{new_stages, outcome};
 use cf_core::Stage;
 use cf_outcome::Outcome;
@@ -17,7 +19,7 @@ use std::marker::Model;
 /// The plain graph of a plan. A contract sees it as its `State`, as it does the graph.
 #[derive(Drop)]
 pub struct Plain {
-    plan: Plan,
+    plan: PlainPlan,
     stages: Vec<Stage>,
     claims: Vec<Option<u8>>,
     moment: u32,
@@ -41,6 +43,19 @@ impl Plain {
     pub fn start(alloc: Global, plan: Plan) -> Result<Plain, AllocError>
         ensures { IfOk result (λ plain. plain ≡ start plan) }
     {
+        // A plan that was built is within its bounds.
+        let _stages = plan.stages();
+        Plain::start_growing(alloc, plan, 0)
+    }
+
+    /// The plain graph of a plan, at its start, with room for so many stages that are attached later. It fails only where
+    /// there is no memory.
+    pub fn start_growing(alloc: Global, plan: Plan, room: u16) -> Result<Plain, AllocError>
+        requires stages { length plan.stages + room ≤ 4096 }
+        requires edges { edges_of plan.stages + 2 * room ≤ 16384 }
+        ensures { IfOk result (λ plain. plain ≡ start (with_room plan room)) }
+    {
+        let plan = PlainPlan::new(alloc, plan, room)?;
         let count = plan.stages() as usize;
         let pending = pending(alloc, count)?;
         let stages = new_stages(alloc, &plan, &pending)?;
@@ -54,7 +69,14 @@ impl Plain {
         })
     }
 
-    /// Whether the plan has such a stage.
+    /// How many stages there are by now.
+    pub fn stages(&self) -> u16
+        ensures { result ≡ length self.now.plan.stages }
+    {
+        self.plan.stages()
+    }
+
+    /// Whether there is such a stage by now.
     pub fn has(&self, i: u16) -> bool
         ensures { IsTrue result ↔ (i < length self.now.plan.stages) }
     {

@@ -11,10 +11,12 @@
 
 mod forms;
 mod graph;
+mod plan;
 mod stages;
 #[cfg(test)]
 mod tests;
 
 pub use forms::follows;
 pub use graph::Plain;
+pub use plan::PlainPlan;
 pub use stages::new_stages;

@@ -3,13 +3,18 @@ ghost use Rattle.std.specs.Prelude.{◌≡◌, ◌<◌, [], All, IfOk, length, m
 ghost use Rattle.cf_core.specs.States.{due_state, new_states, next_of, outcome_in, outcome_of};
 
 use crate::forms::follows;
+use crate::plan::PlainPlan;
 use cf_core::Stage;
 use cf_outcome::{Outcome, wrap};
-use cf_plan::{Due, Form, Plan};
+use cf_plan::{Due, Form};
 use std::alloc::{AllocError, Global};
 
 /// The new states of all stages, made one after another. It fails only where there is no memory.
-pub fn new_stages(alloc: Global, plan: &Plan, stages: &[Stage]) -> Result<Vec<Stage>, AllocError>
+pub fn new_stages(
+    alloc: Global,
+    plan: &PlainPlan,
+    stages: &[Stage],
+) -> Result<Vec<Stage>, AllocError>
     requires { length stages.now ≡ length plan.now.stages }
     ensures { IfOk result (λ new. new.items ≡ new_states [] plan.now.stages stages.now) }
 {

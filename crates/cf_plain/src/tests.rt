@@ -1,11 +1,13 @@
 //! The graph against the plain graph, on plans and calls that are made by rule, with turns taken between the calls.
+mod attaching;
+
 ghost use Rattle.std.specs.Prelude.{length};
 ghost use Rattle.cf_core.specs.Ranges.{EventFits};
 
 use crate::graph::Plain;
 use cf_core::{Event, Graph, Reply};
 use cf_outcome::{Cause, Outcome, Value};
-use cf_plan::{Answer, Form, LimitKind, Plan, PlanBuilder};
+use cf_plan::{Answer, Form, LimitKind, Of, Plan, PlanBuilder};
 use std::alloc::Global;
 use std::process::Abort;
 use std::test::Fail;
@@ -52,6 +54,24 @@ const LARGER_PLANS: u32 = 4000;
 
 const LARGER_CALLS: u32 = 32;
 
+/// The sources that are the choice with this number among `k` lower stages, if there is such a choice.
+fn choice_of(takes: Takes, k: u16, choice: u16) -> Option<Of> {
+    if k == 0 || k > 8 || choice > 256 {
+        return None;
+    }
+    match takes {
+        Takes::None if choice == 0 => Some(Of::None),
+        Takes::One | Takes::Any if choice < k => Some(Of::One(choice)),
+        Takes::Two if choice < k * k => Some(Of::Two(choice / k, choice % k)),
+        Takes::Any if choice == k => Some(Of::None),
+        Takes::Any if choice > k && choice - k <= k * k => {
+            let place = choice - k - 1;
+            Some(Of::Two(place / k, place % k))
+        }
+        _ => None,
+    }
+}
+
 /// Adds a stage whose sources are the choice with this number among `k` lower stages, if there is such a choice.
 fn add_choice(
     builder: &mut PlanBuilder,
@@ -59,31 +79,14 @@ fn add_choice(
     k: u16,
     choice: u16,
 ) -> Result<bool, Fail> {
-    if k == 0 || k > 8 || choice > 256 {
-        return Ok(false);
-    }
     let (form, takes, called) = stage;
     let function = if called { Some(0) } else { None };
-    let pair = [choice / k, choice % k];
-    match takes {
-        Takes::None if choice == 0 => {
-            builder.stage(form, &[], function)?;
-        }
-        Takes::One | Takes::Any if choice < k => {
-            builder.stage(form, &[choice], function)?;
-        }
-        Takes::Two if choice < k * k => {
-            builder.stage(form, &pair, function)?;
-        }
-        Takes::Any if choice == k => {
-            builder.stage(form, &[], function)?;
-        }
-        Takes::Any if choice > k && choice - k <= k * k => {
-            let place = choice - k - 1;
-            builder.stage(form, &[place / k, place % k], function)?;
-        }
-        _ => return Ok(false),
-    }
+    match choice_of(takes, k, choice) {
+        None => return Ok(false),
+        Some(Of::None) => builder.stage(form, &[], function)?,
+        Some(Of::One(a)) => builder.stage(form, &[a], function)?,
+        Some(Of::Two(a, b)) => builder.stage(form, &[a, b], function)?,
+    };
     Ok(true)
 }
 

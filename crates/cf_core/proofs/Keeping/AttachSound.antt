@@ -1,14 +1,11 @@
 -- What is true of the stages between any two calls stays true when one is attached.
-use Rattle.std.proofs.Common.{◌≡◌, ◌≢◌, ℕ, ◌+◌, ◌*◌, ◌<◌, ◌≤◌, ◌∷◌, ◌++◌, [], List, All, Bool, true, false, cond, Option, Some, None, Contains, length, suc, zero, arith, ap, sym, ◌∙◌, refl, map, set, inl, inr, ◌⊎◌, length-append}
-use Rattle.std.specs.Prelude.{slice_get, option_and_then, unwrap_or, count_by, ◌==◌}
-use Rattle.std.specs.Option.{option_map, option_map_or}
+use Rattle.std.proofs.Common.{◌≡◌, ◌≢◌, ℕ, ◌+◌, ◌<◌, ◌≤◌, ◌∷◌, ◌++◌, [], List, All, Bool, true, false, cond, Some, length, suc, zero, arith, ap, sym, ◌∙◌, refl, map, set, inl, inr, ◌⊎◌, length-append}
+use Rattle.std.specs.Prelude.{slice_get, option_and_then, unwrap_or, ◌==◌}
 use Rattle.std.specs.List.{sum_by}
-use Rattle.std.proofs.lemmas.Bool.Decides.{eqb_tells, nat_tests}
+use Rattle.std.proofs.lemmas.Bool.Decides.{nat_tests}
 use Rattle.std.proofs.lemmas.List.{map-append}
-use Rattle.std.proofs.lemmas.List.Elements.{All-head, All-tail, All-cons, All-nil}
+use Rattle.std.proofs.lemmas.List.Elements.{All-head, All-tail}
 use Rattle.std.proofs.lemmas.List.Sums.{sum_by-cons, sum_by-append}
-use Rattle.cf_outcome.specs.declared.outcome.Outcome.{Outcome}
-use Rattle.cf_plan.specs.declared.forms.Form.{Form}
 use Rattle.cf_plan.specs.declared.forms.Of.{Of}
 use Rattle.cf_plan.specs.declared.forms.Of.TheVariants.{None as NoSource, One, Two}
 use Rattle.cf_plan.specs.declared.forms.Due.{Due}
@@ -19,15 +16,13 @@ use Rattle.cf_plan.proofs.PlanLemmas.{HasLowerSources-push}
 use Rattle.cf_plan.proofs.DependentLemmas.{length-dependents_from, mentions-append, mentions_none, all_sources_below}
 use Rattle.cf_core.specs.declared.stage.Stage.{Stage}
 use Rattle.cf_core.specs.declared.stage.Stage.TheVariants.{Pending, Ready, Claimed, Linked, Settled}
-use Rattle.cf_core.specs.States.{outcome_of, is_ready}
+use Rattle.cf_core.specs.States.{is_ready}
 use Rattle.cf_core.specs.declared.kept.KeptStage.{KeptStage}
 use Rattle.cf_core.specs.Keeping.Late.{StepsUpTo, dated_in, dated_of, due_kept, late_due, linked_kept, treated, treated_by}
-use Rattle.cf_core.specs.Keeping.Marks.{WaitsNow}
-use Rattle.cf_core.specs.Keeping.Links.{list_at}
-use Rattle.cf_core.specs.Keeping.Sound.{IsSound, IsListed, StayTaken, is_bound, kept_at, link_marks, marks_of, marks_from, steps_of}
+use Rattle.cf_core.specs.Keeping.Sound.{IsSound, StayTaken, is_bound, kept_at, link_marks, marks_of, marks_from, steps_of}
 use Rattle.cf_core.specs.Keeping.Attaching.{due_now, open_one, open_count}
 use Rattle.cf_core.proofs.Keeping.Attaching.{due_again}
-use Rattle.cf_core.proofs.Keeping.Sums.{there_within, StepsUpTo-le, kept_is}
+use Rattle.cf_core.proofs.Keeping.Sums.{there_within, StepsUpTo-le}
 use Rattle.cf_core.proofs.Keeping.Waiting.{never_linked, sources_below}
 use Rattle.cf_core.proofs.Keeping.Soundness.{All-more, bound_within, due_marks, due_steps}
 

@@ -1,5 +1,5 @@
 -- From the stages that a graph keeps to the state that contracts see.
-use Rattle.std.proofs.Common.{◌≡◌, ℕ, ◌+◌, ◌-◌, ◌<◌, ◌≤◌, ◌∷◌, ◌++◌, [], List, true, false, Option, Some, None, length, length-append, suc, zero, arith, ap, sym, ◌∙◌, subst, refl, set, inl, inr, replicate, cond, All, ◌==◌}
+use Rattle.std.proofs.Common.{◌≡◌, ℕ, ◌+◌, ◌-◌, ◌<◌, ◌∷◌, ◌++◌, [], List, true, false, Option, Some, None, length, length-append, suc, zero, arith, ap, sym, ◌∙◌, subst, refl, set, inl, inr, replicate, cond, All, ◌==◌}
 use Rattle.std.specs.Prelude.{is_some, slice_get, unwrap_or, option_and_then}
 use Rattle.std.specs.List.{sum_by}
 use Rattle.std.proofs.lemmas.List.Sums.{sum_by-append, sum_by-cons}

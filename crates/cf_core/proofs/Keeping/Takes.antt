@@ -9,9 +9,9 @@ use Rattle.cf_plan.specs.Plans.{PlannedStage}
 use Rattle.cf_core.specs.declared.stage.Stage.{Stage}
 use Rattle.cf_core.specs.declared.stage.Stage.TheVariants.{Pending, Ready, Claimed, Linked, Settled}
 use Rattle.cf_core.specs.declared.kept.KeptStage.{KeptStage}
-use Rattle.cf_core.specs.Keeping.Attaching.{attached_kept, due_now, open_count, open_one, takes_now}
+use Rattle.cf_core.specs.Keeping.Attaching.{attached_kept, open_count, open_one, takes_now}
 use Rattle.cf_core.specs.Keeping.Late.{dated_in, dated_of, due_kept, late_due, outcome_part}
-use Rattle.cf_core.specs.Keeping.Sound.{kept_at, link_marks}
+use Rattle.cf_core.specs.Keeping.Sound.{link_marks}
 use Rattle.cf_core.specs.Keeping.Starts.{starts, untreated}
 use Rattle.cf_core.proofs.Keeping.Attaching.{waits_now}
 use Rattle.cf_core.proofs.Keeping.StartSound.{one_each, unstarted_waits}

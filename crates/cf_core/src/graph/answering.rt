@@ -9,7 +9,7 @@ use crate::events::{Event, Reply};
 use crate::graph::Graph;
 
 impl Graph {
-    /// Does an event, and gives its reply. The event's stage, if it has one, is in the plan.
+    /// Does an event, and gives its reply. The stages that it names are there, and a stage that it attaches fits its form.
     pub fn answer(&mut self, e: &Event) -> Reply
         requires { EventFits (length self.old.state.plan.stages) e.now }
         ensures told { (result, self.new.state) ≡ answered self.old.state e.now }
@@ -23,6 +23,12 @@ impl Graph {
             Event::Claim { who, stage } => Reply::Claim(self.claim(who, stage)),
             Event::Finish { who, stage, answer } => Reply::Finish(self.finish(who, stage, answer)),
             Event::Tick { now, .. } => Reply::Tick(self.tick(now)),
+            Event::Attach {
+                form,
+                of,
+                function,
+                ..
+            } => { Reply::Attach(self.attach(form, of, function)) }
         }
     }
 

@@ -1,7 +1,7 @@
 //! The calls that change the graph. Each fails only where there is no memory, and the graph isn't to be used any more then.
 ghost use Rattle.std.specs.Prelude.{◌≡◌, ◌<◌, IfOk, None, false, length};
 ghost use Rattle.cf_outcome.specs.declared.outcome.Outcome.TheVariants.{Fault};
-ghost use Rattle.cf_core.specs.States.{after, outcome_at};
+ghost use Rattle.cf_core.specs.States.{after, flowed, outcome_at};
 ghost use Rattle.cf_core.specs.Events.{cancelling, claiming, finishing, landed, settling, source_outcome};
 
 use crate::graph::Plain;
@@ -121,6 +121,13 @@ impl Plain {
         ensures { IfOk result (λ _. self.new ≡ after self.old i o) }
     {
         self.stages[i as usize] = Stage::Settled(o);
+        self.flow(alloc)
+    }
+
+    /// Makes all stages anew.
+    pub(super) fn flow(&mut self, alloc: Global) -> Result<(), AllocError>
+        ensures { IfOk result (λ _. self.new ≡ flowed self.old) }
+    {
         let new = new_stages(alloc, &self.plan, &self.stages)?;
         self.stages = new;
         Ok(())

@@ -1,7 +1,7 @@
-use Rattle.std.proofs.Common.{◌∙◌, arith, get_or}
+use Rattle.std.proofs.Common.{arith, get_or}
 use Rattle.std.specs.Prelude.{slice_get, unwrap_or}
 use Rattle.cf_event.specs.Replays.{Answers, Nudges, Replays}
-use Rattle.cf_event.proofs.Replays.{plan_after, replays-all, replays-state, rest_after}
+use Rattle.cf_event.proofs.Replays.{replays-all, replays-state, rest_after, rest_fits}
 use Rattle.cf_event.proofs.applying.replay.Goals as goal
 
 pub loop-i-preserved : goal.loop-i-preserved
@@ -14,7 +14,7 @@ loop-i-preserved c =
     let a : Answers (get_or c.args.events.now c.loop-i.i _) nudged done = record { reply = c.answer.result; told = c.answer.ensures.told; counted = c.answer.ensures.counted } in
     record {
       rest = λ end r. c.loop-i.invariant.rest end (rest_after c.args.nudges.now c.args.events.now c.loop-i.i _ before nudged done end (omega arith) n a r);
-      plan = plan_after _ before nudged done _ n a ∙ c.loop-i.invariant.plan;
+      fits = rest_fits c.args.events.now c.loop-i.i _ _ before nudged done (omega arith) c.loop-i.invariant.fits n a;
       counted = (let first = c.loop-i.invariant.counted in let second = n.counted in let third = c.answer.ensures.counted in omega arith);
     }
 

@@ -1,4 +1,4 @@
-use Rattle.std.proofs.Common.{◌≡◌, ◌<◌, ◌+◌, ◌∙◌, ◌∷◌, ◌++◌, length, length-append, get_or, ap, arith, None, []}
+use Rattle.std.proofs.Common.{◌≡◌, ◌<◌, ◌∙◌, ◌∷◌, length, length-append, get_or, ap, arith, None, []}
 use Rattle.cf_plan.specs.declared.forms.Form.TheVariants.{Source}
 use Rattle.cf_plan.specs.Plans.{PlannedStage}
 use Rattle.cf_core.specs.declared.stage.Stage.TheVariants.{Pending}

@@ -1,7 +1,5 @@
-use Rattle.std.proofs.Common.{◌≡◌, ◌<◌, ◌∙◌, ap, arith, sym}
-use Rattle.cf_plan.specs.Plans.{attached_stage}
-use Rattle.cf_core.specs.Keeping.SoundStages.{outlook_of}
-use Rattle.cf_core.proofs.Keeping.GraphLemmas.{attach_in_step, attaches_not, attaches_now}
+use Rattle.std.proofs.Common.{◌<◌, arith}
+use Rattle.cf_core.proofs.Keeping.GraphLemmas.{attach_in_step}
 use Rattle.cf_core.proofs.graph.Graph.attach.Goals as goal
 
 pub invariant_of-self : goal.invariant_of-self

@@ -1,9 +1,9 @@
-use Rattle.std.proofs.Common.{◌≡◌, ℕ, ◌∙◌, ◌+◌, ◌++◌, ◌∷◌, [], ap, arith, false, length, refl, subst, sym, cond}
-use Rattle.cf_plan.specs.Plans.{PlannedStage, attached_stage, sources_of}
+use Rattle.std.proofs.Common.{ℕ, ◌∙◌, ◌+◌, ◌++◌, ◌∷◌, [], ap, arith, false, refl, subst, sym, cond}
+use Rattle.cf_plan.specs.Plans.{attached_stage, sources_of}
 use Rattle.cf_core.specs.declared.kept.KeptStage.{KeptStage}
 use Rattle.cf_core.specs.declared.stages.Stages.{Stages}
 use Rattle.cf_core.specs.States.{is_ready}
-use Rattle.cf_core.specs.Keeping.Attaching.{attached_kept, due_now, takes_now}
+use Rattle.cf_core.specs.Keeping.Attaching.{due_now, takes_now}
 use Rattle.cf_core.specs.Keeping.Sound.{StayTaken, outlook}
 use Rattle.cf_core.proofs.Keeping.AttachSound.{StayTaken-push, attach_sound, few_sources}
 use Rattle.cf_core.proofs.Keeping.Attaching.{attaching_is_after}

@@ -1,6 +1,6 @@
-use Rattle.std.proofs.Common.{◌≡◌, ◌∙◌, ◌≤◌, ◌+◌, ◌-◌, ◌<◌, ap, arith, cond, drop, take, Some, sym}
+use Rattle.std.proofs.Common.{◌≡◌, ◌∙◌, ◌+◌, arith, Some}
 use Rattle.std.specs.Prelude.{slice_get}
-use Rattle.cf_core.specs.Events.{firing, limit_outcome, settling}
+use Rattle.cf_core.specs.Events.{limit_outcome, settling}
 use Rattle.cf_core.proofs.Firing.{firing-more, settling-plan, settling-used}
 use Rattle.cf_plain.proofs.graph.Plain.fire_next.Goals.{then-done, else-done}
 use Rattle.cf_plain.proofs.graph.Plain.fire_next.Goals as goal

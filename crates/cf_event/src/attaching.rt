@@ -1,0 +1,172 @@
+//! The fields of the word of an event that attaches a stage.
+ghost use Rattle.std.specs.Prelude.{◌≡◌, ◌<◌, ◌≤◌, ◌↔◌, IsTrue, is_some, slice_get, true, unwrap_or};
+ghost use Rattle.cf_plan.specs.Plans.{fits_form};
+ghost use Rattle.cf_event.specs.Words.{attach_low, count_of, first_of, form_number, second_of};
+ghost use Rattle.cf_event.specs.Decoding.{attach_of, attach_with, forms, of_with};
+
+use cf_core::Event;
+use cf_plan::{Form, Of, fits_form};
+
+/// The greatest function's number that a word has room for.
+const LAST_FUNCTION: u16 = 4095;
+
+/// One in each field of the low half.
+const FORM: u32 = 1 << 24;
+
+const SECOND: u32 = 1 << 12;
+
+/// All forms, by their numbers.
+const FORMS: [Form; 19] = [
+    Form::Source,
+    Form::Supply,
+    Form::RunAsync,
+    Form::Apply,
+    Form::Accept,
+    Form::ThenRun,
+    Form::Combine,
+    Form::AcceptBoth,
+    Form::RunBoth,
+    Form::ApplyEither,
+    Form::AcceptEither,
+    Form::RunEither,
+    Form::Compose,
+    Form::Handle,
+    Form::WhenComplete,
+    Form::Exceptionally,
+    Form::AllOf,
+    Form::AnyOf,
+    Form::ExceptionallyCompose,
+];
+
+/// Whether a word has room for this function, and the stage fits its form.
+pub(crate) fn is_stage(form: Form, of: Of, function: Option<u16>) -> bool
+    ensures { IsTrue result ↔ ((unwrap_or function 0 ≤ 4095) × (fits_form form (count_of of) (is_some function) ≡ true)) }
+{
+    function.unwrap_or(0) <= LAST_FUNCTION && fits_form(form, of.count(), function.is_some())
+}
+
+/// How many sources they are.
+pub(crate) fn count_of(of: Of) -> u8
+    ensures count { result ≡ count_of of }
+    ensures small { result < 16 }
+{
+    of.count() as u8
+}
+
+/// The first source, or 0.
+pub(crate) fn first_of(of: Of) -> u16
+    ensures { result ≡ first_of of }
+{
+    match of {
+        Of::None => 0,
+        Of::One(a) | Of::Two(a, _) => a,
+    }
+}
+
+/// The second source, or 0.
+pub(crate) fn second_of(of: Of) -> u16
+    ensures { result ≡ second_of of }
+{
+    match of {
+        Of::None | Of::One(_) => 0,
+        Of::Two(_, b) => b,
+    }
+}
+
+/// The low half of an attached stage.
+pub(crate) fn attach_low(form: Form, of: Of, function: Option<u16>) -> u32
+    requires second { second_of of ≤ 4095 }
+    requires function { unwrap_or function 0 ≤ 4095 }
+    ensures { result ≡ attach_low form of function }
+{
+    form_number(form) * FORM + second_of(of) as u32 * SECOND + function.unwrap_or(0) as u32
+}
+
+/// The number of a form.
+fn form_number(form: Form) -> u32
+    ensures number { result ≡ form_number form }
+    ensures small { result < 256 }
+{
+    match form {
+        Form::Source => 0,
+        Form::Supply => 1,
+        Form::RunAsync => 2,
+        Form::Apply => 3,
+        Form::Accept => 4,
+        Form::ThenRun => 5,
+        Form::Combine => 6,
+        Form::AcceptBoth => 7,
+        Form::RunBoth => 8,
+        Form::ApplyEither => 9,
+        Form::AcceptEither => 10,
+        Form::RunEither => 11,
+        Form::Compose => 12,
+        Form::Handle => 13,
+        Form::WhenComplete => 14,
+        Form::Exceptionally => 15,
+        Form::AllOf => 16,
+        Form::AnyOf => 17,
+        Form::ExceptionallyCompose => 18,
+    }
+}
+
+/// The attaching with these fields, if there is one.
+pub(crate) fn attach_with(who: u8, first: u16, count: u8, low: u32) -> Option<Event>
+    ensures { result ≡ attach_with who first count low }
+{
+    let second = (low / SECOND % SECOND) as u16;
+    let function = (low % SECOND) as u16;
+    match form_numbered(low / FORM) {
+        None => None,
+        Some(form) => match of_with(count, first, second) {
+            None => None,
+            Some(of) => attach_of(who, form, of, function),
+        },
+    }
+}
+
+/// The form of a number.
+fn form_numbered(number: u32) -> Option<Form>
+    ensures { result ≡ slice_get forms number }
+{
+    if (number as usize) < FORMS.len() {
+        Some(FORMS[number as usize])
+    } else {
+        None
+    }
+}
+
+/// So many sources with these numbers, if that can be.
+fn of_with(count: u8, first: u16, second: u16) -> Option<Of>
+    ensures { result ≡ of_with count first second }
+{
+    match count {
+        0 if first == 0 && second == 0 => Some(Of::None),
+        1 if second == 0 => Some(Of::One(first)),
+        2 => Some(Of::Two(first, second)),
+        _ => None,
+    }
+}
+
+/// The attaching of a stage with its function's number, or with 0 where it has no function, if that fits its form.
+fn attach_of(who: u8, form: Form, of: Of, function: u16) -> Option<Event>
+    ensures { result ≡ attach_of who form of function }
+{
+    if fits_form(form, of.count(), true) {
+        Some(Event::Attach {
+            who,
+            form,
+            of,
+            function: Some(function),
+        })
+    } else if fits_form(form, of.count(), false) && function == 0 {
+        Some(Event::Attach {
+            who,
+            form,
+            of,
+            function: None,
+        })
+    } else {
+        None
+    }
+}

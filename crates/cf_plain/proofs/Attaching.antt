@@ -1,0 +1,38 @@
+-- Plans whose stages are listed, and one more stage of them.
+use Rattle.std.proofs.Common.{◌≡◌, ℕ, ◌+◌, ◌<◌, ◌∷◌, ◌++◌, [], List, All, Option, None, true, length, length-append, ap, add-one, arith, refl, suc, sym, take, zero, ◌∙◌}
+use Rattle.std.specs.Prelude.{is_some}
+use Rattle.cf_plan.specs.declared.forms.Form.{Form}
+use Rattle.cf_plan.specs.declared.forms.Of.{Of}
+use Rattle.cf_plan.specs.Plans.{Planned, PlannedStage, and_stage, attached_stage, fits_form, form_at, function_at, sources_at, sources_of}
+use Rattle.cf_core.specs.declared.stage.Stage.{Stage}
+use Rattle.cf_core.specs.declared.stage.Stage.TheVariants.{Pending}
+use Rattle.cf_core.proofs.Keeping.GraphLemmas.{growing-and_stage}
+use Rattle.cf_plain.specs.Plains.{IsInStep}
+
+-- one more of a plan's stages
+take_next : (plan : List PlannedStage) (i : ℕ) → i < length plan →
+    take i plan ++ record { form = form_at plan i; sources = sources_at plan i; function = function_at plan i } ∷ [] ≡ take (suc i) plan
+take_next [] i l = absurd (omega arith)
+take_next (p ∷ plan) zero l = refl
+take_next (p ∷ plan) (suc i) l = ap (λ r. p ∷ r) (take_next plan i (omega arith))
+
+pub take_more : (plan listed : List PlannedStage) (i : ℕ) (new : PlannedStage) → i < length plan → listed ≡ take i plan →
+    new ≡ record { form = form_at plan i; sources = sources_at plan i; function = function_at plan i } → listed ++ new ∷ [] ≡ take (i + 1) plan
+take_more plan listed i new l so_far is = rw (add-one, so_far, is) (take_next plan i l)
+
+-- two lists of one length, each with one more
+both_longer : {A B : Type 0} (xs : List A) (ys : List B) (x : A) (y : B) → length xs ≡ length ys → length (xs ++ x ∷ []) ≡ length (ys ++ y ∷ [])
+both_longer xs ys x y e = length-append xs (x ∷ []) ∙ ap (λ n. n + 1) e ∙ sym (length-append ys (y ∷ []))
+
+-- the graph stays in step where a stage is attached
+pub in_step-attached : (plan : Planned) (stages : List Stage) (claims : List (Option ℕ)) (used : ℕ) (form : Form) (of : Of) (function : Option ℕ) → IsInStep plan stages claims used →
+    0 < plan.room → fits_form form (length (sources_of of)) (is_some function) ≡ true → All (λ j. j < length plan.stages) (sources_of of) →
+    IsInStep (and_stage plan (attached_stage form of function)) (stages ++ Pending ∷ []) (claims ++ None ∷ []) used
+in_step-attached plan stages claims used form of function h room fits lower =
+    let new = attached_stage form of function in
+    record {
+      growing = growing-and_stage plan form of function h.growing room fits lower;
+      all_stages = both_longer stages plan.stages Pending new h.all_stages;
+      all_claims = both_longer claims plan.stages None new h.all_claims;
+      few_used = h.few_used;
+    }

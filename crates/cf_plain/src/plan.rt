@@ -1,0 +1,166 @@
+//! A plan that grows, as a list of its stages.
+ghost use Rattle.std.specs.Prelude.{◌≡◌, ◌+◌, ◌*◌, ◌<◌, ◌≤◌, true, All, IfOk, OnErr, is_some, length};
+ghost use Rattle.cf_plan.specs.Plans.{IsGrowing, and_stage, attached_stage, edges_of, fits_form, form_at, sources_at, sources_of, with_room};
+
+use cf_plan::{Form, Limit, Of, Plan};
+use std::alloc::{AllocError, Global};
+use std::marker::Model;
+
+/// A stage as it is planned.
+#[derive(Drop)]
+pub(crate) struct PlainStage {
+    form: Form,
+    sources: Vec<u16>,
+    function: Option<u16>,
+}
+
+impl Model for PlainStage {
+    ghost use Rattle.cf_plan.specs.Plans.{PlannedStage};
+
+    ghost Value = { PlannedStage };
+
+    ghost view = { λ s. record { form = s.form; sources = s.sources.items; function = s.function } };
+}
+
+/// A plan with room for stages that are attached later. A contract sees it as it does a plan.
+#[derive(Drop)]
+pub struct PlainPlan {
+    opening: Plan,
+    stages: Vec<PlainStage>,
+    room: u16,
+}
+
+impl Model for PlainPlan {
+    ghost use Rattle.cf_plan.specs.Plans.{Planned};
+
+    ghost Value = { Planned };
+
+    ghost use Rattle.cf_plan.specs.Plans.{IsGrowing};
+    ghost use Rattle.cf_plain.specs.Plains.{grown};
+
+    ghost view = { λ p. grown p.opening p.stages.items p.room };
+
+    ghost invariant = { λ p. IsGrowing (grown p.opening p.stages.items p.room) };
+}
+
+impl PlainPlan {
+    /// The plan with room for so many stages. It fails only where there is no memory.
+    pub fn new(alloc: Global, opening: Plan, room: u16) -> Result<PlainPlan, AllocError>
+        requires stages { length opening.stages + room ≤ 4096 }
+        requires edges { edges_of opening.stages + 2 * room ≤ 16384 }
+        ensures { IfOk result (λ plan. plan ≡ with_room opening room) }
+    {
+        let stages = stages_of(alloc, &opening)?;
+        // A plan that was built is within its bounds, and opened with all its stages.
+        let _stages = opening.stages();
+        Ok(PlainPlan {
+            opening,
+            stages,
+            room,
+        })
+    }
+
+    /// How many stages it has by now.
+    pub fn stages(&self) -> u16
+        ensures count { result ≡ length self.now.stages }
+        ensures growing { IsGrowing self.now }
+    {
+        self.stages.len() as u16
+    }
+
+    /// How many stages may still be attached.
+    pub fn room(&self) -> u16
+        ensures { result ≡ self.now.room }
+    {
+        self.room
+    }
+
+    /// The form of a stage.
+    pub fn form(&self, i: u16) -> Form
+        requires { i < length self.now.stages }
+        ensures { result ≡ form_at self.now.stages i }
+    {
+        self.stages[i as usize].form
+    }
+
+    /// The sources of a stage, which are lower.
+    pub fn sources(&self, i: u16) -> &[u16]
+        requires { i < length self.now.stages }
+        ensures sources { result.now ≡ sources_at self.now.stages i }
+        ensures lower { All (λ j. j < i) result.now }
+    {
+        &self.stages[i as usize].sources
+    }
+
+    /// The limits in firing order.
+    pub fn limits(&self) -> &[Limit]
+        ensures { result.now ≡ self.now.limits }
+    {
+        self.opening.limits()
+    }
+
+    /// Puts a stage behind the others.
+    pub fn attach(
+        &mut self,
+        alloc: Global,
+        form: Form,
+        of: Of,
+        function: Option<u16>,
+    ) -> Result<(), AllocError>
+        requires room { 0 < self.old.room }
+        requires fits { fits_form form (length (sources_of of)) (is_some function) ≡ true }
+        requires sources { All (λ j. j < length self.old.stages) (sources_of of) }
+        ensures attached { IfOk result (λ _. self.new ≡ and_stage self.old (attached_stage form of function)) }
+        ensures unchanged { OnErr result (self.new ≡ self.old) }
+    {
+        let stage = attached(alloc, form, of, function)?;
+        self.stages.push(stage)?;
+        self.room -= 1;
+        Ok(())
+    }
+}
+
+/// The stages of a plan.
+fn stages_of(alloc: Global, plan: &Plan) -> Result<Vec<PlainStage>, AllocError>
+    ensures { IfOk result (λ stages. stages.items ≡ plan.now.stages) }
+{
+    let mut stages = Vec::new(alloc);
+    for i in 0..plan.stages() {
+        let stage = planned(alloc, plan.form(i), plan.sources(i), plan.function(i))?;
+        stages.push(stage)?;
+    }
+    Ok(stages)
+}
+
+/// An attached stage.
+fn attached(
+    alloc: Global,
+    form: Form,
+    of: Of,
+    function: Option<u16>,
+) -> Result<PlainStage, AllocError>
+    ensures { IfOk result (λ stage. stage ≡ attached_stage form of function) }
+{
+    match of {
+        Of::None => planned(alloc, form, &[], function),
+        Of::One(a) => planned(alloc, form, &[a], function),
+        Of::Two(a, b) => planned(alloc, form, &[a, b], function),
+    }
+}
+
+/// A stage with these sources.
+fn planned(
+    alloc: Global,
+    form: Form,
+    sources: &[u16],
+    function: Option<u16>,
+) -> Result<PlainStage, AllocError>
+    ensures { IfOk result (λ stage. stage ≡ record { form = form; sources = sources.now; function = function }) }
+{
+    let sources = Vec::from_slice(alloc, sources)?;
+    Ok(PlainStage {
+        form,
+        sources,
+        function,
+    })
+}
