@@ -1,7 +1,4 @@
 //! Plans to which stages are attached.
-#[cfg(test)]
-mod tests;
-
 ghost use Rattle.std.specs.Prelude.{◌≡◌, ℕ, ◌+◌, ◌*◌, ◌<◌, ◌≤◌, ◌++◌, true, All, IfOk, is_some, length, reverse};
 ghost use Rattle.cf_plan.specs.Growing.{attached_of};
 ghost use Rattle.cf_plan.specs.Plans.{IsGrowing, and_stage, attached_stage, dependents_of, edges_of, fits_form, form_at, function_at, opening_of, sources_at, sources_of, with_room};

@@ -24,8 +24,6 @@ mod limits;
 mod plan;
 mod rows;
 mod tables;
-#[cfg(test)]
-mod tests;
 mod threads;
 
 pub use builder::{MAX_EDGES, MAX_LIMITS, MAX_STAGES, PlanBuilder};

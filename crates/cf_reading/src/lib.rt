@@ -31,6 +31,3 @@ pub use laws::races_are_read_as_runs;
 pub use reading::{read_race, read_script};
 pub use script::{Script, Step};
 pub use steps::MAX_STEPS;
-
-#[cfg(test)]
-mod tests;

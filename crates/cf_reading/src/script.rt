@@ -7,7 +7,7 @@ use std::marker::Model;
 /// One step of a script.
 #[derive(Clone, Copy, Debug, PartialEq, Eq)]
 pub enum Step {
-    /// A changing call of one caller.
+    /// A changing call of one caller. A script's attaches no stage.
     Does(Event),
     /// A question.
     Asks(Ask),

@@ -3,13 +3,10 @@ ghost use Rattle.std.specs.Prelude.{◌≡◌, nat_lt};
 ghost use Rattle.std.specs.List.{list_all};
 ghost use Rattle.cf_plan.specs.Plans.{sources_of};
 
-use super::GrowingPlan;
-use crate::builder::{MAX_EDGES, MAX_STAGES, PlanBuilder};
-use crate::faults::PlanFault;
-use crate::fitting::fits_form;
-use crate::forms::{Form, Of};
-use crate::limits::LimitKind;
-use crate::plan::Plan;
+use cf_plan::{
+    Form, GrowingPlan, LimitKind, MAX_EDGES, MAX_STAGES, Of, Plan, PlanBuilder, PlanFault,
+    fits_form,
+};
 use std::alloc::{AllocError, Global};
 use std::process::Abort;
 use std::test::Fail;

@@ -1,7 +1,8 @@
-use crate::{Func, MAX_BYTES, Part, ReadingFault, Step, read_input, read_script};
+//! What scripts are read as, what is refused, and the ten functions.
 use cf_core::{Ask, Event};
 use cf_outcome::{Cause, Outcome, Value};
 use cf_plan::{Answer, Args, Limit, LimitKind, PlanFault, StageFn};
+use cf_reading::{Func, MAX_BYTES, Part, ReadingFault, Step, read_input, read_script};
 use std::io;
 use std::io::{ErrorKind, Read};
 use std::test::Fail;

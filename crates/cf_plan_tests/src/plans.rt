@@ -1,7 +1,11 @@
+//! Plans of every kind of size, what is refused, and the tables of forms.
 ghost use Rattle.std.specs.Prelude.{◌≡◌};
 
-use super::*;
 use cf_outcome::{Cause, Outcome, Value};
+use cf_plan::{
+    Answer, Args, Due, Form, Landing, Limit, LimitKind, MAX_EDGES, Of, Plan, PlanBuilder,
+    PlanFault, StageFn, due_one, due_two, fits_form, landing,
+};
 use std::alloc::Global;
 use std::process::Abort;
 use std::test::Fail;

@@ -1,0 +1,8 @@
+//! Tests of plans and of the tables of forms, by their public calls alone. They stand in a crate of their own, since a
+//! crate that has tests is proved twice, with them and without.
+#![tactic(auto)]
+
+#[cfg(test)]
+mod growing;
+#[cfg(test)]
+mod plans;
