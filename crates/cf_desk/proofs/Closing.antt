@@ -21,7 +21,8 @@ use Rattle.cf_core.specs.States.{State as Copy, start}
 use Rattle.cf_event.specs.Words.{IsEvent, who_of, word_of}
 use Rattle.cf_event.specs.Decoding.{decoded, decoded_with, event_of}
 use Rattle.cf_event.proofs.WordLemmas.{decoded_words}
-use Rattle.cf_desk.specs.Log.{own, IsEventOf, Catches, state_from}
+use Rattle.cf_desk.specs.Log.{own, AreEventsOf, AreLogged, Catches, state_from}
+use Rattle.cf_desk.proofs.Events.{events_after, events_each}
 use Rattle.cf_desk.specs.Records.{Fits}
 use Rattle.cf_desk.specs.Rule.{AllStand, weight, count_in, IsRow, RowKept, holds, longer_if, longest, with_seen, level, AllCatch, AllShort, blank, fresh, first, head_of, rest_of}
 use Rattle.cf_desk.specs.Views.{Pass, Desk, knowns, Closes, IsOneOf, IsLatest, IsOf, new_pass, opened, known_of}
@@ -86,16 +87,12 @@ none_of callers now rest (k ∷ ks) h c one = dite (ℕ_discrete k.caller c)
     (λ (same : k.caller ≡ c). subst (λ x. own x rest ≡ []) same (subst (λ l. own k.caller l ≡ []) (same_rest now h.0.rest rest (sym h.0.split)) h.0.none))
     (λ (ne : k.caller ≢ c). none_of callers now rest ks h.1 c (let w : weight (eqb k.caller c) ≡ 0 = ap weight (ne_eqb k.caller c ne) in omega arith))
 
-nobodys : (callers : Setting) (rest : List Event) → All (IsEventOf callers) rest → ((c : ℕ) → c < callers.callers → own c rest ≡ []) → rest ≡ []
-nobodys callers [] events none = refl
-nobodys callers (w ∷ ws) events none =
-    let e = All-head (IsEventOf callers) w ws events in
+nobodys : (callers : Setting) (s : Copy) (rest : List Event) → AreEventsOf callers s rest → ((c : ℕ) → c < callers.callers → own c rest ≡ []) → rest ≡ []
+nobodys callers s [] events none = refl
+nobodys callers s (w ∷ ws) events none =
+    let e = events.0 in
     let is : w ∷ own (who_of w) ws ≡ [] = subst (λ b. Rattle.std.proofs.Common.cond b (w ∷ own (who_of w) ws) (own (who_of w) ws) ≡ []) (eq-eqb (who_of w) (who_of w) refl) (none (who_of w) e.caller) in
     cc
-
-all_after : (P : Event → Type 0) (xs ys : List Event) → All P (xs ++ ys) → All P ys
-all_after P [] ys h = h
-all_after P (x ∷ xs) ys h = all_after P xs ys (All-tail P x (xs ++ ys) h)
 
 -- a seat that stands for as many passes as there are callers has seen the whole log
 pub whole : (t : Terms) (words : List ℕ) (views : List (List Known)) (h : RowKept t words views) (id : ℕ) (v : List Known) → get_elem? views id ≡ some v → length v ≡ t.setting.callers
@@ -106,7 +103,7 @@ whole t words views h id v at all =
     let p = stand_levelled t.setting h.log v stand in
     let once : (c : ℕ) → count_in c v ≤ 1 = λ c. let a = h.apart c in let b = count_at c views id v at in omega arith in
     let full : below t.setting.callers v ≡ t.setting.callers = below_all t.setting h.log v stand ∙ all in
-    let none : begins.0 ≡ [] = nobodys t.setting begins.0 (all_after (IsEventOf t.setting) (longest v) begins.0 (subst (All (IsEventOf t.setting)) begins.1 h.row.events))
+    let none : begins.0 ≡ [] = nobodys t.setting (state_from t.setting.plan (longest v)) begins.0 (events_after t.setting (start t.setting.plan) (longest v) begins.0 (subst (AreLogged t.setting) begins.1 h.row.events))
     (λ c lt. none_of t.setting (longest v) begins.0 v (subst (λ l. AllStand t.setting l (level v)) begins.1 p.1) c (all_there t.setting.callers v once full c lt)) in
     let is : h.log ≡ longest v = begins.1 ∙ ap (λ l. longest v ++ l) none ∙ append-nil (longest v) in
     (subst (λ l. IsRow t l words) is h.row, p.0)
@@ -134,7 +131,7 @@ fresh_stand n c (suc m) h = (record { terms = refl; caller = omega arith; rest =
 pub begins : (t : Terms) (words : List ℕ) → words ≡ replicate t.words 0 → RowKept t words (first t ∷ [])
 begins t words zeros = record {
   log = [];
-  row = record { free = t.words; words_are = zeros; room = ap length zeros ∙ length-replicate {A = ℕ} t.words 0; events = All-nil (IsEventOf t.setting) };
+  row = record { free = t.words; words_are = zeros; room = ap length zeros ∙ length-replicate {A = ℕ} t.words 0; events = tt };
   known = λ id v at. only id v at;
   apart = λ c. let o = fresh_once t.setting 0 t.setting.callers c in omega arith;
 }
@@ -151,9 +148,8 @@ pub fresh_head : (n : Setting) (c m k : ℕ) → m ≡ suc k → (head_of (fresh
 fresh_head n c m k e = subst (λ (x : ℕ). (head_of (fresh n c x) ≡ blank n c ∷ []) × (rest_of (fresh n c x) ≡ fresh n (c + 1) k)) (sym e) (refl, ap (λ (x : ℕ). fresh n x k) (let p : suc c ≡ c + 1 = omega arith in p))
 
 -- the decoded words of a row are those of its log's events
-logged_events : (t : Setting) (log : List Event) → All (IsEventOf t) log → All IsEvent log
-logged_events t [] h = All-nil IsEvent
-logged_events t (e ∷ es) h = All-cons IsEvent e es (All-head (IsEventOf t) e es h).event (logged_events t es (All-tail (IsEventOf t) e es h))
+logged_events : (t : Setting) (log : List Event) → AreLogged t log → All IsEvent log
+logged_events t log h = events_each IsEvent t (λ s e is. is.event) (start t.plan) log h
 
 pub decoded_log : (t : Terms) (log : List Event) (words : List ℕ) → IsRow t log words → decoded words ≡ log
 decoded_log t log words r = ap decoded r.words_are ∙ decoded_words log r.free (logged_events t.setting log r.events)
@@ -182,10 +178,8 @@ there c (p ∷ ps) e = dite (ℕ_discrete p.known.caller c)
     (λ (same : p.known.caller ≡ c). (0, omega arith, same))
     (λ (ne : p.known.caller ≢ c). let w : weight (eqb p.known.caller c) ≡ 0 = ap weight (ne_eqb p.known.caller c ne) in let r = there c ps (omega arith) in (suc r.0, (let l = r.1 in omega arith), r.2))
 
-owned_all : (t : Setting) (ps : List Pass) → ((c : ℕ) → c < t.callers → count_in c (knowns ps) ≡ 1) → (ws : List Event) → All (IsEventOf t) ws → All (λ w. Contains (map (λ (k : ℕ × List Rec). k.0) (map pass_did ps)) (who_of w)) ws
-owned_all t ps each [] h = All-nil (λ w. Contains (map (λ (k : ℕ × List Rec). k.0) (map pass_did ps)) (who_of w))
-owned_all t ps each (w ∷ ws) h = All-cons (λ w. Contains (map (λ (k : ℕ × List Rec). k.0) (map pass_did ps)) (who_of w)) w ws
-    (there (who_of w) ps (each (who_of w) (All-head (IsEventOf t) w ws h).caller)) (owned_all t ps each ws (All-tail (IsEventOf t) w ws h))
+owned_all : (t : Setting) (ps : List Pass) → ((c : ℕ) → c < t.callers → count_in c (knowns ps) ≡ 1) → (ws : List Event) → AreLogged t ws → All (λ w. Contains (map (λ (k : ℕ × List Rec). k.0) (map pass_did ps)) (who_of w)) ws
+owned_all t ps each ws h = events_each (λ w. Contains (map (λ (k : ℕ × List Rec). k.0) (map pass_did ps)) (who_of w)) t (λ s w is. there (who_of w) ps (each (who_of w) is.caller)) (start t.plan) ws h
 
 -- the longest list of those that begin the history, which is one of them, is the history
 longest_short : (n : ℕ) (v : List Known) → AllShort n v → length (longest v) ≤ n
@@ -256,8 +250,8 @@ shown_as z t words slots id v ps d first most copy history desk plan is all fit 
 pub new_one : (n : Setting) (c : ℕ) (seat mine : Me ℕ (List Known)) → c < n.callers → seat ≡ (fresh n c (n.callers - c), []) → mine ≡ (head_of seat.0, []) → mine ≡ (blank n c ∷ [], [])
 new_one n c seat mine lt s m = m ∙ (λ i. (head_of (s i).0, [])) ∙ (λ i. ((fresh_head n c (n.callers - c) (n.callers - (c + 1)) (omega arith)).0 i, []))
 
-pub agrees_new : (n : Setting) (c : ℕ) (mine : Me ℕ (List Known)) (copy : Copy) (records : List Rec) → c < n.callers → n.callers ≤ 64 → mine ≡ (blank n c ∷ [], []) → copy ≡ start n.plan → records ≡ [] → Agrees (known_of mine.0) c 0 copy records
-agrees_new n c mine copy records lt few me opening none = subst (λ (m : Me ℕ (List Known)). Agrees (known_of m.0) c 0 copy records) (sym me) (record { caller = refl; one_of = lt; few = few; count = refl; state = opening; fits = subst (Fits n.plan c []) (sym none) (fits_new n.plan c) })
+pub agrees_new : (n : Setting) (c most : ℕ) (mine : Me ℕ (List Known)) (copy : Copy) (records : List Rec) → c < n.callers → n.callers ≤ 64 → most ≡ n.functions → mine ≡ (blank n c ∷ [], []) → copy ≡ start n.plan → records ≡ [] → Agrees (known_of mine.0) c most 0 copy records
+agrees_new n c most mine copy records lt few functions me opening none = subst (λ (m : Me ℕ (List Known)). Agrees (known_of m.0) c most 0 copy records) (sym me) (record { caller = refl; one_of = lt; few = few; functions = functions; count = refl; state = opening; events = tt; fits = subst (Fits n.plan c []) (sym none) (fits_new n.plan c) })
 
 -- one pass more is split off
 pub split_next : (z : TableId) (n : Setting) (c calls : ℕ) (seat new mine : Me ℕ (List Known)) (passes now : List Pass) (pass : Pass) → c < n.callers → seat ≡ (fresh n c (n.callers - c), []) → new ≡ (rest_of seat.0, seat.1) → mine ≡ (head_of seat.0, [])

@@ -1,6 +1,6 @@
 -- Passes that fit a history have one history.
-use Rattle.cf_plan.specs.Plans.{Planned}
-use Rattle.std.proofs.Common.{◌≡◌, ℕ, zero, suc, ◌-◌, ◌≤◌, Bool, true, false, cond, eqb, Some, List, [], ◌∷◌, ◌++◌, map, length, take, slice_get, All, sym, refl, ap, ◌∙◌, subst, append_assoc, length-append, arith}
+use Rattle.cf_plan.specs.Plans.{IsBuilt, Planned}
+use Rattle.std.proofs.Common.{◌≡◌, ℕ, zero, suc, ◌-◌, ◌<◌, ◌≤◌, Bool, true, false, cond, eqb, Some, List, [], ◌∷◌, ◌++◌, map, length, take, slice_get, All, sym, refl, ap, ◌∙◌, subst, append_assoc, length-append, arith}
 use Rattle.std.specs.List.{filter}
 use Rattle.std.proofs.lemmas.Option.{none-some}
 use Rattle.std.proofs.lemmas.List.Elements.{All-nil, All-cons, All-head, All-tail}
@@ -11,7 +11,8 @@ use Rattle.cf_desk.specs.declared.calls.Rec.{Rec}
 use Rattle.cf_desk.specs.declared.calls.Rec.TheVariants.{Did, Saw}
 use Rattle.cf_core.specs.States.{State, outcome_at, start}
 use Rattle.cf_core.proofs.Moves.{grants_once, keeps_outcomes}
-use Rattle.cf_expr.specs.Histories.{IsQuiet}
+use Rattle.cf_expr.specs.Expressions.{expr}
+use Rattle.cf_expr.specs.Histories.{IsPlain, IsPlainPlan, IsQuiet, nothing_granted}
 use Rattle.cf_expr.proofs.Runs.{quiet_is_expression}
 use Rattle.cf_core.specs.Events.{answered}
 use Rattle.cf_event.specs.Words.{who_of}
@@ -110,6 +111,6 @@ one_history plan history passes graph fit is = record {
       ap (λ (s : State). outcome_at s i) later.1 ∙ keeps_outcomes (state_at plan history p) later.0 i o settled;
   claimed_once = grants_once (start plan) history;
   expressed = λ built plain quiet meanings events i lt.
-      let there : IsQuiet (state_after (start plan) history) = subst IsQuiet is quiet in
-      ap (λ (s : State). outcome_at s i) is ∙ quiet_is_expression plan history meanings i built plain events there lt;
+      let holds = λ (s : State). IsBuilt s.plan → IsPlainPlan s.plan → IsPlain meanings nothing_granted (start plan) history → IsQuiet s → i < length s.plan.stages → outcome_at s i ≡ expr s.plan history meanings i in
+      subst holds (sym is) (quiet_is_expression plan history meanings i) built plain events quiet lt;
 }

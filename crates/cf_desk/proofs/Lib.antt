@@ -1,9 +1,12 @@
 pub mod Lists
+pub mod Events
+pub mod FunctionLemmas
 pub mod Keeps
 pub mod Meets
 pub mod Recs
 pub mod Closing
 pub mod Passes
+pub mod Results
 pub mod Looks
 pub mod Gathers
 pub mod Histories

@@ -15,8 +15,10 @@ use Rattle.cf_desk.specs.declared.row.Known.{Known}
 use Rattle.cf_event.specs.Words.{who_of, word_of}
 use Rattle.cf_event.specs.Decoding.{event_of}
 use Rattle.cf_event.proofs.WordLemmas.{event_of_own_word}
-use Rattle.cf_desk.specs.Log.{own, IsEventOf}
-use Rattle.cf_desk.specs.Rule.{AllStand, count_in, count_all, RowKept, holds, longer_if, longest, with_seen, level, AllCatch, AllShort, levels, finds, FindsSeen, head_of, rest_of}
+use Rattle.cf_core.specs.States.{start}
+use Rattle.cf_desk.specs.Log.{own, AreLogged}
+use Rattle.cf_desk.proofs.Events.{event_at, events_front}
+use Rattle.cf_desk.specs.Rule.{AllStand, count_in, count_all, RowKept, holds, longer_if, longest, with_seen, level, AllCatch, AllLogged, AllShort, levels, finds, FindsSeen, head_of, rest_of}
 use Rattle.cf_desk.proofs.Keeps.{count_set, keeps_view, same_some}
 
 count_snoc : (c : ℕ) (views : List (List Known)) (v : List Known) → count_all c (views ++ v ∷ []) ≡ count_all c views + count_in c v
@@ -133,6 +135,16 @@ levelled setting log now rest e (k ∷ ks) short h =
 pub stand_levelled : (setting : Setting) (log : List Event) (v : List Known) → AllStand setting log v → AllCatch (longest v) v × AllStand setting log (level v)
 stand_levelled setting log v h = let b = longest_begins setting log v h in levelled setting log (longest v) b.0 b.1 v (all_short v) h
 
+logged : (setting : Setting) (log now : List Event) → AreLogged setting now → (v : List Known) → AllStand setting log v → AllLogged now v
+logged setting log now events [] h = tt
+logged setting log now events (k ∷ ks) h = (subst (λ n. AreLogged n now) (sym h.0.terms) events, logged setting log now events ks h.1)
+
+-- the events of the longest list are those of the desk
+longest_logged : (setting : Setting) (log : List Event) (v : List Known) → AreLogged setting log → AllStand setting log v → AllLogged (longest v) v
+longest_logged setting log v events h =
+    let b = longest_begins setting log v h in
+    logged setting log (longest v) (events_front setting (start setting.plan) (longest v) b.0 (subst (AreLogged setting) b.1 events)) v h
+
 count_level : (c : ℕ) (now : List Event) (v : List Known) → count_in c (map (with_seen now) v) ≡ count_in c v
 count_level c now [] = refl
 count_level c now (k ∷ ks) = let r = count_level c now ks in omega arith
@@ -141,7 +153,7 @@ pub levels_out : {S : Type 0} (t : Terms) (slots id : ℕ) (v : List Known) (c :
 levels_out t slots id v c i s h len at lt =
     let p = stand_levelled t.setting h.log v (h.known id v at) in
     let kept = keeps_view t s.words s.views h id v (level v) at p.1 (λ n. let e = count_level n (longest v) v in omega arith) in
-    (level v, keeps, tt, subst (λ ws. RowKept t ws (set s.views id (level v))) (sym (set-get_or s.words i 0)) kept, (refl, refl, p.0))
+    (level v, keeps, tt, subst (λ ws. RowKept t ws (set s.views id (level v))) (sym (set-get_or s.words i 0)) kept, (refl, refl, p.0, longest_logged t.setting h.log v h.row.events (h.known id v at)))
 
 there_at : (xs : List Event) (i : ℕ) → i < length xs → (e : Event) × (slice_get xs i ≡ Some e)
 there_at [] i h = absurd (omega arith)
@@ -153,11 +165,6 @@ word_at [] rest zs i e h = absurd (none-some e h)
 word_at (x ∷ xs) rest zs zero e h = ap word_of (same_some x e h)
 word_at (x ∷ xs) rest zs (suc i) e h = word_at xs rest zs i e h
 
-all_there_at : (P : Event → Type 0) (seen rest : List Event) (i : ℕ) (e : Event) → slice_get seen i ≡ Some e → All P (seen ++ rest) → P e
-all_there_at P [] rest i e h a = absurd (none-some e h)
-all_there_at P (x ∷ xs) rest zero e h a = subst P (same_some x e h) (All-head P x (xs ++ rest) a)
-all_there_at P (x ∷ xs) rest (suc i) e h a = all_there_at P xs rest i e h (All-tail P x (xs ++ rest) a)
-
 pub found_there : {S : Type 0} (t : Terms) (slots id : ℕ) (k : Known) (c : List (ℕ × S)) (i : ℕ) → i < length k.seen → Allows (holds {S = S} t) slots id (k ∷ [], c) i (λ n. n) (finds (step slots i 0 0 none) (k ∷ [], c))
 found_there t slots id k c i inside s h len at lt =
     let st = (h.known id (k ∷ []) at).0 in
@@ -165,10 +172,10 @@ found_there t slots id k c i inside s h len at lt =
     let kept = keeps_view t s.words s.views h id (k ∷ []) (k ∷ []) at (h.known id (k ∷ []) at) (λ n. omega arith) in
     let e = there_at k.seen i inside in
     let is : found ≡ word_of e.0 = ap (λ (l : List ℕ). get_or l i 0) (h.row.words_are ∙ ap (λ (l : List Event). map word_of l ++ replicate h.row.free 0) st.split) ∙ word_at k.seen st.rest (replicate h.row.free 0) i e.0 e.1 in
-    let event : IsEventOf t.setting e.0 = all_there_at (IsEventOf t.setting) k.seen st.rest i e.0 e.1 (subst (All (IsEventOf t.setting)) st.split h.row.events) in (
+    let event = event_at t.setting (start t.setting.plan) k.seen i e.0 e.1 (events_front t.setting (start t.setting.plan) k.seen st.rest (subst (AreLogged t.setting) st.split h.row.events)) in (
       k ∷ [],
       keeps,
       tt,
       subst (λ ws. RowKept t ws (set s.views id (k ∷ []))) (sym (set-get_or s.words i 0)) kept,
-      (refl, λ k' f. subst (λ (x : Known). FindsSeen x i found) (one_of k k' f) (record { event = e.0; there = e.1; is = ap event_of is ∙ event_of_own_word e.0 event.event; logged = subst (λ n. IsEventOf n e.0) (sym st.terms) event })),
+      (refl, λ k' f. subst (λ (x : Known). FindsSeen x i found) (one_of k k' f) (record { event = e.0; there = e.1; is = ap event_of is ∙ event_of_own_word e.0 event.event })),
     )

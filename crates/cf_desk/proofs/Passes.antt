@@ -1,9 +1,11 @@
 -- What a step does to a pass.
 use Rattle.cf_plan.specs.Plans.{Planned}
-use Rattle.std.proofs.Common.{◌≡◌, ℕ, zero, suc, ◌+◌, ◌<◌, ◌≤◌, ◌⊎◌, inl, inr, ⊎_elim, eqb, leb, leb-true, leb-false, max, Bool, true, false, Option, Some, List, [], ◌∷◌, ◌++◌, length, sym, refl, ap, ◌∙◌, subst, append-nil, append_assoc, length-append, take, slice_get, arith}
+use Rattle.std.proofs.Common.{◌≡◌, ℕ, zero, suc, ◌+◌, ◌<◌, ◌≤◌, ◌⊎◌, inl, inr, ⊎_elim, eqb, leb, leb-true, leb-false, max, Bool, true, false, Option, Some, None, List, [], ◌∷◌, ◌++◌, length, sym, refl, ap, ◌∙◌, subst, append-nil, append_assoc, length-append, replicate, take, slice_get, arith}
 use Rattle.std.proofs.lemmas.Option.{none-some}
+use Rattle.std.specs.Prelude.{IfSome}
 use Rattle.std.specs.List.{All}
-use Rattle.std.proofs.lemmas.List.Elements.{All-nil, All-push, All-append, All-weaker, filter-append}
+use Rattle.std.proofs.lemmas.List.{length-replicate}
+use Rattle.std.proofs.lemmas.List.Elements.{All-nil, All-push, All-append, All-take, All-weaker, filter-append}
 use mathlib.Core.Option.{none}
 use prog.Atomic.{either}
 use Rattle.atomic_table.specs.Table.{Me, step, Allows}
@@ -21,17 +23,25 @@ use Rattle.cf_desk.specs.declared.calls.Call.{Call}
 use Rattle.cf_desk.specs.declared.calls.Joined.{Joined}
 use Rattle.cf_desk.specs.declared.calls.Rec.{Rec}
 use Rattle.cf_desk.specs.declared.calls.Rec.TheVariants.{Did, Saw}
-use Rattle.cf_core.specs.States.{State, outcome_at, start}
+use Rattle.cf_core.specs.declared.stage.Stage.TheVariants.{Pending}
+use Rattle.cf_core.specs.States.{State, lowest_ready_of, outcome_at, start}
 use Rattle.cf_core.specs.Events.{answered, told}
 use Rattle.cf_core.specs.Ranges.{AskFits, EventFits}
+use Rattle.cf_core.proofs.LowestReady.{lowest_ready-within}
+use Rattle.cf_core.proofs.Shape.{length-new_states, state_after-shape}
 use Rattle.cf_event.specs.Words.{who_of, word_of}
-use Rattle.cf_desk.specs.Log.{own, IsEventOf, state_from, Catches}
+use Rattle.cf_desk.specs.Log.{own, IsEventOf, AreLogged, state_from, Catches}
+use Rattle.cf_desk.specs.Faults.{AsksStage, AttachFits, IsFitting, IsOnStage}
+use Rattle.cf_core.proofs.Closed.{reached_length}
+use Rattle.cf_desk.proofs.Events.{asks_more, event_at, events_push, fits_more as event_fits_more, names_more, stages_grow_on}
 use Rattle.cf_desk.specs.Calls.{event_by, joined}
 use Rattle.cf_desk.specs.Records.{Fits}
-use Rattle.cf_desk.specs.Rule.{holds, saw, looked, looks_next, adds_next, finds, longer_if, longest, with_seen, level, AllCatch, head_of, rest_of}
+use Rattle.cf_desk.specs.Rule.{holds, saw, looked, looks_next, adds_next, finds, longer_if, longest, with_seen, level, AllCatch, AllLogged, head_of, rest_of}
 use Rattle.cf_desk.specs.Views.{known_of, Pass, IsSamePass, state_of, AddedByOther, AddedOwn, IsBetween, Follows, Acts, Reads, Joins, IsOne, Levelled, longer_of}
 use Rattle.cf_desk.specs.Desks.{Agrees}
-use Rattle.cf_desk.proofs.Recs.{own_call, state_snoc, plan_stays, fits_more, fits_did, fits_saw}
+use Rattle.cf_desk.specs.Results.{CaughtUp}
+use Rattle.cf_desk.specs.Views.{Desk}
+use Rattle.cf_desk.proofs.Recs.{own_call, state_snoc, fits_more, fits_did, fits_saw}
 use Rattle.cf_desk.proofs.Keeps.{looks, adds, same_some}
 use Rattle.cf_desk.proofs.Meets.{found_there}
 
@@ -39,7 +49,7 @@ pub looks_at : (t : Terms) (slots id : ℕ) (me : Me ℕ (List Known)) (k : Know
 looks_at t slots id me k i one at = subst (λ (m : Me ℕ (List Known)). Allows (holds {S = ℕ} t) slots id m i (λ n. n) (looks_next (step slots i 0 0 none) m)) (sym one)
     (subst (λ (n : ℕ). Allows (holds {S = ℕ} t) slots id (k ∷ [], []) n (λ n. n) (looks_next (step slots n 0 0 none) (k ∷ [], []))) (sym at) (looks {S = ℕ} t slots id k []))
 
-pub adds_at : (t : Terms) (slots id : ℕ) (me : Me ℕ (List Known)) (k : Known) (i word : ℕ) (e : Event) → me ≡ (k ∷ [], []) → i ≡ length k.seen → i < t.words → word ≡ word_of e → IsEventOf k.setting e → who_of e ≡ k.caller
+pub adds_at : (t : Terms) (slots id : ℕ) (me : Me ℕ (List Known)) (k : Known) (i word : ℕ) (e : Event) → me ≡ (k ∷ [], []) → i ≡ length k.seen → i < t.words → word ≡ word_of e → IsEventOf k.setting (state_of k) e → who_of e ≡ k.caller
     → Allows (holds {S = ℕ} t) slots id me i (λ n. either (eqb n 0) word n) (adds_next (step slots i 0 word none) me)
 adds_at t slots id me k i word e one at room is event mine = subst (λ (m : Me ℕ (List Known)). Allows (holds {S = ℕ} t) slots id m i (λ n. either (eqb n 0) word n) (adds_next (step slots i 0 word none) m)) (sym one)
     (subst (λ (n : ℕ). Allows (holds {S = ℕ} t) slots id (k ∷ [], []) n (λ n. either (eqb n 0) word n) (adds_next (step slots n 0 word none) (k ∷ [], []))) (sym at)
@@ -52,60 +62,99 @@ finds_at t slots id me k i one inside = subst (λ (m : Me ℕ (List Known)). All
 pub one_known : (me : Me ℕ (List Known)) (k : Known) → me.0 ≡ k ∷ [] → me.1 ≡ [] → me ≡ (known_of me.0 ∷ [], [])
 one_known me k e f = let is : me.0 ≡ known_of me.0 ∷ [] = e ∙ ap (λ (x : Known). x ∷ []) (sym (ap known_of e)) in λ i. (is i, f i)
 
-pub agrees_looked : (k k' : Known) (caller count : ℕ) (copy : State) (records : List Rec) → k' ≡ looked k → Agrees k caller count copy records → Agrees k' caller count copy records
-agrees_looked k k' caller count copy records is a = subst (λ (x : Known). Agrees x caller count copy records) (sym is) (record { caller = a.caller; one_of = a.one_of; few = a.few; count = a.count; state = a.state; fits = a.fits })
+pub agrees_looked : (k k' : Known) (caller most count : ℕ) (copy : State) (records : List Rec) → k' ≡ looked k → Agrees k caller most count copy records → Agrees k' caller most count copy records
+agrees_looked k k' caller most count copy records is a = subst (λ (x : Known). Agrees x caller most count copy records) (sym is) (record { caller = a.caller; one_of = a.one_of; few = a.few; functions = a.functions; count = a.count; state = a.state; events = a.events; fits = a.fits })
 
-pub agrees_other : (k k' : Known) (caller count : ℕ) (copy copy' : State) (records : List Rec) (found : Event) → k' ≡ saw k found → own k.caller (found ∷ []) ≡ [] → copy' ≡ (answered copy found).1 → Agrees k caller count copy records
-    → Agrees k' caller (count + 1) copy' records
-agrees_other k k' caller count copy copy' records found is other now a = subst (λ (x : Known). Agrees x caller (count + 1) copy' records) (sym is) (record {
+pub agrees_other : (k k' : Known) (caller most count : ℕ) (copy copy' : State) (records : List Rec) (found : Event) → k' ≡ saw k found → IsEventOf k.setting (state_of k) found → own k.caller (found ∷ []) ≡ [] → copy' ≡ (answered copy found).1 → Agrees k caller most count copy records
+    → Agrees k' caller most (count + 1) copy' records
+agrees_other k k' caller most count copy copy' records found is event other now a = subst (λ (x : Known). Agrees x caller most (count + 1) copy' records) (sym is) (record {
   caller = a.caller;
   one_of = a.one_of;
   few = a.few;
+  functions = a.functions;
   count = (let c = a.count in omega (arith, length-append k.seen (found ∷ [])));
   state = now ∙ ap (λ s. (answered s found).1) a.state ∙ sym (state_snoc (start k.setting.plan) k.seen found);
+  events = events_push k.setting (start k.setting.plan) k.seen found a.events event;
   fits = fits_more k.setting.plan k.caller k.seen (k.seen ++ found ∷ []) records (record { others = found ∷ []; joined = refl; none = other }) a.fits;
 })
 
-pub agrees_own : (k k' : Known) (caller count : ℕ) (copy copy' : State) (records records' : List Rec) (call : Call) (reply : Reply) → k' ≡ saw k (event_by k.caller call) → (reply, copy') ≡ answered copy (event_by k.caller call)
-    → records' ≡ records ++ Did (count + 1) call reply ∷ [] → Agrees k caller count copy records → Agrees k' caller (count + 1) copy' records'
-agrees_own k k' caller count copy copy' records records' call reply is now more a =
+pub agrees_own : (k k' : Known) (caller most count : ℕ) (copy copy' : State) (records records' : List Rec) (call : Call) (reply : Reply) → k' ≡ saw k (event_by k.caller call) → IsEventOf k.setting (state_of k) (event_by k.caller call) → (reply, copy') ≡ answered copy (event_by k.caller call)
+    → records' ≡ records ++ Did (count + 1) call reply ∷ [] → Agrees k caller most count copy records → Agrees k' caller most (count + 1) copy' records'
+agrees_own k k' caller most count copy copy' records records' call reply is event now more a =
     let e : Event = event_by k.caller call in
-    subst (λ (x : Known). Agrees x caller (count + 1) copy' records') (sym is) (record {
+    subst (λ (x : Known). Agrees x caller most (count + 1) copy' records') (sym is) (record {
       caller = a.caller;
       one_of = a.one_of;
       few = a.few;
+      functions = a.functions;
       count = (let c = a.count in omega (arith, length-append k.seen (e ∷ [])));
       state = ap (λ (x : Reply × State). x.1) now ∙ ap (λ s. (answered s e).1) a.state ∙ sym (state_snoc (start k.setting.plan) k.seen e);
+      events = events_push k.setting (start k.setting.plan) k.seen e a.events event;
       fits = subst (Fits k.setting.plan k.caller (k.seen ++ e ∷ [])) (ap (λ (n : ℕ). records ++ Did (n + 1) call reply ∷ []) (sym a.count) ∙ sym more)
           (fits_did k.setting.plan k.caller k.seen records call reply (own_call k.caller call) (ap (λ (x : Reply × State). x.0) now ∙ ap (λ s. (answered s e).0) a.state) a.fits);
     })
 
-pub agrees_told : (k : Known) (caller count : ℕ) (copy copy' : State) (records records' : List Rec) (ask : Ask) (answer : Told) → copy' ≡ copy → answer ≡ told copy ask
-    → records' ≡ records ++ Saw count ask answer ∷ [] → Agrees k caller count copy records → Agrees k caller count copy' records'
-agrees_told k caller count copy copy' records records' ask answer same is more a = record {
+pub agrees_told : (k : Known) (caller most count : ℕ) (copy copy' : State) (records records' : List Rec) (ask : Ask) (answer : Told) → copy' ≡ copy → answer ≡ told copy ask
+    → records' ≡ records ++ Saw count ask answer ∷ [] → Agrees k caller most count copy records → Agrees k caller most count copy' records'
+agrees_told k caller most count copy copy' records records' ask answer same is more a = record {
   caller = a.caller;
   one_of = a.one_of;
   few = a.few;
+  functions = a.functions;
   count = a.count;
   state = same ∙ a.state;
+  events = a.events;
   fits = subst (Fits k.setting.plan k.caller k.seen) (ap (λ (n : ℕ). records ++ Saw n ask answer ∷ []) (sym a.count) ∙ sym more)
       (fits_saw k.setting.plan k.caller k.seen records ask answer (is ∙ ap (λ (s : State). told s ask) a.state) a.fits);
 }
 
--- the copy of a pass has the desk's plan
-pub plan_of : (k : Known) (copy : State) → copy ≡ state_of k → copy.plan ≡ k.setting.plan
-plan_of k copy is = ap (λ (s : State). s.plan) is ∙ plan_stays (start k.setting.plan) k.seen
+-- an event that fits what the pass has seen is one that its copy takes
+pub on_plan : (k : Known) (copy : State) (e : Event) → copy ≡ state_of k → IsEventOf k.setting (state_of k) e → EventFits (length copy.plan.stages) e
+on_plan k copy e is h = subst (λ (s : State). EventFits (length s.plan.stages) e) (sym is) h.fits
 
--- an event of the desk is one that the copy takes
-pub on_plan : (k : Known) (copy : State) (e : Event) → copy ≡ state_of k → IsEventOf k.setting e → EventFits (length copy.plan.stages) e
-on_plan k copy e is h = subst (λ (n : Planned). EventFits (length n.stages) e) (sym (plan_of k copy is)) h.stage
+-- and so is a question
+pub asked_there : (k : Known) (copy : State) (ask : Ask) → copy ≡ state_of k → AskFits (length (state_of k).plan.stages) ask → AskFits (length copy.plan.stages) ask
+asked_there k copy ask is h = subst (λ (s : State). AskFits (length s.plan.stages) ask) (sym is) h
 
--- a question on the desk's plan is one that the copy takes
-pub asked_there : (k : Known) (copy : State) (ask : Ask) → copy ≡ state_of k → AskFits (length k.setting.plan.stages) ask → AskFits (length copy.plan.stages) ask
-asked_there k copy ask is h = subst (λ (n : Planned). AskFits (length n.stages) ask) (sym (plan_of k copy is)) h
+-- a ready stage is there
+pub ready_there : (k : Known) (x : Option ℕ) → x ≡ lowest_ready_of (state_of k) → IfSome x (λ i. i < length (state_of k).plan.stages)
+ready_there k None is = tt
+ready_there k (Some i) is = subst (λ n. i < n) (reached_length k.setting.plan k.seen) (lowest_ready-within (state_of k) i (sym is))
 
-pub on_plan_at : (k : Known) (copy : State) (i : ℕ) (e : Event) → copy ≡ state_from k.setting.plan (take i k.seen) → IsEventOf k.setting e → EventFits (length copy.plan.stages) e
-on_plan_at k copy i e is h = subst (λ (n : Planned). EventFits (length n.stages) e) (sym (ap (λ (s : State). s.plan) is ∙ plan_stays (start k.setting.plan) (take i k.seen))) h.stage
+pub on_plan_at : (k : Known) (copy : State) (i : ℕ) (e : Event) → copy ≡ state_from k.setting.plan (take i k.seen) → AreLogged k.setting k.seen → slice_get k.seen i ≡ Some e → EventFits (length copy.plan.stages) e
+on_plan_at k copy i e is events there = subst (λ (s : State). EventFits (length s.plan.stages) e) (sym is) (event_at k.setting (start k.setting.plan) k.seen i e there events).fits
+
+more_stages : (p q : Pass) → Follows p q → length (state_of p.known).plan.stages ≤ length (state_of q.known).plan.stages
+more_stages p q f =
+    let is : state_of q.known ≡ state_from p.known.setting.plan (p.known.seen ++ f.caught.others) = ap (λ (h : Pass). state_of h.known) f.is ∙ ap (state_from p.known.setting.plan) f.caught.joined in
+    subst (λ (s : State). length (state_of p.known).plan.stages ≤ length s.plan.stages) (sym is) (stages_grow_on (start p.known.setting.plan) p.known.seen f.caught.others)
+
+-- a pass that has seen more knows the stages that it knew
+pub still_on_stage : (p q : Pass) (e : Event) → Follows p q → IsOnStage p e → IsOnStage q e
+still_on_stage p q e f h = names_more (length (state_of p.known).plan.stages) (length (state_of q.known).plan.stages) e (more_stages p q f) h
+
+-- and as many functions
+pub still_fitting : (p q : Pass) (e : Event) → Follows p q → IsFitting p e → IsFitting q e
+still_fitting p q e f h = subst (λ (k : Known). AttachFits k.setting.functions e) (sym (ap (λ (x : Pass). x.known) f.is)) h
+
+-- and a call that fitted still does
+pub still_event : (p q : Pass) (call : Call) → Follows p q → IsEventOf p.known.setting (state_of p.known) (event_by p.known.caller call) → IsEventOf q.known.setting (state_of q.known) (event_by q.known.caller call)
+still_event p q call f h =
+    let is : q.known ≡ record p.known { seen = f.now; looks = p.known.looks ++ f.more } = ap (λ (x : Pass). x.known) f.is in
+    subst (λ (k : Known). IsEventOf k.setting (state_of q.known) (event_by k.caller call)) (sym is) (record {
+      event = h.event;
+      caller = h.caller;
+      fits = event_fits_more (length (state_of p.known).plan.stages) (length (state_of q.known).plan.stages) (event_by p.known.caller call) (more_stages p q f) h.fits;
+      function = h.function;
+    })
+
+pub still_asks_stage : (p q : Pass) (a : Ask) → Follows p q → AsksStage p a → AsksStage q a
+still_asks_stage p q a f h = asks_more (length (state_of p.known).plan.stages) (length (state_of q.known).plan.stages) a (more_stages p q f) h
+
+-- what is told of a test is told of what it tests
+pub caught_as : (d : Desk) (p q : Pass) (test knows : Type 0) → (test → knows) → (knows → test) → CaughtUp d test p q → CaughtUp d knows p q
+caught_as d p q test knows to from (inl h) = inl (to h.0, h.1)
+caught_as d p q test knows to from (inr h) = inr ((λ k. h.0 (from k)), h.1, h.2)
 
 pub none_new : (c : ℕ) (now : List Event) → Catches c now now
 none_new c now = record { others = []; joined = sym (append-nil now); none = refl }
@@ -236,7 +285,7 @@ state_more plan seen i state e state' now was is =
     take_next (y ∷ ys) zero x h = ap (λ (z : Event). z ∷ []) (sym (same_some y x h))
     take_next (y ∷ ys) (suc n) x h = ap (λ l. y ∷ l) (take_next ys n x h)
 
-pub levelled_from : (a b o j m x y : Me ℕ (List Known)) → IsOne a → IsOne b → o ≡ b → j ≡ (a.0 ++ o.0, a.1) → m.1 ≡ j.1 → m.0 ≡ level j.0 → AllCatch (longest j.0) j.0 → x ≡ (head_of m.0, m.1) → y ≡ (rest_of m.0, []) → Levelled a b x y
+pub levelled_from : (a b o j m x y : Me ℕ (List Known)) → IsOne a → IsOne b → o ≡ b → j ≡ (a.0 ++ o.0, a.1) → m.1 ≡ j.1 → m.0 ≡ level j.0 → AllCatch (longest j.0) j.0 × AllLogged (longest j.0) j.0 → x ≡ (head_of m.0, m.1) → y ≡ (rest_of m.0, []) → Levelled a b x y
 levelled_from a b o j m x y one two is both held level_is told left right =
     let k = known_of a.0 in
     let l = known_of b.0 in
@@ -244,11 +293,13 @@ levelled_from a b o j m x y one two is both held level_is told left right =
     let j1 : j.1 ≡ [] = ap (λ (z : Me ℕ (List Known)). z.1) both ∙ ap (λ (z : Me ℕ (List Known)). z.1) one in
     let m0 : m.0 ≡ level (k ∷ l ∷ []) = level_is ∙ ap level j0 in
     let m1 : m.1 ≡ [] = held ∙ j1 in
-    let catch : AllCatch (longest (k ∷ l ∷ [])) (k ∷ l ∷ []) = subst (λ (v : List Known). AllCatch (longest v) v) j0 told in record {
+    let shown = subst (λ (v : List Known). AllCatch (longest v) v × AllLogged (longest v) v) j0 told in record {
       left = left ∙ (λ i. (head_of (m0 i), m1 i));
       right = right ∙ (λ i. (rest_of (m0 i), []));
-      begins_left = catch.0;
-      begins_right = catch.1.0;
+      begins_left = shown.0.0;
+      begins_right = shown.0.1.0;
+      logged_left = shown.1.0;
+      logged_right = shown.1.1.0;
     }
 
 longer_one : (xs ys : List Event) (b : Bool) → (longer_if b xs ys ≡ xs) ⊎ (longer_if b xs ys ≡ ys)
@@ -274,16 +325,18 @@ longest_count k l n m to a b e =
     let same = ap length one in
     e ∙ (λ i. max (a i) (b i)) ∙ ap (max (length k.seen)) (sym same) ∙ sym both
 
-pub agrees_levelled : (k : Known) (all : List Event) (old new : Me ℕ (List Known)) (caller count to : ℕ) (copy copy' : State) (records : List Rec) → old ≡ (with_seen all k ∷ [], []) → new ≡ old → Catches k.caller k.seen all → to ≡ length all
-    → copy' ≡ state_of (known_of old.0) → Agrees k caller count copy records → Agrees (known_of new.0) caller to copy' records
-agrees_levelled k all old new caller count to copy copy' records is same catch len now a =
+pub agrees_levelled : (k : Known) (all : List Event) (old new : Me ℕ (List Known)) (caller most count to : ℕ) (copy copy' : State) (records : List Rec) → old ≡ (with_seen all k ∷ [], []) → new ≡ old → Catches k.caller k.seen all → AreLogged k.setting all → to ≡ length all
+    → copy' ≡ state_of (known_of old.0) → Agrees k caller most count copy records → Agrees (known_of new.0) caller most to copy' records
+agrees_levelled k all old new caller most count to copy copy' records is same catch events len now a =
     let known : known_of new.0 ≡ with_seen all k = (λ i. known_of (same i).0) ∙ (λ i. known_of (is i).0) in
-    subst (λ (x : Known). Agrees x caller to copy' records) (sym known) (record {
+    subst (λ (x : Known). Agrees x caller most to copy' records) (sym known) (record {
       caller = a.caller;
       one_of = a.one_of;
       few = a.few;
+      functions = a.functions;
       count = len;
       state = now ∙ (λ i. state_of (known_of (is i).0));
+      events = events;
       fits = fits_more k.setting.plan k.caller k.seen all records catch a.fits;
     })
 

@@ -4,31 +4,31 @@ use Rattle.std.proofs.Common.{◌≡◌, ℕ, suc, ◌+◌, ◌-◌, ◌<◌, �
 use Rattle.std.proofs.lemmas.List.{take-append-le}
 use Rattle.std.proofs.Math.Seq.{take-append_seam}
 use Rattle.std.specs.List.{filter}
-use Rattle.std.proofs.lemmas.List.Elements.{All-nil, All-cons, All-head, All-tail, All-push, filter-append}
+use Rattle.std.proofs.lemmas.List.Elements.{All-nil, All-cons, All-head, All-tail, All-push, All-weaker, filter-append}
 use Rattle.cf_core.proofs.Shape.{state_after-shape}
 use Rattle.cf_core.specs.declared.asks.Ask.{Ask}
 use Rattle.cf_core.specs.declared.asks.Told.{Told}
 use Rattle.cf_core.specs.declared.events.Event.{Event}
 use Rattle.cf_core.specs.declared.events.Reply.{Reply}
 use Rattle.cf_desk.specs.declared.calls.Call.{Call}
-use Rattle.cf_desk.specs.declared.calls.Call.TheVariants.{Complete, Fail, Cancel, Claim, Finish, Tick}
+use Rattle.cf_desk.specs.declared.calls.Call.TheVariants.{Complete, Fail, Cancel, Claim, Finish, Tick, Attach}
 use Rattle.cf_desk.specs.declared.calls.Rec.{Rec}
 use Rattle.cf_desk.specs.declared.calls.Rec.TheVariants.{Did, Saw}
+use Rattle.cf_core.specs.Calls.{is_attach}
 use Rattle.cf_core.specs.States.{State}
 use Rattle.cf_core.specs.Events.{answered, told}
 use Rattle.cf_event.specs.Words.{who_of}
 use Rattle.cf_core.specs.Events.{state_after, state_at}
-use Rattle.cf_desk.specs.Log.{own, state_from, placed, events_of, Catches}
+use Rattle.cf_desk.specs.declared.row.Setting.{Setting}
+use Rattle.cf_desk.specs.Log.{own, AreEventsOf, state_from, placed, events_of, Catches}
+use Rattle.cf_desk.proofs.Events.{events_each}
 use Rattle.cf_desk.specs.Calls.{event_by}
 use Rattle.cf_desk.specs.Records.{dids, IsAnswered, InOrder, Fits}
 
--- the two facts on the graph that the desk needs: one more event, and the plan stays
+-- the fact on the graph that the desk needs: one more event
 pub state_snoc : (s : State) (es : List Event) (e : Event) → state_after s (es ++ e ∷ []) ≡ (answered (state_after s es) e).1
 state_snoc s [] e = refl
 state_snoc s (x ∷ xs) e = state_snoc ((answered s x).1) xs e
-
-pub plan_stays : (s : State) (es : List Event) → (state_after s es).plan ≡ s.plan
-plan_stays s es = (state_after-shape s es).plan
 
 placed_append : (n : ℕ) (xs ys : List Event) → placed n (xs ++ ys) ≡ placed n xs ++ placed (n + length xs) ys
 placed_append n [] ys = ap (λ (m : ℕ). placed m ys) (let e : n ≡ n + 0 = omega arith in e)
@@ -127,3 +127,4 @@ own_call c (Cancel i) = refl
 own_call c (Claim i) = refl
 own_call c (Finish i answer) = refl
 own_call c (Tick now) = refl
+own_call c (Attach form of function) = refl

@@ -1,31 +1,35 @@
 -- What every pass and every desk keeps.
 use Rattle.std.specs.Prelude.{◌≡◌, ℕ, ◌<◌, ◌≤◌, List, [], ◌∷◌, length, vec_capacity}
+use Rattle.std.specs.List.{All}
 use Rattle.cf_desk.specs.declared.pass.Pass.TheInside.{Inside as InPass}
 use Rattle.cf_desk.specs.declared.desk.Desk.TheInside.{Inside as InDesk}
 use Rattle.cf_desk.specs.declared.calls.Rec.{Rec}
 use Rattle.cf_desk.specs.declared.row.Known.{Known}
 use Rattle.cf_core.specs.States.{State, start}
+use Rattle.cf_desk.specs.Log.{AreLogged}
 use Rattle.cf_desk.specs.Records.{Fits}
 use Rattle.cf_desk.specs.Views.{known_of, state_of}
 
 -- the fields of a pass agree with what it knows
-pub record Agrees (k : Known) (by n : ℕ) (s : State) (records : List Rec) : Type 0 where
+pub record Agrees (k : Known) (by most n : ℕ) (s : State) (records : List Rec) : Type 0 where
   pub caller : by ≡ k.caller
   pub one_of : k.caller < k.setting.callers
   pub few : k.setting.callers ≤ 64
+  pub functions : most ≡ k.setting.functions
   pub count : n ≡ length k.seen
   pub state : s ≡ state_of k
+  pub events : AreLogged k.setting k.seen
   pub fits : Fits k.setting.plan k.caller k.seen records
 
 pub record PassKept (p : InPass) : Type 0 where
   pub one : p.seat.me ≡ (known_of p.seat.me.0 ∷ [], [])
-  pub agrees : Agrees (known_of p.seat.me.0) p.caller p.count p.copy.state p.records.items
+  pub agrees : Agrees (known_of p.seat.me.0) p.caller p.functions p.count p.copy.state p.records.items
   pub room : p.calls ≤ vec_capacity p.records
   pub within : length p.records.items ≤ p.calls
   pub short : p.count ≤ p.seat.table_id.words
 
 pub record DeskKept (d : InDesk) : Type 0 where
-  pub key : d.table.shared.key ≡ record { setting = record { plan = d.opening.state.plan; callers = d.callers }; words = d.words }
+  pub key : d.table.shared.key ≡ record { setting = record { plan = d.opening.state.plan; callers = d.callers; functions = d.functions }; words = d.words }
   pub words : d.words ≡ d.table.shared.table_id.words
   pub some : 0 < d.words
   pub few : d.words < 65536

@@ -1,40 +1,82 @@
 -- When a fault is told.
-use Rattle.std.specs.Prelude.{◌≡◌, ℕ, ◌<◌, ◌≤◌, ◌⊎◌, length}
+use Rattle.std.specs.Prelude.{◌≡◌, ℕ, ◌+◌, ◌*◌, ◌<◌, ◌≤◌, ◌⊎◌, true, is_some, unwrap_or, length, List, All}
+use Rattle.cf_plan.specs.Plans.{PlannedStage, edges_of, fits_form, sources_of}
 use Rattle.cf_core.specs.declared.asks.Ask.{Ask}
 use Rattle.cf_core.specs.declared.events.Event.{Event}
+use Rattle.cf_core.specs.declared.events.Event.TheVariants.{Attach as Attaches}
 use Rattle.cf_core.specs.Ranges.{AskFits, EventFits}
 use Rattle.cf_desk.specs.declared.faults.DeskFault.{DeskFault}
-use Rattle.cf_desk.specs.declared.faults.DeskFault.TheVariants.{NoStage, LogFull, PassFull}
+use Rattle.cf_desk.specs.declared.faults.DeskFault.TheVariants.{NoStage, BadAttach, LogFull, PassFull}
 use Rattle.cf_desk.specs.declared.faults.OpenFault.{OpenFault}
-use Rattle.cf_desk.specs.declared.faults.OpenFault.TheVariants.{Callers, Log, Calls, NoMemory}
-use Rattle.cf_desk.specs.Views.{Pass, Desk, SeesFull}
+use Rattle.cf_desk.specs.declared.faults.OpenFault.TheVariants.{Callers, Log, Calls, Room, Functions, NoMemory}
+use Rattle.cf_desk.specs.Functions.{function_bound}
+use Rattle.cf_desk.specs.Log.{IsFunctionBelow}
+use Rattle.cf_desk.specs.Views.{Pass, Desk, SeesFull, state_of}
 
--- the stage of an event, or of a question, is one of the pass's plan
+-- the stages that an event names are among n
+abbrev pub EventNames : ℕ → Event → Type 0
+EventNames n (Attaches who form of function) = All (λ j. j < n) (sources_of of)
+EventNames n event = EventFits n event
+
+-- the stages of an event, or of a question, are in the plan as the pass has seen it
 abbrev pub IsOnStage : Pass → Event → Type 0
-IsOnStage p e = EventFits (length p.known.setting.plan.stages) e
+IsOnStage p e = EventNames (length (state_of p.known).plan.stages) e
 
 abbrev pub AsksStage : Pass → Ask → Type 0
-AsksStage p ask = AskFits (length p.known.setting.plan.stages) ask
+AsksStage p ask = AskFits (length (state_of p.known).plan.stages) ask
+
+-- a stage that an event attaches fits its form, and its function is one of so many that a word has room for
+abbrev pub AttachFits : ℕ → Event → Type 0
+AttachFits functions (Attaches who form of function) =
+    (fits_form form (length (sources_of of)) (is_some function) ≡ true) × IsFunctionBelow functions function × (unwrap_or function 0 ≤ 4095)
+AttachFits functions event = Unit {0}
+
+-- an event of the pass's caller attaches nothing, or what fits
+abbrev pub IsFitting : Pass → Event → Type 0
+IsFitting p e = AttachFits p.known.setting.functions e
 
 -- a pass has room for a record
 abbrev pub HasRoom : Pass → Type 0
 HasRoom p = length p.records < p.calls
 
--- why an event is refused: its stage isn't in the plan, else the pass is full, else what the pass has seen fills the log
+-- Why an event is refused: a stage of it isn't in the plan, else what it attaches doesn't fit, else the pass is full, else what the
+-- pass has seen fills the log.
 abbrev pub IsDue : Pass → Desk → Event → DeskFault → Type 0
 IsDue p d e NoStage = ¬ IsOnStage p e
-IsDue p d e PassFull = IsOnStage p e × (length p.records ≡ p.calls)
-IsDue p d e LogFull = IsOnStage p e × HasRoom p × SeesFull d p
+IsDue p d e BadAttach = IsOnStage p e × (¬ IsFitting p e)
+IsDue p d e PassFull = IsOnStage p e × IsFitting p e × (length p.records ≡ p.calls)
+IsDue p d e LogFull = IsOnStage p e × IsFitting p e × HasRoom p × SeesFull d p
 
--- why a question is refused: its stage isn't in the plan, else the pass is full; it meets no full log
+-- why a question is refused: its stage isn't in the plan, else the pass is full; it attaches nothing and meets no full log
 abbrev pub IsDueToRead : Pass → Ask → DeskFault → Type 0
 IsDueToRead p ask NoStage = ¬ AsksStage p ask
+IsDueToRead p ask BadAttach = ⊥
 IsDueToRead p ask PassFull = AsksStage p ask × (length p.records ≡ p.calls)
 IsDueToRead p ask LogFull = ⊥
+
+-- a desk has callers, words and records, each as many as may be
+abbrev pub AreCounts : ℕ → ℕ → ℕ → Type 0
+AreCounts callers log calls = (0 < callers) × (callers ≤ 64) × (0 < log) × (0 < calls)
 
 -- why a desk isn't opened: it is to have no callers or more than 64, else no word, else its passes no record, else memory was refused
 abbrev pub IsDueToOpen : ℕ → ℕ → ℕ → OpenFault → Type 0
 IsDueToOpen callers log calls Callers = (callers ≡ 0) ⊎ (64 < callers)
 IsDueToOpen callers log calls Log = (0 < callers) × (callers ≤ 64) × (log ≡ 0)
 IsDueToOpen callers log calls Calls = (0 < callers) × (callers ≤ 64) × (0 < log) × (calls ≡ 0)
-IsDueToOpen callers log calls NoMemory = (0 < callers) × (callers ≤ 64) × (0 < log) × (0 < calls)
+IsDueToOpen callers log calls Room = ⊥
+IsDueToOpen callers log calls Functions = ⊥
+IsDueToOpen callers log calls NoMemory = AreCounts callers log calls
+
+-- these stages and so much room are more than a plan may have, or may have edges
+abbrev pub IsOverfull : List PlannedStage → ℕ → Type 0
+IsOverfull stages room = (4096 < length stages + room) ⊎ (16384 < edges_of stages + 2 * room)
+
+-- why a desk that grows isn't opened: for one of these counts, else for too much room, else a function of the plan isn't below the number
+-- of functions, else memory was refused
+abbrev pub IsDueToGrow : List PlannedStage → ℕ → ℕ → ℕ → ℕ → ℕ → OpenFault → Type 0
+IsDueToGrow stages callers log calls room functions Room = AreCounts callers log calls × IsOverfull stages room
+IsDueToGrow stages callers log calls room functions Functions =
+    AreCounts callers log calls × (¬ IsOverfull stages room) × (functions < function_bound stages)
+IsDueToGrow stages callers log calls room functions NoMemory =
+    AreCounts callers log calls × (¬ IsOverfull stages room) × (function_bound stages ≤ functions)
+IsDueToGrow stages callers log calls room functions fault = IsDueToOpen callers log calls fault

@@ -56,15 +56,16 @@ abbrev pub IsOnesOfAll : Planned → List Event → ℕ × List Rec → Type 0
 IsOnesOfAll plan history k = IsOneOfAll plan history k.0 k.1
 
 -- One history, in which each caller's changing calls stand once and in order, each answer is what the sequential graph answers at
--- its place, no answer's place is before anything that its caller had seen or behind the history, and no other call stands. A settled stage keeps its outcome at each later place, and of the claims of a stage one at
--- most is granted. Where the plan and the history are plain and the graph is quiet, it holds the expressions' outcomes.
+-- its place, no answer's place is before anything that its caller had seen or behind the history, and no other call stands. A settled
+-- stage keeps its outcome at each later place, and of the claims of a stage one at most is granted. Where the graph's plan, as it has
+-- grown, and the history are plain and the graph is quiet, it holds the expressions' outcomes.
 pub record IsOneHistory (plan : Planned) (history : List Event) (passes : List (ℕ × List Rec)) (graph : State) : Type 0 where
   pub calls : All (IsOnesOfAll plan history) passes
   pub no_other : All (λ e. Contains (map (λ (k : ℕ × List Rec). k.0) passes) (who_of e)) history
   pub settled_once : (i p q : ℕ) (o : Outcome) → p ≤ q → outcome_at (state_at plan history p) i ≡ Some o → outcome_at (state_at plan history q) i ≡ Some o
   pub claimed_once : (i : ℕ) → grants_of i (start plan) history ≤ 1
-  pub expressed : IsBuilt plan → IsPlainPlan plan → IsQuiet graph → (meanings : Meanings) → IsPlain meanings nothing_granted (start plan) history →
-      (i : ℕ) → i < length plan.stages → outcome_at graph i ≡ expr plan history meanings i
+  pub expressed : IsBuilt graph.plan → IsPlainPlan graph.plan → IsQuiet graph → (meanings : Meanings) → IsPlain meanings nothing_granted (start plan) history →
+      (i : ℕ) → i < length graph.plan.stages → outcome_at graph i ≡ expr graph.plan history meanings i
 
 -- passes that fit a history, with the graph as it leaves it, have one history
 abbrev pub OneHistory : Type 0

@@ -4,7 +4,9 @@ pub mod Records
 pub mod Rule
 pub mod Views
 pub mod Desks
+pub mod Functions
 pub mod Faults
+pub mod Results
 pub mod Keepings
 pub mod Laws
 pub mod Rows

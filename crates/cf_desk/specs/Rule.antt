@@ -10,7 +10,7 @@ use Rattle.cf_event.specs.Decoding.{event_of}
 use Rattle.cf_desk.specs.declared.row.Setting.{Setting}
 use Rattle.cf_desk.specs.declared.row.Terms.{Terms}
 use Rattle.cf_desk.specs.declared.row.Known.{Known}
-use Rattle.cf_desk.specs.Log.{own, IsEventOf, Catches}
+use Rattle.cf_desk.specs.Log.{own, IsEventOf, AreLogged, state_from, Catches}
 
 -- the log begins with what was seen, and after it has no event of the caller
 pub record Stands (setting : Setting) (log : List Event) (k : Known) : Type 0 where
@@ -25,7 +25,7 @@ pub record IsRow (t : Terms) (log : List Event) (words : List ℕ) : Type 0 wher
   pub free : ℕ
   pub words_are : words ≡ map word_of log ++ replicate free 0
   pub room : length words ≡ t.words
-  pub events : All (IsEventOf t.setting) log
+  pub events : AreLogged t.setting log
 
 -- the same of each pass that a seat stands for
 abbrev pub AllStand : Setting → List Event → List Known → Type 0
@@ -75,7 +75,7 @@ looked k = record k { looks = k.looks ++ length k.seen ∷ [] }
 
 -- the word found at the next place is that of another caller's event, which was not seen before
 abbrev pub SeesOther : Known → Event → List Known → Type 0
-SeesOther k e w = (w ≡ saw k e ∷ []) × IsEventOf k.setting e × (own k.caller (e ∷ []) ≡ [])
+SeesOther k e w = (w ≡ saw k e ∷ []) × IsEventOf k.setting (state_from k.setting.plan k.seen) e × (own k.caller (e ∷ []) ≡ [])
 
 -- a load of the next word: it held no event, or one of another caller
 pub record LooksNext (k : Known) (found : ℕ) (w : List Known) : Type 0 where
@@ -118,6 +118,11 @@ abbrev pub AllCatch : List Event → List Known → Type 0
 AllCatch now [] = Unit {0}
 AllCatch now (k ∷ ks) = Catches k.caller k.seen now × AllCatch now ks
 
+-- these events can be a log of each pass's desk
+abbrev pub AllLogged : List Event → List Known → Type 0
+AllLogged now [] = Unit {0}
+AllLogged now (k ∷ ks) = AreLogged k.setting now × AllLogged now ks
+
 -- no list is longer than n
 abbrev pub AllShort : ℕ → List Known → Type 0
 AllShort n [] = Unit {0}
@@ -125,14 +130,13 @@ AllShort n (k ∷ ks) = (length k.seen ≤ n) × AllShort n ks
 
 -- a load that levels what the passes of one seat have seen
 abbrev pub levels : {S : Type 0} → Step S → Me S (List Known) → ℕ → Me S (List Known) → Type 0
-levels s v found w = (w.1 ≡ v.1) × (w.0 ≡ level v.0) × AllCatch (longest v.0) v.0
+levels s v found w = (w.1 ≡ v.1) × (w.0 ≡ level v.0) × AllCatch (longest v.0) v.0 × AllLogged (longest v.0) v.0
 
 -- a load of a place that was seen: it holds the word of the event there
 pub record FindsSeen (k : Known) (place found : ℕ) : Type 0 where
   pub event : Event
   pub there : slice_get k.seen place ≡ Some event
   pub is : event_of found ≡ Some event
-  pub logged : IsEventOf k.setting event
 
 abbrev pub finds : {S : Type 0} → Step S → Me S (List Known) → ℕ → Me S (List Known) → Type 0
 finds s v found w = (w ≡ v) × ((k : Known) → v.0 ≡ k ∷ [] → FindsSeen k s.word found)

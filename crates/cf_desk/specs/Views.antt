@@ -18,7 +18,7 @@ use Rattle.cf_desk.specs.declared.calls.Rec.TheVariants.{Did, Saw}
 use Rattle.cf_desk.specs.declared.row.Known.{Known}
 use Rattle.cf_desk.specs.declared.row.Setting.{Setting}
 use Rattle.cf_desk.specs.Calls.{event_by, joined}
-use Rattle.cf_desk.specs.Log.{own, IsEventOf, Catches, state_from}
+use Rattle.cf_desk.specs.Log.{own, IsEventOf, AreLogged, Catches, state_from}
 use Rattle.cf_desk.specs.Records.{Fits}
 use Rattle.cf_desk.specs.Rule.{saw, longest, with_seen, fresh, count_in, AllShort}
 use Rattle.std.specs.List.{All}
@@ -27,7 +27,7 @@ use Rattle.atomic_table.specs.Table.{Me}
 pub record Pass : Type 0 where
   -- the row of its desk
   pub table : TableId
-  -- the desk's plan and number of callers, the pass's caller, the events that it has seen, and the places at which it looked and found nothing
+  -- what the desk was opened with, the pass's caller, the events that it has seen, and the places at which it looked and found nothing
   pub known : Known
   -- what it has recorded so far, in order
   pub records : List Rec
@@ -37,23 +37,27 @@ pub record Pass : Type 0 where
 pub record Desk : Type 0 where
   -- its row
   pub table : TableId
-  -- its plan and the number of its callers
+  -- its plan with the room for more stages, the number of its callers, and how many functions it has
   pub setting : Setting
   -- how many words the row has, filled or empty
   pub words : ℕ
 
 abbrev pub no_one : Known
-no_one = record { setting = record { plan = plan_of [] []; callers = 0 }; caller = 0; seen = []; looks = [] }
+no_one = record { setting = record { plan = plan_of [] []; callers = 0; functions = 0 }; caller = 0; seen = []; looks = [] }
 
 abbrev pub known_of : List Known → Known
 known_of [] = no_one
 known_of (k ∷ ks) = k
 
+-- the state of what a pass has seen
+abbrev pub state_of : Known → State
+state_of k = state_from k.setting.plan k.seen
+
 -- the next word was that of another caller's event
 pub record AddedByOther (p q : Pass) : Type 0 where
   pub found : Event
   pub is : q ≡ record p { known = saw p.known found }
-  pub event : IsEventOf p.known.setting found
+  pub event : IsEventOf p.known.setting (state_of p.known) found
   pub other : own p.known.caller (found ∷ []) ≡ []
 
 -- the pass is of this desk
@@ -70,10 +74,6 @@ pub record Follows (p q : Pass) : Type 0 where
   pub is : q ≡ record p { known = record p.known { seen = now; looks = p.known.looks ++ more } }
   pub caught : Catches p.known.caller p.known.seen now
   pub between : All (IsBetween (length p.known.seen) (length now)) more
-
--- the state of what a pass has seen
-abbrev pub state_of : Known → State
-state_of k = state_from k.setting.plan k.seen
 
 -- the next event is the pass's own call, which it recorded with its reply
 pub record AddedOwn (p : Pass) (call : Call) (reply : Reply) (q : Pass) : Type 0 where
@@ -110,12 +110,14 @@ IsOne me = me ≡ (known_of me.0 ∷ [], [])
 abbrev pub longer_of : Known → Known → List Event
 longer_of k l = longest (k ∷ l ∷ [])
 
--- two seats know the longer list of the two, which goes on behind each with events of other callers
+-- two seats know the longer list of the two, which is of events of their desk, and goes on behind each with those of other callers
 pub record Levelled (a b : Me ℕ (List Known)) (a' b' : Me ℕ (List Known)) : Type 0 where
   pub left : a' ≡ (with_seen (longer_of (known_of a.0) (known_of b.0)) (known_of a.0) ∷ [], [])
   pub right : b' ≡ (with_seen (longer_of (known_of a.0) (known_of b.0)) (known_of b.0) ∷ [], [])
   pub begins_left : Catches (known_of a.0).caller (known_of a.0).seen (longer_of (known_of a.0) (known_of b.0))
   pub begins_right : Catches (known_of b.0).caller (known_of b.0).seen (longer_of (known_of a.0) (known_of b.0))
+  pub logged_left : AreLogged (known_of a.0).setting (longer_of (known_of a.0) (known_of b.0))
+  pub logged_right : AreLogged (known_of b.0).setting (longer_of (known_of a.0) (known_of b.0))
 
 -- two passes have seen the longer of their two lists, which their records fit
 pub record Meets (p q p' q' : Pass) : Type 0 where
@@ -142,7 +144,7 @@ knowns ps = map (λ (p : Pass). p.known) ps
 pub record Closes (d : Desk) (passes : List Pass) (history : List Event) : Type 0 where
   pub longest : history ≡ longest (knowns passes)
   pub begins : All (λ (p : Pass). Catches p.known.caller p.known.seen history) passes
-  pub events : All (IsEventOf d.setting) history
+  pub events : AreLogged d.setting history
   pub each : (c : ℕ) → c < d.setting.callers → count_in c (knowns passes) ≡ 1
   pub room : length history ≤ d.words
 

@@ -1,10 +1,10 @@
 //! What callers ask of a desk, and what they are answered.
-ghost use Rattle.std.specs.Prelude.{◌≡◌};
+ghost use Rattle.std.specs.Prelude.{◌≡◌, false};
 ghost use Rattle.cf_desk.specs.Calls.{as_call, event_by, joined};
 
 use cf_core::{Ask, Event, Graph, Reply, Told};
 use cf_outcome::{Cause, Outcome, Value};
-use cf_plan::Answer;
+use cf_plan::{Answer, Form, Of};
 
 /// One changing call of a caller.
 #[derive(Clone, Copy, Debug, Drop, PartialEq, Eq)]
@@ -21,6 +21,8 @@ pub enum Call {
     Finish(u16, Answer),
     /// Lets it be this moment, in milliseconds.
     Tick(u32),
+    /// Attaches a stage of this form to these sources, with this function's number where the form calls one.
+    Attach(Form, Of, Option<u16>),
 }
 
 impl Call {
@@ -35,6 +37,12 @@ impl Call {
             Event::Claim { stage, .. } => Call::Claim(stage),
             Event::Finish { stage, answer, .. } => Call::Finish(stage, answer),
             Event::Tick { now, .. } => Call::Tick(now),
+            Event::Attach {
+                form,
+                of,
+                function,
+                ..
+            } => Call::Attach(form, of, function),
         }
     }
 }
@@ -96,6 +104,12 @@ pub(crate) fn event_by(who: u8, call: Call) -> Event
         Call::Claim(stage) => Event::Claim { who, stage },
         Call::Finish(stage, answer) => Event::Finish { who, stage, answer },
         Call::Tick(now) => Event::Tick { who, now },
+        Call::Attach(form, of, function) => Event::Attach {
+            who,
+            form,
+            of,
+            function,
+        },
     }
 }
 

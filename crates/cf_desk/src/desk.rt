@@ -4,19 +4,22 @@ mod closing;
 mod reading;
 mod steps;
 
-ghost use Rattle.std.specs.Prelude.{◌≡◌, ◌<◌, ◌≤◌, ◌↔◌, All, IfErr, IfOk, IsTrue, length, vec_len};
-ghost use Rattle.cf_plan.specs.Plans.{function_at};
+ghost use Rattle.std.specs.Prelude.{◌≡◌, ◌≢◌, ◌<◌, ◌≤◌, ◌↔◌, All, IfErr, IfOk, IsTrue, MatchOption, length, vec_len};
+ghost use Rattle.cf_plan.specs.Plans.{function_at, with_room};
 ghost use Rattle.cf_core.specs.States.{start};
-ghost use Rattle.cf_desk.specs.Faults.{IsDueToOpen};
+ghost use Rattle.cf_desk.specs.declared.faults.OpenFault.TheVariants.{NoMemory};
+ghost use Rattle.cf_desk.specs.Faults.{AreCounts, IsDueToGrow, IsDueToOpen, IsOverfull};
+ghost use Rattle.cf_desk.specs.Functions.{function_bound};
 ghost use Rattle.cf_desk.specs.Views.{IsOf, opened};
 
 use crate::calls::Kept;
 use crate::faults::OpenFault;
+use crate::functions::function_bound;
 use crate::pass::Pass;
 use crate::row::{GivesFirst, RowRule, Setting, Terms, View};
 use atomic_table::Table;
 use cf_core::{Event, Graph};
-use cf_plan::Plan;
+use cf_plan::{GrowingPlan, MAX_EDGES, MAX_STAGES, Plan};
 use std::alloc::{AllocError, Global};
 use std::marker::Model;
 
@@ -27,6 +30,7 @@ type Row = Table<u8, View, Terms, RowRule, Global>;
 pub struct Desk {
     table: Row,
     callers: u8,
+    functions: u32,
     opening: Graph,
     words: u16,
     history: Vec<Event>,
@@ -38,7 +42,7 @@ impl Model for Desk {
 
     ghost Value = { Desk };
 
-    ghost view = { λ d. record { table = d.table.shared.table_id; setting = record { plan = d.opening.state.plan; callers = d.callers }; words = d.words } };
+    ghost view = { λ d. record { table = d.table.shared.table_id; setting = record { plan = d.opening.state.plan; callers = d.callers; functions = d.functions }; words = d.words } };
 
     ghost use Rattle.cf_desk.specs.Desks.{DeskKept};
 
@@ -47,7 +51,8 @@ impl Model for Desk {
 
 impl Desk {
     /// A desk of this plan with 1 to 64 callers and a log of this many words, and the passes of its callers 0, 1, .. in
-    /// order, each of which may hold this many records. The log and the records need at least one place.
+    /// order, each of which may hold this many records. The log and the records need at least one place. It has no room
+    /// for more stages, and as many functions as the plan names.
     pub fn open(
         alloc: Global,
         plan: Plan,
@@ -55,35 +60,64 @@ impl Desk {
         log: u16,
         calls: u16,
     ) -> Result<(Desk, Vec<Pass>), OpenFault>
-        ensures opened { IfOk result (λ r. (r.0.setting ≡ record { plan = plan; callers = callers }) × (r.0.words ≡ log) × (r.1.items ≡ opened r.0.table r.0.setting calls)) }
+        ensures opened { IfOk result (λ r. (r.0.setting ≡ record { plan = plan; callers = callers; functions = function_bound plan.stages }) × (r.0.words ≡ log) × (r.1.items ≡ opened r.0.table r.0.setting calls)) }
         ensures passes { IfOk result (λ r. All (IsOf r.0) r.1.items × (vec_len r.1 ≡ callers)) }
         ensures table { IfOk result (λ r. All (λ p. p.table ≡ r.0.table) r.1.items × (r.0.table.words ≡ log)) }
-        ensures counts { IfOk result (λ r. (0 < callers) × (callers ≤ 64) × (0 < log) × (0 < calls)) }
+        ensures counts { IfOk result (λ r. AreCounts callers log calls) }
         ensures fault { IfErr result (IsDueToOpen callers log calls) }
     {
-        if callers == 0 || callers > 64 {
-            return Err(OpenFault::Callers);
+        if let Some(fault) = count_fault(callers, log, calls) {
+            return Err(fault);
         }
-        if log == 0 {
-            return Err(OpenFault::Log);
-        }
-        if calls == 0 {
-            return Err(OpenFault::Calls);
-        }
-        match open_with(alloc, plan, callers, log, calls) {
+        // A plan that was built is within its bounds.
+        let _stages = plan.stages();
+        let functions = function_bound(&plan);
+        match open_with(alloc, plan, callers, log, calls, 0, functions) {
             Ok(opened) => Ok(opened),
             Err(_) => Err(OpenFault::NoMemory),
         }
     }
 
-    /// Whether the plan has such a stage.
+    /// The same with room for so many stages that callers attach later, whose functions have numbers below `functions`,
+    /// as those of the plan have. It takes all the memory that attaching will ever need.
+    pub fn open_growing(
+        alloc: Global,
+        plan: Plan,
+        callers: u8,
+        log: u16,
+        calls: u16,
+        room: u16,
+        functions: u32,
+    ) -> Result<(Desk, Vec<Pass>), OpenFault>
+        ensures opened { IfOk result (λ r. (r.0.setting ≡ record { plan = with_room plan room; callers = callers; functions = functions }) × (r.0.words ≡ log) × (r.1.items ≡ opened r.0.table r.0.setting calls)) }
+        ensures passes { IfOk result (λ r. All (IsOf r.0) r.1.items × (vec_len r.1 ≡ callers)) }
+        ensures table { IfOk result (λ r. All (λ p. p.table ≡ r.0.table) r.1.items × (r.0.table.words ≡ log)) }
+        ensures counts { IfOk result (λ r. AreCounts callers log calls × (¬ IsOverfull plan.stages room) × (function_bound plan.stages ≤ functions)) }
+        ensures fault { IfErr result (IsDueToGrow plan.stages callers log calls room functions) }
+    {
+        if let Some(fault) = count_fault(callers, log, calls) {
+            return Err(fault);
+        }
+        if is_overfull(&plan, room) {
+            return Err(OpenFault::Room);
+        }
+        if functions < function_bound(&plan) {
+            return Err(OpenFault::Functions);
+        }
+        match open_with(alloc, plan, callers, log, calls, room, functions) {
+            Ok(opened) => Ok(opened),
+            Err(_) => Err(OpenFault::NoMemory),
+        }
+    }
+
+    /// Whether the plan that it was opened with has such a stage.
     pub fn has(&self, i: u16) -> bool
         ensures { IsTrue result ↔ (i < length self.now.setting.plan.stages) }
     {
         self.opening.has(i)
     }
 
-    /// The number of a stage's function, if it has one.
+    /// The number of a stage's function, if it has one, in the plan that it was opened with.
     pub fn function(&self, i: u16) -> Option<u16>
         requires { i < length self.now.setting.plan.stages }
         ensures { result ≡ function_at self.now.setting.plan.stages i }
@@ -98,6 +132,13 @@ impl Desk {
         self.words
     }
 
+    /// How many functions there are: a stage that is attached has one of a lower number.
+    pub fn functions(&self) -> u32
+        ensures { result ≡ self.now.setting.functions }
+    {
+        self.functions
+    }
+
     /// How many callers there are.
     pub fn callers(&self) -> u8
         ensures { result ≡ self.now.setting.callers }
@@ -106,16 +147,52 @@ impl Desk {
     }
 }
 
-/// The graph of a plan, at its start.
-fn graph_of(alloc: Global, plan: &Plan) -> Result<Graph, AllocError>
-    ensures { IfOk result (λ g. g.state ≡ start plan.now) }
+/// Which of the counts is wrong, if one is.
+fn count_fault(callers: u8, log: u16, calls: u16) -> Option<OpenFault>
+    ensures { MatchOption result (AreCounts callers log calls) (λ fault. IsDueToOpen callers log calls fault × (fault ≢ NoMemory)) }
+{
+    if callers == 0 || callers > 64 {
+        return Some(OpenFault::Callers);
+    }
+    if log == 0 {
+        return Some(OpenFault::Log);
+    }
+    if calls == 0 {
+        return Some(OpenFault::Calls);
+    }
+    None
+}
+
+/// Whether the stages with so much room, or their edges with two for each place, are too many.
+fn is_overfull(plan: &Plan, room: u16) -> bool
+    ensures { IsTrue result ↔ IsOverfull plan.now.stages room }
+{
+    plan.stages() as usize + room as usize > MAX_STAGES
+        || plan.edges() as usize + 2 * room as usize > MAX_EDGES
+}
+
+/// The graph of a plan with so much room, at its start.
+fn graph_of(alloc: Global, plan: &Plan, room: u16) -> Result<Graph, AllocError>
+    requires { ¬ IsOverfull plan.now.stages room }
+    ensures { IfOk result (λ g. g.state ≡ start (with_room plan.now room)) }
 {
     let plan = match plan.copy() {
         Ok(plan) => plan,
         Err(_) => return Err(AllocError),
     };
-    match Graph::new(alloc, plan) {
+    match Graph::new_growing(alloc, plan, room) {
         Ok(graph) => Ok(graph),
+        Err(_) => Err(AllocError),
+    }
+}
+
+/// A plan with so much room, as the row is told of it.
+fn growing(alloc: Global, plan: &Plan, room: u16) -> Result<GrowingPlan, AllocError>
+    requires { ¬ IsOverfull plan.now.stages room }
+    ensures { IfOk result (λ grown. grown ≡ with_room plan.now room) }
+{
+    match plan.copy() {
+        Ok(plan) => GrowingPlan::new(alloc, plan, room),
         Err(_) => Err(AllocError),
     }
 }
@@ -127,29 +204,37 @@ fn open_with(
     callers: u8,
     log: u16,
     calls: u16,
+    room: u16,
+    functions: u32,
 ) -> Result<(Desk, Vec<Pass>), AllocError>
     requires counts { (0 < callers) × (callers ≤ 64) × (0 < log) }
+    requires room { ¬ IsOverfull plan.stages room }
     ensures words { IfOk result (λ r. r.0.table.words ≡ log) }
-    ensures opened { IfOk result (λ r. (r.0.setting ≡ record { plan = plan; callers = callers }) × (r.0.words ≡ log) × (r.1.items ≡ opened r.0.table r.0.setting calls)) }
+    ensures opened { IfOk result (λ r. (r.0.setting ≡ record { plan = with_room plan room; callers = callers; functions = functions }) × (r.0.words ≡ log) × (r.1.items ≡ opened r.0.table r.0.setting calls)) }
 {
     let history = Vec::with_capacity(alloc, log as usize)?;
     let kept = Vec::with_capacity(alloc, callers as usize)?;
     let zeros = vec![in alloc; 0u64; log as usize]?;
-    let opening = graph_of(alloc, &plan)?;
+    let opening = graph_of(alloc, &plan, room)?;
     let terms = Terms {
-        setting: Setting { plan, callers },
+        setting: Setting {
+            plan: growing(alloc, &plan, room)?,
+            callers,
+            functions,
+        },
         words: log,
     };
     let (table, mut seat) = Table::of_words(alloc, zeros.as_slice(), &terms)?;
     let mut passes = Vec::new(alloc);
     for caller in 0..callers {
         let records = Vec::with_capacity(alloc, calls as usize)?;
-        let copy = graph_of(alloc, &terms.setting.plan)?;
+        let copy = graph_of(alloc, &plan, room)?;
         let mine = table.shared.split_seat::<GivesFirst>(&mut seat);
         let pass = Pass {
             seat: mine,
             caller,
             count: 0,
+            functions,
             copy,
             records,
             calls,
@@ -159,6 +244,7 @@ fn open_with(
     let desk = Desk {
         table,
         callers,
+        functions,
         opening,
         words: log,
         history,

@@ -16,15 +16,26 @@ pub enum OpenFault {
     /// A pass is to hold no record.
     #[error("Calls")]
     Calls,
+    /// With the room, the stages would be more than `MAX_STAGES`, or, with two edges for each, the edges more than
+    /// `MAX_EDGES`.
+    #[error("Room")]
+    Room,
+    /// A function of the plan isn't below the number of functions.
+    #[error("Functions")]
+    Functions,
 }
 
-/// Why a call of a pass is refused: the first that holds, in the order NoStage, PassFull, LogFull. The text of each is
-/// its name.
+/// Why a call of a pass is refused: the first that holds, in the order NoStage, BadAttach, PassFull, LogFull. The text of
+/// each is its name.
 #[derive(Clone, Copy, Debug, Drop, PartialEq, Eq, Error)]
 pub enum DeskFault {
-    /// The stage isn't one of the plan's.
+    /// A stage that the call names isn't one of the plan's, as the pass has seen it once it has caught up.
     #[error("NoStage")]
     NoStage,
+    /// A stage that is to be attached has too few or too many sources for its form, lacks a function or has one too many,
+    /// or its function isn't below the number of functions, or is above 4,095.
+    #[error("BadAttach")]
+    BadAttach,
     /// What the pass has seen fills the log.
     #[error("LogFull")]
     LogFull,

@@ -5,9 +5,13 @@
 //! of all callers' calls, of which each pass has seen a front. A pass keeps a graph of its own, to which it does the
 //! events that it sees, and answers from that. Nothing waits for anybody.
 //!
+//! A desk may be opened with room for stages that callers attach while they share it (`Desk::open_growing`). Then a stage
+//! may be there that a pass doesn't know yet: a call on one lets the pass look first, and is refused where it still isn't
+//! there.
+//!
 //! | Part | What it is |
 //! |---|---|
-//! | desk (`Desk`) | what callers share: the plan, the number of callers, and the row |
+//! | desk (`Desk`) | what callers share: the plan that it was opened with and the room, the number of callers, and the row |
 //! | row | the desk's words, in one table of `atomic_table`; the row's rule is `RowKept` in `specs/Rule` |
 //! | log | the events of the filled words, in order |
 //! | place | a number in the log: a record's counts the events up to and with its own, or those that were seen |
@@ -21,6 +25,7 @@
 mod calls;
 mod desk;
 mod faults;
+mod functions;
 pub mod laws;
 mod pass;
 mod row;
@@ -30,6 +35,3 @@ pub use cf_core::{Ask, Told};
 pub use desk::Desk;
 pub use faults::{CloseFault, DeskFault, OpenFault};
 pub use pass::Pass;
-
-#[cfg(test)]
-mod tests;

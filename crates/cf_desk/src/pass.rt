@@ -1,10 +1,11 @@
 //! A caller's pass: its seat at the row, and what it has seen.
-ghost use Rattle.std.specs.Prelude.{◌≡◌, ◌<◌, ◌≤◌, ◌+◌, ◌↔◌, IsTrue, length};
+ghost use Rattle.std.specs.Prelude.{◌≡◌, ◌<◌, ◌≤◌, ◌+◌, ◌↔◌, All, IfSome, IsTrue, length, unwrap_or};
 ghost use Rattle.std.specs.Bool.{OnTrue};
+ghost use Rattle.cf_plan.specs.Plans.{function_at, sources_of};
 ghost use Rattle.cf_core.specs.States.{lowest_ready_of, outcome_at};
 ghost use Rattle.cf_desk.specs.Calls.{event_by};
-ghost use Rattle.cf_desk.specs.Faults.{AsksStage, IsOnStage};
-ghost use Rattle.cf_desk.specs.Log.{IsEventOf};
+ghost use Rattle.cf_desk.specs.Faults.{AsksStage, IsFitting, IsOnStage};
+ghost use Rattle.cf_desk.specs.Log.{IsEventOf, IsFunctionBelow};
 ghost use Rattle.cf_desk.specs.Views.{Joins, Reads, state_of};
 
 use crate::calls::{Call, Joined, Rec, joined_as};
@@ -12,7 +13,11 @@ use crate::row::View;
 use atomic_table::Seat;
 use cf_core::{Ask, Graph, Told};
 use cf_outcome::Outcome;
+use cf_plan::{Of, fits_form};
 use std::marker::Model;
+
+/// The greatest number of a function that a word has room for.
+const LAST_FUNCTION: u16 = 4095;
 
 /// A caller's seat and what it has seen. It moves between threads by ownership.
 #[derive(Drop)]
@@ -20,6 +25,7 @@ pub struct Pass {
     pub(crate) seat: Seat<u8, View>,
     pub(crate) caller: u8,
     pub(crate) count: u16,
+    pub(crate) functions: u32,
     pub(crate) copy: Graph,
     pub(crate) records: Vec<Rec>,
     pub(crate) calls: u16,
@@ -60,10 +66,24 @@ impl Pass {
         self.calls - self.records.len() as u16
     }
 
-    /// Whether a call is on a stage of the plan, if it has a stage. Then its event has a word.
-    pub(crate) fn takes(&self, call: Call) -> bool
-        ensures fits { IsTrue result ↔ IsOnStage self.now (event_by self.now.known.caller call) }
-        ensures event { OnTrue result (IsEventOf self.now.known.setting (event_by self.now.known.caller call)) }
+    /// Whether there is such a stage in what the pass has seen.
+    pub fn has(&self, i: u16) -> bool
+        ensures { IsTrue result ↔ (i < length (state_of self.now.known).plan.stages) }
+    {
+        i < self.stages()
+    }
+
+    /// The number of a stage's function, if it has one. The stage is there in what the pass has seen.
+    pub fn function(&self, i: u16) -> Option<u16>
+        requires { i < length (state_of self.now.known).plan.stages }
+        ensures { result ≡ function_at (state_of self.now.known).plan.stages i }
+    {
+        self.copy.function(i)
+    }
+
+    /// Whether the stages that a call names are there, in what the pass has seen.
+    pub(crate) fn names(&self, call: Call) -> bool
+        ensures { IsTrue result ↔ IsOnStage self.now (event_by self.now.known.caller call) }
     {
         let stages = self.stages();
         match call {
@@ -73,6 +93,31 @@ impl Pass {
             Call::Claim(stage) => stage < stages,
             Call::Finish(stage, _) => stage < stages,
             Call::Tick(_) => true,
+            Call::Attach(_, of, _) => are_below(of, stages),
+        }
+    }
+
+    /// Whether a stage that a call attaches fits its form, and its function is one of the desk's that a word has room for.
+    /// The stages that the call names are there. Where it fits, its event has a word.
+    #[tactic(auto, using(crate::proofs::Events::sources_small))]
+    pub(crate) fn fits(&self, call: Call) -> bool
+        requires { IsOnStage self.now (event_by self.now.known.caller call) }
+        ensures fits { IsTrue result ↔ IsFitting self.now (event_by self.now.known.caller call) }
+        ensures event { OnTrue result (IsEventOf self.now.known.setting (state_of self.now.known) (event_by self.now.known.caller call)) }
+    {
+        // Each stage is below 4,096, and the caller is below 64.
+        let _stages = self.stages();
+        match call {
+            Call::Complete(_, _) => true,
+            Call::Fail(_, _) => true,
+            Call::Cancel(_) => true,
+            Call::Claim(_) => true,
+            Call::Finish(_, _) => true,
+            Call::Tick(_) => true,
+            Call::Attach(form, of, function) => {
+                fits_form(form, of.count(), function.is_some())
+                    && is_function(function, self.functions)
+            }
         }
     }
 
@@ -84,9 +129,9 @@ impl Pass {
         stage < self.stages()
     }
 
-    /// How many stages the plan has.
+    /// How many stages the plan has, in what the pass has seen.
     fn stages(&self) -> u16
-        ensures count { result ≡ length self.now.known.setting.plan.stages }
+        ensures count { result ≡ length (state_of self.now.known).plan.stages }
         ensures few { result ≤ 4096 }
         ensures caller { (self.now.known.caller < self.now.known.setting.callers) × (self.now.known.setting.callers ≤ 64) }
     {
@@ -95,7 +140,7 @@ impl Pass {
 
     /// The outcome of a stage in what the pass has seen.
     pub(crate) fn outcome(&mut self, stage: u16) -> Option<Outcome>
-        requires { stage < length self.old.known.setting.plan.stages }
+        requires { stage < length (state_of self.old.known).plan.stages }
         ensures told { result ≡ outcome_at (state_of self.old.known) stage }
         ensures same { self.new ≡ self.old }
     {
@@ -105,6 +150,7 @@ impl Pass {
     /// The lowest ready stage in what the pass has seen.
     pub(crate) fn lowest_ready(&mut self) -> Option<u16>
         ensures told { result ≡ lowest_ready_of (state_of self.old.known) }
+        ensures there { IfSome result (λ stage. stage < length (state_of self.old.known).plan.stages) }
         ensures same { self.new ≡ self.old }
     {
         self.copy.lowest_ready()
@@ -113,7 +159,7 @@ impl Pass {
     /// Records and tells what a join of a stage is answered of what the pass has seen.
     pub(crate) fn tell_joined(&mut self, stage: u16) -> Joined
         requires call { length self.old.records < self.old.calls }
-        requires stage { stage < length self.old.known.setting.plan.stages }
+        requires stage { stage < length (state_of self.old.known).plan.stages }
         ensures { Joins self.old stage result self.new × (self.new.known ≡ self.old.known) }
     {
         let outcome = self.outcome(stage);
@@ -137,5 +183,26 @@ impl Pass {
             unreachable!();
         }
         told
+    }
+}
+
+/// Whether these stages are below so many.
+fn are_below(of: Of, stages: u16) -> bool
+    ensures { IsTrue result ↔ All (λ j. j < stages) (sources_of of) }
+{
+    match of {
+        Of::None => true,
+        Of::One(a) => a < stages,
+        Of::Two(a, b) => a < stages && b < stages,
+    }
+}
+
+/// Whether a function, if there is one, is one of so many, and a word has room for its number.
+fn is_function(function: Option<u16>, functions: u32) -> bool
+    ensures { IsTrue result ↔ (IsFunctionBelow functions function × (unwrap_or function 0 ≤ 4095)) }
+{
+    match function {
+        None => true,
+        Some(number) => u32::from(number) < functions && number <= LAST_FUNCTION,
     }
 }

@@ -1,14 +1,15 @@
 //! The row of words, its rule, and what each step tells.
 use atomic_table::{Join, Play, Split, TableRule};
 use cf_core::Event;
-use cf_plan::Plan;
+use cf_plan::GrowingPlan;
 use std::collections::LinkedList;
 
-/// A desk's plan, and the number of its callers.
+/// What a desk is opened with: its plan with the room for more stages, and the numbers of its callers and functions.
 #[derive(Drop)]
 pub struct Setting {
-    pub plan: Plan,
+    pub plan: GrowingPlan,
     pub callers: u8,
+    pub functions: u32,
 }
 
 /// What the row is told when it is made.
@@ -20,7 +21,7 @@ pub struct Terms {
 
 /// What a pass knows of the log. No value of it is made.
 pub struct Known {
-    /// The desk's plan and number of callers.
+    /// What the desk was opened with.
     pub setting: Setting,
     /// The pass's caller.
     pub caller: u8,

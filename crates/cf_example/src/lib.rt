@@ -1,7 +1,8 @@
 //! What a service writes that shares a graph between callers and relies on what they were told.
 //!
-//! `take_turns` opens a desk for two callers, lets one complete a stage and the other cancel it, lets both look at what
-//! came of it, closes the desk, and promises that there was one history. That promise is `IsOneHistory`, the product's
+//! `take_turns` opens a desk for two callers with room for one stage more, lets one caller complete a stage, and the other
+//! cancel it and attach a stage to it, lets both look at what came of it, closes the desk, and promises that there was one
+//! history. That promise is `IsOneHistory`, the product's
 //! own statement; its proof is the contracts of the calls that are made, and nothing beside them.
 #![tactic(auto)]
 
@@ -10,39 +11,44 @@ mod fault;
 ghost use Rattle.std.specs.Prelude.{◌≡◌, All, IfOk, map};
 ghost use Rattle.cf_desk.specs.Keepings.{pass_kept};
 ghost use Rattle.cf_desk.specs.Laws.{IsOneHistory};
+ghost use Rattle.cf_plan.specs.Plans.{with_room};
 
 use cf_core::Ask;
 use cf_desk::{Call, Closed, Desk, DeskFault, Pass};
 use cf_outcome::Value;
-use cf_plan::Plan;
+use cf_plan::{Form, Of, Plan};
 pub use fault::Fault;
 use std::alloc::Global;
 
 /// How many events the log holds, and how many records each caller keeps.
 const ROOM: u16 = 16;
 
-/// Lets two callers share a graph of this plan: caller 0 completes stage 0 with this value, caller 1 cancels it, and both
-/// look at what came of it. What they were told stands in the closed desk, and is one history.
+/// How many functions the callers have: their numbers are below it.
+const FUNCTIONS: u32 = 16;
+
+/// Lets two callers share a graph of this plan with room for one stage more: caller 0 completes stage 0 with this value,
+/// caller 1 cancels it and attaches an apply of it, with function 0, and both look at what came of it. What they were told
+/// stands in the closed desk, and is one history.
 pub fn take_turns(alloc: Global, plan: Plan, value: Value) -> Result<Closed, Fault>
-    ensures { IfOk result (λ closed. IsOneHistory plan closed.history.items (map pass_kept closed.passes.items) closed.graph.state) }
+    ensures { IfOk result (λ closed. IsOneHistory (with_room plan 1) closed.history.items (map pass_kept closed.passes.items) closed.graph.state) }
 {
     let (desk, mut first, mut second) = open_two(alloc, plan)?;
     act_and_look(&desk, &mut first, &mut second, value)?;
     close_two(alloc, desk, first, second)
 }
 
-/// A desk of this plan, and the passes of its two callers.
+/// A desk of this plan with room for one stage more, and the passes of its two callers.
 fn open_two(alloc: Global, plan: Plan) -> Result<(Desk, Pass, Pass), Fault>
-    ensures setting { IfOk result (λ r. r.0.setting ≡ record { plan = plan; callers = 2 }) }
+    ensures setting { IfOk result (λ r. (r.0.setting.plan ≡ with_room plan 1) × (r.0.setting.callers ≡ 2)) }
     ensures table { IfOk result (λ r. (r.1.table ≡ r.0.table) × (r.2.table ≡ r.0.table)) }
 {
-    let (desk, mut passes) = Desk::open(alloc, plan, 2, ROOM, ROOM)?;
+    let (desk, mut passes) = Desk::open_growing(alloc, plan, 2, ROOM, ROOM, 1, FUNCTIONS)?;
     let second = last_of(&desk, &mut passes)?;
     let first = last_of(&desk, &mut passes)?;
     Ok((desk, first, second))
 }
 
-/// One call of each caller, and then a look of each, the second one's after they have met.
+/// The calls of each caller, and then a look of each, the second one's after they have met.
 fn act_and_look(
     desk: &Desk,
     first: &mut Pass,
@@ -54,6 +60,7 @@ fn act_and_look(
 {
     desk.act(first, Call::Complete(0, value))?;
     desk.act(second, Call::Cancel(0))?;
+    desk.act(second, Call::Attach(Form::Apply, Of::One(0), Some(0)))?;
     desk.read(first, Ask::Outcome(0))?;
     desk.meet(first, second);
     desk.join(second, 0, 1)?;

@@ -19,9 +19,12 @@ fn the_first_of_two_settles(rt: HostRuntime) -> Result<(), Fail> {
         None
     };
     assert_eq!(rt; settled, Some(Outcome::Value(Value::Int(3))));
-    assert_eq!(rt; closed.history.len(), 2);
+    assert_eq!(rt; closed.graph.stages(), 3);
+    assert_eq!(rt; closed.history.len(), 3);
+    let mut records: usize = 0;
     for pass in &closed.passes {
-        assert_eq!(rt; pass.records.len(), 2);
+        records = records.wrapping_add(pass.records.len());
     }
+    assert_eq!(rt; records, 5);
     Ok(())
 }

@@ -1,25 +1,22 @@
 -- What a worker's calls add, and how that adds up.
-use Rattle.std.proofs.Common.{◌≡◌, ℕ, ◌+◌, ◌<◌, ◌≤◌, inl, inr, Bool, true, false, cond, Option, Some, None, List, [], ◌∷◌, ◌++◌, length, sym, refl, ap, ◌∙◌, subst, append-nil, append_assoc, length-append, replicate, arith}
-use Rattle.std.specs.Prelude.{◌==◌, Result, Ok, Err, IfErr, OnErr}
+use Rattle.std.proofs.Common.{◌≡◌, ℕ, ◌+◌, ◌<◌, ◌≤◌, inl, inr, Bool, true, false, cond, Option, Some, None, List, [], ◌∷◌, ◌++◌, length, sym, refl, ap, ◌∙◌, subst, append-nil, append_assoc, length-append, arith}
+use Rattle.std.specs.Prelude.{◌==◌}
 use Rattle.std.proofs.lemmas.Bool.{cases_lt, eqb-true}
-use Rattle.std.proofs.lemmas.List.{length-replicate}
-use Rattle.cf_plan.specs.declared.forms.Answer.{Answer}
 use Rattle.cf_plan.specs.declared.forms.Args.{Args}
 use Rattle.cf_plan.specs.Plans.{Planned}
-use Rattle.cf_core.specs.declared.stage.Stage.TheVariants.{Pending}
 use Rattle.cf_core.specs.declared.events.Event.{Event}
 use Rattle.cf_core.specs.declared.events.Event.TheVariants.{Claim as Claims}
 use Rattle.cf_core.specs.declared.events.Reply.{Reply}
-use Rattle.cf_core.specs.declared.events.Reply.TheVariants.{Flag as ToldFlag, Claim as ToldClaim, Finish as ToldFinish, Tick as ToldTick}
+use Rattle.cf_core.specs.declared.events.Reply.TheVariants.{Flag as ToldFlag, Claim as ToldClaim, Finish as ToldFinish, Tick as ToldTick, Attach as ToldAttach}
 use Rattle.cf_core.specs.declared.replies.Claimed.TheVariants.{Granted, Settled as IsSettled, Taken, NotReady}
 use Rattle.cf_core.specs.declared.replies.Finished.TheVariants.{Won, Late, NotYours}
-use Rattle.cf_core.specs.States.{State, stage_at, start, is_ready, lowest_ready_of}
+use Rattle.cf_core.specs.States.{State, stage_at, is_ready, lowest_ready_of}
 use Rattle.cf_core.specs.Events.{answered, state_after}
 use Rattle.cf_core.specs.Claims.{is_claimable}
+use Rattle.cf_core.specs.Growth.{Grows}
 use Rattle.cf_core.proofs.Claimable.{state_after-not_claimable}
 use Rattle.cf_core.proofs.Histories.{claiming-not_claimable, is_pending, ready-claimable, ready-not_pending, state_after-append, state_after-not_pending}
-use Rattle.cf_core.proofs.LowestReady.{lowest_ready-within, lowest_ready-is_ready}
-use Rattle.cf_core.proofs.Shape.{length-new_states, state_after-shape}
+use Rattle.cf_core.proofs.LowestReady.{lowest_ready-is_ready}
 use Rattle.cf_plan.specs.Meanings.{Meanings, stage_answer}
 use Rattle.cf_desk.specs.declared.calls.Call.{Call}
 use Rattle.cf_desk.specs.declared.calls.Call.TheVariants.{Claim, Finish}
@@ -27,10 +24,9 @@ use Rattle.cf_desk.specs.declared.calls.Rec.{Rec}
 use Rattle.cf_desk.specs.declared.calls.Rec.TheVariants.{Did}
 use Rattle.cf_desk.specs.declared.faults.DeskFault.{DeskFault}
 use Rattle.cf_desk.specs.declared.row.Known.{Known}
-use Rattle.cf_desk.specs.declared.row.Setting.{Setting}
 use Rattle.cf_desk.specs.Calls.{event_by}
-use Rattle.cf_desk.specs.Faults.{HasRoom, IsDue}
-use Rattle.cf_desk.specs.Log.{state_from}
+use Rattle.cf_desk.specs.Faults.{HasRoom, IsOnStage}
+use Rattle.cf_desk.specs.Results.{Refuses}
 use Rattle.cf_desk.specs.Views.{Acts, Follows, Pass, Desk, state_of}
 use Rattle.cf_desk.proofs.Passes.{follows_longer, same_acts, same_follows}
 use Rattle.cf_pool.specs.declared.worker.Done.{Done}
@@ -39,14 +35,10 @@ use Rattle.cf_pool.specs.Jobs.{AddsCounted, AddsWork, DoesJob, StopsJob, granted
 use Rattle.cf_pool.specs.Stops.{MeetsFault, Stops}
 use Rattle.cf_pool.specs.Waits.{Idles, LooksBefore, Waits, last_place}
 use Rattle.cf_pool.specs.Works.{AreWork, Owed, Works, claims_of, owed_after, owed_by}
+use Rattle.cf_pool.proofs.Working.{answer_stays, goes_on_from, more_stages, owed_as, owed_claim, pass_grows, refuses_known, work_grown}
 use Rattle.cf_pool.proofs.Waiting.{idles_since, last_place-append, last_place-mono, looks_none, looks_on}
 
 -- ---- states that a pass has seen
-
--- the state of a pass that has seen more
-goes_on_from : (p q : Pass) (seen : List Event) → q.known.setting ≡ p.known.setting → q.known.seen ≡ p.known.seen ++ seen → state_of q.known ≡ state_after (state_of p.known) seen
-goes_on_from p q seen same on =
-    ap (λ x. state_from x.plan q.known.seen) same ∙ ap (λ l. state_from p.known.setting.plan l) on ∙ state_after-append (start p.known.setting.plan) p.known.seen seen
 
 still_spent : (p q : Pass) (seen : List Event) (i : ℕ) → q.known.setting ≡ p.known.setting → q.known.seen ≡ p.known.seen ++ seen → is_claimable (stage_at (state_of p.known) i) ≡ false → is_claimable (stage_at (state_of q.known) i) ≡ false
 still_spent p q seen i same on e =
@@ -81,20 +73,6 @@ counts_then a b xs ys f g = record {
   late = (let t = total-append late_at xs ys in let x = f.late in let y = g.late in omega arith);
 }
 
--- what a claim's record makes owed
-abbrev owed_as : ℕ → Option Args → Owed
-owed_as i None = None
-owed_as i (Some args) = Some (i, args)
-
-owed_claim : (place i : ℕ) (reply : Reply) → owed_by (Did place (Claim i) reply) ≡ owed_as i (granted_by reply)
-owed_claim place i (ToldFlag b) = refl
-owed_claim place i (ToldClaim (Granted args)) = refl
-owed_claim place i (ToldClaim IsSettled) = refl
-owed_claim place i (ToldClaim Taken) = refl
-owed_claim place i (ToldClaim NotReady) = refl
-owed_claim place i (ToldFinish f) = refl
-owed_claim place i (ToldTick t) = refl
-
 abbrev grants_as : Option Args → ℕ
 grants_as None = 0
 grants_as (Some args) = 1
@@ -107,6 +85,7 @@ grant_claim place i (ToldClaim Taken) = refl
 grant_claim place i (ToldClaim NotReady) = refl
 grant_claim place i (ToldFinish f) = refl
 grant_claim place i (ToldTick t) = refl
+grant_claim place i (ToldAttach a) = refl
 
 won_by-few : (reply : Reply) → won_by reply ≤ 1
 won_by-few (ToldFlag b) = omega arith
@@ -115,6 +94,7 @@ won_by-few (ToldFinish Won) = omega arith
 won_by-few (ToldFinish Late) = omega arith
 won_by-few (ToldFinish NotYours) = omega arith
 won_by-few (ToldTick t) = omega arith
+won_by-few (ToldAttach a) = omega arith
 
 late_by-few : (reply : Reply) → late_by reply ≤ 1
 late_by-few (ToldFlag b) = omega arith
@@ -123,6 +103,7 @@ late_by-few (ToldFinish Won) = omega arith
 late_by-few (ToldFinish Late) = omega arith
 late_by-few (ToldFinish NotYours) = omega arith
 late_by-few (ToldTick t) = omega arith
+late_by-few (ToldAttach a) = omega arith
 
 one_claim : (b : Bool) → 0 < cond b 1 0 + 0 → b ≡ true
 one_claim true h = refl
@@ -169,6 +150,13 @@ acts_on p q call reply a =
     let e = event_by p.known.caller call in
     ap (λ (h : Pass). h.known.seen) a.is ∙ ap (λ l. l ++ e ∷ []) a.caught.joined ∙ append_assoc p.known.seen a.caught.others (e ∷ [])
 
+acts_grow : (p q : Pass) (call : Call) (reply : Reply) → Acts p call reply q → Grows (state_of p.known) (state_of q.known)
+acts_grow p q call reply a = pass_grows p q (a.caught.others ++ event_by p.known.caller call ∷ []) (same_acts p q call reply a).1 (acts_on p q call reply a)
+
+-- a stage that it knew is still there
+pub still_there : (p q : Pass) (i : ℕ) (call : Call) (reply : Reply) → Acts p call reply q → i < length (state_of p.known).plan.stages → i < length (state_of q.known).plan.stages
+still_there p q i call reply a l = let more = more_stages (state_of p.known) (state_of q.known) (acts_grow p q call reply a) in omega (arith, l, more)
+
 -- the record's place is that of the event
 acts_placed : (p q : Pass) (call : Call) (reply : Reply) (a : Acts p call reply q) → (length p.known.seen < length a.before + 1) × (length a.before + 1 ≤ length q.known.seen)
 acts_placed p q call reply a =
@@ -179,15 +167,15 @@ acts_placed p q call reply a =
     let more = length-append a.before (e ∷ []) in
     (omega arith, omega arith)
 
-pub adds_finish : (meanings : Meanings) (p q : Pass) (i : ℕ) (args : Args) (reply : Reply) → Acts p (Finish i (stage_answer meanings p.known.setting.plan.stages i args)) reply q → AddsWork meanings (Some (i, args)) p q None
-adds_finish meanings p q i args reply a =
-    let call = Finish i (stage_answer meanings p.known.setting.plan.stages i args) in record {
+pub adds_finish : (meanings : Meanings) (p q : Pass) (i : ℕ) (args : Args) (reply : Reply) → i < length (state_of p.known).plan.stages → Acts p (Finish i (stage_answer meanings (state_of p.known).plan.stages i args)) reply q → AddsWork meanings (Some (i, args)) p q None
+adds_finish meanings p q i args reply there a =
+    let call = Finish i (stage_answer meanings (state_of p.known).plan.stages i args) in record {
       same = same_acts p q call reply a;
       seen = a.caught.others ++ event_by p.known.caller call ∷ [];
       goes_on = acts_on p q call reply a;
       more = Did (length a.before + 1) call reply ∷ [];
       records = ap (λ (h : Pass). h.records) a.is;
-      work = ((refl, refl), tt);
+      work = ((refl, answer_stays meanings (state_of p.known) (state_of q.known) i args (acts_grow p q call reply a) there), tt);
       owes_then = refl;
       once = λ i. omega arith;
       fresh = λ i h. absurd (omega arith);
@@ -206,14 +194,14 @@ claim_spent p q i reply a ready =
     let waits : is_pending (stage_at then i) ≡ false = state_after-not_pending (state_of p.known) a.caught.others i (ready-not_pending (stage_at (state_of p.known) i) ready) in
     subst (λ s. is_claimable (stage_at s i) ≡ false) (sym is) (claiming-not_claimable then p.known.caller i waits)
 
-pub adds_claim : (meanings : Meanings) (p q : Pass) (i : ℕ) (reply : Reply) → Acts p (Claim i) reply q → is_ready (stage_at (state_of p.known) i) ≡ true → AddsWork meanings None p q (owed_as i (granted_by reply))
-adds_claim meanings p q i reply a ready = record {
+pub adds_claim : (meanings : Meanings) (p q : Pass) (i : ℕ) (reply : Reply) → Acts p (Claim i) reply q → i < length (state_of p.known).plan.stages → is_ready (stage_at (state_of p.known) i) ≡ true → AddsWork meanings None p q (owed_as i (granted_by reply))
+adds_claim meanings p q i reply a there ready = record {
   same = same_acts p q (Claim i) reply a;
   seen = a.caught.others ++ event_by p.known.caller (Claim i) ∷ [];
   goes_on = acts_on p q (Claim i) reply a;
   more = Did (length a.before + 1) (Claim i) reply ∷ [];
   records = ap (λ (h : Pass). h.records) a.is;
-  work = (tt, tt);
+  work = (still_there p q i (Claim i) reply a there, tt);
   owes_then = owed_claim (length a.before + 1) i reply;
   once = λ j. few_claims (j == i);
   fresh = λ j h. subst (λ k. is_claimable (stage_at (state_of p.known) k) ≡ true) (sym (eqb-true j i (one_claim (j == i) h))) (ready-claimable (stage_at (state_of p.known) i) ready);
@@ -242,9 +230,10 @@ no_both : (x : Bool) → x ≡ false → x ≡ true → ⊥
 no_both true e f = cc
 no_both false e f = cc
 
-pub adds_then : (meanings : Meanings) (owed then owes : Owed) (p q r : Pass) → AddsWork meanings owed p q then → AddsWork meanings then q r owes → AddsWork meanings owed p r owes
-adds_then meanings owed then owes p q r a b =
-    let setting : r.known.setting ≡ q.known.setting = b.same.1 in
+pub adds_then : (meanings : Meanings) (then owes : Owed) (p q r : Pass) → AddsWork meanings None p q then → AddsWork meanings then q r owes → AddsWork meanings None p r owes
+adds_then meanings then owes p q r a b =
+    let last = (state_of r.known).plan in
+    let grows : Grows (state_of q.known) (state_of r.known) = pass_grows q r b.seen b.same.1 b.goes_on in
     let counted = λ (i : ℕ). claims-append i a.more b.more in
     let spent_once : (i : ℕ) → 0 < claims_of i a.more → 0 < claims_of i b.more → ⊥ = λ i x y. no_both (is_claimable (stage_at (state_of q.known) i)) (a.spent i x) (b.fresh i y) in
     record {
@@ -253,9 +242,9 @@ adds_then meanings owed then owes p q r a b =
       goes_on = b.goes_on ∙ ap (λ l. l ++ b.seen) a.goes_on ∙ append_assoc p.known.seen a.seen b.seen;
       more = a.more ++ b.more;
       records = b.records ∙ ap (λ l. l ++ b.more) a.records ∙ append_assoc p.records a.more b.more;
-      work = work-append meanings p.known.setting.plan owed a.more b.more a.work
-          (subst (λ o. AreWork meanings p.known.setting.plan o b.more) (sym a.owes_then) (subst (λ x. AreWork meanings x.plan then b.more) a.same.1 b.work));
-      owes_then = owed-append owed a.more b.more ∙ ap (λ o. owed_after o b.more) a.owes_then ∙ b.owes_then;
+      work = work-append meanings last None a.more b.more (work_grown meanings (state_of q.known) (state_of r.known) a.more grows a.work)
+          (subst (λ o. AreWork meanings last o b.more) (sym a.owes_then) b.work);
+      owes_then = owed-append None a.more b.more ∙ ap (λ o. owed_after o b.more) a.owes_then ∙ b.owes_then;
       once = λ i. (let c = claims-append i a.more b.more in let x = a.once i in let y = b.once i in
           elim (cases_lt 0 (claims_of i a.more)) [
             | inl l ↦ elim (cases_lt 0 (claims_of i b.more)) [ inl m ↦ absurd (spent_once i l m) | inr m ↦ omega arith ]
@@ -292,7 +281,7 @@ does_itself meanings p room = record {
 pub does_then : (meanings : Meanings) (p q r : Pass) (a b : Done) → AddsCounted meanings None p q a → AddsCounted meanings None q r b → AddsCounted meanings None p r (sum_of a b)
 unfolding adds_then
 does_then meanings p q r a b f g = record {
-  adds = adds_then meanings None None None p q r f.adds g.adds;
+  adds = adds_then meanings None None p q r f.adds g.adds;
   counts = counts_then a b f.adds.more g.adds.more f.counts g.counts;
   run_few = (let x = f.run_few in let y = g.run_few in omega arith);
   won_few = (let x = f.won_few in let y = g.won_few in omega arith);
@@ -309,7 +298,7 @@ does_follows meanings p q r a f g =
     let calls : r.calls ≡ q.calls = h.same.3 in
     let len = ap length same in
     record {
-      adds = adds_then meanings None None None p q r f.adds h;
+      adds = adds_then meanings None None p q r f.adds h;
       counts = (let all : f.adds.more ++ [] ≡ f.adds.more = append-nil f.adds.more in subst (Counts a) (sym all) f.counts);
       run_few = (let x = f.run_few in omega arith);
       won_few = (let x = f.won_few in omega arith);
@@ -318,11 +307,11 @@ does_follows meanings p q r a f g =
     }
 
 -- a claim that wasn't granted
-pub does_claim : (meanings : Meanings) (p q : Pass) (i : ℕ) (reply : Reply) → Acts p (Claim i) reply q → HasRoom p → is_ready (stage_at (state_of p.known) i) ≡ true → granted_by reply ≡ None
+pub does_claim : (meanings : Meanings) (p q : Pass) (i : ℕ) (reply : Reply) → Acts p (Claim i) reply q → HasRoom p → i < length (state_of p.known).plan.stages → is_ready (stage_at (state_of p.known) i) ≡ true → granted_by reply ≡ None
     → DoesJob meanings p q (record { run = 0; won = 0; late = 0 }) × (length p.records < length q.records)
 unfolding adds_claim adds_owing
-does_claim meanings p q i reply a room ready none =
-    let adds = adds_claim meanings p q i reply a ready in
+does_claim meanings p q i reply a room there ready none =
+    let adds = adds_claim meanings p q i reply a there ready in
     let len : length q.records ≡ length p.records + 1 = ap (λ (h : Pass). length h.records) a.is ∙ length-append p.records (Did (length a.before + 1) (Claim i) reply ∷ []) in
     let calls : q.calls ≡ p.calls = ap (λ (h : Pass). h.calls) a.is in
     let g = grant_claim (length a.before + 1) i reply in
@@ -342,16 +331,16 @@ does_claim meanings p q i reply a room ready none =
     )
 
 -- a claim that was granted, and its finish
-pub adds_granted : (meanings : Meanings) (p q : Pass) (i : ℕ) (reply : Reply) (args : Args) → Acts p (Claim i) reply q → is_ready (stage_at (state_of p.known) i) ≡ true → granted_by reply ≡ Some args → AddsWork meanings None p q (Some (i, args))
-adds_granted meanings p q i reply args a ready given = subst (λ (x : Option Args). AddsWork meanings None p q (owed_as i x)) given (adds_claim meanings p q i reply a ready)
+pub adds_granted : (meanings : Meanings) (p q : Pass) (i : ℕ) (reply : Reply) (args : Args) → Acts p (Claim i) reply q → i < length (state_of p.known).plan.stages → is_ready (stage_at (state_of p.known) i) ≡ true → granted_by reply ≡ Some args → AddsWork meanings None p q (Some (i, args))
+adds_granted meanings p q i reply args a there ready given = subst (λ (x : Option Args). AddsWork meanings None p q (owed_as i x)) given (adds_claim meanings p q i reply a there ready)
 
-pub does_both : (meanings : Meanings) (p q r : Pass) (i : ℕ) (reply finished : Reply) (args : Args) (done : Done) → Acts p (Claim i) reply q → is_ready (stage_at (state_of p.known) i) ≡ true → granted_by reply ≡ Some args
-    → Acts q (Finish i (stage_answer meanings q.known.setting.plan.stages i args)) finished r → HasRoom q → done.run ≡ 1 → done.won ≡ won_by finished → done.late ≡ late_by finished
+pub does_both : (meanings : Meanings) (p q r : Pass) (i : ℕ) (reply finished : Reply) (args : Args) (done : Done) → Acts p (Claim i) reply q → i < length (state_of p.known).plan.stages → is_ready (stage_at (state_of p.known) i) ≡ true → granted_by reply ≡ Some args
+    → Acts q (Finish i (stage_answer meanings (state_of q.known).plan.stages i args)) finished r → HasRoom q → done.run ≡ 1 → done.won ≡ won_by finished → done.late ≡ late_by finished
     → DoesJob meanings p r done × (length p.records < length r.records)
 unfolding adds_claim adds_owing adds_finish adds_then
-does_both meanings p q r i reply finished args done a ready given b room run won late =
-    let adds = adds_claim meanings p q i reply a ready in
-    let call = Finish i (stage_answer meanings q.known.setting.plan.stages i args) in
+does_both meanings p q r i reply finished args done a there ready given b room run won late =
+    let adds = adds_claim meanings p q i reply a there ready in
+    let call = Finish i (stage_answer meanings (state_of q.known).plan.stages i args) in
     let first : length q.records ≡ length p.records + 1 = ap (λ (h : Pass). length h.records) a.is ∙ length-append p.records (Did (length a.before + 1) (Claim i) reply ∷ []) in
     let second : length r.records ≡ length q.records + 1 = ap (λ (h : Pass). length h.records) b.is ∙ length-append q.records (Did (length b.before + 1) call finished ∷ []) in
     let calls : r.calls ≡ q.calls = ap (λ (h : Pass). h.calls) b.is in
@@ -361,7 +350,7 @@ does_both meanings p q r i reply finished args done a ready given b room run won
     let y = late_by-few finished in (
       record {
         does = record {
-          adds = adds_then meanings None (Some (i, args)) None p q r (adds_owing meanings None (owed_as i (granted_by reply)) (Some (i, args)) p q (ap (owed_as i) given) adds) (adds_finish meanings q r i args finished b);
+          adds = adds_then meanings (Some (i, args)) None p q r (adds_owing meanings None (owed_as i (granted_by reply)) (Some (i, args)) p q (ap (owed_as i) given) adds) (adds_finish meanings q r i args finished (still_there p q i (Claim i) reply a there) b);
           counts = record { run = omega arith; won = omega arith; late = omega arith };
           run_few = omega arith;
           won_few = omega arith;
@@ -382,46 +371,31 @@ pub does_end : (meanings : Meanings) (p q : Pass) (done : Done) → AddsCounted 
 unfolding adds_works
 does_end meanings p q done f = record { out = record { works = adds_works meanings p q None f.adds; owes = f.adds.owes_then }; counts = f.counts }
 
-pub ready_there : (k : Known) (i : ℕ) → lowest_ready_of (state_of k) ≡ Some i → i < length k.setting.plan.stages
-ready_there k i e =
-    let s : State = start k.setting.plan in
-    let within = lowest_ready-within (state_of k) i e in
-    let kept = (state_after-shape s k.seen).all_stages in
-    let new = length-new_states [] k.setting.plan.stages (replicate (length k.setting.plan.stages) Pending) in
-    let n : length (replicate (length k.setting.plan.stages) Pending) ≡ length k.setting.plan.stages = length-replicate (length k.setting.plan.stages) Pending in
-    omega arith
-
 pub ready_is : (k : Known) (i : ℕ) → lowest_ready_of (state_of k) ≡ Some i → is_ready (stage_at (state_of k) i) ≡ true
 ready_is k i e = lowest_ready-is_ready (state_of k) i e
 
 -- ---- a call that met a fault
 
-pub claim_meets : (meanings : Meanings) (d : Desk) (p q : Pass) (i : ℕ) (fault : DeskFault) → lowest_ready_of (state_of p.known) ≡ Some i → Follows p q → q.known.looks ≡ p.known.looks → IsDue q d (event_by p.known.caller (Claim i)) fault
-    → StopsJob meanings d p q fault
-claim_meets meanings d p q i fault ready left looks due = record {
-  stood = p;
-  owes = None;
-  adds = adds_itself meanings None p;
-  meets = record { call = Claim i; next = (i, ready, refl); there = ready_there p.known i ready; left = left; looks = looks; due = due };
-}
-
-pub finish_meets : (meanings : Meanings) (d : Desk) (p q : Pass) (i : ℕ) (args : Args) (answer : Answer) (r : Result Reply DeskFault) → answer ≡ stage_answer meanings d.setting.plan.stages i args → p.known.setting ≡ d.setting → i < length p.known.setting.plan.stages
-    → OnErr r (Follows p q) → q.known.looks ≡ p.known.looks → IfErr r (IsDue q d (event_by p.known.caller (Finish i answer))) → IfErr r (MeetsFault meanings d (Some (i, args)) p q)
-finish_meets meanings d p q i args answer (Ok reply) is of there left looks due = tt
-finish_meets meanings d p q i args answer (Err fault) is of there left looks due =
-    record { call = Finish i answer; next = ap (Finish i) (is ∙ ap (λ (x : Setting). stage_answer meanings x.plan.stages i args) (sym of)); there = there; left = left; looks = looks; due = due }
+pub claim_meets : (meanings : Meanings) (d : Desk) (p q : Pass) (i : ℕ) (fault : DeskFault) → lowest_ready_of (state_of p.known) ≡ Some i → IsOnStage p (event_by p.known.caller (Claim i)) → Refuses d p (Claim i) q fault → StopsJob meanings d p q fault
+claim_meets meanings d p q i fault ready there refused =
+    let left = refuses_known d p q (Claim i) fault there refused in record {
+      stood = p;
+      owes = None;
+      adds = adds_itself meanings None p;
+      meets = record { call = Claim i; next = (i, ready, refl); there = there; left = left.0; looks = left.1; due = refused.due };
+    }
 
 pub finish_stops : (meanings : Meanings) (d : Desk) (p q r : Pass) (owes : Owed) (fault : DeskFault) → AddsWork meanings None p q owes → MeetsFault meanings d owes q r fault → StopsJob meanings d p r fault
 finish_stops meanings d p q r owes fault a m = record { stood = q; owes = owes; adds = a; meets = m }
 
 -- what was done before
 pub adds_stops : (meanings : Meanings) (d : Desk) (p q : Pass) (fault : DeskFault) → StopsJob meanings d p q fault → (owes : Owed) × AddsWork meanings None p q owes
-adds_stops meanings d p q fault s = (s.owes, adds_then meanings None s.owes s.owes p s.stood q s.adds (adds_follows meanings s.owes s.stood q s.meets.left))
+adds_stops meanings d p q fault s = (s.owes, adds_then meanings s.owes s.owes p s.stood q s.adds (adds_follows meanings s.owes s.stood q s.meets.left))
 
 pub stops_then : (meanings : Meanings) (d : Desk) (p q r : Pass) (fault : DeskFault) → AddsWork meanings None p q None → StopsJob meanings d q r fault → Stops meanings d p r fault
 unfolding adds_works
 stops_then meanings d p q r fault a s =
-    let all = adds_then meanings None None s.owes p q s.stood a s.adds in record {
+    let all = adds_then meanings None s.owes p q s.stood a s.adds in record {
       stood = s.stood;
       works = adds_works meanings p s.stood s.owes all;
       meets = subst (λ (o : Owed). MeetsFault meanings d o s.stood r fault) (sym all.owes_then) s.meets;

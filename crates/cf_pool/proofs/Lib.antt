@@ -1,3 +1,4 @@
+pub mod Working
 pub mod Waiting
 pub mod Jobs
 pub mod OpenClaims

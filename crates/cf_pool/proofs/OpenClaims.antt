@@ -13,7 +13,7 @@ use Rattle.cf_plan.specs.declared.forms.Args.{Args}
 use Rattle.cf_plan.specs.declared.forms.Answer.{Answer}
 use Rattle.cf_plan.specs.declared.limits.Limit.{Limit}
 use Rattle.cf_plan.specs.Forms.{landing}
-use Rattle.cf_plan.specs.Plans.{Planned, form_at}
+use Rattle.cf_plan.specs.Plans.{Planned, PlannedStage, attached_stage, form_at}
 use Rattle.cf_plan.specs.Meanings.{Meanings}
 use Rattle.cf_core.specs.declared.stage.Stage.{Stage}
 use Rattle.cf_core.specs.declared.stage.Stage.TheVariants.{Pending, Ready, Claimed, Linked, Settled}
@@ -21,27 +21,28 @@ use Rattle.cf_core.specs.declared.replies.Claimed.TheVariants.{Granted, Settled 
 use Rattle.cf_core.specs.declared.replies.Finished.TheVariants.{NotYours}
 use Rattle.cf_core.specs.declared.replies.Ticked.TheVariants.{Fired, Past}
 use Rattle.cf_core.specs.declared.events.Event.{Event}
-use Rattle.cf_core.specs.declared.events.Event.TheVariants.{Complete as Completes, Fail as Fails, Cancel as Cancels, Claim as Claims, Finish as Finishes, Tick as Ticks}
+use Rattle.cf_core.specs.declared.events.Event.TheVariants.{Complete as Completes, Fail as Fails, Cancel as Cancels, Claim as Claims, Finish as Finishes, Tick as Ticks, Attach as Attaches}
 use Rattle.cf_core.specs.declared.events.Reply.{Reply}
-use Rattle.cf_core.specs.declared.events.Reply.TheVariants.{Flag as ToldFlag, Claim as ToldClaim, Finish as ToldFinish, Tick as ToldTick}
+use Rattle.cf_core.specs.declared.events.Reply.TheVariants.{Flag as ToldFlag, Claim as ToldClaim, Finish as ToldFinish, Tick as ToldTick, Attach as ToldAttach}
 use Rattle.cf_core.specs.States.{State, start, stage_at, claim_at, outcome_at}
-use Rattle.cf_core.specs.Events.{answered, state_after, claimed_by, finished_by, settled_by, settling, cancelled_by, firing, due_limits, limit_outcome, source_outcome}
+use Rattle.cf_core.specs.Events.{answered, state_after, claimed_by, finished_by, settled_by, settling, cancelled_by, firing, due_limits, limit_outcome, source_outcome, attached_by}
 use Rattle.cf_event.specs.Words.{who_of}
-use Rattle.cf_desk.specs.declared.calls.Call.TheVariants.{Complete, Fail, Cancel, Claim, Finish, Tick}
+use Rattle.cf_desk.specs.declared.calls.Call.TheVariants.{Claim, Finish}
 use Rattle.cf_desk.specs.declared.calls.Rec.{Rec}
 use Rattle.cf_desk.specs.declared.calls.Rec.TheVariants.{Did, Saw}
 use Rattle.cf_desk.specs.Keepings.{IsKeptFit, pass_did}
 use Rattle.cf_desk.specs.Log.{state_from}
 use Rattle.cf_desk.specs.Records.{Fits}
 use Rattle.cf_desk.specs.Rule.{count_in}
-use Rattle.cf_desk.specs.Views.{Pass, knowns}
+use Rattle.cf_desk.specs.Views.{Pass, knowns, state_of}
 use Rattle.cf_pool.specs.Claims.{WasOpen, WereOpen, open_after, open_by}
 use Rattle.cf_pool.specs.Records.{recorded}
-use Rattle.cf_pool.specs.Works.{AreWork, Owed, WorksOut, owed_after}
+use Rattle.cf_pool.specs.Works.{AreWork, IsNext, Owed, WorksOut, owed_after, owed_by}
 use Rattle.cf_pool.proofs.Racing.Joining.{absent_records, each_pass}
 use Rattle.cf_pool.proofs.Racing.Owing.{rec_of}
 use Rattle.cf_pool.proofs.Racing.Quiet.{landed_claims}
 use Rattle.cf_pool.proofs.Racing.Recorded.{fits_recorded, only_dids}
+use Rattle.cf_pool.proofs.Working.{by_record}
 
 -- ---- which claims are open in a state
 
@@ -57,11 +58,15 @@ same_either : {A : Type 0} (b : Bool) (x y z : A) → x ≡ z → y ≡ z → co
 same_either true x y z e f = e
 same_either false x y z e f = f
 
--- an event that leaves the claims, with a record that opens and closes none
-held_still : (held : ℕ → ℕ → Bool) (s t : State) (who : ℕ) (r : Rec) → t.claims ≡ s.claims → ((i : ℕ) (was : Bool) → open_by i was r ≡ was) → AllHeld held s → AllHeld (held_with held who r) t
-held_still held s t who r same leaves h i c e =
-    let old = h i c (ap (λ (l : List (Option ℕ)). unwrap_or (slice_get l i) None) (sym same) ∙ e) in
+-- an event that opens no claim, with a record that opens and closes none
+held_less : (held : ℕ → ℕ → Bool) (s t : State) (who : ℕ) (r : Rec) → ((i c : ℕ) → claim_at t i ≡ Some c → claim_at s i ≡ Some c) → ((i : ℕ) (was : Bool) → open_by i was r ≡ was) → AllHeld held s → AllHeld (held_with held who r) t
+held_less held s t who r before leaves h i c e =
+    let old = h i c (before i c e) in
     same_either (eqb who c) (open_by i (held c i) r) (held c i) true (leaves i (held c i) ∙ old) old
+
+-- one that leaves the claims
+held_still : (held : ℕ → ℕ → Bool) (s t : State) (who : ℕ) (r : Rec) → t.claims ≡ s.claims → ((i : ℕ) (was : Bool) → open_by i was r ≡ was) → AllHeld held s → AllHeld (held_with held who r) t
+held_still held s t who r same = held_less held s t who r (λ i c e. ap (λ (l : List (Option ℕ)). unwrap_or (slice_get l i) None) (sym same) ∙ e)
 
 settled_claims : (x : Option Outcome) (s : State) (i : ℕ) (o : Outcome) → (settled_by x s i o).1.claims ≡ s.claims
 settled_claims (Some old) s i o = refl
@@ -80,6 +85,17 @@ firing_claims (l ∷ limits) count s =
 ticked_claims : {X : Type 0} (b : Bool) (s : State) (p q : X × State) → p.1.claims ≡ s.claims → q.1.claims ≡ s.claims → (cond b p q).1.claims ≡ s.claims
 ticked_claims true s p q e f = e
 ticked_claims false s p q e f = f
+
+-- on an attached stage there is no claim
+pushed_none : (xs : List (Option ℕ)) (i c : ℕ) → unwrap_or (slice_get (xs ++ None ∷ []) i) None ≡ Some c → unwrap_or (slice_get xs i) None ≡ Some c
+pushed_none [] zero c e = e
+pushed_none [] (suc i) c e = e
+pushed_none (x ∷ xs) zero c e = e
+pushed_none (x ∷ xs) (suc i) c e = pushed_none xs i c e
+
+attached_none : (room : ℕ) (s : State) (new : PlannedStage) (i c : ℕ) → claim_at ((attached_by room s new).1) i ≡ Some c → claim_at s i ≡ Some c
+attached_none zero s new i c e = e
+attached_none (suc room) s new i c e = pushed_none s.claims i c e
 
 -- ---- a claim
 
@@ -159,6 +175,8 @@ event_held held n s (Finishes who i answer) h = finish_held (option_map_or (λ w
 event_held held n s (Ticks who now) h =
     let fired = firing 0 s (due_limits s now) in
     held_still held s ((answered s (Ticks who now)).1) who (rec_of n (Ticks who now) ((answered s (Ticks who now)).0)) (ticked_claims (nat_lt now s.moment) s (Past, s) (Fired fired.0, record fired.1 { moment = now; used = s.used + length (due_limits s now) }) refl (firing_claims (due_limits s now) 0 s)) (λ j was. refl) h
+event_held held n s (Attaches who form of function) h =
+    held_less held s ((answered s (Attaches who form of function)).1) who (rec_of n (Attaches who form of function) ((answered s (Attaches who form of function)).0)) (attached_none s.plan.room s (attached_stage form of function)) (λ j was. refl) h
 
 open_here : (i : ℕ) (b was : Bool) (r : Rec) (rs : List Rec) → open_after i (cond b (open_by i was r) was) rs ≡ open_after i was (cond b (r ∷ rs) rs)
 open_here i true was r rs = refl
@@ -203,12 +221,28 @@ granted_owes i j was none e = split (i == j) refl e
     split true t f = grind (arith, nat_tests)
     split false t f = absurd (none f)
 
-finished_owes : (i j k : ℕ) (was : Bool) → k ≡ j → (was ≡ true → j ≡ i) → cond (i == k) false was ≡ true → ⊥
-finished_owes i j k was is owed e = split (i == k) refl e
+finished_owes : (i j : ℕ) (was : Bool) → (was ≡ true → j ≡ i) → cond (i == j) false was ≡ true → ⊥
+finished_owes i j was owed e = split (i == j) refl e
   where
-    split : (b : Bool) → (i == k) ≡ b → cond b false was ≡ true → ⊥
+    split : (b : Bool) → (i == j) ≡ b → cond b false was ≡ true → ⊥
     split true t f = cc
-    split false t f = let here : i ≡ k = sym (owed f) ∙ sym is in let same = same_number i k here in let wrong : true ≡ false = sym same ∙ t in let no : ⊥ = cc in no
+    split false t f = let same = same_number i j (sym (owed f)) in let wrong : true ≡ false = sym same ∙ t in let no : ⊥ = cc in no
+
+claim_owes : (place i j : ℕ) (was : Bool) (reply : Reply) → (was ≡ true → ⊥) → open_by i was (Did place (Claim j) reply) ≡ true → OwesStage (owed_by (Did place (Claim j) reply)) i
+claim_owes place i j was (ToldClaim (Granted args)) none e = granted_owes i j was none e
+claim_owes place i j was (ToldClaim IsSettled) none e = none e
+claim_owes place i j was (ToldClaim Taken) none e = none e
+claim_owes place i j was (ToldClaim NotReady) none e = none e
+claim_owes place i j was (ToldFlag b) none e = none e
+claim_owes place i j was (ToldFinish f) none e = none e
+claim_owes place i j was (ToldTick t) none e = none e
+claim_owes place i j was (ToldAttach a) none e = none e
+
+-- what a record of work leaves open is owed
+next_owes : (meanings : Meanings) (plan : Planned) (i : ℕ) (was : Bool) (o : Owed) (r : Rec) → IsNext meanings plan o r → (was ≡ true → OwesStage o i) → open_by i was r ≡ true → OwesStage (owed_by r) i
+next_owes meanings plan i was = by_record meanings plan (λ o r. (was ≡ true → OwesStage o i) → open_by i was r ≡ true → OwesStage (owed_by r) i)
+    (λ place j reply l. claim_owes place i j was reply)
+    (λ place j args answer reply is. finished_owes i j was)
 
 at_end : (o : Owed) (i : ℕ) (was : Bool) → o ≡ None → (was ≡ true → OwesStage o i) → was ≡ false
 at_end None i true e h = absurd (h refl)
@@ -218,26 +252,7 @@ at_end o i false e h = refl
 -- work that owes nothing at its end leaves open what was open before alone
 closes : (meanings : Meanings) (plan : Planned) (o : Owed) (i : ℕ) (was : Bool) (rs : List Rec) → AreWork meanings plan o rs → owed_after o rs ≡ None → (was ≡ true → OwesStage o i) → open_after i was rs ≡ false
 closes meanings plan o i was [] work out h = at_end o i was out h
-closes meanings plan None i was (Did place (Claim j) (ToldClaim (Granted args)) ∷ rs) work out h = closes meanings plan (Some (j, args)) i (cond (i == j) true was) rs work.1 out (granted_owes i j was h)
-closes meanings plan None i was (Did place (Claim j) (ToldClaim IsSettled) ∷ rs) work out h = closes meanings plan None i was rs work.1 out h
-closes meanings plan None i was (Did place (Claim j) (ToldClaim Taken) ∷ rs) work out h = closes meanings plan None i was rs work.1 out h
-closes meanings plan None i was (Did place (Claim j) (ToldClaim NotReady) ∷ rs) work out h = closes meanings plan None i was rs work.1 out h
-closes meanings plan None i was (Did place (Claim j) (ToldFlag b) ∷ rs) work out h = closes meanings plan None i was rs work.1 out h
-closes meanings plan None i was (Did place (Claim j) (ToldFinish f) ∷ rs) work out h = closes meanings plan None i was rs work.1 out h
-closes meanings plan None i was (Did place (Claim j) (ToldTick t) ∷ rs) work out h = closes meanings plan None i was rs work.1 out h
-closes meanings plan None i was (Did place (Complete j v) reply ∷ rs) work out h = absurd work.0
-closes meanings plan None i was (Did place (Fail j code) reply ∷ rs) work out h = absurd work.0
-closes meanings plan None i was (Did place (Cancel j) reply ∷ rs) work out h = absurd work.0
-closes meanings plan None i was (Did place (Finish j answer) reply ∷ rs) work out h = absurd work.0
-closes meanings plan None i was (Did place (Tick now) reply ∷ rs) work out h = absurd work.0
-closes meanings plan None i was (Saw place ask answer ∷ rs) work out h = absurd work.0
-closes meanings plan (Some (j, args)) i was (Did place (Finish k answer) reply ∷ rs) work out h = closes meanings plan None i (cond (i == k) false was) rs work.1 out (finished_owes i j k was work.0.0 h)
-closes meanings plan (Some owed) i was (Did place (Complete j v) reply ∷ rs) work out h = absurd work.0
-closes meanings plan (Some owed) i was (Did place (Fail j code) reply ∷ rs) work out h = absurd work.0
-closes meanings plan (Some owed) i was (Did place (Cancel j) reply ∷ rs) work out h = absurd work.0
-closes meanings plan (Some owed) i was (Did place (Claim j) reply ∷ rs) work out h = absurd work.0
-closes meanings plan (Some owed) i was (Did place (Tick now) reply ∷ rs) work out h = absurd work.0
-closes meanings plan (Some owed) i was (Saw place ask answer ∷ rs) work out h = absurd work.0
+closes meanings plan o i was (r ∷ rs) work out h = closes meanings plan (owed_by r) i (open_by i was r) rs work.1 out (next_owes meanings plan i was o r work.0 h)
 
 -- so what is open after a worker's records was open before it began
 was_open : (meanings : Meanings) (p q : Pass) (i : ℕ) → WorksOut meanings p q → open_after i false q.records ≡ true → open_after i false p.records ≡ true
@@ -249,7 +264,7 @@ was_open meanings p q i w e = split (open_after i false p.records) refl
     split : (b : Bool) → open_after i false p.records ≡ b → b ≡ true
     split true t = refl
     split false t =
-        let none = closes meanings p.known.setting.plan None i false w.works.more w.works.work w.owes (λ f. (let no : ⊥ = cc in no)) in
+        let none = closes meanings (state_of q.known).plan None i false w.works.more w.works.work w.owes (λ f. (let no : ⊥ = cc in no)) in
         let wrong : true ≡ false = sym after ∙ ap (λ (b : Bool). open_after i b w.works.more) t ∙ none in
         let no : ⊥ = cc in absurd no
 

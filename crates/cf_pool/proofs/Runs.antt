@@ -2,38 +2,39 @@
 use Rattle.std.proofs.Common.{◌≡◌, ℕ, zero, suc, ◌+◌, ◌<◌, ◌≤◌, leb, ⊎_elim, Bool, true, false, Option, Some, None, List, [], ◌∷◌, ◌++◌, length, map, All, sym, refl, ap, ◌∙◌, subst, append-nil, append_assoc, length-append, take, drop, arith}
 use Rattle.std.specs.Prelude.{slice_index_or}
 use Rattle.std.specs.List.{AllZip, Contains, insert}
-use Rattle.std.proofs.lemmas.List.Elements.{All-head, All-tail, All-nil, All-cons, All-contains, All-weaker, Contains-append_cases, Contains-append_left, Contains-append_right}
+use Rattle.std.proofs.lemmas.List.Elements.{All-head, All-tail, All-nil, All-cons, All-contains, Contains-append_cases, Contains-append_left, Contains-append_right}
 use Rattle.cf_core.specs.declared.events.Event.{Event}
-use Rattle.cf_core.specs.Ranges.{EventFits}
-use Rattle.cf_core.specs.States.{State, lowest_ready_of}
+use Rattle.cf_core.specs.States.{State, lowest_ready_of, start}
 use Rattle.cf_event.specs.Words.{who_of}
 use Rattle.cf_desk.specs.declared.calls.Call.{Call}
 use Rattle.cf_desk.specs.declared.calls.Closed.{Closed}
 use Rattle.cf_desk.specs.declared.calls.Kept.{Kept}
 use Rattle.cf_desk.specs.declared.faults.DeskFault.{DeskFault}
-use Rattle.cf_desk.specs.declared.faults.DeskFault.TheVariants.{LogFull, NoStage, PassFull}
+use Rattle.cf_desk.specs.declared.faults.DeskFault.TheVariants.{BadAttach, LogFull, NoStage, PassFull}
 use Rattle.cf_desk.specs.declared.row.Known.{Known}
-use Rattle.cf_desk.specs.declared.row.Setting.{Setting}
 use Rattle.cf_desk.specs.Calls.{event_by}
-use Rattle.cf_desk.specs.Faults.{IsDue, IsOnStage}
+use Rattle.cf_desk.specs.Faults.{AttachFits, IsDue, IsOnStage}
 use Rattle.cf_desk.specs.Keepings.{AllFit, AreKept, IsKeptFit, pass_kept}
-use Rattle.cf_desk.specs.Log.{Catches, IsEventOf, state_from}
+use Rattle.cf_desk.specs.Log.{Catches, state_from}
 use Rattle.cf_desk.specs.Rule.{AllShort, longer_if, longest}
 use Rattle.cf_desk.specs.Views.{Closes, Follows, IsOf, Pass, Desk, knowns, state_of}
+use Rattle.cf_desk.proofs.Events.{events_each}
 use Rattle.cf_desk.proofs.Gathers.{all_at}
+use Rattle.cf_desk.proofs.Lists.{all_front}
 use Rattle.cf_desk.proofs.Meets.{short_more}
-use Rattle.cf_desk.proofs.Passes.{same_follows}
+use Rattle.cf_desk.proofs.Passes.{same_follows, still_on_stage}
 use Rattle.cf_plan.specs.Meanings.{Meanings}
 use Rattle.cf_pool.specs.declared.pool.Met.{Met}
 use Rattle.cf_pool.specs.declared.pool.Worked.{Worked}
 use Rattle.cf_pool.specs.Closings.{IsDueToTell, IsTold, Ran, RanOut}
 use Rattle.cf_pool.specs.Runs.{EndsBelow, EndsIf, HasEnded, HasWorked, IsFirst, IsLowest, IsMet, IsWorkedFrom, OfEach, SeesMore, SeesOn, Stop, WasStopped, first_with, stop_of}
-use Rattle.cf_pool.specs.Stops.{Stops}
+use Rattle.cf_pool.specs.Stops.{IsNextCall, Stops}
 use Rattle.cf_pool.specs.Waits.{Ends, Waits, last_place}
-use Rattle.cf_pool.specs.Works.{AreWork, Works, WorksOut}
+use Rattle.cf_pool.specs.Works.{Owed, Works, WorksOut, owed_after}
 use Rattle.cf_pool.proofs.OpenClaims.{were_open}
 use Rattle.cf_pool.proofs.Pools.{first_more, sees_itself, sees_longer}
 use Rattle.cf_pool.proofs.Waiting.{idles_since, last_place-mono, looks_from}
+use Rattle.cf_pool.proofs.Working.{pass_grows, work_grown}
 
 -- ---- work, and then or before it only more that was seen
 
@@ -44,7 +45,7 @@ works_before meanings p q r w s = record {
   goes_on = s.caught.joined ∙ ap (λ l. l ++ s.caught.others) w.goes_on ∙ append_assoc p.known.seen w.seen s.caught.others;
   more = w.more;
   records = s.records ∙ w.records;
-  work = w.work;
+  work = work_grown meanings (state_of q.known) (state_of r.known) w.more (pass_grows q r s.caught.others s.same.1 s.caught.joined) w.work;
   once = w.once;
 }
 
@@ -55,7 +56,7 @@ works_after meanings p q r s w = record {
   goes_on = w.goes_on ∙ ap (λ l. l ++ w.seen) s.caught.joined ∙ append_assoc p.known.seen s.caught.others w.seen;
   more = w.more;
   records = w.records ∙ ap (λ l. l ++ w.more) s.records;
-  work = subst (λ (x : Setting). AreWork meanings x.plan None w.more) s.same.1 w.work;
+  work = w.work;
   once = w.once;
 }
 
@@ -213,10 +214,6 @@ all_met meanings d p q fault ps qs ws (Some met) own f g h =
 
 -- ---- the caller's own pass, which comes first
 
-pub all_front : {A : Type 0} (P : A → Type 0) (xs ys : List A) → All P (xs ++ ys) → All P xs
-all_front P [] ys h = All-nil P
-all_front P (x ∷ xs) ys h = All-cons P x xs (All-head P x (xs ++ ys) h) (all_front P xs ys (All-tail P x (xs ++ ys) h))
-
 all_rotated : {A : Type 0} (P : A → Type 0) (xs : List A) (x : A) → All P (xs ++ x ∷ []) → All P (x ∷ xs)
 all_rotated P xs x h = All-cons P x xs (all_at P xs x [] h) (all_front P xs (x ∷ []) h)
 
@@ -359,20 +356,26 @@ back_out meanings d mine met done ps qs ws others fault b history kept graph s n
       none = ap lowest_ready_of same ∙ (ended meanings d 1 met done fault (first_none others done.known.caller fault none) b.mine_works).none;
       claims = were_open meanings d.setting.plan d.setting.callers history graph (mine ∷ ps) (done ∷ qs) (each_out meanings d (mine ∷ ps) (done ∷ qs) each)
           (subst (All (IsKeptFit d.setting.plan history)) s.kept_are s.fit.each) s.closes.each
-          (All-weaker (IsEventOf d.setting) (λ e. who_of e < d.setting.callers) (λ e h. h.caller) history s.closes.events) s.graph_is;
+          (events_each (λ e. who_of e < d.setting.callers) d.setting (λ t e h. h.caller) (start d.setting.plan) history s.closes.events) s.graph_is;
     }
+
+-- work attaches nothing
+next_fits : (meanings : Meanings) (p : Pass) (owed : Owed) (call : Call) (who functions : ℕ) → IsNextCall meanings p owed call → AttachFits functions (event_by who call)
+next_fits meanings p None call who functions next = subst (λ (c : Call). AttachFits functions (event_by who c)) (sym next.2) tt
+next_fits meanings p (Some owed) call who functions next = subst (λ (c : Call). AttachFits functions (event_by who c)) (sym next) tt
 
 -- why the fault is told
 due_told : (d : Desk) (qs : List Pass) (stood stopped after : Pass) (history : List Event) (call : Call) (fault : DeskFault) → Closes d qs history → Contains qs after → Follows stood stopped → SeesMore stopped after
-    → IsOnStage stood (event_by stood.known.caller call) → IsDue stopped d (event_by stood.known.caller call) fault → IsDueToTell d.words qs history fault
-due_told d qs stood stopped after history call LogFull c there f s stage due =
+    → ((functions : ℕ) → AttachFits functions (event_by stood.known.caller call)) → IsOnStage stood (event_by stood.known.caller call) → IsDue stopped d (event_by stood.known.caller call) fault → IsDueToTell d.words qs history fault
+due_told d qs stood stopped after history call LogFull c there f s fits stage due =
     let begins : Catches after.known.caller after.known.seen history = All-contains (λ (p : Pass). Catches p.known.caller p.known.seen history) qs after c.begins there in
     let longer = sees_longer stopped after s in
-    let full : length stopped.known.seen ≡ d.words = due.2 in
+    let full : length stopped.known.seen ≡ d.words = due.3 in
     let e = ap length begins.joined in let l = length-append after.known.seen begins.others in let few = c.room in omega arith
-due_told d qs stood stopped after history call PassFull c there f s stage due = (after, there, ap length s.records ∙ due.1 ∙ sym s.same.3)
-due_told d qs stood stopped after history call NoStage c there f s stage due =
-    absurd (due (subst (λ (x : Setting). EventFits (length x.plan.stages) (event_by stood.known.caller call)) (sym (same_follows stood stopped f).1) stage))
+due_told d qs stood stopped after history call PassFull c there f s fits stage due = (after, there, ap length s.records ∙ due.2 ∙ sym s.same.3)
+due_told d qs stood stopped after history call BadAttach c there f s fits stage due = absurd (due.1 (fits stopped.known.setting.functions))
+due_told d qs stood stopped after history call NoStage c there f s fits stage due =
+    absurd (due (still_on_stage stood stopped (event_by stood.known.caller call) f stage))
 
 pub back_told : (meanings : Meanings) (d : Desk) (mine met done : Pass) (ps qs : List Pass) (ws : List Worked) (others : Option Met) (fault : Option DeskFault) → Back meanings d mine met done ps qs ws others fault
     → (closed : Closed) → Shut d (done ∷ qs) closed.history.items closed.passes.items closed.graph.state
@@ -384,7 +387,8 @@ back_told meanings d mine met done ps qs ws others fault b closed shut first som
     let stops = lowest.stopped.stops in
     record {
       ran = back_ran meanings d mine met done ps qs ws others fault b closed.history.items closed.passes.items closed.graph.state shut;
-      due = due_told d (done ∷ qs) stops.stood lowest.stopped.stopped lowest.after closed.history.items stops.meets.call first.fault shut.closes lowest.there stops.meets.left lowest.stopped.since stops.meets.there stops.meets.due;
+      due = due_told d (done ∷ qs) stops.stood lowest.stopped.stopped lowest.after closed.history.items stops.meets.call first.fault shut.closes lowest.there stops.meets.left lowest.stopped.since
+          (λ functions. next_fits meanings stops.stood (owed_after None stops.works.more) stops.meets.call stops.stood.known.caller functions stops.meets.next) stops.meets.there stops.meets.due;
       caller = first.caller;
       lowest = lowest;
     }

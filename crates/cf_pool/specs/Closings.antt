@@ -7,7 +7,7 @@ use Rattle.cf_plan.specs.Meanings.{Meanings}
 use Rattle.cf_desk.specs.declared.calls.Closed.{Closed}
 use Rattle.cf_desk.specs.declared.calls.Kept.{Kept}
 use Rattle.cf_desk.specs.declared.faults.DeskFault.{DeskFault}
-use Rattle.cf_desk.specs.declared.faults.DeskFault.TheVariants.{LogFull, NoStage, PassFull}
+use Rattle.cf_desk.specs.declared.faults.DeskFault.TheVariants.{BadAttach, LogFull, NoStage, PassFull}
 use Rattle.cf_desk.specs.Keepings.{AllFit, AreKept, pass_kept}
 use Rattle.cf_desk.specs.Log.{state_from}
 use Rattle.cf_desk.specs.Views.{Closes, Desk, Pass}
@@ -38,6 +38,7 @@ abbrev pub IsDueToTell : ℕ → List Pass → List Event → DeskFault → Type
 IsDueToTell words qs history LogFull = length history ≡ words
 IsDueToTell words qs history PassFull = (q : Pass) × Contains qs q × (length q.records ≡ q.calls)
 IsDueToTell words qs history NoStage = ⊥
+IsDueToTell words qs history BadAttach = ⊥
 
 -- the closed desk after a fault: why it is told, and that it is the fault of the lowest caller that met one
 pub record IsTold (meanings : Meanings) (d : Desk) (ps : List Pass) (fault : DeskFault) (closed : Closed) : Type 0 where

@@ -17,15 +17,16 @@ use Rattle.cf_pool.specs.Counting.{Counts}
 use Rattle.cf_pool.specs.Stops.{MeetsFault}
 use Rattle.cf_pool.specs.Waits.{last_place}
 
--- The same pass has seen more, and has done work: where this was owed before, that is owed after. Each stage that it claimed
--- could be claimed before in what it had seen, and can't be claimed any more after.
+-- The same pass has seen more, and has done work over the plan as it has seen it last: where this was owed before, that is owed
+-- after. Each stage that it claimed could be claimed before in what it had seen, or wasn't there yet, and can't be claimed any more
+-- after.
 pub record AddsWork (meanings : Meanings) (owed : Owed) (p q : Pass) (owes : Owed) : Type 0 where
   pub same : IsSamePass p q
   pub seen : List Event
   pub goes_on : q.known.seen ≡ p.known.seen ++ seen
   pub more : List Rec
   pub records : q.records ≡ p.records ++ more
-  pub work : AreWork meanings p.known.setting.plan owed more
+  pub work : AreWork meanings (state_of q.known).plan owed more
   pub owes_then : owed_after owed more ≡ owes
   pub once : (i : ℕ) → claims_of i more ≤ 1
   pub fresh : (i : ℕ) → 0 < claims_of i more → is_claimable (stage_at (state_of p.known) i) ≡ true

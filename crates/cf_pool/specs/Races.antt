@@ -41,10 +41,11 @@ IsWorkHistory meanings granted s (e ∷ events) =
 abbrev pub IsByWorker : ℕ → Event → Type 0
 IsByWorker workers e = who_of e ≤ workers
 
--- The plan is one that a builder built, and the state comes after a history that begins with the steps, goes on with work alone,
--- by no more callers than so many workers, and leaves nothing ready or claimed.
+-- The plan is one that a builder built, and the state is one of it, after a history that begins with the steps, goes on with work
+-- alone, by no more callers than so many workers, and leaves nothing ready or claimed.
 pub record IsRaced (meanings : Meanings) (plan : Planned) (steps : List Event) (workers : ℕ) (s : State) : Type 0 where
   pub built : IsBuilt plan
+  pub of_plan : s.plan ≡ plan
   pub work : List Event
   pub done : IsWorkHistory meanings (grants_after nothing_granted (start plan) steps) (state_after (start plan) steps) work
   pub by : All (IsByWorker workers) work

@@ -14,7 +14,7 @@ use Rattle.cf_pool.specs.Works.{Owed, Works, owed_after}
 -- owes, with what the stage's function answers.
 abbrev pub IsNextCall : Meanings → Pass → Owed → Call → Type 0
 IsNextCall meanings p None call = (i : ℕ) × (lowest_ready_of (state_of p.known) ≡ Some i) × (call ≡ Claim i)
-IsNextCall meanings p (Some owed) call = call ≡ Finish owed.0 (stage_answer meanings p.known.setting.plan.stages owed.0 owed.1)
+IsNextCall meanings p (Some owed) call = call ≡ Finish owed.0 (stage_answer meanings (state_of p.known).plan.stages owed.0 owed.1)
 
 -- The next call of a worker that owes this, on a stage of the plan, is refused for this fault. Its pass has then only seen more
 -- events of others.

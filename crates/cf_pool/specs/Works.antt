@@ -1,5 +1,5 @@
 -- What a worker adds to its pass.
-use Rattle.std.specs.Prelude.{◌≡◌, ℕ, ◌+◌, ◌≤◌, ◌==◌, Option, Some, None, List, [], ◌∷◌, ◌++◌, if◌then◌else◌}
+use Rattle.std.specs.Prelude.{◌≡◌, ℕ, ◌+◌, ◌<◌, ◌≤◌, ◌==◌, Option, Some, None, List, [], ◌∷◌, ◌++◌, length, if◌then◌else◌}
 use Rattle.cf_plan.specs.declared.forms.Args.{Args}
 use Rattle.cf_plan.specs.Plans.{Planned}
 use Rattle.cf_core.specs.declared.events.Event.{Event}
@@ -9,7 +9,7 @@ use Rattle.cf_plan.specs.Meanings.{Meanings, stage_answer}
 use Rattle.cf_desk.specs.declared.calls.Call.TheVariants.{Claim, Finish}
 use Rattle.cf_desk.specs.declared.calls.Rec.{Rec}
 use Rattle.cf_desk.specs.declared.calls.Rec.TheVariants.{Did}
-use Rattle.cf_desk.specs.Views.{Pass, IsSamePass}
+use Rattle.cf_desk.specs.Views.{Pass, IsSamePass, state_of}
 
 -- what a worker owes after a record: the finish of a stage whose claim was granted, with the arguments
 abbrev pub Owed : Type 0
@@ -19,9 +19,9 @@ abbrev pub owed_by : Rec → Owed
 owed_by (Did place (Claim i) (ToldClaim (Granted args))) = Some (i, args)
 owed_by r = None
 
--- the record may come where this is owed: a claim where nothing is, and else the finish with what the stage's function answers
+-- the record may come where this is owed: where nothing is, a claim of a stage of the plan, and else the finish with what the stage's function answers
 abbrev pub IsNext : Meanings → Planned → Owed → Rec → Type 0
-IsNext meanings plan None (Did place (Claim i) reply) = Unit {0}
+IsNext meanings plan None (Did place (Claim i) reply) = i < length plan.stages
 IsNext meanings plan (Some owed) (Did place (Finish i answer) reply) =
     (i ≡ owed.0) × (answer ≡ stage_answer meanings plan.stages i owed.1)
 IsNext meanings plan owed r = ⊥
@@ -45,14 +45,14 @@ abbrev pub claims_of : ℕ → List Rec → ℕ
 claims_of i [] = 0
 claims_of i (r ∷ rs) = claims_by i r + claims_of i rs
 
--- the same pass has seen more, and has done work: it claimed no stage twice
+-- the same pass has seen more, and has done work over the plan as it has seen it last: it claimed no stage twice
 pub record Works (meanings : Meanings) (p q : Pass) : Type 0 where
   pub same : IsSamePass p q
   pub seen : List Event
   pub goes_on : q.known.seen ≡ p.known.seen ++ seen
   pub more : List Rec
   pub records : q.records ≡ p.records ++ more
-  pub work : AreWork meanings p.known.setting.plan None more
+  pub work : AreWork meanings (state_of q.known).plan None more
   pub once : (i : ℕ) → claims_of i more ≤ 1
 
 -- and it owes nothing

@@ -2,7 +2,8 @@
 //!
 //! A worker looks for the lowest ready stage of what its pass has seen, claims it, calls the stage's function where the
 //! claim is granted, and finishes the stage with the answer. So each function runs on the thread of the one worker that
-//! was granted its stage, and any number of workers need no word among one another: the desk's log decides. `work` is one
+//! was granted its stage, and any number of workers need no word among one another: the desk's log decides. A stage that is
+//! attached while they work is found as any other, and its function is the one with which it was attached. `work` is one
 //! worker, on the thread of its caller. `run` starts a thread for each worker, joins them all, and closes the desk.
 //!
 //! In a `race` caller 0 settles what a plan's sources take, and then workers do all the work that there is. A race's desk

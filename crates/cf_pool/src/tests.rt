@@ -1,3 +1,4 @@
+mod attached;
 mod watched;
 
 ghost use Rattle.std.specs.Prelude.{◌≡◌, ◌+◌, ◌≤◌, All, IfOk, vec_len};

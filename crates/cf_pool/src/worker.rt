@@ -1,8 +1,9 @@
 //! What one worker does with its pass.
-ghost use Rattle.std.specs.Prelude.{◌≡◌, ◌<◌, IfErr, IfOk, None, OnOk, Some, length};
+ghost use Rattle.std.specs.Prelude.{◌≡◌, ◌<◌, IfErr, IfOk, IfSome, None, OnOk, Some, length};
 ghost use Rattle.cf_core.specs.States.{lowest_ready_of};
-ghost use Rattle.cf_desk.specs.declared.calls.Call.TheVariants.{Finish};
-ghost use Rattle.cf_desk.specs.Faults.{HasRoom};
+ghost use Rattle.cf_desk.specs.declared.calls.Call.TheVariants.{Claim, Finish};
+ghost use Rattle.cf_desk.specs.Calls.{event_by};
+ghost use Rattle.cf_desk.specs.Faults.{HasRoom, IsOnStage};
 ghost use Rattle.cf_desk.specs.Views.{Acts, Follows, IsOf, IsSamePass, state_of};
 ghost use Rattle.cf_pool.specs.Counting.{EndedWith, late_by, won_by};
 ghost use Rattle.cf_pool.specs.Jobs.{AddsWork, DoesJob, StopsJob, granted_by};
@@ -29,8 +30,9 @@ pub struct Done {
 }
 
 /// Claims the lowest ready stage, lets the gate know, calls the stage's function and finishes the stage with its answer,
-/// again and again. It ends after so many looks in a row that found nothing ready, at least one. The pass is one of this
-/// desk's. A function's number without a function is answered by nil.
+/// again and again. A stage may be one that another caller attached after the worker had started. It ends after so many
+/// looks in a row that found nothing ready, at least one. The pass is one of this desk's. A function's number without a
+/// function is answered by nil.
 ///
 /// It stops where its claim or its finish is refused, with that fault. The last claim that it was granted may then stay
 /// open.
@@ -71,6 +73,7 @@ fn next_ready(desk: &Desk, pass: &mut Pass, patience: u32) -> Option<u16>
     requires patience { 0 < patience }
     ensures seen { Follows pass.old pass.new }
     ensures told { result ≡ lowest_ready_of (state_of pass.new.known) }
+    ensures there { IfSome result (λ stage. IsOnStage pass.new (event_by pass.new.known.caller (Claim stage))) }
     ensures idles { result ≡ None → Idles desk.now patience (length pass.old.known.seen) pass.old.known.looks pass.new }
 {
     'looks: for _ in 0..patience {
@@ -92,6 +95,7 @@ fn take_job<F: StageFn, G: Gate>(
 ) -> Result<Done, DeskFault>
     requires pass { IsOf desk.now pass.old }
     requires ready { lowest_ready_of (state_of pass.old.known) ≡ Some stage }
+    requires there { IsOnStage pass.old (event_by pass.old.known.caller (Claim stage)) }
     ensures adds { (owes : Owed) × AddsWork (meanings_of F.meaning fns.now) None pass.old pass.new owes }
     ensures done { IfOk result (λ done. DoesJob (meanings_of F.meaning fns.now) pass.old pass.new done) }
     ensures more { OnOk result (length pass.old.records < length pass.new.records) }
@@ -132,14 +136,14 @@ fn finish<F: StageFn, G: Gate>(
     args: Args,
 ) -> Result<Reply, DeskFault>
     requires pass { IsOf desk.now pass.old }
-    requires stage { stage < length pass.old.known.setting.plan.stages }
-    ensures done { IfOk result (λ reply. Acts pass.old (Finish stage (stage_answer (meanings_of F.meaning fns.now) pass.old.known.setting.plan.stages stage args)) reply pass.new) }
+    requires stage { stage < length (state_of pass.old.known).plan.stages }
+    ensures done { IfOk result (λ reply. Acts pass.old (Finish stage (stage_answer (meanings_of F.meaning fns.now) (state_of pass.old.known).plan.stages stage args)) reply pass.new) }
     ensures room { OnOk result (HasRoom pass.old) }
     ensures meets { IfErr result (MeetsFault (meanings_of F.meaning fns.now) desk.now (Some (stage, args)) pass.old pass.new) }
     ensures looks { pass.new.known.looks ≡ pass.old.known.looks }
 {
     gate.before(stage, pass.caller());
-    let answer = answer_of(desk, fns, stage, &args);
+    let answer = answer_of(pass, fns, stage, &args);
     desk.act(pass, Call::Finish(stage, answer))
 }
 
@@ -158,11 +162,11 @@ fn count(finished: Reply) -> Done
 }
 
 /// What the function of a stage answers to these arguments.
-fn answer_of<F: StageFn>(desk: &Desk, fns: &[F], stage: u16, args: &Args) -> Answer
-    requires { stage < length desk.now.setting.plan.stages }
-    ensures { result ≡ stage_answer (meanings_of F.meaning fns.now) desk.now.setting.plan.stages stage args.now }
+fn answer_of<F: StageFn>(pass: &Pass, fns: &[F], stage: u16, args: &Args) -> Answer
+    requires { stage < length (state_of pass.now.known).plan.stages }
+    ensures { result ≡ stage_answer (meanings_of F.meaning fns.now) (state_of pass.now.known).plan.stages stage args.now }
 {
-    let number = desk.function(stage).unwrap_or(0);
+    let number = pass.function(stage).unwrap_or(0);
     match fns.get(number as usize) {
         None => Answer::Give(Value::Nil),
         Some(function) => function.call(args),

@@ -5,8 +5,7 @@ use Rattle.cf_outcome.specs.declared.outcome.Outcome.{Outcome}
 use Rattle.cf_plan.specs.Meanings.{meanings_of}
 use Rattle.cf_plan.specs.Plans.{Planned, PlannedStage}
 use Rattle.cf_core.specs.declared.events.Event.{Event}
-use Rattle.cf_core.specs.States.{State, outcome_at, start}
-use Rattle.cf_core.proofs.Shape.{state_after-shape}
+use Rattle.cf_core.specs.States.{State, outcome_at}
 use Rattle.cf_expr.specs.Expressions.{expr}
 use Rattle.cf_reading.specs.declared.script.Step.{Step}
 use Rattle.cf_reading.specs.declared.script.Step.TheVariants.{Does, Asks, Work, Nudge}
@@ -30,7 +29,7 @@ length-events_of (Nudge k ∷ xs) h = absurd (cc (All-head IsForRace (Nudge k) x
 pub steps_taken : (n : ℕ) (steps : List Step) → All IsForRace steps → All (StepFits n) steps → All (IsStep n) (events_of steps)
 steps_taken n [] h fits = All-nil (IsStep n)
 steps_taken n (Does e ∷ xs) h fits = All-cons (IsStep n) e (events_of xs)
-    (All-head IsForRace (Does e) xs h, All-head (StepFits n) (Does e) xs fits)
+    (All-head IsForRace (Does e) xs h, (All-head (StepFits n) (Does e) xs fits).1)
     (steps_taken n xs (All-tail IsForRace (Does e) xs h) (All-tail (StepFits n) (Does e) xs fits))
 steps_taken n (Asks a ∷ xs) h fits = absurd (cc (All-head IsForRace (Asks a) xs h))
 steps_taken n (Work ∷ xs) h fits = absurd (cc (All-head IsForRace Work xs h))
@@ -63,7 +62,6 @@ plain_lines law workers s text race plain =
     let events = events_of s.steps in
     let meanings = meanings_of func_answer s.functions in
     let raced = race.ends.raced in
-    let plan_is : race.end.plan ≡ s.plan = ap (λ (r : State). r.plan) raced.state ∙ (state_after-shape (start s.plan) (events ++ raced.work)).plan in
     race.lines
-    ∙ ap (λ (p : Planned). stage_lines (outcome_at race.end) 0 p.stages) plan_is
+    ∙ ap (λ (p : Planned). stage_lines (outcome_at race.end) 0 p.stages) raced.of_plan
     ∙ same_lines (outcome_at race.end) (expr s.plan events meanings) 0 s.plan.stages (λ j l u. law s.plan events meanings workers race.end j plain.plan plain.steps raced (omega arith))

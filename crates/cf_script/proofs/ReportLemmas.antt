@@ -4,23 +4,24 @@ use Rattle.std.proofs.Math.Seq.{drop-cons}
 use Rattle.cf_plan.specs.declared.forms.Form.TheVariants.{Source}
 use Rattle.cf_plan.specs.Plans.{Planned}
 use Rattle.cf_core.specs.States.{State, outcome_at}
-use Rattle.cf_core.specs.Laws.{SameShape}
+use Rattle.cf_core.specs.Growth.{SameShape}
 use Rattle.cf_core.proofs.Shape.{answered-shape}
 use Rattle.cf_reading.specs.declared.func.Func.{Func}
 use Rattle.cf_reading.specs.declared.script.Step.{Step}
 use Rattle.cf_reading.specs.declared.script.Step.TheVariants.{Does, Asks, Work, Nudge}
+use Rattle.cf_reading.specs.Scripts.{StepFits}
 use Rattle.cf_script.specs.Texts.{line}
 use Rattle.cf_script.specs.Reports.{after_step, after_steps, step_text, steps_lines, stage_text, stage_lines}
 use Rattle.cf_script.proofs.WorkLemmas.{same_shape, then_shape, worked-shape}
 
-pub after_step-shape : (functions : List Func) (s : State) (x : Step) → SameShape s (after_step functions s x)
-after_step-shape functions s (Does e) = answered-shape s e
-after_step-shape functions s (Asks a) = same_shape s
-after_step-shape functions s Work = worked-shape functions s
-after_step-shape functions s (Nudge k) = same_shape s
+pub after_step-shape : (functions : List Func) (s : State) (n : ℕ) (x : Step) → StepFits n x → SameShape s (after_step functions s x)
+after_step-shape functions s n (Does e) fits = answered-shape s e fits.0
+after_step-shape functions s n (Asks a) fits = same_shape s
+after_step-shape functions s n Work fits = worked-shape functions s
+after_step-shape functions s n (Nudge k) fits = same_shape s
 
-pub step_keeps : (functions : List Func) (r s u : State) (x : Step) → u ≡ after_step functions s x → SameShape r s → SameShape r u
-step_keeps functions r s u x is h = subst (λ t. SameShape r t) (sym is) (then_shape r s (after_step functions s x) h (after_step-shape functions s x))
+pub step_keeps : (functions : List Func) (n : ℕ) (r s u : State) (x : Step) → StepFits n x → u ≡ after_step functions s x → SameShape r s → SameShape r u
+step_keeps functions n r s u x fits is h = subst (λ t. SameShape r t) (sym is) (then_shape r s (after_step functions s x) h (after_step-shape functions s n x fits))
 
 -- the first of what is left
 pub cut : {X : Type 0} (xs : List X) (i : ℕ) (d : X) → i < length xs → drop i xs ≡ get_or xs i d ∷ drop (i + 1) xs

@@ -8,8 +8,8 @@ use Rattle.cf_core.specs.declared.events.Reply.TheVariants as replies
 use Rattle.cf_core.specs.States.{State, lowest_ready_of}
 use Rattle.cf_core.specs.Events.{answered}
 use Rattle.cf_core.specs.Claims.{is_claimable, claimable_count}
-use Rattle.cf_core.specs.Laws.{SameShape}
-use Rattle.cf_core.proofs.Claimable.{answered-claimable, claiming-claimable, ready-granted}
+use Rattle.cf_core.specs.Growth.{SameShape}
+use Rattle.cf_core.proofs.Claimable.{others-claimable, claiming-claimable, ready-granted}
 use Rattle.cf_core.proofs.LowestReady.{lowest_ready-is_ready}
 use Rattle.cf_core.proofs.Shape.{answered-shape}
 use Rattle.cf_plan.specs.Meanings.{meanings_of, stage_answer}
@@ -21,13 +21,14 @@ use Rattle.cf_script.specs.Working.{finished_after, worked_once, and_one, workin
 -- ---- one turn
 
 finished_after-claimable : (functions : List Func) (i : ℕ) (r : Reply) (s : State) → claimable_count (finished_after functions i (r, s)) ≤ claimable_count s
-finished_after-claimable functions i (replies.Claim (claims.Granted args)) s = answered-claimable s (Finishes 63 i (stage_answer (meanings_of func_answer functions) s.plan.stages i args))
+finished_after-claimable functions i (replies.Claim (claims.Granted args)) s = others-claimable s (Finishes 63 i (stage_answer (meanings_of func_answer functions) s.plan.stages i args)) refl
 finished_after-claimable functions i (replies.Claim claims.Settled) s = omega arith
 finished_after-claimable functions i (replies.Claim claims.Taken) s = omega arith
 finished_after-claimable functions i (replies.Claim claims.NotReady) s = omega arith
 finished_after-claimable functions i (replies.Flag b) s = omega arith
 finished_after-claimable functions i (replies.Finish f) s = omega arith
 finished_after-claimable functions i (replies.Tick t) s = omega arith
+finished_after-claimable functions i (replies.Attach a) s = omega arith
 
 -- a turn leaves fewer stages that may be claimed
 pub worked_once-claimable : (functions : List Func) (s : State) (i : ℕ) → lowest_ready_of s ≡ Some i → claimable_count (worked_once functions s i) < claimable_count s
@@ -45,18 +46,19 @@ pub then_shape : (s r t : State) → SameShape s r → SameShape r t → SameSha
 then_shape s r t f g = record { plan = g.plan ∙ f.plan; all_stages = g.all_stages ∙ f.all_stages; all_claims = g.all_claims ∙ f.all_claims }
 
 finished_after-shape : (functions : List Func) (i : ℕ) (r : Reply) (s : State) → SameShape s (finished_after functions i (r, s))
-finished_after-shape functions i (replies.Claim (claims.Granted args)) s = answered-shape s (Finishes 63 i (stage_answer (meanings_of func_answer functions) s.plan.stages i args))
+finished_after-shape functions i (replies.Claim (claims.Granted args)) s = answered-shape s (Finishes 63 i (stage_answer (meanings_of func_answer functions) s.plan.stages i args)) refl
 finished_after-shape functions i (replies.Claim claims.Settled) s = same_shape s
 finished_after-shape functions i (replies.Claim claims.Taken) s = same_shape s
 finished_after-shape functions i (replies.Claim claims.NotReady) s = same_shape s
 finished_after-shape functions i (replies.Flag b) s = same_shape s
 finished_after-shape functions i (replies.Finish f) s = same_shape s
 finished_after-shape functions i (replies.Tick t) s = same_shape s
+finished_after-shape functions i (replies.Attach a) s = same_shape s
 
 pub worked_once-shape : (functions : List Func) (s : State) (i : ℕ) → SameShape s (worked_once functions s i)
 worked_once-shape functions s i =
     let done = answered s (Claims 63 i) in
-    then_shape s done.1 (worked_once functions s i) (answered-shape s (Claims 63 i)) (finished_after-shape functions i done.0 done.1)
+    then_shape s done.1 (worked_once functions s i) (answered-shape s (Claims 63 i) refl) (finished_after-shape functions i done.0 done.1)
 
 -- ---- all turns
 

@@ -11,6 +11,8 @@ use Rattle.cf_core.specs.declared.replies.Finished.{Finished}
 use Rattle.cf_core.specs.declared.replies.Finished.TheVariants as finishes
 use Rattle.cf_core.specs.declared.replies.Ticked.{Ticked}
 use Rattle.cf_core.specs.declared.replies.Ticked.TheVariants as ticks
+use Rattle.cf_core.specs.declared.replies.Attached.{Attached}
+use Rattle.cf_core.specs.declared.replies.Attached.TheVariants as attaches
 use Rattle.cf_core.specs.declared.events.Reply.{Reply}
 use Rattle.cf_core.specs.declared.events.Reply.TheVariants as replies
 use Rattle.cf_core.specs.declared.asks.Told.{Told}
@@ -46,12 +48,17 @@ abbrev pub ticked_text : Ticked → List ℕ
 ticked_text (ticks.Fired n) = codes "fired " ++ decimal n
 ticked_text ticks.Past = codes "past"
 
+abbrev pub attached_text : Attached → List ℕ
+attached_text (attaches.At n) = codes "attached " ++ decimal n
+attached_text attaches.StagesFull = codes "stagesfull"
+
 -- what an event is answered
 abbrev pub reply_text : Reply → List ℕ
 reply_text (replies.Flag b) = flag_text b
 reply_text (replies.Claim c) = claimed_text c
 reply_text (replies.Finish f) = finished_text f
 reply_text (replies.Tick t) = ticked_text t
+reply_text (replies.Attach a) = attached_text a
 
 -- an outcome, or that there is none yet
 abbrev pub settled_text : Option Outcome → List ℕ

@@ -1,8 +1,8 @@
 //! The lines of what a graph replies and tells.
 ghost use Rattle.std.specs.Prelude.{◌≡◌, ◌++◌, OnOk, string_bytes};
-ghost use Rattle.cf_script.specs.Texts.{claimed_text, finished_text, flag_text, line, reply_text, settled_text, ticked_text, told_text};
+ghost use Rattle.cf_script.specs.Texts.{attached_text, claimed_text, finished_text, flag_text, line, reply_text, settled_text, ticked_text, told_text};
 
-use cf_core::{Claimed, Finished, Reply, Ticked, Told};
+use cf_core::{Attached, Claimed, Finished, Reply, Ticked, Told};
 use cf_outcome::Outcome;
 use cf_plan::Args;
 use std::alloc::AllocError;
@@ -17,6 +17,7 @@ pub(crate) fn write_reply(text: &mut String, reply: Reply) -> Result<(), AllocEr
         Reply::Claim(claimed) => write_claimed(text, claimed),
         Reply::Finish(finished) => write_finished(text, finished),
         Reply::Tick(ticked) => write_ticked(text, ticked),
+        Reply::Attach(attached) => write_attached(text, attached),
     }
 }
 
@@ -96,5 +97,15 @@ fn write_ticked(text: &mut String, ticked: Ticked) -> Result<(), AllocError>
     match ticked {
         Ticked::Fired(count) => writeln!(text, "fired {count}"),
         Ticked::Past => writeln!(text, "past"),
+    }
+}
+
+fn write_attached(text: &mut String, attached: Attached) -> Result<(), AllocError>
+    ensures { OnOk result
+        (string_bytes text.new ≡ string_bytes text.old ++ line (attached_text attached)) }
+{
+    match attached {
+        Attached::At(i) => writeln!(text, "attached {i}"),
+        Attached::StagesFull => writeln!(text, "stagesfull"),
     }
 }

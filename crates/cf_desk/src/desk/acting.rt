@@ -1,9 +1,10 @@
 //! The call that changes the graph.
-ghost use Rattle.std.specs.Prelude.{◌≡◌, ◌⊎◌, IfErr, IfOk, OnErr};
+ghost use Rattle.std.specs.Prelude.{◌≡◌, IfErr, IfOk, IsTrue, MatchOption};
 ghost use Rattle.cf_desk.specs.Calls.{event_by};
-ghost use Rattle.cf_desk.specs.declared.faults.DeskFault.TheVariants.{LogFull};
-ghost use Rattle.cf_desk.specs.Faults.{HasRoom, IsDue, IsOnStage};
-ghost use Rattle.cf_desk.specs.Views.{Acts, Follows, IsSamePass};
+ghost use Rattle.cf_desk.specs.Faults.{HasRoom, IsFitting, IsOnStage};
+ghost use Rattle.cf_desk.specs.Log.{IsEventOf};
+ghost use Rattle.cf_desk.specs.Results.{Answers, CaughtUp, Refuses};
+ghost use Rattle.cf_desk.specs.Views.{Acts, Follows, IsSamePass, SeesFull, state_of};
 
 use crate::calls::Call;
 use crate::desk::Desk;
@@ -13,30 +14,57 @@ use cf_core::Reply;
 
 impl Desk {
     /// Does a call of the pass's caller: adds its event to the log and its record to the pass, and gives the reply. The
-    /// pass is one of this desk's. A refused call adds nothing, but a pass that a full log refuses may have seen more
-    /// events.
+    /// pass is one of this desk's. Where it doesn't know a stage that the call names, it looks once before it answers. A
+    /// refused call adds nothing, but the pass may have seen more events: where it looked, and where the log is full.
     pub fn act(&self, p: &mut Pass, c: Call) -> Result<Reply, DeskFault>
         requires { p.old.table ≡ self.now.table }
         ensures same { IsSamePass p.old p.new }
-        ensures done { IfOk result (λ reply. Acts p.old c reply p.new) }
-        ensures due { IfOk result (λ reply. IsOnStage p.old (event_by p.old.known.caller c) × HasRoom p.old) }
-        ensures refused { OnErr result (Follows p.old p.new) }
-        ensures looks { p.new.known.looks ≡ p.old.known.looks }
-        ensures unseen { IfErr result (λ fault. (fault ≡ LogFull) ⊎ (p.new ≡ p.old)) }
-        ensures fault { IfErr result (IsDue p.new self.now (event_by p.old.known.caller c)) }
+        ensures done { IfOk result (λ reply. Answers self.now p.old c reply p.new) }
+        ensures refused { IfErr result (Refuses self.now p.old c p.new) }
     {
-        if !p.takes(c) {
+        let known = p.names(c);
+        self.learn(p, known);
+        if !p.names(c) {
             return Err(DeskFault::NoStage);
+        }
+        if !p.fits(c) {
+            return Err(DeskFault::BadAttach);
         }
         if p.left() == 0 {
             return Err(DeskFault::PassFull);
         }
+        match self.act_there(p, c) {
+            Some(reply) => Ok(reply),
+            None => Err(DeskFault::LogFull),
+        }
+    }
+
+    /// Looks once, where the pass doesn't know a stage that it has to know.
+    pub(crate) fn learn(&self, p: &mut Pass, known: bool)
+        requires { p.old.table ≡ self.now.table }
+        ensures { CaughtUp self.now (IsTrue known) p.old p.new }
+    {
+        if !known {
+            self.catch_others(p);
+        }
+    }
+
+    /// Does a call on stages that the pass knows, for whose record it has room. There is no reply where what it has then
+    /// seen fills the log.
+    fn act_there(&self, p: &mut Pass, c: Call) -> Option<Reply>
+        requires table { p.old.table ≡ self.now.table }
+        requires there { IsOnStage p.old (event_by p.old.known.caller c) }
+        requires fits { IsFitting p.old (event_by p.old.known.caller c) }
+        requires event { IsEventOf p.old.known.setting (state_of p.old.known) (event_by p.old.known.caller c) }
+        requires room { HasRoom p.old }
+        ensures { MatchOption result (Follows p.old p.new × (p.new.known.looks ≡ p.old.known.looks) × SeesFull self.now p.new) (λ reply. Acts p.old c reply p.new) }
+    {
         let words = self.words();
         'next: while p.seen() < words {
             if let Some(reply) = self.add(p, c) {
-                return Ok(reply);
+                return Some(reply);
             }
         }
-        Err(DeskFault::LogFull)
+        None
     }
 }

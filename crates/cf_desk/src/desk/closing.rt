@@ -34,6 +34,7 @@ impl Desk {
         let Desk {
             table,
             callers: _,
+            functions: _,
             opening,
             words,
             history,
@@ -75,6 +76,7 @@ fn gather(
             seat: other,
             caller,
             count,
+            functions: _,
             copy: mine,
             records,
             calls: _,

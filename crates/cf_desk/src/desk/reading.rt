@@ -1,9 +1,12 @@
 //! The calls that look, and the one by which two passes tell each other what they have seen.
-ghost use Rattle.std.specs.Prelude.{◌≡◌, ◌<◌, ◌≤◌, IfErr, IfOk, OnErr, OnOk, length};
+ghost use Rattle.std.specs.Prelude.{◌≡◌, ◌<◌, ◌≤◌, IfErr, IfOk, IfSome, length};
 ghost use Rattle.cf_core.specs.declared.asks.Ask.TheVariants.{Outcome as AsksOutcome};
 ghost use Rattle.cf_core.specs.States.{lowest_ready_of};
-ghost use Rattle.cf_desk.specs.Faults.{AsksStage, HasRoom, IsDueToRead};
-ghost use Rattle.cf_desk.specs.Views.{Follows, IsSamePass, Joins, LooksFor, LooksOnce, Meets, Reads, state_of};
+ghost use Rattle.cf_desk.specs.Calls.{event_by};
+ghost use Rattle.cf_desk.specs.declared.calls.Call.TheVariants.{Claim};
+ghost use Rattle.cf_desk.specs.Faults.{IsOnStage};
+ghost use Rattle.cf_desk.specs.Results.{RefusesToTell, Tells, TellsJoined};
+ghost use Rattle.cf_desk.specs.Views.{Follows, IsSamePass, LooksFor, LooksOnce, Meets, state_of};
 
 use crate::calls::Joined;
 use crate::desk::Desk;
@@ -13,16 +16,16 @@ use cf_core::{Ask, Told};
 
 impl Desk {
     /// Answers a question of all events that are there: loads the next word until it finds it empty, or the row at its
-    /// end. It adds a record to the pass, which is one of this desk's, and no event.
+    /// end. It adds a record to the pass, which is one of this desk's, and no event. Where the pass doesn't know the
+    /// stage, it looks once before.
     pub fn read(&self, p: &mut Pass, a: Ask) -> Result<Told, DeskFault>
         requires { p.old.table ≡ self.now.table }
         ensures same { IsSamePass p.old p.new }
-        ensures told { IfOk result (λ told. Reads p.old a told p.new) }
-        ensures looks { OnOk result (LooksOnce self.now p.old p.new) }
-        ensures due { OnOk result (AsksStage p.old a × HasRoom p.old) }
-        ensures refused { OnErr result (p.new ≡ p.old) }
-        ensures fault { IfErr result (IsDueToRead p.old a) }
+        ensures told { IfOk result (λ told. Tells self.now p.old a told p.new) }
+        ensures refused { IfErr result (RefusesToTell self.now p.old a p.new) }
     {
+        let known = p.knows(a);
+        self.learn(p, known);
         if !p.knows(a) {
             return Err(DeskFault::NoStage);
         }
@@ -34,17 +37,17 @@ impl Desk {
     }
 
     /// Looks at most so many times, at least once, for the outcome of a stage (`CompletableFuture.join`), and ends with
-    /// the first look that finds it settled. The last look is recorded as a question for the outcome.
+    /// the first look that finds it settled. The last look is recorded as a question for the outcome. Where the pass
+    /// doesn't know the stage, it looks once before.
     pub fn join(&self, p: &mut Pass, stage: u16, looks: u32) -> Result<Joined, DeskFault>
         requires table { p.old.table ≡ self.now.table }
         requires looks { 0 < looks }
         ensures same { IsSamePass p.old p.new }
-        ensures told { IfOk result (λ answer. Joins p.old stage answer p.new) }
-        ensures looks { OnOk result (LooksFor self.now stage looks p.old p.new) }
-        ensures due { OnOk result (AsksStage p.old (AsksOutcome stage) × HasRoom p.old) }
-        ensures refused { OnErr result (p.new ≡ p.old) }
-        ensures fault { IfErr result (IsDueToRead p.old (AsksOutcome stage)) }
+        ensures told { IfOk result (λ answer. TellsJoined self.now stage looks p.old answer p.new) }
+        ensures refused { IfErr result (RefusesToTell self.now p.old (AsksOutcome stage) p.new) }
     {
+        let known = p.knows(Ask::Outcome(stage));
+        self.learn(p, known);
         if !p.knows(Ask::Outcome(stage)) {
             return Err(DeskFault::NoStage);
         }
@@ -60,6 +63,7 @@ impl Desk {
         requires { p.old.table ≡ self.now.table }
         ensures seen { Follows p.old p.new }
         ensures told { result ≡ lowest_ready_of (state_of p.new.known) }
+        ensures there { IfSome result (λ stage. IsOnStage p.new (event_by p.new.known.caller (Claim stage))) }
         ensures looks { LooksOnce self.now p.old p.new }
     {
         self.catch_others(p);
@@ -83,7 +87,7 @@ impl Desk {
     /// Looks until it finds the stage settled, at most so many times.
     fn look_for(&self, p: &mut Pass, stage: u16, looks: u32)
         requires table { p.old.table ≡ self.now.table }
-        requires stage { stage < length p.old.known.setting.plan.stages }
+        requires stage { stage < length (state_of p.old.known).plan.stages }
         requires looks { 0 < looks }
         ensures seen { Follows p.old p.new }
         ensures looks { LooksFor self.now stage looks p.old p.new }
@@ -97,7 +101,7 @@ impl Desk {
     }
 
     /// One look: loads the next word until it finds it empty, or the row at its end.
-    fn catch_others(&self, p: &mut Pass)
+    pub(crate) fn catch_others(&self, p: &mut Pass)
         requires { p.old.table ≡ self.now.table }
         ensures seen { Follows p.old p.new }
         ensures few { length p.new.known.seen ≤ self.now.words }

@@ -1,28 +1,34 @@
 -- How the passes of a race begin.
-use Rattle.std.proofs.Common.{◌≡◌, ◌==◌, ℕ, zero, suc, ◌+◌, ◌<◌, ◌⊎◌, inl, inr, true, List, [], ◌∷◌, ◌++◌, length, map, take, drop, get_or, sym, refl, ap, ◌∙◌, subst, arith, length-append}
+use Rattle.std.proofs.Common.{◌≡◌, ◌==◌, ℕ, zero, suc, ◌+◌, ◌<◌, ◌⊎◌, inl, inr, true, false, List, [], ◌∷◌, ◌++◌, length, map, take, drop, get_or, sym, refl, ap, ◌∙◌, subst, arith, length-append}
 use Rattle.std.specs.List.{All}
 use Rattle.std.proofs.lemmas.List.{take_more}
 use Rattle.std.proofs.lemmas.List.Elements.{All-nil, All-cons, All-get_or, All-weaker}
 use Rattle.cf_core.specs.declared.events.Event.{Event}
-use Rattle.cf_core.specs.declared.events.Event.TheVariants.{Complete as Completes, Fail as Fails, Cancel as Cancels, Claim as Claims, Finish as Finishes, Tick as Ticks}
+use Rattle.cf_core.specs.declared.events.Event.TheVariants.{Complete as Completes, Fail as Fails, Cancel as Cancels, Claim as Claims, Finish as Finishes, Tick as Ticks, Attach as Attaches}
 use Rattle.cf_core.specs.declared.events.Reply.{Reply}
 use Rattle.cf_core.specs.Ranges.{EventFits}
+use Rattle.cf_core.specs.States.{start}
+use Rattle.cf_core.proofs.Shape.{state_after-grows}
 use Rattle.std.proofs.lemmas.Bool.Decides.{nat_tests}
 use Rattle.cf_desk.specs.declared.calls.Call.{Call}
 use Rattle.cf_desk.specs.declared.calls.Rec.{Rec}
 use Rattle.cf_desk.specs.declared.calls.Rec.TheVariants.{Did, Saw}
 use Rattle.cf_desk.specs.declared.faults.DeskFault.{DeskFault}
-use Rattle.cf_desk.specs.declared.faults.DeskFault.TheVariants.{NoStage, LogFull, PassFull}
+use Rattle.cf_desk.specs.declared.faults.DeskFault.TheVariants.{NoStage, BadAttach, LogFull, PassFull}
 use Rattle.cf_desk.specs.declared.row.Setting.{Setting}
-use Rattle.cf_desk.specs.Faults.{IsDue, IsOnStage}
+use Rattle.cf_desk.specs.Faults.{AttachFits, EventNames, IsDue, IsFitting, IsOnStage}
 use Rattle.cf_desk.specs.Laws.{call_of}
 use Rattle.cf_desk.specs.Log.{own}
 use Rattle.cf_desk.specs.Records.{dids, Fits}
+use Rattle.cf_desk.specs.Results.{Refuses}
 use Rattle.cf_desk.specs.Rule.{blank, fresh, with_seen}
-use Rattle.cf_desk.specs.Views.{Acts, Follows, IsOf, Pass, Meets, Desk, SeesFull, new_pass, opened}
+use Rattle.cf_desk.specs.Views.{Acts, Follows, IsOf, Pass, Meets, Desk, SeesFull, new_pass, opened, state_of}
+use Rattle.cf_desk.proofs.Events.{names_more}
+use Rattle.cf_desk.proofs.Passes.{still_on_stage}
 use Rattle.cf_desk.proofs.Recs.{fits_did, fits_more, fits_new, own_call}
 use Rattle.cf_desk.specs.Calls.{as_call, event_by}
-use Rattle.cf_core.specs.Calls.{is_from_outside}
+use Rattle.cf_core.specs.Calls.{is_attach, is_from_outside}
+use Rattle.cf_pool.proofs.Working.{more_stages, refuses_known}
 use Rattle.cf_pool.specs.Races.{IsStep}
 use Rattle.cf_pool.specs.Beginnings.{HasTaken, HaveBegun, IsApart, IsIdle, HasDoneSteps}
 
@@ -32,13 +38,27 @@ use Rattle.cf_pool.specs.Beginnings.{HasTaken, HaveBegun, IsApart, IsIdle, HasDo
 same_who : (who : ℕ) → (who == 0) ≡ true → 0 ≡ who
 same_who who e = grind (arith, nat_tests)
 
-pub step_by : (e : Event) → is_from_outside e ≡ true → event_by 0 (as_call e) ≡ e
+step_by : (e : Event) → is_from_outside e ≡ true → event_by 0 (as_call e) ≡ e
 step_by (Completes who i v) h = ap (λ (w : ℕ). Completes w i v) (same_who who h)
 step_by (Fails who i code) h = ap (λ (w : ℕ). Fails w i code) (same_who who h)
 step_by (Cancels who i) h = ap (λ (w : ℕ). Cancels w i) (same_who who h)
 step_by (Claims who i) h = cc
 step_by (Finishes who i answer) h = cc
 step_by (Ticks who now) h = ap (λ (w : ℕ). Ticks w now) (same_who who h)
+step_by (Attaches who form of function) h = cc
+
+-- and attaches nothing
+step_attaches_none : (e : Event) → is_from_outside e ≡ true → is_attach e ≡ false
+step_attaches_none (Completes who i v) h = refl
+step_attaches_none (Fails who i code) h = refl
+step_attaches_none (Cancels who i) h = refl
+step_attaches_none (Claims who i) h = refl
+step_attaches_none (Finishes who i answer) h = refl
+step_attaches_none (Ticks who now) h = refl
+step_attaches_none (Attaches who form of function) h = cc
+
+pub steps_attach_none : (events : List Event) → All (λ e. is_from_outside e ≡ true) events → All (λ e. is_attach e ≡ false) events
+steps_attach_none events h = All-weaker (λ e. is_from_outside e ≡ true) (λ e. is_attach e ≡ false) step_attaches_none events h
 
 calls_push : (c : ℕ) (rs : List Rec) (place : ℕ) (call : Call) (reply : Reply) → map call_of (dids c (rs ++ Did place call reply ∷ [])) ≡ map call_of (dids c rs) ++ event_by c call ∷ []
 calls_push c [] place call reply = refl
@@ -79,24 +99,58 @@ none_more d steps k p q h f = subst (HasTaken d steps k) (sym f.is) (record {
   did = h.did;
 })
 
--- is refused for a full log
-pub log_full : (p : Pass) (d : Desk) (e : Event) (fault : DeskFault) → IsDue p d e fault → IsOnStage p e → length p.records < p.calls → SeesFull d p
-log_full p d e NoStage due there room = absurd (due there)
-log_full p d e PassFull due there room = absurd (let full = due.1 in omega arith)
-log_full p d e LogFull due there room = due.2
+-- ---- a step is on stages that the pass knows, and is refused for a full log alone
+
+names_step : (n : ℕ) (e : Event) → is_from_outside e ≡ true → EventFits n e → EventNames n e
+names_step n (Completes who i v) h fits = fits
+names_step n (Fails who i code) h fits = fits
+names_step n (Cancels who i) h fits = fits
+names_step n (Claims who i) h fits = fits
+names_step n (Finishes who i answer) h fits = fits
+names_step n (Ticks who now) h fits = fits
+names_step n (Attaches who form of function) h fits = cc
+
+fits_step : (functions : ℕ) (e : Event) → is_from_outside e ≡ true → AttachFits functions e
+fits_step functions (Completes who i v) h = tt
+fits_step functions (Fails who i code) h = tt
+fits_step functions (Cancels who i) h = tt
+fits_step functions (Claims who i) h = tt
+fits_step functions (Finishes who i answer) h = tt
+fits_step functions (Ticks who now) h = tt
+fits_step functions (Attaches who form of function) h = cc
+
+step_event : (d : Desk) (steps : List Event) (k : ℕ) (e : Event) (call : Call) (p : Pass) → HasTaken d steps k p → k < length steps → All (IsStep (length d.setting.plan.stages)) steps → call ≡ as_call (get_or steps k e) → event_by p.known.caller call ≡ get_or steps k e
+step_event d steps k e call p h lt are is =
+    (λ i. event_by (h.caller i) (is i)) ∙ step_by (get_or steps k e) (All-get_or (IsStep (length d.setting.plan.stages)) steps k e lt are).0
+
+pub step_there : (d : Desk) (steps : List Event) (k : ℕ) (e : Event) (call : Call) (p : Pass) → HasTaken d steps k p → k < length steps → All (IsStep (length d.setting.plan.stages)) steps → call ≡ as_call (get_or steps k e) → IsOnStage p (event_by p.known.caller call)
+step_there d steps k e call p h lt are is =
+    let step = All-get_or (IsStep (length d.setting.plan.stages)) steps k e lt are in
+    let grown = state_after-grows (start p.known.setting.plan) p.known.seen in
+    let same = ap (λ (s : Setting). length s.plan.stages) h.of.1 in
+    let more = more_stages (start p.known.setting.plan) (state_of p.known) grown in
+    subst (IsOnStage p) (sym (step_event d steps k e call p h lt are is))
+    (names_more (length d.setting.plan.stages) (length (state_of p.known).plan.stages) (get_or steps k e) (omega (arith, same, more)) (names_step (length d.setting.plan.stages) (get_or steps k e) step.0 step.1))
+
+log_full : (p : Pass) (d : Desk) (e : Event) (fault : DeskFault) → IsDue p d e fault → IsOnStage p e → IsFitting p e → length p.records < p.calls → SeesFull d p
+log_full p d e NoStage due there fits room = absurd (due there)
+log_full p d e BadAttach due there fits room = absurd (due.1 fits)
+log_full p d e PassFull due there fits room = absurd (let full = due.2 in omega arith)
+log_full p d e LogFull due there fits room = due.3
 
 pub step_refused : (d : Desk) (steps : List Event) (k : ℕ) (e : Event) (call : Call) (fault : DeskFault) (p q : Pass) → HasTaken d steps k p → k < length steps → All (IsStep (length d.setting.plan.stages)) steps → call ≡ as_call (get_or steps k e) → length steps < q.calls
-    → Follows p q → IsDue q d (event_by p.known.caller call) fault → HasDoneSteps d steps q
-step_refused d steps k e call fault p q h lt are is room f due =
-    let done = none_more d steps k p q h f in
-    let step = All-get_or (IsStep (length d.setting.plan.stages)) steps k e lt are in
-    let event : event_by p.known.caller call ≡ get_or steps k e = (λ i. event_by (h.caller i) (is i)) ∙ step_by (get_or steps k e) step.0 in
-    let there : EventFits (length q.known.setting.plan.stages) (get_or steps k e) = subst (λ (s : Setting). EventFits (length s.plan.stages) (get_or steps k e)) (sym done.of.1) step.1 in
+    → Refuses d p call q fault → HasDoneSteps d steps q
+step_refused d steps k e call fault p q h lt are is room refused =
+    let there = step_there d steps k e call p h lt are is in
+    let follows = (refuses_known d p q call fault there refused).0 in
+    let done = none_more d steps k p q h follows in
+    let event = step_event d steps k e call p h lt are is in
+    let fits : IsFitting q (event_by p.known.caller call) = subst (AttachFits q.known.setting.functions) (sym event) (fits_step q.known.setting.functions (get_or steps k e) (All-get_or (IsStep (length d.setting.plan.stages)) steps k e lt are).0) in
     record {
       taken = k;
       few = omega arith;
       done = done;
-      all = inr (log_full q d (get_or steps k e) fault (subst (λ (x : Event). IsDue q d x fault) event due) there (let held = done.held in omega arith));
+      all = inr (log_full q d (event_by p.known.caller call) fault refused.due (still_on_stage p q (event_by p.known.caller call) follows there) fits (let held = done.held in omega arith));
     }
 
 -- ---- the others

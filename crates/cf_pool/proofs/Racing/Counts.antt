@@ -8,23 +8,23 @@ use Rattle.cf_plan.specs.Plans.{Planned}
 use Rattle.cf_core.specs.declared.replies.Claimed.{Claimed}
 use Rattle.cf_core.specs.declared.replies.Claimed.TheVariants.{Granted, Settled, Taken, NotReady}
 use Rattle.cf_core.specs.declared.events.Event.{Event}
-use Rattle.cf_core.specs.declared.events.Event.TheVariants.{Complete as Completes, Fail as Fails, Cancel as Cancels, Claim as Claims, Finish as Finishes, Tick as Ticks}
-use Rattle.cf_core.specs.declared.events.Reply.{Reply}
-use Rattle.cf_core.specs.declared.events.Reply.TheVariants.{Claim as ToldClaim, Flag as ToldFlag, Finish as ToldFinish, Tick as ToldTick}
+use Rattle.cf_core.specs.declared.events.Event.TheVariants.{Complete as Completes, Fail as Fails, Cancel as Cancels, Claim as Claims, Finish as Finishes, Tick as Ticks, Attach as Attaches}
+use Rattle.cf_core.specs.declared.events.Reply.TheVariants.{Claim as ToldClaim, Flag as ToldFlag, Finish as ToldFinish, Tick as ToldTick, Attach as ToldAttach}
 use Rattle.cf_core.specs.States.{State}
 use Rattle.cf_core.specs.Claims.{claimable_count}
 use Rattle.cf_core.specs.Events.{answered, claiming, state_after}
-use Rattle.cf_core.specs.Ranges.{EventFits}
 use Rattle.cf_core.proofs.Claimable.{answered-claimable, claiming-claimable}
+use Rattle.cf_core.proofs.Shape.{answered-shape}
 use Rattle.cf_event.specs.Words.{who_of}
 use Rattle.cf_plan.specs.Meanings.{Meanings}
-use Rattle.cf_desk.specs.declared.calls.Call.TheVariants.{Complete, Fail, Cancel, Claim, Finish, Tick}
+use Rattle.cf_desk.specs.declared.calls.Call.TheVariants.{Complete, Fail, Cancel, Claim, Finish, Tick, Attach}
 use Rattle.cf_desk.specs.declared.calls.Rec.{Rec}
 use Rattle.cf_desk.specs.declared.calls.Rec.TheVariants.{Did, Saw}
 use Rattle.cf_pool.specs.Counting.{grant_at, total_by}
 use Rattle.cf_pool.specs.Works.{Owed, owed_by, IsNext, AreWork, claims_of}
 use Rattle.cf_desk.specs.Calls.{as_call}
 use Rattle.cf_pool.specs.Records.{recorded}
+use Rattle.cf_pool.proofs.Working.{by_record}
 use Rattle.cf_pool.proofs.Racing.Totals.{total, total_zero, total_most, total_more}
 
 -- how many claims there are, and how many that were granted
@@ -52,11 +52,13 @@ granted_one (Did place (Claim i) (ToldClaim NotReady)) = refl
 granted_one (Did place (Claim i) (ToldFlag b)) = refl
 granted_one (Did place (Claim i) (ToldFinish f)) = refl
 granted_one (Did place (Claim i) (ToldTick t)) = refl
+granted_one (Did place (Claim i) (ToldAttach a)) = refl
 granted_one (Did place (Complete i v) reply) = refl
 granted_one (Did place (Fail i code) reply) = refl
 granted_one (Did place (Cancel i) reply) = refl
 granted_one (Did place (Finish i answer) reply) = refl
 granted_one (Did place (Tick now) reply) = refl
+granted_one (Did place (Attach form of function) reply) = refl
 granted_one (Saw place ask answer) = refl
 
 grant_claims : (r : Rec) → grant_at r ≤ claim_one r
@@ -67,29 +69,18 @@ grant_claims (Did place (Claim i) (ToldClaim NotReady)) = omega arith
 grant_claims (Did place (Claim i) (ToldFlag b)) = omega arith
 grant_claims (Did place (Claim i) (ToldFinish f)) = omega arith
 grant_claims (Did place (Claim i) (ToldTick t)) = omega arith
+grant_claims (Did place (Claim i) (ToldAttach a)) = omega arith
 grant_claims (Did place (Complete i v) reply) = omega arith
 grant_claims (Did place (Fail i code) reply) = omega arith
 grant_claims (Did place (Cancel i) reply) = omega arith
 grant_claims (Did place (Finish i answer) reply) = omega arith
 grant_claims (Did place (Tick now) reply) = omega arith
+grant_claims (Did place (Attach form of function) reply) = omega arith
 grant_claims (Saw place ask answer) = omega arith
 
 -- a record of work is a claim, or pays what is owed
 pays : (meanings : Meanings) (plan : Planned) (owed : Owed) (r : Rec) → IsNext meanings plan owed r → claim_one r + owed_one owed ≡ 1
-pays meanings plan None (Did place (Claim i) reply) h = omega arith
-pays meanings plan None (Did place (Complete i v) reply) h = absurd h
-pays meanings plan None (Did place (Fail i code) reply) h = absurd h
-pays meanings plan None (Did place (Cancel i) reply) h = absurd h
-pays meanings plan None (Did place (Finish i answer) reply) h = absurd h
-pays meanings plan None (Did place (Tick now) reply) h = absurd h
-pays meanings plan None (Saw place ask answer) h = absurd h
-pays meanings plan (Some owed) (Did place (Claim i) reply) h = absurd h
-pays meanings plan (Some owed) (Did place (Complete i v) reply) h = absurd h
-pays meanings plan (Some owed) (Did place (Fail i code) reply) h = absurd h
-pays meanings plan (Some owed) (Did place (Cancel i) reply) h = absurd h
-pays meanings plan (Some owed) (Did place (Finish i answer) reply) h = omega arith
-pays meanings plan (Some owed) (Did place (Tick now) reply) h = absurd h
-pays meanings plan (Some owed) (Saw place ask answer) h = absurd h
+pays meanings plan = by_record meanings plan (λ owed r. claim_one r + owed_one owed ≡ 1) (λ place i reply l. omega arith) (λ place i args answer reply is. omega arith)
 
 pub work_at_most : (meanings : Meanings) (plan : Planned) (owed : Owed) (rs : List Rec) → AreWork meanings plan owed rs → length rs ≤ claims_in rs + grants_in rs + owed_one owed
 work_at_most meanings plan owed [] h = omega arith
@@ -114,6 +105,14 @@ abbrev pub AllBelow : ℕ → List Rec → Type 0
 AllBelow n [] = Unit {0}
 AllBelow n (r ∷ rs) = ClaimsBelow n r × AllBelow n rs
 
+-- as are those of work
+next_below : (meanings : Meanings) (plan : Planned) (n : ℕ) → length plan.stages ≤ n → (owed : Owed) (r : Rec) → IsNext meanings plan owed r → ClaimsBelow n r
+next_below meanings plan n few = by_record meanings plan (λ owed r. ClaimsBelow n r) (λ place i reply l. omega (arith, few, l)) (λ place i args answer reply is. tt)
+
+pub work_below : (meanings : Meanings) (plan : Planned) (n : ℕ) (owed : Owed) (rs : List Rec) → length plan.stages ≤ n → AreWork meanings plan owed rs → AllBelow n rs
+work_below meanings plan n owed [] few h = tt
+work_below meanings plan n owed (r ∷ rs) few h = (next_below meanings plan n few owed r h.0, work_below meanings plan n (owed_by r) rs few h.1)
+
 nothing_more : (n : ℕ) (f : ℕ → ℕ) → total n (λ i. 0 + f i) ≡ 0 + total n f
 nothing_more zero f = refl
 nothing_more (suc n) f = let rest = nothing_more n f in omega (arith, rest)
@@ -132,6 +131,7 @@ one_more n (Did place (Fail i code) reply) rs h = nothing_more n (λ i. claims_o
 one_more n (Did place (Cancel i) reply) rs h = nothing_more n (λ i. claims_of i rs)
 one_more n (Did place (Finish i answer) reply) rs h = nothing_more n (λ i. claims_of i rs)
 one_more n (Did place (Tick now) reply) rs h = nothing_more n (λ i. claims_of i rs)
+one_more n (Did place (Attach form of function) reply) rs h = nothing_more n (λ i. claims_of i rs)
 one_more n (Saw place ask answer) rs h = nothing_more n (λ i. claims_of i rs)
 
 claims_each : (n : ℕ) (rs : List Rec) → AllBelow n rs → total n (λ i. claims_of i rs) ≡ claims_in rs
@@ -159,22 +159,30 @@ abbrev pub grants_along : ℕ → State → List Event → ℕ
 grants_along n s [] = 0
 grants_along n s (e ∷ events) = grant_at (Did (suc n) (as_call e) ((answered s e).0)) + grants_along (suc n) ((answered s e).1) events
 
+-- how many stages may be claimed, those counted that may still be attached
+abbrev pub claims_left : State → ℕ
+claims_left s = claimable_count s + s.plan.room
+
 -- each leaves fewer that may be claimed
-claim_leaves : (n : ℕ) (s : State) (who i : ℕ) (x : Claimed) → (claiming s who i).0 ≡ x → grant_at (Did (suc n) (Claim i) (ToldClaim x)) + claimable_count ((claiming s who i).1) ≤ claimable_count s
-claim_leaves n s who i (Granted args) e = let l = claiming-claimable s who i args e in omega (arith, l)
+claim_leaves : (n : ℕ) (s : State) (who i : ℕ) (x : Claimed) → (claiming s who i).0 ≡ x → grant_at (Did (suc n) (Claim i) (ToldClaim x)) + claims_left ((claiming s who i).1) ≤ claims_left s
+claim_leaves n s who i (Granted args) e =
+    let l = claiming-claimable s who i args e in
+    let room = ap (λ (p : Planned). p.room) ((answered-shape s (Claims who i) refl).plan) in
+    omega (arith, l, room)
 claim_leaves n s who i Settled e = let l = answered-claimable s (Claims who i) in omega (arith, l)
 claim_leaves n s who i Taken e = let l = answered-claimable s (Claims who i) in omega (arith, l)
 claim_leaves n s who i NotReady e = let l = answered-claimable s (Claims who i) in omega (arith, l)
 
-one_leaves : (n : ℕ) (s : State) (e : Event) → grant_at (Did (suc n) (as_call e) ((answered s e).0)) + claimable_count ((answered s e).1) ≤ claimable_count s
+one_leaves : (n : ℕ) (s : State) (e : Event) → grant_at (Did (suc n) (as_call e) ((answered s e).0)) + claims_left ((answered s e).1) ≤ claims_left s
 one_leaves n s (Claims who i) = claim_leaves n s who i ((claiming s who i).0) refl
 one_leaves n s (Completes who i v) = let l = answered-claimable s (Completes who i v) in omega (arith, l)
 one_leaves n s (Fails who i code) = let l = answered-claimable s (Fails who i code) in omega (arith, l)
 one_leaves n s (Cancels who i) = let l = answered-claimable s (Cancels who i) in omega (arith, l)
 one_leaves n s (Finishes who i answer) = let l = answered-claimable s (Finishes who i answer) in omega (arith, l)
 one_leaves n s (Ticks who now) = let l = answered-claimable s (Ticks who now) in omega (arith, l)
+one_leaves n s (Attaches who form of function) = let l = answered-claimable s (Attaches who form of function) in omega (arith, l)
 
-grants_leave : (n : ℕ) (s : State) (events : List Event) → grants_along n s events + claimable_count (state_after s events) ≤ claimable_count s
+pub grants_leave : (n : ℕ) (s : State) (events : List Event) → grants_along n s events + claims_left (state_after s events) ≤ claims_left s
 grants_leave n s [] = omega arith
 grants_leave n s (e ∷ events) =
     let one = one_leaves n s e in
@@ -213,7 +221,7 @@ grants_shared callers n s (e ∷ events) h =
     ∙ ap (λ (k : ℕ). grant_at r + k) rest
 
 -- so many words fill it at most
-pub history_at_most : (callers stages n : ℕ) (s : State) (events : List Event) → All (ByCaller callers) events → claimable_count s ≤ stages
+pub history_at_most : (callers stages n : ℕ) (s : State) (events : List Event) → All (ByCaller callers) events → claims_left s ≤ stages
     → ((c : ℕ) → c < callers → length (recorded c n s events) ≤ stages + grants_in (recorded c n s events)) → length events ≤ stages * callers + stages
 history_at_most callers stages n s events h few each =
     let a = lengths_shared callers n s events h in
@@ -221,23 +229,3 @@ history_at_most callers stages n s events h few each =
     let g = grants_shared callers n s events h in
     let l = grants_leave n s events in
     omega (arith, a, b, g, l)
-
--- what is recorded of events on stages below n claims none at or above it
-recorded_one : (n : ℕ) (place : ℕ) (e : Event) (reply : Reply) → EventFits n e → ClaimsBelow n (Did place (as_call e) reply)
-recorded_one n place (Completes who i v) reply h = tt
-recorded_one n place (Fails who i code) reply h = tt
-recorded_one n place (Cancels who i) reply h = tt
-recorded_one n place (Claims who i) reply h = h
-recorded_one n place (Finishes who i answer) reply h = tt
-recorded_one n place (Ticks who now) reply h = tt
-
-below_split : (n : ℕ) (b : Bool) (r : Rec) (rs : List Rec) → ClaimsBelow n r → AllBelow n rs → AllBelow n (cond b (r ∷ rs) rs)
-below_split n true r rs one rest = (one, rest)
-below_split n false r rs one rest = rest
-
-pub recorded_below : (stages c n : ℕ) (s : State) (events : List Event) → All (EventFits stages) events → AllBelow stages (recorded c n s events)
-recorded_below stages c n s [] h = tt
-recorded_below stages c n s (e ∷ events) h =
-    below_split stages (eqb (who_of e) c) (Did (suc n) (as_call e) ((answered s e).0)) (recorded c (suc n) ((answered s e).1) events)
-    (recorded_one stages (suc n) e ((answered s e).0) (All-head (EventFits stages) e events h))
-    (recorded_below stages c (suc n) ((answered s e).1) events (All-tail (EventFits stages) e events h))

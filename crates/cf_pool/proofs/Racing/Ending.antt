@@ -10,7 +10,7 @@ use Rattle.cf_plan.specs.Meanings.{Meanings}
 use Rattle.cf_desk.specs.declared.row.Setting.{Setting}
 use Rattle.cf_desk.specs.Keepings.{IsKeptFit, pass_did}
 use Rattle.cf_desk.specs.Laws.{call_of}
-use Rattle.cf_desk.specs.Log.{IsEventOf, events_of, own, state_from}
+use Rattle.cf_desk.specs.Log.{events_of, own, state_from}
 use Rattle.cf_desk.specs.Records.{Fits, dids}
 use Rattle.cf_desk.specs.Rule.{count_in, weight}
 use Rattle.cf_desk.specs.Views.{Pass, Desk, knowns}
@@ -19,7 +19,8 @@ use Rattle.cf_desk.proofs.Recs.{fits_more, fits_new}
 use Rattle.cf_pool.specs.Works.{Works}
 use Rattle.cf_pool.specs.Records.{recorded}
 use Rattle.cf_pool.specs.Beginnings.{IsApart, HasDoneSteps}
-use Rattle.cf_pool.proofs.Racing.Joining.{HadBegun, Shares, absent_records, each_pass}
+use Rattle.cf_pool.proofs.Racing.Counts.{ByCaller}
+use Rattle.cf_pool.proofs.Racing.Joining.{HadBegun, Shares, absent_records, each_pass, last_plan}
 
 -- ---- what caller 0 had seen was the steps alone
 
@@ -87,20 +88,20 @@ seen_is d steps p callers t h none =
 
 -- ---- the history of a run
 
--- it begins with what caller 0 had seen, and each caller goes on with work
+-- it begins with what caller 0 had seen, and each caller goes on with work over the plan that it leaves
 pub record Whole (meanings : Meanings) (setting : Setting) (history seen work : List Event) : Type 0 where
   pub history_is : history ≡ seen ++ work
-  pub events : All (IsEventOf setting) (seen ++ work)
-  pub shares_of : (c : ℕ) → c < setting.callers → Shares meanings setting.plan (recorded c (length seen) (state_from setting.plan seen) work)
+  pub by : All (ByCaller setting.callers) (seen ++ work)
+  pub shares_of : (c : ℕ) → c < setting.callers → Shares meanings (last_plan setting (seen ++ work)) (recorded c (length seen) (state_from setting.plan seen) work)
 
 no_work : (meanings : Meanings) (plan : Planned) → Shares meanings plan []
 no_work meanings plan = record { work = tt; once = λ i. omega arith }
 
-pub all_share : (meanings : Meanings) (setting : Setting) (history seen work : List Event) → Whole meanings setting history seen work → (c : ℕ) → Shares meanings setting.plan (recorded c (length seen) (state_from setting.plan seen) work)
+pub all_share : (meanings : Meanings) (setting : Setting) (history seen work : List Event) → Whole meanings setting history seen work → (c : ℕ) → Shares meanings (last_plan setting (seen ++ work)) (recorded c (length seen) (state_from setting.plan seen) work)
 all_share meanings setting history seen work w c = split (cases_lt c setting.callers)
   where
-    split : (c < setting.callers) ⊎ (setting.callers ≤ c) → Shares meanings setting.plan (recorded c (length seen) (state_from setting.plan seen) work)
+    split : (c < setting.callers) ⊎ (setting.callers ≤ c) → Shares meanings (last_plan setting (seen ++ work)) (recorded c (length seen) (state_from setting.plan seen) work)
     split (inl l) = w.shares_of c l
-    split (inr l) = subst (Shares meanings setting.plan)
-        (sym (absent_records setting.callers c (length seen) (state_from setting.plan seen) work l (All-weaker (IsEventOf setting) (λ e. who_of e < setting.callers) (λ e h. h.caller) work (back_all (IsEventOf setting) seen work w.events))))
-        (no_work meanings setting.plan)
+    split (inr l) = subst (Shares meanings (last_plan setting (seen ++ work)))
+        (sym (absent_records setting.callers c (length seen) (state_from setting.plan seen) work l (back_all (ByCaller setting.callers) seen work w.by)))
+        (no_work meanings (last_plan setting (seen ++ work)))

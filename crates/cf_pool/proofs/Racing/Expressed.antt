@@ -1,12 +1,14 @@
 -- A race of a plain plan with plain steps ends as the expressions say.
-use Rattle.std.proofs.Common.{◌≡◌, ◌++◌, List, [], ◌∷◌, true, Some, All, sym, refl, ap, ◌∙◌, subst}
+use Rattle.std.proofs.Common.{◌≡◌, ◌<◌, ◌++◌, length, List, [], ◌∷◌, true, Some, All, sym, refl, ap, ◌∙◌, subst}
 use Rattle.std.proofs.lemmas.List.Elements.{All-nil, All-cons}
 use Rattle.cf_core.specs.declared.events.Event.{Event}
-use Rattle.cf_core.specs.declared.events.Event.TheVariants.{Complete as Completes, Fail as Fails, Cancel as Cancels, Claim as Claims, Finish as Finishes, Tick as Ticks}
+use Rattle.cf_core.specs.declared.events.Event.TheVariants.{Complete as Completes, Fail as Fails, Cancel as Cancels, Claim as Claims, Finish as Finishes, Tick as Ticks, Attach as Attaches}
 use Rattle.cf_core.specs.States.{State, start, outcome_at}
 use Rattle.cf_core.specs.Events.{answered, state_after}
 use Rattle.cf_plan.specs.Meanings.{Meanings, stage_answer}
-use Rattle.cf_expr.specs.Histories.{Grants, IsPlain, IsPlainEvent, IsQuiet, grants_after, granted_with, is_work, nothing_granted}
+use Rattle.cf_plan.specs.Plans.{IsBuilt, Planned}
+use Rattle.cf_expr.specs.Expressions.{expr}
+use Rattle.cf_expr.specs.Histories.{Grants, IsPlain, IsPlainEvent, IsPlainPlan, IsQuiet, grants_after, granted_with, is_work, nothing_granted}
 use Rattle.cf_expr.proofs.Parts.{plain_append, without_work-append, work_keeps_expressions}
 use Rattle.cf_expr.proofs.Runs.{quiet_is_expression}
 use Rattle.cf_pool.specs.Races.{IsWorkHistory, IsWorkEvent, RacedIsExpression, RacesEndAlike}
@@ -21,6 +23,7 @@ plain_event meanings granted s (Finishes who i answer) h = λ won given there.
     let same : h.0 ≡ given = cc in
     h.2 ∙ ap (stage_answer meanings s.plan.stages i) same
 plain_event meanings granted s (Ticks who now) h = absurd h
+plain_event meanings granted s (Attaches who form of function) h = absurd h
 
 work_is_plain : (meanings : Meanings) (granted : Grants) (s : State) (events : List Event) → IsWorkHistory meanings granted s events → IsPlain meanings granted s events
 work_is_plain meanings granted s [] h = tt
@@ -34,6 +37,7 @@ event_is_work meanings granted s (Cancels who i) h = absurd h
 event_is_work meanings granted s (Claims who i) h = refl
 event_is_work meanings granted s (Finishes who i answer) h = refl
 event_is_work meanings granted s (Ticks who now) h = absurd h
+event_is_work meanings granted s (Attaches who form of function) h = absurd h
 
 all_work : (meanings : Meanings) (granted : Grants) (s : State) (events : List Event) → IsWorkHistory meanings granted s events → All (λ e. is_work e ≡ true) events
 all_work meanings granted s [] h = All-nil (λ e. is_work e ≡ true)
@@ -45,8 +49,11 @@ raced_is_expression plan steps meanings workers s i plain_plan plain raced l =
     let granted = grants_after nothing_granted (start plan) steps in
     let then = state_after (start plan) steps in
     let all = plain_append meanings nothing_granted (start plan) steps raced.work plain (work_is_plain meanings granted then raced.work raced.done) in
+    let last = state_after (start plan) (steps ++ raced.work) in
+    let same : last.plan ≡ plan = ap (λ (t : State). t.plan) (sym raced.state) ∙ raced.of_plan in
+    let holds = λ (p : Planned). IsBuilt p → IsPlainPlan p → IsPlain meanings nothing_granted (start plan) (steps ++ raced.work) → IsQuiet last → i < length p.stages → outcome_at last i ≡ expr p (steps ++ raced.work) meanings i in
     ap (λ (t : State). outcome_at t i) raced.state
-    ∙ quiet_is_expression plan (steps ++ raced.work) meanings i raced.built plain_plan all (subst IsQuiet raced.state raced.quiet) l
+    ∙ subst holds same (quiet_is_expression plan (steps ++ raced.work) meanings i) raced.built plain_plan all (subst IsQuiet raced.state raced.quiet) l
     ∙ work_keeps_expressions plan (steps ++ raced.work) steps meanings i (without_work-append steps raced.work (all_work meanings granted then raced.work raced.done))
 
 pub races_end_alike : RacesEndAlike

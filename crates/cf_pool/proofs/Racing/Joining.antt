@@ -7,20 +7,24 @@ use Rattle.std.proofs.lemmas.List.Elements.{All-nil, All-cons, All-head, All-tai
 use Rattle.cf_plan.specs.Plans.{Planned}
 use Rattle.cf_core.specs.declared.events.Event.{Event}
 use Rattle.cf_core.specs.States.{State, start}
-use Rattle.cf_core.specs.Events.{answered}
+use Rattle.cf_core.specs.Events.{answered, state_after}
+use Rattle.cf_core.specs.Growth.{Grows}
+use Rattle.cf_core.proofs.Histories.{state_after-append}
+use Rattle.cf_core.proofs.Shape.{state_after-grows}
 use Rattle.cf_event.specs.Words.{who_of}
 use Rattle.cf_plan.specs.Meanings.{Meanings}
 use Rattle.cf_desk.specs.declared.calls.Rec.{Rec}
 use Rattle.cf_desk.specs.declared.row.Setting.{Setting}
 use Rattle.cf_desk.specs.Keepings.{IsKeptFit, pass_did}
-use Rattle.cf_desk.specs.Log.{state_from}
+use Rattle.cf_desk.specs.Log.{Catches, state_from}
 use Rattle.cf_desk.specs.Records.{Fits}
 use Rattle.cf_desk.specs.Rule.{count_in, weight}
-use Rattle.cf_desk.specs.Views.{Pass, knowns}
+use Rattle.cf_desk.specs.Views.{Pass, knowns, state_of}
 use Rattle.cf_pool.specs.Works.{Works, WorksOut, AreWork, claims_of, owed_after}
 use Rattle.cf_pool.specs.Records.{recorded}
 use Rattle.cf_pool.proofs.Racing.Recorded.{only_dids, only_append, only_work, fits_recorded, recorded_append}
-use Rattle.cf_pool.proofs.Racing.Counts.{AllBelow, grants_in, records_at_most, grants_at_most, claims_at_most}
+use Rattle.cf_pool.proofs.Working.{work_grown}
+use Rattle.cf_pool.proofs.Racing.Counts.{grants_in, records_at_most, grants_at_most, claims_at_most, work_below}
 
 -- ---- what a pass added is what the rest of the history makes of its caller's events
 
@@ -32,13 +36,19 @@ more_is meanings plan seen work p q w before now =
     let a = fits_recorded plan c seen p.records before in
     let b = fits_recorded plan c (seen ++ work) q.records now_p in
     let added : only_dids q.records ≡ only_dids p.records ++ w.more =
-    ap only_dids w.records ∙ only_append p.records w.more ∙ ap (λ l. only_dids p.records ++ l) (only_work meanings p.known.setting.plan None w.more w.work) in
+    ap only_dids w.records ∙ only_append p.records w.more ∙ ap (λ l. only_dids p.records ++ l) (only_work meanings (state_of q.known).plan None w.more w.work) in
     let place : 0 + length seen ≡ length seen = omega arith in
     append_cancel_left (recorded c 0 (start plan) seen) w.more (recorded c (length seen) (state_from plan seen) work)
     (ap (λ l. l ++ w.more) (sym a) ∙ sym added ∙ b ∙ recorded_append c 0 (start plan) seen work
     ∙ ap (λ (k : ℕ). recorded c 0 (start plan) seen ++ recorded c k (state_from plan seen) work) place)
 
 -- ---- each caller has a pass
+
+pub zip_both : {A B : Type 0} (R : A → B → Type 0) (C : B → Type 0) (xs : List A) (ys : List B) → AllZip R xs ys → All C ys → AllZip (λ x y. R x y × C y) xs ys
+zip_both R C [] [] zip all = tt
+zip_both R C [] (y ∷ ys) zip all = absurd zip
+zip_both R C (x ∷ xs) [] zip all = absurd zip
+zip_both R C (x ∷ xs) (y ∷ ys) zip all = ((zip.0, All-head C y ys all), zip_both R C xs ys zip.1 (All-tail C y ys all))
 
 weigh_other : (b : Bool) (n : ℕ) → b ≡ false → 0 < weight b + n → 0 < n
 weigh_other true n e l = cc
@@ -72,12 +82,30 @@ pub record HadBegun (setting : Setting) (seen : List Event) (most calls : ℕ) (
   pub few : length p.records ≤ most
   pub calls_are : p.calls ≡ calls
 
-pub shares : (meanings : Meanings) (setting : Setting) (seen work : List Event) (most calls : ℕ) (p q : Pass) → Works meanings p q → HadBegun setting seen most calls p → Fits setting.plan q.known.caller (seen ++ work) q.records
-    → Shares meanings setting.plan (recorded p.known.caller (length seen) (state_from setting.plan seen) work)
-shares meanings setting seen work most calls p q w begun fit =
+-- the plan that a history leaves
+abbrev pub last_plan : Setting → List Event → Planned
+last_plan setting history = (state_from setting.plan history).plan
+
+-- the history begins with what the pass had seen after its work
+abbrev pub WorksIn : Meanings → List Event → Pass → Pass → Type 0
+WorksIn meanings history p q = Works meanings p q × Catches q.known.caller q.known.seen history
+
+-- so the plan that the pass saw last grows to the one that the history leaves
+grows_in : (meanings : Meanings) (setting : Setting) (history : List Event) (p q : Pass) → WorksIn meanings history p q → p.known.setting ≡ setting → Grows (state_of q.known) (state_from setting.plan history)
+grows_in meanings setting history p q w is =
+    let was : state_of q.known ≡ state_from setting.plan q.known.seen = ap (λ (s : Setting). state_from s.plan q.known.seen) (w.0.same.1 ∙ is) in
+    let now : state_from setting.plan history ≡ state_after (state_from setting.plan q.known.seen) w.1.others = ap (state_from setting.plan) w.1.joined ∙ state_after-append (start setting.plan) q.known.seen w.1.others in
+    subst (λ (s : State). Grows s (state_from setting.plan history)) (sym was)
+    (subst (Grows (state_from setting.plan q.known.seen)) (sym now) (state_after-grows (state_from setting.plan q.known.seen) w.1.others))
+
+pub shares : (meanings : Meanings) (setting : Setting) (seen work : List Event) (most calls : ℕ) (p q : Pass) → WorksIn meanings (seen ++ work) p q → HadBegun setting seen most calls p → Fits setting.plan q.known.caller (seen ++ work) q.records
+    → Shares meanings (last_plan setting (seen ++ work)) (recorded p.known.caller (length seen) (state_from setting.plan seen) work)
+shares meanings setting seen work most calls p q both begun fit =
+    let w = both.0 in
     let is = more_is meanings setting.plan seen work p q w begun.fits fit in
     record {
-      work = subst (AreWork meanings setting.plan None) is (subst (λ (s : Setting). AreWork meanings s.plan None w.more) begun.setting_is w.work);
+      work = subst (AreWork meanings (last_plan setting (seen ++ work)) None) is
+          (work_grown meanings (state_of q.known) (state_from setting.plan (seen ++ work)) w.more (grows_in meanings setting (seen ++ work) p q both begun.setting_is) w.work);
       once = λ i. subst (λ (l : List Rec). claims_of i l ≤ 1) is (w.once i);
     }
 
@@ -104,18 +132,19 @@ absent_records callers c n s (e ∷ events) le h =
 
 -- ---- no pass is full
 
-pub shares_few : (meanings : Meanings) (plan : Planned) (n : ℕ) (rs : List Rec) → Shares meanings plan rs → AllBelow n rs → (length rs ≤ n + grants_in rs) × (grants_in rs ≤ n)
-shares_few meanings plan n rs h below =
+pub shares_few : (meanings : Meanings) (plan : Planned) (n : ℕ) (rs : List Rec) → length plan.stages ≤ n → Shares meanings plan rs → (length rs ≤ n + grants_in rs) × (grants_in rs ≤ n)
+shares_few meanings plan n rs few h =
+    let below = work_below meanings plan n None rs few h.work in
     let a = claims_at_most n rs below h.once in
     let b = grants_at_most rs in
     (records_at_most meanings plan n rs h.work below h.once, omega (arith, a, b))
 
-pub has_room : (meanings : Meanings) (setting : Setting) (seen work : List Event) (most calls stages : ℕ) → most + 2 * stages < calls
-    → ((c : ℕ) → AllBelow stages (recorded c (length seen) (state_from setting.plan seen) work))
-    → (p q : Pass) → Works meanings p q → HadBegun setting seen most calls p → Fits setting.plan q.known.caller (seen ++ work) q.records → length q.records < q.calls
-has_room meanings setting seen work most calls stages room below p q w begun fit =
+pub has_room : (meanings : Meanings) (setting : Setting) (seen work : List Event) (most calls stages : ℕ) → most + 2 * stages < calls → length (last_plan setting (seen ++ work)).stages ≤ stages
+    → (p q : Pass) → WorksIn meanings (seen ++ work) p q → HadBegun setting seen most calls p → Fits setting.plan q.known.caller (seen ++ work) q.records → length q.records < q.calls
+has_room meanings setting seen work most calls stages room all p q both begun fit =
+    let w = both.0 in
     let is = more_is meanings setting.plan seen work p q w begun.fits fit in
-    let few = shares_few meanings setting.plan stages (recorded p.known.caller (length seen) (state_from setting.plan seen) work) (shares meanings setting seen work most calls p q w begun fit) (below p.known.caller) in
+    let few = shares_few meanings (last_plan setting (seen ++ work)) stages (recorded p.known.caller (length seen) (state_from setting.plan seen) work) all (shares meanings setting seen work most calls p q both begun fit) in
     let len : length q.records ≡ length p.records + length w.more = ap length w.records ∙ length-append p.records w.more in
     let more : length w.more ≡ length (recorded p.known.caller (length seen) (state_from setting.plan seen) work) = ap length is in
     let same : q.calls ≡ calls = w.same.3 ∙ begun.calls_are in

@@ -1,5 +1,5 @@
 -- What each caller owes along a history of work, and that such a history is plain.
-use Rattle.std.proofs.Common.{◌≡◌, ◌≢◌, ℕ, suc, ◌==◌, Bool, true, false, cond, eqb, eq-eqb, Option, Some, None, List, [], ◌∷◌, sym, refl, ap, ◌∙◌, subst, arith}
+use Rattle.std.proofs.Common.{◌≡◌, ◌≢◌, ℕ, suc, ◌<◌, ◌==◌, Bool, true, false, cond, eqb, eq-eqb, Option, Some, None, List, [], ◌∷◌, length, sym, refl, ap, ◌∙◌, subst, arith}
 use Rattle.std.specs.Prelude.{◌&&◌}
 use Rattle.std.proofs.lemmas.Bool.{eqb-true, eqb-false}
 use Rattle.std.proofs.lemmas.Bool.Decides.{nat_tests}
@@ -8,11 +8,12 @@ use Rattle.cf_plan.specs.declared.forms.Answer.{Answer}
 use Rattle.cf_plan.specs.Plans.{Planned}
 use Rattle.cf_core.specs.declared.replies.Claimed.TheVariants.{Granted, Settled, Taken, NotReady}
 use Rattle.cf_core.specs.declared.events.Event.{Event}
-use Rattle.cf_core.specs.declared.events.Event.TheVariants.{Complete as Completes, Fail as Fails, Cancel as Cancels, Claim as Claims, Finish as Finishes, Tick as Ticks}
+use Rattle.cf_core.specs.declared.events.Event.TheVariants.{Complete as Completes, Fail as Fails, Cancel as Cancels, Claim as Claims, Finish as Finishes, Tick as Ticks, Attach as Attaches}
 use Rattle.cf_core.specs.declared.events.Reply.{Reply}
-use Rattle.cf_core.specs.declared.events.Reply.TheVariants.{Claim as ToldClaim, Flag as ToldFlag, Finish as ToldFinish, Tick as ToldTick}
+use Rattle.cf_core.specs.declared.events.Reply.TheVariants.{Claim as ToldClaim, Flag as ToldFlag, Finish as ToldFinish, Tick as ToldTick, Attach as ToldAttach}
 use Rattle.cf_core.specs.States.{State}
-use Rattle.cf_core.specs.Events.{answered}
+use Rattle.cf_core.specs.Calls.{is_attach}
+use Rattle.cf_core.specs.Events.{answered, state_after}
 use Rattle.cf_core.proofs.Shape.{answered-shape}
 use Rattle.cf_event.specs.Words.{who_of}
 use Rattle.cf_plan.specs.Meanings.{Meanings, stage_answer}
@@ -58,15 +59,16 @@ rest_works meanings plan owes n s e events h c =
 -- ---- what comes is a claim by one who owes nothing, or the finish that is owed
 
 pub by_next : (meanings : Meanings) (plan : Planned) (P : Owed → Event → Type 0)
-    → ((who i : ℕ) → P None (Claims who i))
+    → ((who i : ℕ) → i < length plan.stages → P None (Claims who i))
     → ((who i : ℕ) (args : Args) (answer : Answer) → answer ≡ stage_answer meanings plan.stages i args → P (Some (i, args)) (Finishes who i answer))
     → (o : Owed) (n : ℕ) (e : Event) (reply : Reply) → IsNext meanings plan o (rec_of n e reply) → P o e
 by_next meanings plan P claims finishes None n (Completes who i v) reply h = absurd h
 by_next meanings plan P claims finishes None n (Fails who i code) reply h = absurd h
 by_next meanings plan P claims finishes None n (Cancels who i) reply h = absurd h
-by_next meanings plan P claims finishes None n (Claims who i) reply h = claims who i
+by_next meanings plan P claims finishes None n (Claims who i) reply h = claims who i h
 by_next meanings plan P claims finishes None n (Finishes who i answer) reply h = absurd h
 by_next meanings plan P claims finishes None n (Ticks who now) reply h = absurd h
+by_next meanings plan P claims finishes None n (Attaches who form of function) reply h = absurd h
 by_next meanings plan P claims finishes (Some owed) n (Completes who i v) reply h = absurd h
 by_next meanings plan P claims finishes (Some owed) n (Fails who i code) reply h = absurd h
 by_next meanings plan P claims finishes (Some owed) n (Cancels who i) reply h = absurd h
@@ -74,6 +76,19 @@ by_next meanings plan P claims finishes (Some owed) n (Claims who i) reply h = a
 by_next meanings plan P claims finishes (Some (j, args)) n (Finishes who i answer) reply h =
     subst (λ (k : ℕ). P (Some (k, args)) (Finishes who i answer)) h.0 (finishes who i args answer h.1)
 by_next meanings plan P claims finishes (Some owed) n (Ticks who now) reply h = absurd h
+by_next meanings plan P claims finishes (Some owed) n (Attaches who form of function) reply h = absurd h
+
+-- it attaches nothing
+pub next_attaches_none : (meanings : Meanings) (plan : Planned) (o : Owed) (n : ℕ) (e : Event) (reply : Reply) → IsNext meanings plan o (rec_of n e reply) → is_attach e ≡ false
+next_attaches_none meanings plan = by_next meanings plan (λ o e. is_attach e ≡ false) (λ who i l. refl) (λ who i args answer means. refl)
+
+-- so work leaves the plan
+pub work_leaves_plan : (meanings : Meanings) (plan : Planned) (owes : ℕ → Owed) (n : ℕ) (s : State) (events : List Event) → AllWork meanings plan owes n s events → (state_after s events).plan ≡ s.plan
+work_leaves_plan meanings plan owes n s [] h = refl
+work_leaves_plan meanings plan owes n s (e ∷ events) h =
+    let reply = answered s e in
+    let none = next_attaches_none meanings plan (owes (who_of e)) n e reply.0 (is_next meanings plan owes n s e events h) in
+    work_leaves_plan meanings plan (owing_with owes n e reply.0) (suc n) reply.1 events (rest_works meanings plan owes n s e events h) ∙ (answered-shape s e none).plan
 
 -- ---- what is owed was granted
 
@@ -100,11 +115,13 @@ granted_now granted n c (Claims who j) (ToldClaim NotReady) i args w e = cc
 granted_now granted n c (Claims who j) (ToldFlag b) i args w e = cc
 granted_now granted n c (Claims who j) (ToldFinish f) i args w e = cc
 granted_now granted n c (Claims who j) (ToldTick t) i args w e = cc
+granted_now granted n c (Claims who j) (ToldAttach a) i args w e = cc
 granted_now granted n c (Completes who j v) reply i args w e = cc
 granted_now granted n c (Fails who j code) reply i args w e = cc
 granted_now granted n c (Cancels who j) reply i args w e = cc
 granted_now granted n c (Finishes who j answer) reply i args w e = cc
 granted_now granted n c (Ticks who now) reply i args w e = cc
+granted_now granted n c (Attaches who form of function) reply i args w e = cc
 
 granted_still : (granted : Grants) (c : ℕ) (e : Event) (reply : Reply) (i : ℕ) → c ≢ who_of e → granted_with granted e reply c i ≡ granted c i
 granted_still granted c (Claims who j) reply i ne = granted_with-other granted who j c i reply ne
@@ -113,6 +130,7 @@ granted_still granted c (Fails who j code) reply i ne = refl
 granted_still granted c (Cancels who j) reply i ne = refl
 granted_still granted c (Finishes who j answer) reply i ne = refl
 granted_still granted c (Ticks who now) reply i ne = refl
+granted_still granted c (Attaches who form of function) reply i ne = refl
 
 pub still_granted : (owes : ℕ → Owed) (granted : Grants) (n : ℕ) (e : Event) (reply : Reply) → WasGranted owes granted → WasGranted (owing_with owes n e reply) (granted_with granted e reply)
 still_granted owes granted n e reply h c i args owed = split (eqb (who_of e) c) refl owed
@@ -126,14 +144,16 @@ still_granted owes granted n e reply h c i args owed = split (eqb (who_of e) c) 
 work_next : (meanings : Meanings) (plan : Planned) (granted : Grants) (s : State) (o : Owed) (n : ℕ) (e : Event) (reply : Reply) → s.plan ≡ plan → ((i : ℕ) (args : Args) → o ≡ Some (i, args) → granted (who_of e) i ≡ Some args) → IsNext meanings plan o (rec_of n e reply) → IsWorkEvent meanings granted s e
 work_next meanings plan granted s o n e reply same was next =
     by_next meanings plan (λ o e. ((i : ℕ) (args : Args) → o ≡ Some (i, args) → granted (who_of e) i ≡ Some args) → IsWorkEvent meanings granted s e)
-    (λ who i w. tt)
+    (λ who i l w. tt)
     (λ who i args answer means w. (args, w i args refl, means ∙ ap (λ (p : Planned). stage_answer meanings p.stages i args) (sym same)))
     o n e reply next was
 
 pub is_work_then : (meanings : Meanings) (plan : Planned) (owes : ℕ → Owed) (granted : Grants) (n : ℕ) (s : State) (events : List Event) → s.plan ≡ plan → WasGranted owes granted → AllWork meanings plan owes n s events → IsWorkHistory meanings granted s events
 is_work_then meanings plan owes granted n s [] same was h = tt
 is_work_then meanings plan owes granted n s (e ∷ events) same was h =
-    let reply = answered s e in (
-      work_next meanings plan granted s (owes (who_of e)) n e reply.0 same (was (who_of e)) (is_next meanings plan owes n s e events h),
-      is_work_then meanings plan (owing_with owes n e reply.0) (granted_with granted e reply.0) (suc n) reply.1 events ((answered-shape s e).plan ∙ same) (still_granted owes granted n e reply.0 was) (rest_works meanings plan owes n s e events h),
+    let reply = answered s e in
+    let next = is_next meanings plan owes n s e events h in
+    let stays = (answered-shape s e (next_attaches_none meanings plan (owes (who_of e)) n e reply.0 next)).plan in (
+      work_next meanings plan granted s (owes (who_of e)) n e reply.0 same (was (who_of e)) next,
+      is_work_then meanings plan (owing_with owes n e reply.0) (granted_with granted e reply.0) (suc n) reply.1 events (stays ∙ same) (still_granted owes granted n e reply.0 was) (rest_works meanings plan owes n s e events h),
     )

@@ -28,7 +28,7 @@ use Rattle.cf_plan.specs.Meanings.{Meanings}
 use Rattle.cf_desk.specs.declared.calls.Rec.{Rec}
 use Rattle.cf_pool.specs.Works.{Owed, owed_by, owed_after, IsNext}
 use Rattle.cf_pool.specs.Records.{recorded}
-use Rattle.cf_pool.proofs.Racing.Owing.{rec_of, owing_with, AllWork, is_next, rest_works, by_next}
+use Rattle.cf_pool.proofs.Racing.Owing.{rec_of, owing_with, AllWork, is_next, next_attaches_none, rest_works, by_next}
 use Rattle.cf_core.proofs.ClaimedStages.{is_claimed, at, landed_claimed}
 
 -- the one whose claim of stage i is open owes it
@@ -190,7 +190,7 @@ event_owed : (meanings : Meanings) (plan : Planned) (owes : ℕ → Owed) (n : �
     → AllOwed (owing_with owes n e ((answered s e).0)) ((answered s e).1)
 event_owed meanings plan owes n s o e is len h next =
     by_next meanings plan (λ o e. owes (who_of e) ≡ o → AllOwed (owing_with owes n e ((answered s e).0)) ((answered s e).1))
-    (λ who i none. claim_owed (stage_at s i) owes n s who i refl len h none)
+    (λ who i l none. claim_owed (stage_at s i) owes n s who i refl len h none)
     (λ who i args answer means mine. finish_owed (option_map_or (λ w. w == who) (claim_at s i) false) owes s (rec_of n (Finishes who i answer) ((answered s (Finishes who i answer)).0)) who i args answer refl h mine)
     o n e ((answered s e).0) next is
 
@@ -210,8 +210,9 @@ pub work_leaves_unclaimed : (meanings : Meanings) (plan : Planned) (owes : ℕ �
 work_leaves_unclaimed meanings plan owes n s [] len h work out = none_claimed owes s h out
 work_leaves_unclaimed meanings plan owes n s (e ∷ events) len h work out =
     let done = answered s e in
-    let shape = answered-shape s e in
+    let next = is_next meanings plan owes n s e events work in
+    let shape = answered-shape s e (next_attaches_none meanings plan (owes (who_of e)) n e done.0 next) in
     work_leaves_unclaimed meanings plan (owing_with owes n e done.0) (suc n) done.1 events (shape.all_claims ∙ len ∙ sym shape.all_stages)
-    (event_owed meanings plan owes n s (owes (who_of e)) e refl len h (is_next meanings plan owes n s e events work))
+    (event_owed meanings plan owes n s (owes (who_of e)) e refl len h next)
     (rest_works meanings plan owes n s e events work)
     (λ c. rest_owed (owes c) (eqb (who_of e) c) (rec_of n e done.0) (recorded c (suc n) done.1 events) (out c))

@@ -7,28 +7,29 @@ use Rattle.std.proofs.lemmas.List.{length-take-le, length-replicate}
 use Rattle.std.proofs.lemmas.List.Sums.{count_by-le-length}
 use Rattle.std.proofs.Math.Seq.{take-length}
 use Rattle.std.proofs.lemmas.List.Elements.{All-cons, All-head, All-tail, All-weaker, All-contains}
-use Rattle.cf_plan.specs.Plans.{Planned, IsBuilt}
+use Rattle.cf_plan.specs.Plans.{Planned, PlannedStage, IsBuilt}
 use Rattle.cf_core.specs.declared.events.Event.{Event}
 use Rattle.cf_core.specs.declared.stage.Stage.TheVariants.{Pending}
 use Rattle.cf_core.specs.States.{State, start, stage_at}
-use Rattle.cf_core.specs.Claims.{claimable_count, is_claimable}
+use Rattle.cf_core.specs.Claims.{is_claimable}
 use Rattle.cf_core.specs.Events.{state_after}
-use Rattle.cf_core.specs.Ranges.{EventFits}
 use Rattle.cf_core.specs.Calls.{is_from_outside}
 use Rattle.cf_core.proofs.Histories.{state_after-append}
 use Rattle.cf_core.proofs.LowestReady.{lowest_ready-none}
-use Rattle.cf_core.proofs.Shape.{length-new_states, state_after-shape}
+use Rattle.cf_core.proofs.Shape.{length-new_states, state_after-grows, state_after-shape}
 use Rattle.cf_plan.specs.Meanings.{Meanings}
 use Rattle.cf_expr.specs.Histories.{grants_after, nothing_granted}
 use Rattle.cf_desk.specs.declared.calls.Kept.{Kept}
 use Rattle.cf_desk.specs.declared.faults.DeskFault.{DeskFault}
-use Rattle.cf_desk.specs.declared.faults.DeskFault.TheVariants.{LogFull, NoStage, PassFull}
+use Rattle.cf_desk.specs.declared.faults.DeskFault.TheVariants.{BadAttach, LogFull, NoStage, PassFull}
 use Rattle.cf_desk.specs.declared.row.Setting.{Setting}
+use Rattle.cf_desk.specs.Functions.{function_bound}
 use Rattle.cf_desk.specs.Keepings.{IsKeptFit, pass_did}
-use Rattle.cf_desk.specs.Log.{Catches, IsEventOf, own, state_from}
+use Rattle.cf_desk.specs.Log.{Catches, own, state_from}
 use Rattle.cf_desk.specs.Rule.{count_in}
 use Rattle.cf_desk.specs.Views.{Closes, Pass, Desk, SeesFull, knowns}
-use Rattle.cf_desk.proofs.Recs.{plan_stays}
+use Rattle.cf_desk.proofs.Lists.{all_front}
+use Rattle.cf_desk.proofs.Events.{events_each}
 use Rattle.cf_pool.specs.Closings.{IsDueToTell, Ran, RanOut}
 use Rattle.cf_pool.specs.Works.{Owed, Works, WorksOut, owed_after}
 use Rattle.cf_pool.specs.Records.{recorded}
@@ -36,11 +37,12 @@ use Rattle.cf_pool.specs.Races.{IsByWorker, IsRaced, IsStep, IsWorkHistory, log_
 use Rattle.cf_pool.specs.Beginnings.{HaveBegun, IsApart, HasDoneSteps}
 use Rattle.cf_core.proofs.ClaimedStages.{is_claimed, outside_leaves_unclaimed}
 use Rattle.cf_expr.proofs.Quiet.{is_quiet}
-use Rattle.cf_pool.proofs.Runs.{all_front, each_out}
-use Rattle.cf_pool.proofs.Racing.Counts.{AllBelow, ByCaller, history_at_most, recorded_below}
+use Rattle.cf_pool.proofs.Runs.{each_out}
+use Rattle.cf_pool.proofs.Racing.Counts.{ByCaller, claims_left, grants_leave, history_at_most}
+use Rattle.cf_pool.proofs.Racing.Begun.{steps_attach_none}
 use Rattle.cf_pool.proofs.Racing.Ending.{Whole, all_share, back_all, first_begun, others_begun, own_none, seen_is, weigh_zero}
-use Rattle.cf_pool.proofs.Racing.Joining.{HadBegun, Shares, absent_records, all_room, each_pass, has_room, owes_none, shares, shares_few}
-use Rattle.cf_pool.proofs.Racing.Owing.{AllWork, is_work_then}
+use Rattle.cf_pool.proofs.Racing.Joining.{HadBegun, Shares, WorksIn, absent_records, all_room, each_pass, has_room, last_plan, owes_none, shares, shares_few, zip_both}
+use Rattle.cf_pool.proofs.Racing.Owing.{AllWork, is_work_then, work_leaves_plan}
 use Rattle.cf_pool.proofs.Racing.Quiet.{work_leaves_unclaimed}
 
 -- a run that began with the steps
@@ -55,31 +57,35 @@ pub record Ended (meanings : Meanings) (d : Desk) (steps : List Event) (calls : 
 
 -- ---- how long it is
 
-start_few : (plan : Planned) (events : List Event) → claimable_count (state_from plan events) ≤ length plan.stages
+-- how many stages there may be in all
+abbrev most_stages : Planned → ℕ
+most_stages plan = length plan.stages + plan.room
+
+start_few : (plan : Planned) (events : List Event) → claims_left (state_from plan events) ≤ most_stages plan
 start_few plan events =
-    let a = count_by-le-length is_claimable (state_from plan events).stages in
-    let b : length (state_from plan events).stages ≡ length plan.stages =
-    (state_after-shape (start plan) events).all_stages ∙ length-new_states [] plan.stages (replicate (length plan.stages) Pending) ∙ length-replicate (length plan.stages) Pending in
-    omega (arith, a, b)
+    let left = grants_leave 0 (start plan) events in
+    let a = count_by-le-length is_claimable (start plan).stages in
+    let b : length (start plan).stages ≡ length plan.stages = length-new_states [] plan.stages (replicate (length plan.stages) Pending) ∙ length-replicate (length plan.stages) Pending in
+    omega (arith, left, a, b)
 
-by_callers : (setting : Setting) (events : List Event) → All (IsEventOf setting) events → All (ByCaller setting.callers) events
-by_callers setting events h = All-weaker (IsEventOf setting) (ByCaller setting.callers) (λ e k. k.caller) events h
+-- and how many there are in the end
+few_stages : (plan : Planned) (events : List Event) → length (state_from plan events).plan.stages ≤ most_stages plan
+few_stages plan events =
+    let grown = state_after-grows (start plan) events in
+    let stages = ap (λ (l : List PlannedStage). length l) grown.stages ∙ length-append plan.stages grown.more in
+    let room = grown.room in
+    omega (arith, stages, room)
 
-all_below : (meanings : Meanings) (setting : Setting) (history seen work : List Event) → Whole meanings setting history seen work → (c : ℕ) → AllBelow (length setting.plan.stages) (recorded c (length seen) (state_from setting.plan seen) work)
-all_below meanings setting history seen work w c =
-    recorded_below (length setting.plan.stages) c (length seen) (state_from setting.plan seen) work
-    (All-weaker (IsEventOf setting) (EventFits (length setting.plan.stages)) (λ e k. k.stage) work (back_all (IsEventOf setting) seen work w.events))
-
-work_few : (meanings : Meanings) (setting : Setting) (history seen work : List Event) → Whole meanings setting history seen work → length work ≤ length setting.plan.stages * setting.callers + length setting.plan.stages
+work_few : (meanings : Meanings) (setting : Setting) (history seen work : List Event) → Whole meanings setting history seen work → length work ≤ most_stages setting.plan * setting.callers + most_stages setting.plan
 work_few meanings setting history seen work w =
-    history_at_most setting.callers (length setting.plan.stages) (length seen) (state_from setting.plan seen) work
-    (by_callers setting work (back_all (IsEventOf setting) seen work w.events)) (start_few setting.plan seen)
-    (λ c l. (shares_few meanings setting.plan (length setting.plan.stages) (recorded c (length seen) (state_from setting.plan seen) work) (w.shares_of c l) (all_below meanings setting history seen work w c)).0)
+    history_at_most setting.callers (most_stages setting.plan) (length seen) (state_from setting.plan seen) work
+    (back_all (ByCaller setting.callers) seen work w.by) (start_few setting.plan seen)
+    (λ c l. (shares_few meanings (last_plan setting (seen ++ work)) (most_stages setting.plan) (recorded c (length seen) (state_from setting.plan seen) work) (few_stages setting.plan (seen ++ work)) (w.shares_of c l)).0)
 
 history_short : (meanings : Meanings) (d : Desk) (steps : ℕ) (workers : ℕ) (history seen work : List Event) → Whole meanings d.setting history seen work → length seen ≤ steps
-    → d.setting.callers ≡ workers + 1 → d.words ≡ log_words steps (length d.setting.plan.stages) workers → length history < d.words
+    → d.setting.callers ≡ workers + 1 → d.words ≡ log_words steps (most_stages d.setting.plan) workers → length history < d.words
 history_short meanings d steps workers history seen work w few callers words =
-    let n = length d.setting.plan.stages in
+    let n = most_stages d.setting.plan in
     let a = work_few meanings d.setting history seen work w in
     let b : length history ≡ length seen + length work = ap length w.history_is ∙ length-append seen work in
     let c : n * (workers + 2) ≡ n * d.setting.callers + n = ap (λ (k : ℕ). n * k) (let e : workers + 2 ≡ suc d.setting.callers = omega arith in e) ∙ mul-suc n d.setting.callers in
@@ -102,7 +108,7 @@ all_taken d steps first t history is begins short = split t.all
 
 ended : (meanings : Meanings) (d : Desk) (steps : List Event) (calls workers : ℕ) (first q : Pass) (others qs : List Pass) (history : List Event) → HasDoneSteps d steps first → first.calls ≡ calls → All (IsApart d calls first.known.seen) others
     → AllZip (Works meanings) (first ∷ others) (q ∷ qs) → Closes d (q ∷ qs) history → All (IsKeptFit d.setting.plan history) (map pass_did (q ∷ qs))
-    → d.setting.callers ≡ workers + 1 → d.words ≡ log_words (length steps) (length d.setting.plan.stages) workers → length steps + 2 * length d.setting.plan.stages < calls
+    → d.setting.callers ≡ workers + 1 → d.words ≡ log_words (length steps) (most_stages d.setting.plan) workers → length steps + 2 * most_stages d.setting.plan < calls
     → Ended meanings d steps calls (first ∷ others) (q ∷ qs) history
 ended meanings d steps calls workers first q others qs history t room apart zip closes fit callers words enough =
     let setting = d.setting in
@@ -111,17 +117,19 @@ ended meanings d steps calls workers first q others qs history t room apart zip 
     let catch = All-head (λ (p : Pass). Catches p.known.caller p.known.seen history) q qs closes.begins in
     let work = w.seen ++ catch.others in
     let is : history ≡ seen ++ work = catch.joined ∙ ap (λ l. l ++ catch.others) w.goes_on ∙ append_assoc seen w.seen catch.others in
-    let events : All (IsEventOf setting) (seen ++ work) = subst (All (IsEventOf setting)) is closes.events in
+    let by : All (ByCaller setting.callers) (seen ++ work) = subst (All (ByCaller setting.callers)) is (events_each (ByCaller setting.callers) setting (λ s e h. h.caller) (start setting.plan) history closes.events) in
+    let caught = subst (λ (h : List Event). All (λ (p : Pass). Catches p.known.caller p.known.seen h) (q ∷ qs)) is closes.begins in
+    let both : AllZip (WorksIn meanings (seen ++ work)) (first ∷ others) (q ∷ qs) = zip_both (Works meanings) (λ (p : Pass). Catches p.known.caller p.known.seen (seen ++ work)) (first ∷ others) (q ∷ qs) zip caught in
     let fits : All (IsKeptFit setting.plan (seen ++ work)) (map pass_did (q ∷ qs)) = subst (λ (h : List Event). All (IsKeptFit setting.plan h) (map pass_did (q ∷ qs))) is fit in
     let begun = All-cons (HadBegun setting seen (length steps) calls) first others (first_begun d steps calls first t room)
     (others_begun d seen (length steps) calls others apart) in
     let whole : Whole meanings setting history seen work = record {
       history_is = is;
-      events = events;
-      shares_of = λ c l. each_pass setting.plan (seen ++ work) (Works meanings) (HadBegun setting seen (length steps) calls) (λ k. Shares meanings setting.plan (recorded k (length seen) (state_from setting.plan seen) work))
-          (λ a b v. v.same.2) (shares meanings setting seen work (length steps) calls) c (first ∷ others) (q ∷ qs) zip begun fits (let one = closes.each c l in omega (arith, one));
+      by = by;
+      shares_of = λ c l. each_pass setting.plan (seen ++ work) (WorksIn meanings (seen ++ work)) (HadBegun setting seen (length steps) calls) (λ k. Shares meanings (last_plan setting (seen ++ work)) (recorded k (length seen) (state_from setting.plan seen) work))
+          (λ a b v. v.0.same.2) (shares meanings setting seen work (length steps) calls) c (first ∷ others) (q ∷ qs) both begun fits (let one = closes.each c l in omega (arith, one));
     } in
-    let taken : seen ≡ take t.taken steps = seen_is d steps first setting.callers t (by_callers setting seen (all_front (IsEventOf setting) seen work events))
+    let taken : seen ≡ take t.taken steps = seen_is d steps first setting.callers t (all_front (ByCaller setting.callers) seen work by)
     (λ c more less. apart_none d calls meanings (seen ++ work) first q others qs t.done.caller w zip.1 apart (All-tail (IsKeptFit setting.plan (seen ++ work)) (pass_did q) (map pass_did qs) fits) c more (closes.each c less)) in
     let few : length seen ≤ length steps = (let a = ap length taken in let b = length-take-le t.taken steps t.few in let c = t.few in omega (arith, a, b, c)) in
     let short = history_short meanings d (length steps) workers history seen work whole few callers words in
@@ -132,21 +140,21 @@ ended meanings d steps calls workers first q others qs history t room apart zip 
       begun = begun;
       steps_are = all_taken d steps first t history taken (let e : length history ≡ length seen + length work = ap length is ∙ length-append seen work in omega arith) short;
       short = short;
-      room = all_room setting.plan (seen ++ work) (Works meanings) (HadBegun setting seen (length steps) calls)
-          (has_room meanings setting seen work (length steps) calls (length setting.plan.stages) enough (all_below meanings setting history seen work whole))
-          (first ∷ others) (q ∷ qs) zip begun fits;
+      room = all_room setting.plan (seen ++ work) (WorksIn meanings (seen ++ work)) (HadBegun setting seen (length steps) calls)
+          (has_room meanings setting seen work (length steps) calls (most_stages setting.plan) enough (few_stages setting.plan (seen ++ work)))
+          (first ∷ others) (q ∷ qs) both begun fits;
     }
 
 ended_any : (meanings : Meanings) (d : Desk) (steps : List Event) (calls workers : ℕ) (first : Pass) (others qs : List Pass) (history : List Event) → HasDoneSteps d steps first → first.calls ≡ calls → All (IsApart d calls first.known.seen) others
     → AllZip (Works meanings) (first ∷ others) qs → Closes d qs history → All (IsKeptFit d.setting.plan history) (map pass_did qs)
-    → d.setting.callers ≡ workers + 1 → d.words ≡ log_words (length steps) (length d.setting.plan.stages) workers → length steps + 2 * length d.setting.plan.stages < calls
+    → d.setting.callers ≡ workers + 1 → d.words ≡ log_words (length steps) (most_stages d.setting.plan) workers → length steps + 2 * most_stages d.setting.plan < calls
     → Ended meanings d steps calls (first ∷ others) qs history
 ended_any meanings d steps calls workers first others [] history t room apart zip closes fit callers words enough = absurd zip
 ended_any meanings d steps calls workers first others (q ∷ qs) history t room apart zip closes fit callers words enough =
     ended meanings d steps calls workers first q others qs history t room apart zip closes fit callers words enough
 
 pub run_ended : (meanings : Meanings) (d : Desk) (steps : List Event) (calls workers : ℕ) (ps : List Pass) (history : List Event) (kept : List Kept) (graph : State) → HaveBegun d steps calls ps → (r : Ran meanings d ps history kept graph)
-    → d.setting.callers ≡ workers + 1 → d.words ≡ log_words (length steps) (length d.setting.plan.stages) workers → length steps + 2 * length d.setting.plan.stages < calls
+    → d.setting.callers ≡ workers + 1 → d.words ≡ log_words (length steps) (most_stages d.setting.plan) workers → length steps + 2 * most_stages d.setting.plan < calls
     → Ended meanings d steps calls ps r.qs history
 run_ended meanings d steps calls workers ps history kept graph b r callers words enough =
     subst (λ (l : List Pass). Ended meanings d steps calls l r.qs history) (sym b.are)
@@ -165,7 +173,7 @@ none_owed meanings setting history seen work most calls ps qs w begun zip each f
     split : (c < setting.callers) ⊎ (setting.callers ≤ c) → owed_after None (recorded c (length seen) (state_from setting.plan seen) work) ≡ None
     split (inl l) = each_pass setting.plan (seen ++ work) (WorksOut meanings) (HadBegun setting seen most calls) (λ k. owed_after None (recorded k (length seen) (state_from setting.plan seen) work) ≡ None)
         (λ a b v. v.works.same.2) (owes_none meanings setting seen work most calls) c ps qs zip begun fits (let one = each c l in omega (arith, one))
-    split (inr l) = ap (owed_after None) (absent_records setting.callers c (length seen) (state_from setting.plan seen) work l (by_callers setting work (back_all (IsEventOf setting) seen work w.events)))
+    split (inr l) = ap (owed_after None) (absent_records setting.callers c (length seen) (state_from setting.plan seen) work l (back_all (ByCaller setting.callers) seen work w.by))
 
 pub race_ended : (meanings : Meanings) (d : Desk) (steps : List Event) (calls workers : ℕ) (ps : List Pass) (history : List Event) (kept : List Kept) (graph : State) → d.setting.callers ≡ workers + 1 → IsBuilt d.setting.plan → All (IsStep (length d.setting.plan.stages)) steps
     → (o : RanOut meanings d ps history kept graph) → Ended meanings d steps calls ps o.ran.qs history → IsRaced meanings d.setting.plan steps workers graph
@@ -174,32 +182,38 @@ race_ended meanings d steps calls workers ps history kept graph callers built ar
     let s = state_from plan e.seen in
     let is : history ≡ e.seen ++ e.work = e.whole.history_is in
     let fits : All (IsKeptFit plan (e.seen ++ e.work)) (map pass_did o.ran.qs) = subst (λ (h : List Event). All (IsKeptFit plan h) (map pass_did o.ran.qs)) is (subst (All (IsKeptFit plan history)) o.ran.kept_are o.ran.fit.each) in
-    let works : AllWork meanings plan nobody (length e.seen) s e.work = λ c. (all_share meanings d.setting history e.seen e.work e.whole c).work in
+    let last = last_plan d.setting (e.seen ++ e.work) in
+    let works : AllWork meanings last nobody (length e.seen) s e.work = λ c. (all_share meanings d.setting history e.seen e.work e.whole c).work in
     let started : All (IsStep (length plan.stages)) e.seen = subst (All (IsStep (length plan.stages))) (sym e.steps_are) are in
     let outside : All (λ x. is_from_outside x ≡ true) e.seen = All-weaker (IsStep (length plan.stages)) (λ x. is_from_outside x ≡ true) (λ x h. h.0) e.seen started in
-    let shape = state_after-shape (start plan) e.seen in
+    let none = steps_attach_none e.seen outside in
+    let shape = state_after-shape (start plan) e.seen none in
     let lengths : length s.claims ≡ length s.stages =
     shape.all_claims ∙ length-replicate (length plan.stages) None ∙ sym (length-new_states [] plan.stages (replicate (length plan.stages) Pending) ∙ length-replicate (length plan.stages) Pending) ∙ sym shape.all_stages in
     let state : graph ≡ state_after (start plan) (steps ++ e.work) = o.ran.graph_is ∙ ap (state_from plan) (is ∙ ap (λ l. l ++ e.work) e.steps_are) in
-    let joined : state_after s e.work ≡ graph = sym (state_after-append (start plan) e.seen e.work) ∙ sym (ap (state_from plan) is) ∙ sym o.ran.graph_is in
+    let whole : state_from plan (e.seen ++ e.work) ≡ state_after s e.work = state_after-append (start plan) e.seen e.work in
+    let joined : state_after s e.work ≡ graph = sym whole ∙ sym (ap (state_from plan) is) ∙ sym o.ran.graph_is in
+    let stays : (state_after s e.work).plan ≡ s.plan = work_leaves_plan meanings last nobody (length e.seen) s e.work works in
     record {
       built = built;
+      of_plan = ap (λ (t : State). t.plan) (sym joined) ∙ stays ∙ shape.plan;
       work = e.work;
       done = subst (λ (l : List Event). IsWorkHistory meanings (grants_after nothing_granted (start plan) l) (state_after (start plan) l) e.work) e.steps_are
-          (is_work_then meanings plan nobody (grants_after nothing_granted (start plan) e.seen) (length e.seen) s e.work (plan_stays (start plan) e.seen) (λ c i args owed. (let nothing : ⊥ = cc in absurd nothing)) works);
-      by = All-weaker (IsEventOf d.setting) (IsByWorker workers) (λ x h. (let l = h.caller in omega arith)) e.work (back_all (IsEventOf d.setting) e.seen e.work e.whole.events);
+          (is_work_then meanings last nobody (grants_after nothing_granted (start plan) e.seen) (length e.seen) s e.work (sym stays ∙ ap (λ (t : State). t.plan) (sym whole)) (λ c i args owed. (let nothing : ⊥ = cc in absurd nothing)) works);
+      by = All-weaker (ByCaller d.setting.callers) (IsByWorker workers) (λ x h. (omega arith)) e.work (back_all (ByCaller d.setting.callers) e.seen e.work e.whole.by);
       state = state;
       quiet = is_quiet graph (lowest_ready-none graph o.none)
-          (λ i. ap (λ (t : State). is_claimed (stage_at t i)) (sym joined) ∙ work_leaves_unclaimed meanings plan nobody (length e.seen) s e.work lengths
+          (λ i. ap (λ (t : State). is_claimed (stage_at t i)) (sym joined) ∙ work_leaves_unclaimed meanings last nobody (length e.seen) s e.work lengths
           (λ j claimed. (let free = outside_leaves_unclaimed plan e.seen outside j in let nothing : ⊥ = cc in absurd nothing)) works
           (none_owed meanings d.setting history e.seen e.work (length steps) calls ps o.ran.qs e.whole e.begun (each_out meanings d ps o.ran.qs o.ended) o.ran.closes.each fits) i);
     }
 
 -- ---- as the code has it
 
--- a desk of this plan, for so many workers and steps
+-- a desk of this plan, which has no room for more stages, for so many workers and steps
 pub record IsSized (d : Desk) (plan : Planned) (steps : List Event) (workers calls : ℕ) : Type 0 where
-  pub setting_is : d.setting ≡ record { plan = plan; callers = workers + 1 }
+  pub setting_is : d.setting ≡ record { plan = plan; callers = workers + 1; functions = function_bound plan.stages }
+  pub no_room : plan.room ≡ 0
   pub words_are : d.words ≡ log_words (length steps) (length plan.stages) workers
   pub calls_are : calls ≡ length steps + 2 * length plan.stages + 1
 
@@ -207,7 +221,8 @@ sized_ended : (meanings : Meanings) (d : Desk) (plan : Planned) (steps : List Ev
     → (r : Ran meanings d ps history kept graph) → Ended meanings d steps calls ps r.qs history
 sized_ended meanings d plan steps calls workers ps history kept graph z b r =
     let same : d.setting.plan ≡ plan = ap (λ (s : Setting). s.plan) z.setting_is in
-    let n : length d.setting.plan.stages ≡ length plan.stages = ap (λ (p : Planned). length p.stages) same in
+    let none = z.no_room in
+    let n : most_stages d.setting.plan ≡ length plan.stages = ap most_stages same ∙ (let e : most_stages plan ≡ length plan.stages = omega (arith, none) in e) in
     let calls_are = z.calls_are in
     run_ended meanings d steps calls workers ps history kept graph b r (ap (λ (s : Setting). s.callers) z.setting_is)
     (z.words_are ∙ ap (λ (k : ℕ). log_words (length steps) k workers) (sym n)) (omega (arith, n, calls_are))
@@ -225,6 +240,7 @@ raced meanings d plan steps calls workers ps history kept graph z b built are o 
 pub never_full : (meanings : Meanings) (d : Desk) (plan : Planned) (steps : List Event) (calls workers : ℕ) (ps : List Pass) (history : List Event) (kept : List Kept) (graph : State) → IsSized d plan steps workers calls → HaveBegun d steps calls ps
     → (fault : DeskFault) (r : Ran meanings d ps history kept graph) → IsDueToTell d.words r.qs history fault → ⊥
 never_full meanings d plan steps calls workers ps history kept graph z b NoStage r due = due
+never_full meanings d plan steps calls workers ps history kept graph z b BadAttach r due = due
 never_full meanings d plan steps calls workers ps history kept graph z b LogFull r due =
     let short = (sized_ended meanings d plan steps calls workers ps history kept graph z b r).short in
     omega (arith, short, due)

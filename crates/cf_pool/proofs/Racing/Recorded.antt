@@ -11,7 +11,7 @@ use Rattle.cf_core.specs.Events.{answered, state_after, state_at}
 use Rattle.cf_event.specs.Words.{who_of}
 use Rattle.cf_plan.specs.Meanings.{Meanings}
 use Rattle.cf_desk.specs.declared.calls.Call.{Call}
-use Rattle.cf_desk.specs.declared.calls.Call.TheVariants.{Complete, Fail, Cancel, Claim, Finish, Tick}
+use Rattle.cf_desk.specs.declared.calls.Call.TheVariants.{Complete, Fail, Cancel, Claim, Finish, Tick, Attach}
 use Rattle.cf_desk.specs.declared.calls.Rec.{Rec}
 use Rattle.cf_desk.specs.declared.calls.Rec.TheVariants.{Did, Saw}
 use Rattle.cf_desk.specs.Log.{state_from, placed}
@@ -42,6 +42,7 @@ call_by c (Cancel i) = refl
 call_by c (Claim i) = refl
 call_by c (Finish i answer) = refl
 call_by c (Tick now) = refl
+call_by c (Attach form of function) = refl
 
 told_rec : (plan : Planned) (history : List Event) (c place : ℕ) (call : Call) (reply : Reply) → reply ≡ (answered (state_at plan history (place - 1)) (event_by c call)).0 → Did place call reply ≡ told_of plan history (place, event_by c call)
 told_rec plan history c place call reply e = (λ i. Did place (sym (call_by c call) i) (e i))

@@ -1,5 +1,6 @@
 //! How a race begins: caller 0 does the steps, and then it meets each other caller.
 ghost use Rattle.std.specs.Prelude.{◌≡◌, ◌<◌, ◌≤◌, All, IfOk, length, vec_len};
+ghost use Rattle.cf_desk.specs.Functions.{function_bound};
 ghost use Rattle.cf_desk.specs.Views.{IsOf};
 ghost use Rattle.cf_pool.specs.Beginnings.{HasDoneSteps, HasTaken, HaveBegun, IsApart, IsIdle};
 ghost use Rattle.cf_pool.specs.Races.{IsStep};
@@ -19,7 +20,7 @@ pub(crate) fn begin(
     calls: u16,
 ) -> Result<(Desk, Vec<Pass>), AllocError>
     requires steps { All (IsStep (length plan.stages)) steps.now × (length steps.now < calls) }
-    ensures desk { IfOk result (λ r. (r.0.setting ≡ record { plan = plan; callers = callers }) × (r.0.words ≡ log)) }
+    ensures desk { IfOk result (λ r. (r.0.setting ≡ record { plan = plan; callers = callers; functions = function_bound plan.stages }) × (r.0.words ≡ log)) }
     ensures passes { IfOk result (λ r. All (IsOf r.0) r.1.items × (vec_len r.1 ≡ callers)) }
     ensures begun { IfOk result (λ r. HaveBegun r.0 steps.now calls r.1.items) }
 {

@@ -1,4 +1,5 @@
-use Rattle.std.proofs.Common.{◌≡◌, ◌∷◌, [], length, ap, ◌∙◌, arith}
+use Rattle.std.proofs.Common.{◌≡◌, ◌∷◌, [], length, refl, ap, ◌∙◌, arith}
+use Rattle.cf_plan.specs.Plans.{with_room}
 use Rattle.cf_desk.specs.Views.{known_of}
 use Rattle.cf_desk.proofs.Meets.{gives_first}
 use Rattle.cf_desk.proofs.Closing.{begins, split_next, new_one, agrees_new}
@@ -15,7 +16,7 @@ pub split_seat-mine-requires : goal.split_seat-mine-requires
 split_seat-mine-requires c = (c.loop-caller.invariant.table, (let e = c.in_ok-table.ensures.0 in let l = c.as_slice.ensures.len in let z = c.in_ok-zeros.ensures.len in omega arith), gives_first _ _ _)
 
 abbrev setting : After-split_seat-mine → Setting
-setting c = record { plan = c.args.plan; callers = c.args.callers }
+setting c = record { plan = with_room c.args.plan c.args.room; callers = c.args.callers; functions = c.args.functions }
 
 mine : (c : After-split_seat-mine) → c.split_seat-mine.result.me ≡ (blank (setting c) c.loop-caller.caller ∷ [], [])
 mine c = new_one _ _ _ _ c.loop-caller-test.true c.loop-caller.invariant.seat c.split_seat-mine.ensures.4
@@ -25,7 +26,7 @@ invariant_of-pass c =
     let me = mine (goal.at.invariant_of-pass c).After-split_seat-mine in
     let none = c.in_ok-records.ensures.items in record {
       one = one_known _ (blank (setting (goal.at.invariant_of-pass c).After-split_seat-mine) c.loop-caller.caller) (ap (λ m. m.0) me) (ap (λ m. m.1) me);
-      agrees = agrees_new _ _ _ _ _ c.loop-caller-test.true c.requires.counts.1 me c.in_ok-copy.ensures none;
+      agrees = agrees_new _ _ _ _ _ _ c.loop-caller-test.true c.requires.counts.1 refl me c.in_ok-copy.ensures none;
       room = (let r = c.in_ok-records.ensures.capacity in omega arith);
       within = (let e = ap length none in omega arith);
       short = omega arith;

@@ -1,6 +1,7 @@
 use Rattle.std.proofs.Common.{◌≡◌, ◌+◌, ◌*◌, ◌∙◌, ap, length, ℕ, subst}
 use Rattle.cf_pool.specs.Closings.{IsRefused}
 use Rattle.cf_plan.specs.Meanings.{meanings_of}
+use Rattle.cf_plan.specs.Plans.{Planned}
 use Rattle.cf_pool.specs.Races.{log_words}
 use Rattle.cf_pool.proofs.Racing.Raced.{IsSized, never_full, raced}
 use Rattle.cf_pool.proofs.races.race.Given.{Over}
@@ -12,7 +13,7 @@ sized g c =
     let d = c.in-Ok.ensures.desk in
     let s = c.in-Some.ensures in
     let n : c.stages.result ≡ length c.args.plan.stages = c.stages.ensures.count in
-    record { setting_is = d.0; words_are = d.1 ∙ s.0 ∙ ap (λ (k : ℕ). log_words (length c.args.steps.now) k c.args.workers) n; calls_are = s.1 ∙ ap (λ (k : ℕ). length c.args.steps.now + 2 * k + 1) n }
+    record { setting_is = d.0; no_room = ap (λ (p : Planned). p.room) c.stages.ensures.whole; words_are = d.1 ∙ s.0 ∙ ap (λ (k : ℕ). log_words (length c.args.steps.now) k c.args.workers) n; calls_are = s.1 ∙ ap (λ (k : ℕ). length c.args.steps.now + 2 * k + 1) n }
 
 pub returns-in-Ok-run-clause-raced : goal.returns-in-Ok-run-clause-raced
 returns-in-Ok-run-clause-raced g c =

@@ -13,7 +13,7 @@ pub returns-in_err-job-clause-works : goal.returns-in_err-job-clause-works
 returns-in_err-job-clause-works g c =
     let before = does_follows _ c.args.pass.now c.jobs.pass c.next_ready.new.pass c.jobs.done c.jobs.invariant.turned.does c.next_ready.ensures.seen in
     let job = c.take_job.ensures.adds in
-    adds_works _ c.args.pass.now c.take_job.new.pass job.0 (adds_then _ None None job.0 c.args.pass.now c.next_ready.new.pass c.take_job.new.pass before.adds job.1)
+    adds_works _ c.args.pass.now c.take_job.new.pass job.0 (adds_then _ None job.0 c.args.pass.now c.next_ready.new.pass c.take_job.new.pass before.adds job.1)
 
 pub returns-in_err-job-clause-stops : goal.returns-in_err-job-clause-stops
 returns-in_err-job-clause-stops g c =
@@ -28,6 +28,10 @@ jobs-preserved g c =
       turned = turned_then _ c.args.pass.now c.jobs.pass c.next_ready.new.pass c.take_job.new.pass c.jobs.done c.in_ok-job.job c.jobs.invariant.turned c.next_ready.ensures.seen job.done job.looks;
       room = c.jobs.invariant.room;
     }
+
+pub returns-clause-works : goal.returns-clause-works
+returns-clause-works g c =
+    (does_end _ c.args.pass.now c.next_ready.new.pass c.jobs.done (does_follows _ c.args.pass.now c.jobs.pass c.next_ready.new.pass c.jobs.done c.jobs.invariant.turned.does c.next_ready.ensures.seen)).out.works
 
 pub returns-clause-done : goal.returns-clause-done
 returns-clause-done g c =

@@ -1,5 +1,5 @@
 use Rattle.std.proofs.Common.{◌≡◌, ◌++◌, drop, string_bytes}
-use Rattle.cf_core.specs.Laws.{SameShape}
+use Rattle.cf_core.specs.Growth.{SameShape}
 use Rattle.cf_script.specs.Reports.{steps_lines, after_steps}
 use Rattle.cf_script.proofs.report.write_steps.Given as goal
 

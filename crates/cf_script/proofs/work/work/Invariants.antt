@@ -1,5 +1,5 @@
 use Rattle.cf_core.specs.Claims.{claimable_count}
-use Rattle.cf_core.specs.Laws.{SameShape}
+use Rattle.cf_core.specs.Growth.{SameShape}
 use Rattle.cf_script.specs.Working.{worked}
 use Rattle.cf_script.proofs.WorkLemmas.{IsBetweenTurns}
 use Rattle.cf_script.proofs.work.work.Given as goal

@@ -10,7 +10,7 @@ use Rattle.cf_desk.specs.Calls.{event_by}
 use Rattle.cf_desk.specs.Log.{IsEventOf}
 use Rattle.cf_desk.specs.Rule.{saw, AddsNext}
 use Rattle.cf_desk.specs.declared.calls.Rec.TheVariants.{Did}
-use Rattle.cf_desk.specs.Views.{Pass, Desk, known_of}
+use Rattle.cf_desk.specs.Views.{Pass, Desk, known_of, state_of}
 use Rattle.cf_desk.proofs.Recs.{own_call}
 use Rattle.cf_desk.proofs.Passes.{adds_at, one_known, short_more, agrees_own, agrees_other, on_plan}
 use Rattle.cf_desk.proofs.desk.Desk.add.Goals as goal
@@ -20,11 +20,13 @@ use Rattle.cf_desk.proofs.desk.Desk.add.Goals.{After-event_by-event, After-compa
 event_is : (c : After-event_by-event) → c.event_by-event.result ≡ event_by (known_of c.p.inside.seat.me.0).caller c.args.call
 event_is c = c.event_by-event.ensures ∙ ap (λ (n : ℕ). event_by n c.args.call) c.p.invariant.agrees.caller
 
-of_desk : (c : After-event_by-event) → IsEventOf (known_of c.p.inside.seat.me.0).setting c.event_by-event.result
-of_desk c =
+of_pass : (c : After-event_by-event) → IsEventOf (known_of c.p.inside.seat.me.0).setting (state_of (known_of c.p.inside.seat.me.0)) (event_by (known_of c.p.inside.seat.me.0).caller c.args.call)
+of_pass c =
     let known = ap (λ (h : Pass). h.known) c.p.view_is in
-    subst (IsEventOf (known_of c.p.inside.seat.me.0).setting) (sym (event_is c))
-    (subst (λ (x : Known). IsEventOf x.setting (event_by x.caller c.args.call)) (sym known) c.requires.event)
+    subst (λ (x : Known). IsEventOf x.setting (state_of x) (event_by x.caller c.args.call)) (sym known) c.requires.event
+
+of_desk : (c : After-event_by-event) → IsEventOf (known_of c.p.inside.seat.me.0).setting (state_of (known_of c.p.inside.seat.me.0)) c.event_by-event.result
+of_desk c = subst (IsEventOf (known_of c.p.inside.seat.me.0).setting (state_of (known_of c.p.inside.seat.me.0))) (sym (event_is c)) (of_pass c)
 
 pub encode-word-requires : goal.encode-word-requires
 encode-word-requires c = (of_desk (goal.at.encode-word-requires c).After-event_by-event).event
@@ -94,7 +96,7 @@ invariant_of-p c =
     let did = ap (λ (h : Pass). length h.records) c.p.view_is in
     let longer = ap length (more won_at) in record {
       one = one_known _ _ is (none_held at);
-      agrees = agrees_own _ _ _ _ _ _ _ _ c.args.call c.apply-reply.result (ap known_of is) (now won_at) (more won_at) i.agrees;
+      agrees = agrees_own _ _ _ _ _ _ _ _ _ c.args.call c.apply-reply.result (ap known_of is) (of_pass (goal.at.invariant_of-p c).After-event_by-event) (now won_at) (more won_at) i.agrees;
       room = (let r = i.room in omega (arith, c.push.ensures.capacity));
       within = omega (arith, length-append c.p.inside.records.items (Did (c.p.inside.count + 1) c.args.call c.apply-reply.result ∷ []));
       short = short_more _ _ _ c.compare_exchange-found.ensures.0 (left_over at);
@@ -118,7 +120,7 @@ invariant_of-p-in-Some c =
     let i = c.p.invariant in
     let t = (told at).lost c.in-Some.theirs (sym c.in-Some.ensures.value) in record {
       one = one_known _ _ t.0 (none_held at);
-      agrees = agrees_other _ _ _ _ _ _ _ c.in-Some.theirs (ap known_of t.0) t.2 (ap (λ (x : Reply × State). x.1) c.apply.ensures.told) i.agrees;
+      agrees = agrees_other _ _ _ _ _ _ _ _ c.in-Some.theirs (ap known_of t.0) t.1 t.2 (ap (λ (x : Reply × State). x.1) c.apply.ensures.told) i.agrees;
       room = i.room;
       within = i.within;
       short = short_more _ _ _ c.compare_exchange-found.ensures.0 (left_over at);

@@ -1,9 +1,8 @@
-use Rattle.std.proofs.Common.{◌≡◌, Some, sym, ap, ◌∙◌, subst, arith}
+use Rattle.std.proofs.Common.{◌≡◌, Some, sym, ap, ◌∙◌, arith}
 use Rattle.atomic_table.specs.Seated.{TableId}
 use Rattle.cf_core.specs.declared.events.Event.{Event}
 use Rattle.cf_core.specs.declared.events.Reply.{Reply}
 use Rattle.cf_core.specs.States.{State}
-use Rattle.cf_desk.specs.Log.{IsEventOf}
 use Rattle.cf_desk.specs.Rule.{FindsSeen}
 use Rattle.cf_desk.specs.Views.{Desk, known_of}
 use Rattle.cf_desk.proofs.Keeps.{same_some}
@@ -31,7 +30,7 @@ pub apply-requires : goal.apply-requires
 apply-requires c =
     let t = told (goal.at.apply-requires c).After-load-word in
     let e = seen (goal.at.apply-requires c).In-Some in
-    on_plan_at (known_of c.args.seat.now.me.0) _ c.loop-place.place _ c.loop-place.invariant.2 (subst (IsEventOf (known_of c.args.seat.now.me.0).setting) e t.logged)
+    on_plan_at (known_of c.args.seat.now.me.0) _ c.loop-place.place _ c.loop-place.invariant.2 c.requires.events (t.there ∙ ap (λ (x : Event). Some x) e)
 
 pub loop-place-preserved : goal.loop-place-preserved
 loop-place-preserved c =

@@ -28,5 +28,5 @@ returns c =
     let s = c.split_seat.ensures in
     let z = c.load.ensures.0 ∙ c.join_seat.ensures.0 ∙ c.requires.table.0 in record {
       table = (s.0 ∙ z, s.3 ∙ z);
-      level = levelled_from _ _ _ _ _ _ _ c.requires.one.0 c.requires.one.1 (ap (λ q. q.me) c.replace-other.ensures.value) c.join_seat.ensures.2 c.load.ensures.2.0 c.load.ensures.2.1 c.load.ensures.2.2 s.2 s.4;
+      level = levelled_from _ _ _ _ _ _ _ c.requires.one.0 c.requires.one.1 (ap (λ q. q.me) c.replace-other.ensures.value) c.join_seat.ensures.2 c.load.ensures.2.0 c.load.ensures.2.1 (c.load.ensures.2.2, c.load.ensures.2.3) s.2 s.4;
     }

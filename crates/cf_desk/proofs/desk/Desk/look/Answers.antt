@@ -3,7 +3,7 @@ use Rattle.atomic_table.specs.Seated.{TableId}
 use Rattle.cf_desk.specs.Rule.{LooksNext}
 use Rattle.cf_core.specs.declared.events.Reply.{Reply}
 use Rattle.cf_core.specs.States.{State}
-use Rattle.cf_desk.specs.Views.{Pass, Desk, known_of}
+use Rattle.cf_desk.specs.Views.{Pass, Desk, known_of, state_of}
 use Rattle.cf_desk.proofs.Passes.{looks_at, one_known, short_same, short_more, agrees_looked, agrees_other, on_plan}
 use Rattle.cf_desk.proofs.desk.Desk.look.Goals as goal
 use Rattle.cf_desk.proofs.desk.Desk.look.Goals.{After-load-word}
@@ -37,7 +37,7 @@ invariant_of-p c =
     let i = c.p.invariant in
     let is = (told at).empty (sym c.in-None.ensures.value) in record {
       one = one_known _ _ is (none_held at);
-      agrees = agrees_looked _ _ _ _ _ _ (ap known_of is) i.agrees;
+      agrees = agrees_looked _ _ _ _ _ _ _ (ap known_of is) i.agrees;
       room = i.room;
       within = i.within;
       short = short_same _ _ _ c.load-word.ensures.0 i.short;
@@ -66,7 +66,7 @@ invariant_of-p-in-Some c =
     let i = c.p.invariant in
     let t = (told at).taken c.in-Some.next (sym c.in-Some.ensures.value) in record {
       one = one_known _ _ t.0 (none_held at);
-      agrees = agrees_other _ _ _ _ _ _ _ c.in-Some.next (ap known_of t.0) t.2 (ap (λ (x : Reply × State). x.1) c.apply.ensures.told) i.agrees;
+      agrees = agrees_other _ _ _ _ _ _ _ _ c.in-Some.next (ap known_of t.0) t.1 t.2 (ap (λ (x : Reply × State). x.1) c.apply.ensures.told) i.agrees;
       room = i.room;
       within = i.within;
       short = short_more _ _ _ c.load-word.ensures.0 (left_over at);

@@ -1,11 +1,15 @@
 use Rattle.std.proofs.Common.{◌≡◌, ◌≢◌, ◌+◌, Option, Some, None, true, false, is_some, inl, inr, refl, sym, ap, ◌∙◌, subst, arith}
 use Rattle.cf_outcome.specs.declared.outcome.Outcome.{Outcome}
+use Rattle.cf_core.specs.declared.asks.Ask.TheVariants.{Outcome as AsksOutcome}
 use Rattle.cf_core.specs.States.{outcome_at}
 use Rattle.cf_desk.specs.Views.{Pass, Follows, LooksFor, state_of}
-use Rattle.cf_desk.proofs.Passes.{follows_itself, follows_then}
+use Rattle.cf_desk.proofs.Passes.{follows_itself, follows_then, still_asks_stage}
 use Rattle.cf_desk.proofs.Looks.{looks_more, looks_found}
 use Rattle.cf_desk.proofs.desk.Desk.look_for.Goals as goal
 use Rattle.cf_desk.proofs.desk.Desk.look_for.Goals.{After-is_some}
+
+pub outcome-requires : goal.outcome-requires
+outcome-requires c = still_asks_stage c.args.p.now _ (AsksOutcome c.args.stage) (follows_then _ _ _ c.looks.invariant.seen c.catch_others.ensures.seen) c.requires.stage
 
 pub looks-init : goal.looks-init
 looks-init c = record { seen = follows_itself _; looks = inl (refl, refl) }

@@ -1,0 +1,22 @@
+//! Tests of the desk by its public calls alone. They stand in a crate of their own, since a crate that has tests is proved
+//! twice, with them and without.
+#![tactic(auto)]
+
+#[cfg(test)]
+mod bounds;
+#[cfg(test)]
+mod desks;
+#[cfg(test)]
+mod growing;
+#[cfg(test)]
+mod late;
+#[cfg(test)]
+mod listing;
+#[cfg(test)]
+mod room;
+#[cfg(test)]
+mod steps;
+#[cfg(test)]
+mod threads;
+#[cfg(test)]
+mod turns;
