@@ -6,9 +6,9 @@ Values are None (nil) or an int. An outcome is ("value", v) or ("fault", cause, 
 ("cancelled",), ("timeout",) or ("badanswer",). A state of a stage is ("pending",), ("ready", args), ("claimed",),
 ("linked", j) or ("settled", outcome). Arguments are ("none",), ("one", v), ("two", v, w) or ("got", outcome). An answer is
 ("give", v), ("throw", code) or ("link", j). An event is (kind, who, ...): complete who i v, fail who i code, cancel who i,
-claim who i, finish who i answer, tick who now.
+claim who i, finish who i answer, tick who now, attach who form sources function. A function is its number.
 
-As a program it reads a script from standard input and writes its report, as `cf run` does.
+As a program it reads a script of the first version from standard input and writes its report, as `cf run` does.
 """
 import json
 import sys
@@ -17,14 +17,17 @@ from collections import namedtuple
 Stage = namedtuple("Stage", "form sources function")
 Limit = namedtuple("Limit", "stage at outcome")
 Plan = namedtuple("Plan", "stages limits")
-State = namedtuple("State", "stages claims last used")
+State = namedtuple("State", "plan room stages claims last used")
 
 NO_SOURCE = {"source", "supply", "runAsync"}
-ONE_SOURCE = {"apply", "accept", "thenRun", "compose", "handle", "whenComplete", "exceptionally"}
+ONE_SOURCE = {"apply", "accept", "thenRun", "compose", "handle", "whenComplete", "exceptionally",
+              "exceptionallyCompose"}
 BOTH = {"combine", "acceptBoth", "runBoth"}
 EITHER = {"applyEither", "acceptEither", "runEither"}
 GIVES_VALUE = {"supply", "apply", "combine", "applyEither", "handle", "exceptionally"}
 GIVES_NIL = {"runAsync", "accept", "thenRun", "acceptBoth", "runBoth", "acceptEither", "runEither"}
+TELLS_FAULT = {"exceptionally", "exceptionallyCompose"}
+LINKS = {"compose", "exceptionallyCompose"}
 FORMS = sorted(NO_SOURCE | ONE_SOURCE | BOTH | EITHER | {"allOf", "anyOf"})
 BAD_ANSWER = ("fault", ("badanswer",), True)
 CANCELLED = ("fault", ("cancelled",), False)
@@ -39,8 +42,8 @@ def due_one(form, outcome):
     if form in ("handle", "whenComplete"):
         return ("needs", ("got", outcome))
     if outcome[0] == "fault":
-        return ("needs", ("got", outcome)) if form == "exceptionally" else ("settles", wrap(outcome))
-    if form == "exceptionally":
+        return ("needs", ("got", outcome)) if form in TELLS_FAULT else ("settles", wrap(outcome))
+    if form in TELLS_FAULT:
         return ("settles", outcome)
     if form in ("thenRun", "runEither"):
         return ("needs", ("none",))
@@ -76,7 +79,7 @@ def landing(form, i, source, answer):
         return ("settles", wrap(source))
     if answer[0] == "throw":
         return ("settles", ("fault", ("thrown", answer[1]), True))
-    if form == "compose":
+    if form in LINKS:
         if answer[0] == "link" and answer[1] < i:
             return ("links", answer[1])
         return ("settles", BAD_ANSWER)
@@ -92,7 +95,7 @@ def outcome(state, i):
     return s[1] if s[0] == "settled" else None
 
 
-def after(plan, state, settled=None, with_outcome=None):
+def after(state, settled=None, with_outcome=None):
     """The state in which one stage is settled, or none, and all others take what their sources then give them."""
     new = []
 
@@ -108,7 +111,7 @@ def after(plan, state, settled=None, with_outcome=None):
             target = now(old[1])
             new.append(old if target is None else ("settled", wrap(target)))
         elif old[0] == "pending":
-            due = follows(plan.stages[i].form, [now(j) for j in plan.stages[i].sources])
+            due = follows(state.plan.stages[i].form, [now(j) for j in state.plan.stages[i].sources])
             if due[0] == "settles":
                 new.append(("settled", due[1]))
             elif due[0] == "needs":
@@ -120,20 +123,41 @@ def after(plan, state, settled=None, with_outcome=None):
     return state._replace(stages=tuple(new))
 
 
-def start(plan):
+def start(plan, room=0):
     n = len(plan.stages)
-    return after(plan, State((("pending",),) * n, (None,) * n, 0, 0))
+    return after(State(plan, room, (("pending",),) * n, (None,) * n, 0, 0))
 
 
 def put(items, i, item):
     return items[:i] + (item,) + items[i + 1:]
 
 
-def answered(plan, state, event):
+def fits_form(form, sources, has_function):
+    """Whether a stage of this form may have so many sources, and a function or none."""
+    if form in ("allOf", "anyOf"):
+        return not has_function
+    count = 0 if form in NO_SOURCE else 1 if form in ONE_SOURCE else 2
+    return sources == count and has_function == (form != "source")
+
+
+def attach(state, form, sources, function):
+    """The state with a stage more, which is pending at first and then takes what its sources give, as all others do."""
+    if state.room == 0:
+        return ("attach", None), state
+    i = len(state.stages)
+    assert fits_form(form, len(sources), function is not None) and all(j < i for j in sources), "a bad stage is attached"
+    plan = state.plan._replace(stages=state.plan.stages + (Stage(form, sources, function),))
+    stages, claims = state.stages + (("pending",),), state.claims + (None,)
+    return ("attach", i), after(state._replace(plan=plan, room=state.room - 1, stages=stages, claims=claims))
+
+
+def answered(state, event):
     """The reply to an event, and the state that it leaves."""
     kind, who = event[0], event[1]
     if kind == "tick":
-        return tick(plan, state, event[2])
+        return tick(state, event[2])
+    if kind == "attach":
+        return attach(state, *event[2:])
     i = event[2]
     held = state.stages[i]
     if kind in ("complete", "fail", "cancel"):
@@ -145,7 +169,7 @@ def answered(plan, state, event):
             o = ("fault", ("thrown", event[3]), False)
         else:
             o = CANCELLED
-        return ("flag", True), after(plan, state, i, o)
+        return ("flag", True), after(state, i, o)
     if kind == "claim":
         if held[0] == "ready":
             stages, claims = put(state.stages, i, ("claimed",)), put(state.claims, i, who)
@@ -158,25 +182,25 @@ def answered(plan, state, event):
     state = state._replace(claims=put(state.claims, i, None))
     if held[0] == "settled":
         return ("finish", "late"), state
-    stage = plan.stages[i]
+    stage = state.plan.stages[i]
     source = outcome(state, stage.sources[0]) if stage.sources else None
     land = landing(stage.form, i, source, event[3])
     if land[0] == "settles":
-        return ("finish", "won"), after(plan, state, i, land[1])
+        return ("finish", "won"), after(state, i, land[1])
     target = outcome(state, land[1])
     if target is not None:
-        return ("finish", "won"), after(plan, state, i, wrap(target))
+        return ("finish", "won"), after(state, i, wrap(target))
     return ("finish", "won"), state._replace(stages=put(state.stages, i, ("linked", land[1])))
 
 
-def tick(plan, state, now):
+def tick(state, now):
     if now < state.last:
         return ("tick", ("past",)), state
-    fired, used = 0, state.used
-    while used < len(plan.limits) and plan.limits[used].at <= now:
-        limit = plan.limits[used]
+    fired, used, limits = 0, state.used, state.plan.limits
+    while used < len(limits) and limits[used].at <= now:
+        limit = limits[used]
         if outcome(state, limit.stage) is None:
-            state = after(plan, state, limit.stage, limit.outcome)
+            state = after(state, limit.stage, limit.outcome)
             fired += 1
         used += 1
     return ("tick", ("fired", fired)), state._replace(last=now, used=used)
@@ -208,6 +232,12 @@ def first_argument(args):
     if args[0] in ("one", "two"):
         return args[1]
     return args[1][1] if args[0] == "got" and args[1][0] == "value" else None
+
+
+def answer(functions, state, i, args):
+    """What the function of a stage answers, and nil where its number is one of no function."""
+    n = state.plan.stages[i].function
+    return call(functions[n], args) if n < len(functions) else ("give", None)
 
 
 def call(function, args):
@@ -245,12 +275,15 @@ def call(function, args):
 # Scripts.
 
 def plan_of(script):
-    """The plan of a script that is right, and its functions by stage."""
-    stages = [Stage(s["form"], tuple(s.get("of", [])), s.get("fn")) for s in script["stages"]]
+    """The plan of a script that is right, and its functions by their numbers."""
+    stages, functions = [], []
+    for s in script["stages"]:
+        stages.append(Stage(s["form"], tuple(s.get("of", [])), len(functions) if "fn" in s else None))
+        functions += [s["fn"]] if "fn" in s else []
     limits = [Limit(m["stage"], m["at"],
                     ("fault", ("timeout",), False) if m["kind"] == "timeout" else ("value", m["value"]))
               for m in script.get("limits", [])]
-    return Plan(tuple(stages), tuple(sorted(limits, key=lambda m: m.at)))
+    return Plan(tuple(stages), tuple(sorted(limits, key=lambda m: m.at))), functions
 
 
 def answer_of(said):
@@ -258,27 +291,27 @@ def answer_of(said):
     return (name, content)
 
 
-def work(plan, state, who=63):
+def work(functions, state, who=63):
     """Calls the functions of ready stages, the lowest first, and says how many; with the events that were made."""
     events = []
     while (i := lowest_ready(state)) is not None:
         claim = ("claim", who, i)
-        reply, state = answered(plan, state, claim)
-        finish = ("finish", who, i, call(plan.stages[i].function, reply[1][1]))
-        state = answered(plan, state, finish)[1]
+        reply, state = answered(state, claim)
+        finish = ("finish", who, i, answer(functions, state, i, reply[1][1]))
+        state = answered(state, finish)[1]
         events += [claim, finish]
     return events, state
 
 
 def run(script):
     """The report of a script that is right, line by line."""
-    plan = plan_of(script)
+    plan, functions = plan_of(script)
     state = start(plan)
     lines = []
     for step in script.get("steps", []):
         kind = step[0]
         if kind == "work":
-            events, state = work(plan, state)
+            events, state = work(functions, state)
             lines.append(f"worked {len(events) // 2}")
         elif kind == "nudge":
             lines.append("nudged")
@@ -293,7 +326,7 @@ def run(script):
                 event = ("finish", step[1], step[2], answer_of(step[3]))
             else:
                 event = (kind, 0) + tuple(step[1:])
-            reply, state = answered(plan, state, event)
+            reply, state = answered(state, event)
             lines.append(reply_text(reply))
     return lines + stage_lines(state)
 
@@ -342,6 +375,8 @@ def reply_text(reply):
         return f"granted {args_text(said[1])}" if said[0] == "granted" else said[0]
     if kind == "finish":
         return said
+    if kind == "attach":
+        return "stagesfull" if said is None else f"attached {said}"
     return " ".join(str(word) for word in said)
 
 

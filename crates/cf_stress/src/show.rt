@@ -1,12 +1,20 @@
 //! The text of a closed desk.
-use cf_core::{Ask, Claimed, Event, Finished, Graph, Reply, Ticked, Told};
-use cf_desk::{Call, Closed, Rec};
+use crate::forms::name_of;
+use crate::hands::{Asked, Refusal};
+use cf_core::{Ask, Attached, Claimed, Event, Finished, Graph, Reply, Ticked, Told};
+use cf_desk::{Call, Closed, Kept, Rec};
 use cf_outcome::Outcome;
-use cf_plan::{Answer, Args};
+use cf_plan::{Answer, Args, Form, Of};
 use std::alloc::{AllocError, Global};
 
-/// A line for each event, for each pass with one for each of its records, and for each stage.
-pub(crate) fn text_of(alloc: Global, closed: Closed) -> Result<String, AllocError> {
+/// A line for each event, for each pass with one for each of its records and refusals, and for each stage. Each pass held
+/// so many records.
+pub(crate) fn text_of(
+    alloc: Global,
+    closed: Closed,
+    refused: &[Vec<Refusal>],
+    calls: u16,
+) -> Result<String, AllocError> {
     let Closed {
         history,
         passes,
@@ -20,15 +28,47 @@ pub(crate) fn text_of(alloc: Global, closed: Closed) -> Result<String, AllocErro
         write_call(&mut text, call)?;
         text.push_str("\n")?;
     }
-    for kept in &passes {
-        let caller = kept.caller;
-        writeln!(text, "pass {caller}")?;
-        for record in &kept.records {
-            write_record(&mut text, *record)?;
-        }
+    for (kept, refused) in passes.iter().zip(refused) {
+        write_pass(&mut text, kept, refused, calls)?;
     }
     write_stages(&mut text, &mut graph)?;
     Ok(text)
+}
+
+/// A pass, with each refusal behind the records that it had by then.
+fn write_pass(
+    text: &mut String,
+    kept: &Kept,
+    refused: &[Refusal],
+    calls: u16,
+) -> Result<(), AllocError> {
+    let caller = kept.caller;
+    writeln!(text, "pass {caller}")?;
+    let mut left = calls;
+    write_refused(text, refused, left)?;
+    for record in &kept.records {
+        write_record(text, *record)?;
+        left = left.saturating_sub(1);
+        write_refused(text, refused, left)?;
+    }
+    Ok(())
+}
+
+/// What was refused while a pass still took so many records.
+fn write_refused(text: &mut String, refused: &[Refusal], left: u16) -> Result<(), AllocError> {
+    for refusal in refused {
+        if refusal.left == left {
+            let place = refusal.place;
+            write!(text, "no {place} ")?;
+            match refusal.asked {
+                Asked::Call(call) => write_call(text, call)?,
+                Asked::Ask(ask) => write_ask(text, ask)?,
+            }
+            let fault = refusal.fault;
+            writeln!(text, ": {fault}")?;
+        }
+    }
+    Ok(())
 }
 
 fn caller_of(event: Event) -> u8 {
@@ -37,7 +77,8 @@ fn caller_of(event: Event) -> u8 {
     | Event::Cancel { who, .. }
     | Event::Claim { who, .. }
     | Event::Finish { who, .. }
-    | Event::Tick { who, .. }) = event;
+    | Event::Tick { who, .. }
+    | Event::Attach { who, .. }) = event;
     who
 }
 
@@ -61,15 +102,20 @@ fn write_record(text: &mut String, record: Rec) -> Result<(), AllocError> {
         }
         Rec::Saw { place, ask, told } => {
             write!(text, "saw {place} ")?;
-            match ask {
-                Ask::Now(i, absent) => write!(text, "now {i} {absent}: ")?,
-                Ask::Outcome(i) => write!(text, "outcome {i}: ")?,
-            }
+            write_ask(text, ask)?;
+            text.push_str(": ")?;
             match told {
                 Told::Now(now) => writeln!(text, "{now}"),
                 Told::Outcome(outcome) => write_outcome(text, outcome),
             }
         }
+    }
+}
+
+fn write_ask(text: &mut String, ask: Ask) -> Result<(), AllocError> {
+    match ask {
+        Ask::Now(i, absent) => write!(text, "now {i} {absent}"),
+        Ask::Outcome(i) => write!(text, "outcome {i}"),
     }
 }
 
@@ -83,7 +129,27 @@ fn write_call(text: &mut String, call: Call) -> Result<(), AllocError> {
         Call::Finish(i, Answer::Throw(code)) => write!(text, "finish {i} throw {code}"),
         Call::Finish(i, Answer::Link(j)) => write!(text, "finish {i} link {j}"),
         Call::Tick(now) => write!(text, "tick {now}"),
+        Call::Attach(form, of, function) => write_attach(text, form, of, function),
     }
+}
+
+fn write_attach(
+    text: &mut String,
+    form: Form,
+    of: Of,
+    function: Option<u16>,
+) -> Result<(), AllocError> {
+    let name = name_of(form);
+    write!(text, "attach {name}")?;
+    match of {
+        Of::None => (),
+        Of::One(a) => write!(text, " {a}")?,
+        Of::Two(a, b) => write!(text, " {a} {b}")?,
+    }
+    if let Some(number) = function {
+        write!(text, " fn {number}")?;
+    }
+    Ok(())
 }
 
 fn write_outcome(text: &mut String, outcome: Option<Outcome>) -> Result<(), AllocError> {
@@ -105,6 +171,8 @@ fn write_reply(text: &mut String, reply: Reply) -> Result<(), AllocError> {
         Reply::Finish(Finished::NotYours) => writeln!(text, "notyours"),
         Reply::Tick(Ticked::Fired(count)) => writeln!(text, "fired {count}"),
         Reply::Tick(Ticked::Past) => writeln!(text, "past"),
+        Reply::Attach(Attached::At(i)) => writeln!(text, "attached {i}"),
+        Reply::Attach(Attached::StagesFull) => writeln!(text, "stagesfull"),
     }
 }
 

@@ -1,0 +1,104 @@
+//! The steps that callers do.
+use crate::forms::form_named;
+use anyhow::{Result, anyhow};
+use cf_core::Ask;
+use cf_desk::Call;
+use cf_outcome::Value;
+use cf_plan::{Answer, Of};
+use serde_json::Value as Json;
+use std::alloc::Global;
+
+/// What a caller does in its turn.
+#[derive(Clone, Copy, Drop)]
+pub(crate) enum Step {
+    /// A changing call.
+    Does(Call),
+    /// A question.
+    Asks(Ask),
+    /// Functions of ready stages are called.
+    Work,
+    /// It looks which stage is ready, and does nothing with it.
+    Ready,
+}
+
+/// The steps of the member `calls`, in order.
+pub(crate) fn read_steps(alloc: Global, input: &[u8]) -> Result<Vec<Step>> {
+    let json = Json::from_slice(alloc, input).map_err(|_| anyhow!("no JSON"))?;
+    let calls = json.get("calls").and_then(Json::as_array);
+    let calls = calls.ok_or_else(|| anyhow!("no calls"))?;
+    let mut steps = Vec::with_capacity(alloc, calls.len())?;
+    for call in calls {
+        steps.push(step_of(call).ok_or_else(|| anyhow!("a call is none"))?)?;
+    }
+    Ok(steps)
+}
+
+fn step_of(json: &Json) -> Option<Step> {
+    let word = json.get(0usize)?.as_str()?;
+    match word {
+        "now" => Some(Step::Asks(Ask::Now(small(json.get(1usize)?)?, value(json.get(2usize)?)?))),
+        "outcome" => Some(Step::Asks(Ask::Outcome(small(json.get(1usize)?)?))),
+        "work" => Some(Step::Work),
+        "ready" => Some(Step::Ready),
+        _ => Some(Step::Does(call(word, json)?)),
+    }
+}
+
+fn call(word: &str, json: &Json) -> Option<Call> {
+    let first = json.get(1usize)?;
+    match word {
+        "complete" => Some(Call::Complete(small(first)?, value(json.get(2usize)?)?)),
+        "fail" => Some(Call::Fail(small(first)?, large(json.get(2usize)?)?)),
+        "cancel" => Some(Call::Cancel(small(first)?)),
+        "claim" => Some(Call::Claim(small(first)?)),
+        "finish" => Some(Call::Finish(small(first)?, answer(json.get(2usize)?)?)),
+        "tick" => Some(Call::Tick(large(first)?)),
+        "attach" => attach(first, json),
+        _ => None,
+    }
+}
+
+/// `["attach",form,sources]`, with a function's number behind them if it has one.
+fn attach(form: &Json, json: &Json) -> Option<Call> {
+    let form = form_named(form.as_str()?)?;
+    let sources = of(json.get(2usize)?)?;
+    let function = match json.get(3usize) {
+        None => None,
+        Some(number) => Some(small(number)?),
+    };
+    Some(Call::Attach(form, sources, function))
+}
+
+fn of(json: &Json) -> Option<Of> {
+    match (json.get(0usize), json.get(1usize), json.get(2usize)) {
+        (None, _, _) => Some(Of::None),
+        (Some(a), None, _) => Some(Of::One(small(a)?)),
+        (Some(a), Some(b), None) => Some(Of::Two(small(a)?, small(b)?)),
+        _ => None,
+    }
+}
+
+fn answer(json: &Json) -> Option<Answer> {
+    if let Some(given) = json.get("give") {
+        return Some(Answer::Give(value(given)?));
+    }
+    if let Some(code) = json.get("throw") {
+        return Some(Answer::Throw(large(code)?));
+    }
+    Some(Answer::Link(small(json.get("link")?)?))
+}
+
+fn value(json: &Json) -> Option<Value> {
+    if json.is_null() {
+        return Some(Value::Nil);
+    }
+    Some(Value::Int(i32::try_from(json.as_i64()?).ok()?))
+}
+
+fn small(json: &Json) -> Option<u16> {
+    u16::try_from(json.as_i64()?).ok()
+}
+
+fn large(json: &Json) -> Option<u32> {
+    u32::try_from(json.as_i64()?).ok()
+}
