@@ -3,16 +3,18 @@
 //! Without words it prints a checksum of the outcomes of each, which doesn't depend on the machine, and one of the report
 //! of a script of 1 MiB. With the word `time` it prints, for each, the nanoseconds a stage that building and settling
 //! took, the best of several rounds, and for the script the milliseconds of a run beside those of reading it as JSON.
-//! Then the same for 1, 2 and 4 threads that complete the same 4,095 stages through one desk, and for a read that finds
-//! nothing new.
+//! Then the same for stages that are attached one by one, for 1, 2 and 4 threads that complete the same 4,095 stages
+//! through one desk, and for a read that finds nothing new.
 #![tactic(auto)]
 
+mod attach;
 mod race;
 mod script;
 mod shape;
 mod work;
 
 use anyhow::{Result, anyhow};
+use attach::{attach_checksum, measured_attach};
 use cf_core::Graph;
 use cf_plan::Plan;
 use race::{measured_race, measured_read, race_checksum};
@@ -98,6 +100,18 @@ fn show_script<R: Clock + Print>(rt: &R, alloc: Global, timed: bool) -> Result<(
     Ok(())
 }
 
+/// The same for stages that are attached.
+fn show_attach<R: Clock + Print>(rt: &R, alloc: Global, timed: bool) -> Result<()> {
+    if timed {
+        let took = measured_attach(rt, alloc)?;
+        println!(rt; "attach: {took} ns a stage")?;
+    } else {
+        let (stages, sum) = attach_checksum(alloc)?;
+        println!(rt; "attach: {stages} stages, checksum {sum}")?;
+    }
+    Ok(())
+}
+
 /// The same for threads over one desk.
 fn show_race<R: Clock + Print + Threads + Sync>(
     rt: &R,
@@ -129,6 +143,7 @@ fn main(rt: HostRuntime) -> Result<()> {
         }
     }
     show_script(&rt, rt.alloc(), timed)?;
+    show_attach(&rt, rt.alloc(), timed)?;
     for threads in [1, 2, 4] {
         show_race(&rt, rt.alloc(), timed, threads)?;
     }

@@ -1,0 +1,56 @@
+//! Attaching a stage to each stage of a graph of which the first half is settled.
+use crate::shape::{Shape, plan_of};
+use crate::shorter;
+use crate::work::{checksum, settle};
+use anyhow::{Result, anyhow};
+use cf_core::Graph;
+use cf_plan::{Form, Of};
+use std::alloc::Global;
+use std::time::{Clock, Instant};
+
+/// How many stages the graph is opened with, and how many are attached.
+const STAGES: u16 = 2048;
+
+const ROUNDS: u32 = 20;
+
+/// A chain whose first half is settled, with room for as many stages as it has.
+fn half_settled(alloc: Global) -> Result<Graph> {
+    let plan = plan_of(alloc, Shape::Chain, STAGES).map_err(|_| anyhow!("the plan was refused"))?;
+    if plan.stages() > STAGES || plan.edges() > u32::from(STAGES) {
+        return Err(anyhow!("the plan is another one"));
+    }
+    let graph = Graph::new_growing(alloc, plan, STAGES);
+    let mut graph = graph.map_err(|_| anyhow!("no memory for the graph"))?;
+    settle(&mut graph, Shape::Chain, STAGES / 2);
+    Ok(graph)
+}
+
+/// Attaches an apply of each stage that the graph was opened with.
+fn attach_all(graph: &mut Graph) {
+    for i in 0..STAGES {
+        if graph.has(i) {
+            graph.attach(Form::Apply, Of::One(i), Some(0));
+        }
+    }
+}
+
+/// The least nanoseconds that attaching a stage took, over the rounds.
+pub(crate) fn measured_attach<R: Clock>(rt: &R, alloc: Global) -> Result<u128> {
+    let mut best = None;
+    for _ in 0..ROUNDS {
+        let mut graph = half_settled(alloc)?;
+        let start = Instant::now(rt)?;
+        attach_all(&mut graph);
+        best = shorter(best, start.elapsed(rt)?.as_nanos());
+    }
+    Ok(best.unwrap_or(0) / u128::from(STAGES))
+}
+
+/// How many stages there are then, and a checksum of all outcomes once the attached ones that are ready are done.
+pub(crate) fn attach_checksum(alloc: Global) -> Result<(u16, u64)> {
+    let mut graph = half_settled(alloc)?;
+    attach_all(&mut graph);
+    let stages = graph.stages();
+    settle(&mut graph, Shape::Chain, stages);
+    Ok((stages, checksum(&mut graph, stages)))
+}
