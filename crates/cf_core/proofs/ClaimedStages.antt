@@ -15,14 +15,14 @@ use Rattle.cf_plan.specs.declared.forms.Landing.{Landing}
 use Rattle.cf_plan.specs.declared.forms.Landing.TheVariants.{Settles as Lands, Links}
 use Rattle.cf_plan.specs.declared.limits.Limit.{Limit}
 use Rattle.cf_plan.specs.Forms.{follows}
-use Rattle.cf_plan.specs.Plans.{Planned, PlannedStage}
+use Rattle.cf_plan.specs.Plans.{Planned, PlannedStage, attached_stage}
 use Rattle.cf_core.specs.declared.stage.Stage.{Stage}
 use Rattle.cf_core.specs.declared.stage.Stage.TheVariants.{Pending, Ready, Claimed, Linked, Settled}
 use Rattle.cf_core.specs.declared.replies.Ticked.TheVariants.{Fired, Past}
 use Rattle.cf_core.specs.declared.events.Event.{Event}
 use Rattle.cf_core.specs.declared.events.Event.TheVariants.{Complete as Completes, Fail as Fails, Cancel as Cancels, Claim as Claims, Finish as Finishes, Tick as Ticks, Attach as Attaches}
 use Rattle.cf_core.specs.States.{State, after, start, stages_after, outcome_in, outcome_at, stage_at, due_state, linked_state, next_of, new_states}
-use Rattle.cf_core.specs.Events.{answered, state_after, settled_by, settling, cancelled_by, landed, linked_to, firing, due_limits, limit_outcome}
+use Rattle.cf_core.specs.Events.{answered, attached_by, state_after, settled_by, settling, cancelled_by, landed, linked_to, firing, due_limits, limit_outcome}
 use Rattle.cf_core.specs.Calls.{is_from_outside}
 use Rattle.cf_core.proofs.StateLemmas.{after-unsettled}
 
@@ -108,6 +108,18 @@ chosen_claims : {X : Type 0} (xs : List Stage) (b : Bool) (p q : X × State) →
 chosen_claims xs true p q hp hq = hp
 chosen_claims xs false p q hp hq = hq
 
+-- a stage that is attached is none that is claimed
+with_pending : (xs : List Stage) (i : ℕ) → is_claimed (at (xs ++ Pending ∷ []) i) ≡ is_claimed (at xs i)
+with_pending [] zero = refl
+with_pending [] (suc i) = refl
+with_pending (x ∷ xs) zero = refl
+with_pending (x ∷ xs) (suc i) = with_pending xs i
+
+attached_by_claims : (room : ℕ) (s : State) (new : PlannedStage) → NoneNew s.stages ((attached_by room s new).1.stages)
+attached_by_claims zero s new i e = e
+attached_by_claims (suc room) s new i e =
+    sym (with_pending s.stages i) ∙ sym (new_claimed [] (s.plan.stages ++ new ∷ []) (s.stages ++ Pending ∷ []) i) ∙ e
+
 outside_claims : (e : Event) (s : State) → is_from_outside e ≡ true → NoneNew s.stages ((answered s e).1.stages)
 outside_claims (Completes who i v) s h = settled_by_claims (outcome_at s i) s i (Gives v)
 outside_claims (Fails who i code) s h = settled_by_claims (outcome_at s i) s i (Fault (Thrown code) false)
@@ -118,7 +130,7 @@ outside_claims (Ticks who now) s h =
     let fired = firing 0 s (due_limits s now) in
     chosen_claims s.stages (nat_lt now s.moment) (Past, s) (Fired fired.0, record fired.1 { moment = now; used = s.used + length (due_limits s now) })
     (λ i e. e) (firing_claims (due_limits s now) 0 s)
-outside_claims (Attaches who form of function) s h = cc
+outside_claims (Attaches who form of function) s h = attached_by_claims s.plan.room s (attached_stage form of function)
 
 outside_claim_none : (events : List Event) (s : State) → All (λ e. is_from_outside e ≡ true) events → NoneNew s.stages ((state_after s events).stages)
 outside_claim_none [] s h i e = e

@@ -1,12 +1,14 @@
 -- What the passes of a race hold before its workers begin.
-use Rattle.std.specs.Prelude.{◌≡◌, ℕ, ◌≤◌, ◌⊎◌, List, [], ◌∷◌, length, map, take}
+use Rattle.std.specs.Prelude.{◌≡◌, ℕ, ◌<◌, ◌≤◌, ◌⊎◌, List, [], ◌∷◌, get_or, length, map, take}
 use Rattle.std.specs.List.{All}
 use Rattle.cf_core.specs.declared.events.Event.{Event}
+use Rattle.cf_desk.specs.declared.faults.DeskFault.{DeskFault}
+use Rattle.cf_desk.specs.Faults.{IsDue}
 use Rattle.cf_desk.specs.Keepings.{IsFit}
 use Rattle.cf_desk.specs.Laws.{call_of}
 use Rattle.cf_desk.specs.Log.{own}
 use Rattle.cf_desk.specs.Records.{dids}
-use Rattle.cf_desk.specs.Views.{Desk, IsOf, Pass, SeesFull}
+use Rattle.cf_desk.specs.Views.{Desk, IsOf, Pass}
 
 -- caller 0 has done the first of the steps in order, so many of them
 pub record HasTaken (d : Desk) (steps : List Event) (taken : ℕ) (p : Pass) : Type 0 where
@@ -16,12 +18,20 @@ pub record HasTaken (d : Desk) (steps : List Event) (taken : ℕ) (p : Pass) : T
   pub held : length p.records ≡ taken
   pub did : map call_of (dids 0 p.records) ≡ take taken steps
 
--- it has done them all, or what it has seen fills the log
+-- it was refused the next step, for this cause
+pub record IsHeldUp (d : Desk) (steps : List Event) (taken : ℕ) (p : Pass) : Type 0 where
+  pub few : taken < length steps
+  pub fault : DeskFault
+  -- any event will do here, since the step is there
+  pub default : Event
+  pub due : IsDue p d (get_or steps taken default) fault
+
+-- it has done them all, or was refused one
 pub record HasDoneSteps (d : Desk) (steps : List Event) (p : Pass) : Type 0 where
   pub taken : ℕ
   pub few : taken ≤ length steps
   pub done : HasTaken d steps taken p
-  pub all : (taken ≡ length steps) ⊎ SeesFull d p
+  pub all : (taken ≡ length steps) ⊎ IsHeldUp d steps taken p
 
 -- a pass of the desk with room for so many records that has seen and recorded nothing
 pub record IsIdle (d : Desk) (calls : ℕ) (p : Pass) : Type 0 where

@@ -9,4 +9,3 @@ pub mod Closings
 pub mod Records
 pub mod Races
 pub mod Beginnings
-pub mod Samples

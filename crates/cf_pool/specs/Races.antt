@@ -7,7 +7,8 @@ use Rattle.cf_core.specs.declared.events.Event.TheVariants.{Claim as Claims, Fin
 use Rattle.cf_core.specs.States.{State, start, outcome_at}
 use Rattle.cf_core.specs.Events.{answered, state_after}
 use Rattle.cf_core.specs.Calls.{is_from_outside}
-use Rattle.cf_core.specs.Ranges.{EventFits}
+use Rattle.cf_core.specs.Ranges.{EventsFit}
+use Rattle.cf_desk.specs.Faults.{AttachFits}
 use Rattle.cf_event.specs.Words.{who_of}
 use Rattle.cf_plan.specs.declared.forms.Args.{Args}
 use Rattle.cf_pool.specs.declared.races.RaceFault.{RaceFault}
@@ -16,13 +17,25 @@ use Rattle.cf_plan.specs.Meanings.{Meanings, stage_answer}
 use Rattle.cf_expr.specs.Expressions.{expr}
 use Rattle.cf_expr.specs.Histories.{Grants, IsPlain, IsPlainPlan, IsQuiet, grants_after, granted_with, nothing_granted}
 
--- how many words the log of a race has: one more than its events can be
+-- how many words the log of a race has, of whose stages there may be so many: one more than its events can be
 abbrev pub log_words : ℕ → ℕ → ℕ → ℕ
 log_words steps stages workers = steps + stages * (workers + 2) + 1
 
--- a step over a plan of n stages: caller 0 completes, fails or cancels a stage, or tells a moment
-abbrev pub IsStep : ℕ → Event → Type 0
-IsStep n e = (is_from_outside e ≡ true) × EventFits n e
+-- how many functions a race knows: as many as stages can name
+abbrev pub race_functions : ℕ
+race_functions = 65536
+
+-- a step: caller 0 completes, fails or cancels a stage, attaches one, or tells a moment
+abbrev pub IsStep : Event → Type 0
+IsStep e = (is_from_outside e ≡ true) × AttachFits race_functions e
+
+-- the steps of a race over a plan, each of which fits the graph as those before it leave it
+abbrev pub AreSteps : Planned → List Event → Type 0
+AreSteps plan steps = All IsStep steps × EventsFit (start plan) steps
+
+-- the plan as the steps leave it
+abbrev pub plan_after : Planned → List Event → Planned
+plan_after plan steps = (state_after (start plan) steps).plan
 
 -- a claim, or a finish with what the stage's function answers to the arguments that its caller was granted last
 abbrev pub IsWorkEvent : Meanings → Grants → State → Event → Type 0
@@ -41,11 +54,11 @@ IsWorkHistory meanings granted s (e ∷ events) =
 abbrev pub IsByWorker : ℕ → Event → Type 0
 IsByWorker workers e = who_of e ≤ workers
 
--- The plan is one that a builder built, and the state is one of it, after a history that begins with the steps, goes on with work
--- alone, by no more callers than so many workers, and leaves nothing ready or claimed.
+-- The state's plan is what the steps leave, which was built, and the state comes after a history that begins with the steps, goes on
+-- with work alone, by no more callers than so many workers, and leaves nothing ready or claimed.
 pub record IsRaced (meanings : Meanings) (plan : Planned) (steps : List Event) (workers : ℕ) (s : State) : Type 0 where
-  pub built : IsBuilt plan
-  pub of_plan : s.plan ≡ plan
+  pub of_plan : s.plan ≡ plan_after plan steps
+  pub built : IsBuilt s.plan
   pub work : List Event
   pub done : IsWorkHistory meanings (grants_after nothing_granted (start plan) steps) (state_after (start plan) steps) work
   pub by : All (IsByWorker workers) work
@@ -56,15 +69,17 @@ pub record IsRaced (meanings : Meanings) (plan : Planned) (steps : List Event) (
 abbrev pub RacedIsExpression : Type 0
 RacedIsExpression =
     (plan : Planned) (steps : List Event) (meanings : Meanings) (workers : ℕ) (s : State) (i : ℕ) →
-    IsPlainPlan plan → IsPlain meanings nothing_granted (start plan) steps → IsRaced meanings plan steps workers s →
-    i < length plan.stages → outcome_at s i ≡ expr plan steps meanings i
+    let grown = plan_after plan steps in
+    IsPlainPlan grown → IsPlain meanings nothing_granted (start plan) steps → IsRaced meanings plan steps workers s →
+    i < length grown.stages → outcome_at s i ≡ expr grown steps meanings i
 
 -- So two races that begin with the same plain steps end alike.
 abbrev pub RacesEndAlike : Type 0
 RacesEndAlike =
     (plan : Planned) (steps : List Event) (meanings : Meanings) (few many : ℕ) (s r : State) (i : ℕ) →
-    IsPlainPlan plan → IsPlain meanings nothing_granted (start plan) steps → IsRaced meanings plan steps few s → IsRaced meanings plan steps many r →
-    i < length plan.stages → outcome_at s i ≡ outcome_at r i
+    let grown = plan_after plan steps in
+    IsPlainPlan grown → IsPlain meanings nothing_granted (start plan) steps → IsRaced meanings plan steps few s → IsRaced meanings plan steps many r →
+    i < length grown.stages → outcome_at s i ≡ outcome_at r i
 
 -- why there is no race
 abbrev pub IsDueToRefuse : ℕ → RaceFault → Type 0

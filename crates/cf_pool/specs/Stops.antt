@@ -16,8 +16,8 @@ abbrev pub IsNextCall : Meanings → Pass → Owed → Call → Type 0
 IsNextCall meanings p None call = (i : ℕ) × (lowest_ready_of (state_of p.known) ≡ Some i) × (call ≡ Claim i)
 IsNextCall meanings p (Some owed) call = call ≡ Finish owed.0 (stage_answer meanings (state_of p.known).plan.stages owed.0 owed.1)
 
--- The next call of a worker that owes this, on a stage of the plan, is refused for this fault. Its pass has then only seen more
--- events of others.
+-- The next call of a worker that owes this, on a stage of the plan as its pass has seen it, is refused for this fault. Its pass has
+-- then only seen more events of others.
 pub record MeetsFault (meanings : Meanings) (d : Desk) (owed : Owed) (p q : Pass) (fault : DeskFault) : Type 0 where
   pub call : Call
   pub next : IsNextCall meanings p owed call

@@ -24,6 +24,3 @@ pub use gate::{Gate, NoGate};
 pub use pool::run;
 pub use races::{RaceFault, race, races_end_alike, races_end_as_expressions};
 pub use worker::{Done, work};
-
-#[cfg(test)]
-mod tests;

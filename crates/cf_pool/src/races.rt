@@ -3,9 +3,10 @@
 mod beginning;
 mod sizes;
 
-ghost use Rattle.std.specs.Prelude.{◌≡◌, ◌<◌, ◌≤◌, All, IfErr, IfOk, length};
+ghost use Rattle.std.specs.Prelude.{◌≡◌, ◌+◌, ◌*◌, ◌<◌, ◌≤◌, IfErr, IfOk, length};
 ghost use Rattle.cf_plan.specs.Meanings.{meanings_of};
-ghost use Rattle.cf_pool.specs.Races.{IsDueToRefuse, IsRaced, IsStep, RacedIsExpression, RacesEndAlike, log_words};
+ghost use Rattle.cf_plan.specs.Plans.{edges_of, with_room};
+ghost use Rattle.cf_pool.specs.Races.{AreSteps, IsDueToRefuse, IsRaced, RacedIsExpression, RacesEndAlike, log_words};
 
 use crate::faults::PoolFault;
 use crate::gate::Gate;
@@ -29,27 +30,30 @@ pub enum RaceFault {
 }
 
 /// Does these steps as caller 0's, in order, and then lets so many workers, 1 to 32, work on threads of their own until
-/// nothing is ready. No caller has a number above theirs. It gives the graph as the whole history leaves it.
+/// nothing is ready. There is room for so many stages that steps attach. No caller has a number above the workers'. It
+/// gives the graph as the whole history leaves it.
 pub fn race<R: Threads + Wait + Sync, F: StageFn + Sync, G: Gate + Sync>(
     rt: &R,
     alloc: Global,
     plan: Plan,
+    room: u16,
     steps: &[Event],
     fns: &[F],
     gate: &G,
     workers: u8,
 ) -> Result<Graph, RaceFault>
     requires workers { (0 < workers) × (workers ≤ 32) }
-    requires steps { All (IsStep (length plan.stages)) steps.now }
-    ensures raced { IfOk result (λ g. IsRaced (meanings_of F.meaning fns.now) plan steps.now workers g.state) }
-    ensures size { IfOk result (λ g. log_words (length steps.now) (length plan.stages) workers ≤ 65535) }
-    ensures fault { IfErr result (IsDueToRefuse (log_words (length steps.now) (length plan.stages) workers)) }
+    requires room { (length plan.stages + room ≤ 4096) × (edges_of plan.stages + 2 * room ≤ 16384) }
+    requires steps { AreSteps (with_room plan room) steps.now }
+    ensures raced { IfOk result (λ g. IsRaced (meanings_of F.meaning fns.now) (with_room plan room) steps.now workers g.state) }
+    ensures size { IfOk result (λ g. log_words (length steps.now) (length plan.stages + room) workers ≤ 65535) }
+    ensures fault { IfErr result (IsDueToRefuse (log_words (length steps.now) (length plan.stages + room) workers)) }
 {
-    let (log, calls) = match sizes(steps.len(), plan.stages(), workers) {
+    let (log, calls) = match sizes(steps.len(), plan.stages() + room, workers) {
         Some(sizes) => sizes,
         None => return Err(RaceFault::Size),
     };
-    let (desk, passes) = match begin(alloc, plan, workers + 1, steps, log, calls) {
+    let (desk, passes) = match begin(alloc, plan, room, workers + 1, steps, log, calls) {
         Ok(begun) => begun,
         Err(_) => return Err(RaceFault::NoMemory),
     };
@@ -77,6 +81,3 @@ pub fn races_end_as_expressions()
 pub fn races_end_alike()
     ensures { RacesEndAlike }
 {}
-
-#[cfg(test)]
-mod tests;

@@ -1,14 +1,16 @@
 -- How the passes of a race begin.
-use Rattle.std.proofs.Common.{◌≡◌, ◌==◌, ℕ, zero, suc, ◌+◌, ◌<◌, ◌⊎◌, inl, inr, true, false, List, [], ◌∷◌, ◌++◌, length, map, take, drop, get_or, sym, refl, ap, ◌∙◌, subst, arith, length-append}
+use Rattle.std.proofs.Common.{◌≡◌, ◌==◌, ℕ, zero, suc, ◌+◌, ◌<◌, ◌≤◌, ◌⊎◌, inl, inr, true, List, [], ◌∷◌, ◌++◌, length, map, take, drop, get_or, sym, refl, ap, ◌∙◌, subst, arith, length-append}
 use Rattle.std.specs.List.{All}
 use Rattle.std.proofs.lemmas.List.{take_more}
-use Rattle.std.proofs.lemmas.List.Elements.{All-nil, All-cons, All-get_or, All-weaker}
+use Rattle.std.proofs.lemmas.List.Elements.{All-nil, All-cons, All-head, All-tail, All-get_or, All-weaker}
 use Rattle.cf_core.specs.declared.events.Event.{Event}
 use Rattle.cf_core.specs.declared.events.Event.TheVariants.{Complete as Completes, Fail as Fails, Cancel as Cancels, Claim as Claims, Finish as Finishes, Tick as Ticks, Attach as Attaches}
 use Rattle.cf_core.specs.declared.events.Reply.{Reply}
-use Rattle.cf_core.specs.Ranges.{EventFits}
-use Rattle.cf_core.specs.States.{start}
+use Rattle.cf_core.specs.Events.{answered, state_after}
+use Rattle.cf_core.specs.Ranges.{EventFits, EventsFit}
+use Rattle.cf_core.specs.States.{State, start}
 use Rattle.cf_core.proofs.Shape.{state_after-grows}
+use Rattle.cf_pool.proofs.Working.{more_stages}
 use Rattle.std.proofs.lemmas.Bool.Decides.{nat_tests}
 use Rattle.cf_desk.specs.declared.calls.Call.{Call}
 use Rattle.cf_desk.specs.declared.calls.Rec.{Rec}
@@ -18,19 +20,17 @@ use Rattle.cf_desk.specs.declared.faults.DeskFault.TheVariants.{NoStage, BadAtta
 use Rattle.cf_desk.specs.declared.row.Setting.{Setting}
 use Rattle.cf_desk.specs.Faults.{AttachFits, EventNames, IsDue, IsFitting, IsOnStage}
 use Rattle.cf_desk.specs.Laws.{call_of}
-use Rattle.cf_desk.specs.Log.{own}
+use Rattle.cf_desk.specs.Log.{own, state_from}
 use Rattle.cf_desk.specs.Records.{dids, Fits}
-use Rattle.cf_desk.specs.Results.{Refuses}
+use Rattle.cf_desk.specs.Results.{Answers, CaughtUp, Refuses}
 use Rattle.cf_desk.specs.Rule.{blank, fresh, with_seen}
 use Rattle.cf_desk.specs.Views.{Acts, Follows, IsOf, Pass, Meets, Desk, SeesFull, new_pass, opened, state_of}
-use Rattle.cf_desk.proofs.Events.{names_more}
-use Rattle.cf_desk.proofs.Passes.{still_on_stage}
+use Rattle.cf_desk.proofs.Events.{fits_more as event_fits_more}
 use Rattle.cf_desk.proofs.Recs.{fits_did, fits_more, fits_new, own_call}
 use Rattle.cf_desk.specs.Calls.{as_call, event_by}
-use Rattle.cf_core.specs.Calls.{is_attach, is_from_outside}
-use Rattle.cf_pool.proofs.Working.{more_stages, refuses_known}
-use Rattle.cf_pool.specs.Races.{IsStep}
-use Rattle.cf_pool.specs.Beginnings.{HasTaken, HaveBegun, IsApart, IsIdle, HasDoneSteps}
+use Rattle.cf_core.specs.Calls.{is_from_outside}
+use Rattle.cf_pool.specs.Races.{AreSteps, IsStep, race_functions}
+use Rattle.cf_pool.specs.Beginnings.{HasTaken, HaveBegun, IsApart, IsHeldUp, IsIdle, HasDoneSteps}
 
 -- ---- the steps
 
@@ -45,20 +45,7 @@ step_by (Cancels who i) h = ap (λ (w : ℕ). Cancels w i) (same_who who h)
 step_by (Claims who i) h = cc
 step_by (Finishes who i answer) h = cc
 step_by (Ticks who now) h = ap (λ (w : ℕ). Ticks w now) (same_who who h)
-step_by (Attaches who form of function) h = cc
-
--- and attaches nothing
-step_attaches_none : (e : Event) → is_from_outside e ≡ true → is_attach e ≡ false
-step_attaches_none (Completes who i v) h = refl
-step_attaches_none (Fails who i code) h = refl
-step_attaches_none (Cancels who i) h = refl
-step_attaches_none (Claims who i) h = refl
-step_attaches_none (Finishes who i answer) h = refl
-step_attaches_none (Ticks who now) h = refl
-step_attaches_none (Attaches who form of function) h = cc
-
-pub steps_attach_none : (events : List Event) → All (λ e. is_from_outside e ≡ true) events → All (λ e. is_attach e ≡ false) events
-steps_attach_none events h = All-weaker (λ e. is_from_outside e ≡ true) (λ e. is_attach e ≡ false) step_attaches_none events h
+step_by (Attaches who form of function) h = ap (λ (w : ℕ). Attaches w form of function) (same_who who h)
 
 calls_push : (c : ℕ) (rs : List Rec) (place : ℕ) (call : Call) (reply : Reply) → map call_of (dids c (rs ++ Did place call reply ∷ [])) ≡ map call_of (dids c rs) ++ event_by c call ∷ []
 calls_push c [] place call reply = refl
@@ -76,8 +63,8 @@ none_taken d calls steps p h zeroth = record {
 }
 
 -- one step more
-pub one_taken : (d : Desk) (steps : List Event) (n k : ℕ) (e : Event) (call : Call) (reply : Reply) (p q : Pass) → HasTaken d steps k p → k < length steps → All (IsStep n) steps → call ≡ as_call (get_or steps k e) → Acts p call reply q → HasTaken d steps (k + 1) q
-one_taken d steps n k e call reply p q h lt are is a = subst (HasTaken d steps (k + 1)) (sym a.is) (record {
+one_acted : (d : Desk) (steps : List Event) (k : ℕ) (e : Event) (call : Call) (reply : Reply) (p q : Pass) → HasTaken d steps k p → k < length steps → All IsStep steps → call ≡ as_call (get_or steps k e) → Acts p call reply q → HasTaken d steps (k + 1) q
+one_acted d steps k e call reply p q h lt are is a = subst (HasTaken d steps (k + 1)) (sym a.is) (record {
   of = h.of;
   caller = h.caller;
   fit = fits_did p.known.setting.plan p.known.caller a.before p.records call reply (own_call p.known.caller call) a.replied
@@ -85,12 +72,12 @@ one_taken d steps n k e call reply p q h lt are is a = subst (HasTaken d steps (
   held = length-append p.records (Did (length a.before + 1) call reply ∷ []) ∙ ap (λ (m : ℕ). m + 1) h.held;
   did = calls_push 0 p.records (length a.before + 1) call reply
       ∙ (λ i. h.did i ++ event_by 0 (is i) ∷ [])
-      ∙ ap (λ (x : Event). take k steps ++ x ∷ []) (step_by (get_or steps k e) (All-get_or (IsStep n) steps k e lt are).0)
+      ∙ ap (λ (x : Event). take k steps ++ x ∷ []) (step_by (get_or steps k e) (All-get_or IsStep steps k e lt are).0)
       ∙ sym (take_more steps k e lt);
 })
 
--- a refused step
-pub none_more : (d : Desk) (steps : List Event) (k : ℕ) (p q : Pass) → HasTaken d steps k p → Follows p q → HasTaken d steps k q
+-- a pass that has seen more
+none_more : (d : Desk) (steps : List Event) (k : ℕ) (p q : Pass) → HasTaken d steps k p → Follows p q → HasTaken d steps k q
 none_more d steps k p q h f = subst (HasTaken d steps k) (sym f.is) (record {
   of = h.of;
   caller = h.caller;
@@ -99,59 +86,77 @@ none_more d steps k p q h f = subst (HasTaken d steps k) (sym f.is) (record {
   did = h.did;
 })
 
--- ---- a step is on stages that the pass knows, and is refused for a full log alone
+-- or had to catch up
+found_taken : (d : Desk) (steps : List Event) (k : ℕ) (knows : Type 0) (p found : Pass) → HasTaken d steps k p → CaughtUp d knows p found → HasTaken d steps k found
+found_taken d steps k knows p found h (inl as_it_was) = subst (HasTaken d steps k) (sym as_it_was.1) h
+found_taken d steps k knows p found h (inr looked) = none_more d steps k p found h looked.1
 
-names_step : (n : ℕ) (e : Event) → is_from_outside e ≡ true → EventFits n e → EventNames n e
-names_step n (Completes who i v) h fits = fits
-names_step n (Fails who i code) h fits = fits
-names_step n (Cancels who i) h fits = fits
-names_step n (Claims who i) h fits = fits
-names_step n (Finishes who i answer) h fits = fits
-names_step n (Ticks who now) h fits = fits
-names_step n (Attaches who form of function) h fits = cc
+-- one step more, by a pass that may have had to catch up first
+pub one_taken : (d : Desk) (steps : List Event) (k : ℕ) (e : Event) (call : Call) (reply : Reply) (p q : Pass) → HasTaken d steps k p → k < length steps → All IsStep steps → call ≡ as_call (get_or steps k e) → Answers d p call reply q → HasTaken d steps (k + 1) q
+one_taken d steps k e call reply p q h lt are is answers =
+    one_acted d steps k e call reply answers.found q (found_taken d steps k (IsOnStage p (event_by p.known.caller call)) p answers.found h answers.caught) lt are is answers.acts
 
-fits_step : (functions : ℕ) (e : Event) → is_from_outside e ≡ true → AttachFits functions e
-fits_step functions (Completes who i v) h = tt
-fits_step functions (Fails who i code) h = tt
-fits_step functions (Cancels who i) h = tt
-fits_step functions (Claims who i) h = tt
-fits_step functions (Finishes who i answer) h = tt
-fits_step functions (Ticks who now) h = tt
-fits_step functions (Attaches who form of function) h = cc
-
-step_event : (d : Desk) (steps : List Event) (k : ℕ) (e : Event) (call : Call) (p : Pass) → HasTaken d steps k p → k < length steps → All (IsStep (length d.setting.plan.stages)) steps → call ≡ as_call (get_or steps k e) → event_by p.known.caller call ≡ get_or steps k e
-step_event d steps k e call p h lt are is =
-    (λ i. event_by (h.caller i) (is i)) ∙ step_by (get_or steps k e) (All-get_or (IsStep (length d.setting.plan.stages)) steps k e lt are).0
-
-pub step_there : (d : Desk) (steps : List Event) (k : ℕ) (e : Event) (call : Call) (p : Pass) → HasTaken d steps k p → k < length steps → All (IsStep (length d.setting.plan.stages)) steps → call ≡ as_call (get_or steps k e) → IsOnStage p (event_by p.known.caller call)
-step_there d steps k e call p h lt are is =
-    let step = All-get_or (IsStep (length d.setting.plan.stages)) steps k e lt are in
-    let grown = state_after-grows (start p.known.setting.plan) p.known.seen in
-    let same = ap (λ (s : Setting). length s.plan.stages) h.of.1 in
-    let more = more_stages (start p.known.setting.plan) (state_of p.known) grown in
-    subst (IsOnStage p) (sym (step_event d steps k e call p h lt are is))
-    (names_more (length d.setting.plan.stages) (length (state_of p.known).plan.stages) (get_or steps k e) (omega (arith, same, more)) (names_step (length d.setting.plan.stages) (get_or steps k e) step.0 step.1))
-
-log_full : (p : Pass) (d : Desk) (e : Event) (fault : DeskFault) → IsDue p d e fault → IsOnStage p e → IsFitting p e → length p.records < p.calls → SeesFull d p
-log_full p d e NoStage due there fits room = absurd (due there)
-log_full p d e BadAttach due there fits room = absurd (due.1 fits)
-log_full p d e PassFull due there fits room = absurd (let full = due.2 in omega arith)
-log_full p d e LogFull due there fits room = due.3
-
-pub step_refused : (d : Desk) (steps : List Event) (k : ℕ) (e : Event) (call : Call) (fault : DeskFault) (p q : Pass) → HasTaken d steps k p → k < length steps → All (IsStep (length d.setting.plan.stages)) steps → call ≡ as_call (get_or steps k e) → length steps < q.calls
+-- a step that is refused
+pub step_refused : (d : Desk) (steps : List Event) (k : ℕ) (e : Event) (call : Call) (fault : DeskFault) (p q : Pass) → HasTaken d steps k p → k < length steps → All IsStep steps → call ≡ as_call (get_or steps k e)
     → Refuses d p call q fault → HasDoneSteps d steps q
-step_refused d steps k e call fault p q h lt are is room refused =
-    let there = step_there d steps k e call p h lt are is in
-    let follows = (refuses_known d p q call fault there refused).0 in
-    let done = none_more d steps k p q h follows in
-    let event = step_event d steps k e call p h lt are is in
-    let fits : IsFitting q (event_by p.known.caller call) = subst (AttachFits q.known.setting.functions) (sym event) (fits_step q.known.setting.functions (get_or steps k e) (All-get_or (IsStep (length d.setting.plan.stages)) steps k e lt are).0) in
+step_refused d steps k e call fault p q h lt are is refused =
+    let found = found_taken d steps k (IsOnStage p (event_by p.known.caller call)) p refused.found h refused.caught in
+    let event : event_by p.known.caller call ≡ get_or steps k e = (λ i. event_by (h.caller i) (is i)) ∙ step_by (get_or steps k e) (All-get_or IsStep steps k e lt are).0 in
     record {
       taken = k;
       few = omega arith;
-      done = done;
-      all = inr (log_full q d (event_by p.known.caller call) fault refused.due (still_on_stage p q (event_by p.known.caller call) follows there) fits (let held = done.held in omega arith));
+      done = none_more d steps k refused.found q found refused.left;
+      all = inr (record { few = lt; fault = fault; default = e; due = subst (λ (x : Event). IsDue q d x fault) event refused.due });
     }
+
+-- ---- a step that fits, where caller 0 has seen its own alone, is refused for a full log alone
+
+-- what fits is on stages that are there
+fits_names : (n : ℕ) (e : Event) → EventFits n e → EventNames n e
+fits_names n (Completes who i v) fits = fits
+fits_names n (Fails who i code) fits = fits
+fits_names n (Cancels who i) fits = fits
+fits_names n (Claims who i) fits = fits
+fits_names n (Finishes who i answer) fits = fits
+fits_names n (Ticks who now) fits = fits
+fits_names n (Attaches who form of function) fits = fits.1
+
+-- each of the events fits where it stands
+fits_at : (s : State) (events : List Event) (k : ℕ) (e : Event) → k < length events → EventsFit s events → EventFits (length (state_after s (take k events)).plan.stages) (get_or events k e)
+fits_at s [] k e lt fits = absurd (omega arith)
+fits_at s (x ∷ events) zero e lt fits = fits.0
+fits_at s (x ∷ events) (suc k) e lt fits = fits_at ((answered s x).1) events k e (omega arith) fits.1
+
+-- events that name some stages that are there alone fit, whatever is attached before them
+pub fits_below : (n : ℕ) (s : State) (events : List Event) → n ≤ length s.plan.stages → All (EventFits n) events → EventsFit s events
+fits_below n s [] le fits = tt
+fits_below n s (e ∷ events) le fits =
+    let next = (answered s e).1 in
+    let more = more_stages s next (state_after-grows s (e ∷ [])) in
+    (event_fits_more n (length s.plan.stages) e le (All-head (EventFits n) e events fits), fits_below n next events (omega (arith, le, more)) (All-tail (EventFits n) e events fits))
+
+pub held_up_by_log : (d : Desk) (steps : List Event) (k calls : ℕ) (p : Pass) → HasTaken d steps k p → d.setting.functions ≡ race_functions → AreSteps d.setting.plan steps → p.known.seen ≡ take k steps → p.calls ≡ calls → length steps < calls
+    → IsHeldUp d steps k p → SeesFull d p
+held_up_by_log d steps k calls p h functions are seen room enough held = by_cause held.fault held.due
+  where
+    e : Event
+    e = get_or steps k held.default
+
+    state : state_of p.known ≡ state_after (start d.setting.plan) (take k steps)
+    state = ap (λ (s : Setting). state_from s.plan p.known.seen) h.of.1 ∙ ap (state_from d.setting.plan) seen
+
+    there : IsOnStage p e
+    there = fits_names (length (state_of p.known).plan.stages) e
+        (subst (λ (s : State). EventFits (length s.plan.stages) e) (sym state) (fits_at (start d.setting.plan) steps k held.default held.few are.1))
+
+    fits : IsFitting p e
+    fits = subst (λ (n : ℕ). AttachFits n e) (sym functions ∙ sym (ap (λ (s : Setting). s.functions) h.of.1)) (All-get_or IsStep steps k held.default held.few are.0).1
+
+    by_cause : (fault : DeskFault) → IsDue p d e fault → SeesFull d p
+    by_cause NoStage due = absurd (due there)
+    by_cause BadAttach due = absurd (due.1 fits)
+    by_cause PassFull due = absurd (let full = due.2 in let few = held.few in let recorded = h.held in omega arith)
+    by_cause LogFull due = due.3
 
 -- ---- the others
 

@@ -11,7 +11,7 @@ use Rattle.cf_expr.specs.Expressions.{expr}
 use Rattle.cf_expr.specs.Histories.{Grants, IsPlain, IsPlainEvent, IsPlainPlan, IsQuiet, grants_after, granted_with, is_work, nothing_granted}
 use Rattle.cf_expr.proofs.Parts.{plain_append, without_work-append, work_keeps_expressions}
 use Rattle.cf_expr.proofs.Runs.{quiet_is_expression}
-use Rattle.cf_pool.specs.Races.{IsWorkHistory, IsWorkEvent, RacedIsExpression, RacesEndAlike}
+use Rattle.cf_pool.specs.Races.{IsWorkHistory, IsWorkEvent, RacedIsExpression, RacesEndAlike, plan_after}
 
 plain_event : (meanings : Meanings) (granted : Grants) (s : State) (e : Event) → IsWorkEvent meanings granted s e → IsPlainEvent meanings granted s e
 plain_event meanings granted s (Completes who i v) h = absurd h
@@ -49,12 +49,13 @@ raced_is_expression plan steps meanings workers s i plain_plan plain raced l =
     let granted = grants_after nothing_granted (start plan) steps in
     let then = state_after (start plan) steps in
     let all = plain_append meanings nothing_granted (start plan) steps raced.work plain (work_is_plain meanings granted then raced.work raced.done) in
+    let grown = plan_after plan steps in
     let last = state_after (start plan) (steps ++ raced.work) in
-    let same : last.plan ≡ plan = ap (λ (t : State). t.plan) (sym raced.state) ∙ raced.of_plan in
+    let same : last.plan ≡ grown = ap (λ (t : State). t.plan) (sym raced.state) ∙ raced.of_plan in
     let holds = λ (p : Planned). IsBuilt p → IsPlainPlan p → IsPlain meanings nothing_granted (start plan) (steps ++ raced.work) → IsQuiet last → i < length p.stages → outcome_at last i ≡ expr p (steps ++ raced.work) meanings i in
     ap (λ (t : State). outcome_at t i) raced.state
-    ∙ subst holds same (quiet_is_expression plan (steps ++ raced.work) meanings i) raced.built plain_plan all (subst IsQuiet raced.state raced.quiet) l
-    ∙ work_keeps_expressions plan (steps ++ raced.work) steps meanings i (without_work-append steps raced.work (all_work meanings granted then raced.work raced.done))
+    ∙ subst holds same (quiet_is_expression plan (steps ++ raced.work) meanings i) (subst IsBuilt raced.of_plan raced.built) plain_plan all (subst IsQuiet raced.state raced.quiet) l
+    ∙ work_keeps_expressions grown (steps ++ raced.work) steps meanings i (without_work-append steps raced.work (all_work meanings granted then raced.work raced.done))
 
 pub races_end_alike : RacesEndAlike
 races_end_alike plan steps meanings few many s r i plain_plan plain first second l =

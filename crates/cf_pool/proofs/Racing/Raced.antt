@@ -1,5 +1,5 @@
 -- A run that begins as a race ends as one, and its log and its passes are never full.
-use Rattle.std.proofs.Common.{◌≡◌, true, ℕ, suc, ◌+◌, ◌*◌, ◌<◌, ◌≤◌, ◌⊎◌, inl, inr, eqb, None, List, [], ◌∷◌, ◌++◌, length, map, take, replicate, sym, ap, ◌∙◌, subst, arith, length-append, append_assoc}
+use Rattle.std.proofs.Common.{◌≡◌, true, ℕ, suc, ◌+◌, ◌*◌, ◌<◌, ◌≤◌, ◌⊎◌, inl, inr, eqb, None, List, [], ◌∷◌, ◌++◌, length, map, take, replicate, refl, sym, ap, ◌∙◌, subst, arith, length-append, append_assoc}
 use Rattle.std.specs.List.{All, AllZip}
 use native.Mathlib.Nat.{mul-suc}
 use Rattle.std.proofs.lemmas.Bool.{eqb-true, false_from_ne_true, cases_lt}
@@ -7,7 +7,8 @@ use Rattle.std.proofs.lemmas.List.{length-take-le, length-replicate}
 use Rattle.std.proofs.lemmas.List.Sums.{count_by-le-length}
 use Rattle.std.proofs.Math.Seq.{take-length}
 use Rattle.std.proofs.lemmas.List.Elements.{All-cons, All-head, All-tail, All-weaker, All-contains}
-use Rattle.cf_plan.specs.Plans.{Planned, PlannedStage, IsBuilt}
+use Rattle.cf_plan.specs.Plans.{Planned, PlannedStage, IsBuilt, IsGrowing, edges_of, plan_of, with_room}
+use Rattle.cf_plan.proofs.GrowingLemmas.{IsBuilt-as}
 use Rattle.cf_core.specs.declared.events.Event.{Event}
 use Rattle.cf_core.specs.declared.stage.Stage.TheVariants.{Pending}
 use Rattle.cf_core.specs.States.{State, start, stage_at}
@@ -16,30 +17,30 @@ use Rattle.cf_core.specs.Events.{state_after}
 use Rattle.cf_core.specs.Calls.{is_from_outside}
 use Rattle.cf_core.proofs.Histories.{state_after-append}
 use Rattle.cf_core.proofs.LowestReady.{lowest_ready-none}
-use Rattle.cf_core.proofs.Shape.{length-new_states, state_after-grows, state_after-shape}
+use Rattle.cf_core.proofs.Growing.{grown_growing}
+use Rattle.cf_core.proofs.Shape.{length-new_states, state_after-grows}
 use Rattle.cf_plan.specs.Meanings.{Meanings}
 use Rattle.cf_expr.specs.Histories.{grants_after, nothing_granted}
 use Rattle.cf_desk.specs.declared.calls.Kept.{Kept}
 use Rattle.cf_desk.specs.declared.faults.DeskFault.{DeskFault}
 use Rattle.cf_desk.specs.declared.faults.DeskFault.TheVariants.{BadAttach, LogFull, NoStage, PassFull}
 use Rattle.cf_desk.specs.declared.row.Setting.{Setting}
-use Rattle.cf_desk.specs.Functions.{function_bound}
 use Rattle.cf_desk.specs.Keepings.{IsKeptFit, pass_did}
 use Rattle.cf_desk.specs.Log.{Catches, own, state_from}
 use Rattle.cf_desk.specs.Rule.{count_in}
-use Rattle.cf_desk.specs.Views.{Closes, Pass, Desk, SeesFull, knowns}
+use Rattle.cf_desk.specs.Views.{Closes, Pass, Desk, knowns}
 use Rattle.cf_desk.proofs.Lists.{all_front}
 use Rattle.cf_desk.proofs.Events.{events_each}
 use Rattle.cf_pool.specs.Closings.{IsDueToTell, Ran, RanOut}
 use Rattle.cf_pool.specs.Works.{Owed, Works, WorksOut, owed_after}
 use Rattle.cf_pool.specs.Records.{recorded}
-use Rattle.cf_pool.specs.Races.{IsByWorker, IsRaced, IsStep, IsWorkHistory, log_words}
-use Rattle.cf_pool.specs.Beginnings.{HaveBegun, IsApart, HasDoneSteps}
+use Rattle.cf_pool.specs.Races.{AreSteps, IsByWorker, IsRaced, IsStep, IsWorkHistory, log_words, plan_after, race_functions}
+use Rattle.cf_pool.specs.Beginnings.{HaveBegun, IsApart, IsHeldUp, HasDoneSteps}
 use Rattle.cf_core.proofs.ClaimedStages.{is_claimed, outside_leaves_unclaimed}
 use Rattle.cf_expr.proofs.Quiet.{is_quiet}
 use Rattle.cf_pool.proofs.Runs.{each_out}
 use Rattle.cf_pool.proofs.Racing.Counts.{ByCaller, claims_left, grants_leave, history_at_most}
-use Rattle.cf_pool.proofs.Racing.Begun.{steps_attach_none}
+use Rattle.cf_pool.proofs.Racing.Begun.{held_up_by_log}
 use Rattle.cf_pool.proofs.Racing.Ending.{Whole, all_share, back_all, first_begun, others_begun, own_none, seen_is, weigh_zero}
 use Rattle.cf_pool.proofs.Racing.Joining.{HadBegun, Shares, WorksIn, absent_records, all_room, each_pass, has_room, last_plan, owes_none, shares, shares_few, zip_both}
 use Rattle.cf_pool.proofs.Racing.Owing.{AllWork, is_work_then, work_leaves_plan}
@@ -58,7 +59,7 @@ pub record Ended (meanings : Meanings) (d : Desk) (steps : List Event) (calls : 
 -- ---- how long it is
 
 -- how many stages there may be in all
-abbrev most_stages : Planned → ℕ
+abbrev pub most_stages : Planned → ℕ
 most_stages plan = length plan.stages + plan.room
 
 start_few : (plan : Planned) (events : List Event) → claims_left (state_from plan events) ≤ most_stages plan
@@ -99,18 +100,24 @@ apart_none d calls meanings history first q others qs zeroth w zip apart fit c m
     own_none d calls d.setting.plan history meanings first.known.seen c others qs zip apart fit
     (weigh_zero (eqb q.known.caller c) (count_in c (knowns qs)) (false_from_ne_true (eqb q.known.caller c) (λ e. let same = eqb-true q.known.caller c e in let was : q.known.caller ≡ 0 = w.same.2 ∙ zeroth in let nothing : ⊥ = omega arith in nothing)) one)
 
-all_taken : (d : Desk) (steps : List Event) (first : Pass) (t : HasDoneSteps d steps first) (history : List Event) → first.known.seen ≡ take t.taken steps → length first.known.seen ≤ length history → length history < d.words → first.known.seen ≡ steps
-all_taken d steps first t history is begins short = split t.all
+-- a desk of a race of these steps, with room for their records and two for each stage there may be
+pub record IsForSteps (d : Desk) (steps : List Event) (calls : ℕ) : Type 0 where
+  pub functions : d.setting.functions ≡ race_functions
+  pub are : AreSteps d.setting.plan steps
+  pub enough : length steps + 2 * most_stages d.setting.plan < calls
+
+all_taken : (d : Desk) (steps : List Event) (calls : ℕ) (first : Pass) (t : HasDoneSteps d steps first) (history : List Event) → IsForSteps d steps calls → first.calls ≡ calls → first.known.seen ≡ take t.taken steps → length first.known.seen ≤ length history → length history < d.words → first.known.seen ≡ steps
+all_taken d steps calls first t history for room is begins short = split t.all
   where
-    split : (t.taken ≡ length steps) ⊎ SeesFull d first → first.known.seen ≡ steps
+    split : (t.taken ≡ length steps) ⊎ IsHeldUp d steps t.taken first → first.known.seen ≡ steps
     split (inl e) = is ∙ ap (λ (k : ℕ). take k steps) e ∙ take-length steps
-    split (inr l) = absurd (omega arith)
+    split (inr held) = absurd (let full = held_up_by_log d steps t.taken calls first t.done for.functions for.are is room (let enough = for.enough in omega arith) held in omega arith)
 
 ended : (meanings : Meanings) (d : Desk) (steps : List Event) (calls workers : ℕ) (first q : Pass) (others qs : List Pass) (history : List Event) → HasDoneSteps d steps first → first.calls ≡ calls → All (IsApart d calls first.known.seen) others
     → AllZip (Works meanings) (first ∷ others) (q ∷ qs) → Closes d (q ∷ qs) history → All (IsKeptFit d.setting.plan history) (map pass_did (q ∷ qs))
-    → d.setting.callers ≡ workers + 1 → d.words ≡ log_words (length steps) (most_stages d.setting.plan) workers → length steps + 2 * most_stages d.setting.plan < calls
+    → d.setting.callers ≡ workers + 1 → d.words ≡ log_words (length steps) (most_stages d.setting.plan) workers → IsForSteps d steps calls
     → Ended meanings d steps calls (first ∷ others) (q ∷ qs) history
-ended meanings d steps calls workers first q others qs history t room apart zip closes fit callers words enough =
+ended meanings d steps calls workers first q others qs history t room apart zip closes fit callers words for =
     let setting = d.setting in
     let seen = first.known.seen in
     let w = zip.0 in
@@ -138,28 +145,28 @@ ended meanings d steps calls workers first q others qs history t room apart zip 
       work = work;
       whole = whole;
       begun = begun;
-      steps_are = all_taken d steps first t history taken (let e : length history ≡ length seen + length work = ap length is ∙ length-append seen work in omega arith) short;
+      steps_are = all_taken d steps calls first t history for room taken (let e : length history ≡ length seen + length work = ap length is ∙ length-append seen work in omega arith) short;
       short = short;
       room = all_room setting.plan (seen ++ work) (WorksIn meanings (seen ++ work)) (HadBegun setting seen (length steps) calls)
-          (has_room meanings setting seen work (length steps) calls (most_stages setting.plan) enough (few_stages setting.plan (seen ++ work)))
+          (has_room meanings setting seen work (length steps) calls (most_stages setting.plan) for.enough (few_stages setting.plan (seen ++ work)))
           (first ∷ others) (q ∷ qs) both begun fits;
     }
 
 ended_any : (meanings : Meanings) (d : Desk) (steps : List Event) (calls workers : ℕ) (first : Pass) (others qs : List Pass) (history : List Event) → HasDoneSteps d steps first → first.calls ≡ calls → All (IsApart d calls first.known.seen) others
     → AllZip (Works meanings) (first ∷ others) qs → Closes d qs history → All (IsKeptFit d.setting.plan history) (map pass_did qs)
-    → d.setting.callers ≡ workers + 1 → d.words ≡ log_words (length steps) (most_stages d.setting.plan) workers → length steps + 2 * most_stages d.setting.plan < calls
+    → d.setting.callers ≡ workers + 1 → d.words ≡ log_words (length steps) (most_stages d.setting.plan) workers → IsForSteps d steps calls
     → Ended meanings d steps calls (first ∷ others) qs history
-ended_any meanings d steps calls workers first others [] history t room apart zip closes fit callers words enough = absurd zip
-ended_any meanings d steps calls workers first others (q ∷ qs) history t room apart zip closes fit callers words enough =
-    ended meanings d steps calls workers first q others qs history t room apart zip closes fit callers words enough
+ended_any meanings d steps calls workers first others [] history t room apart zip closes fit callers words for = absurd zip
+ended_any meanings d steps calls workers first others (q ∷ qs) history t room apart zip closes fit callers words for =
+    ended meanings d steps calls workers first q others qs history t room apart zip closes fit callers words for
 
 pub run_ended : (meanings : Meanings) (d : Desk) (steps : List Event) (calls workers : ℕ) (ps : List Pass) (history : List Event) (kept : List Kept) (graph : State) → HaveBegun d steps calls ps → (r : Ran meanings d ps history kept graph)
-    → d.setting.callers ≡ workers + 1 → d.words ≡ log_words (length steps) (most_stages d.setting.plan) workers → length steps + 2 * most_stages d.setting.plan < calls
+    → d.setting.callers ≡ workers + 1 → d.words ≡ log_words (length steps) (most_stages d.setting.plan) workers → IsForSteps d steps calls
     → Ended meanings d steps calls ps r.qs history
-run_ended meanings d steps calls workers ps history kept graph b r callers words enough =
+run_ended meanings d steps calls workers ps history kept graph b r callers words for =
     subst (λ (l : List Pass). Ended meanings d steps calls l r.qs history) (sym b.are)
     (ended_any meanings d steps calls workers b.first b.others r.qs history b.took b.room b.apart (subst (λ (l : List Pass). AllZip (Works meanings) l r.qs) b.are r.works)
-    r.closes (subst (All (IsKeptFit d.setting.plan history)) r.kept_are r.fit.each) callers words enough)
+    r.closes (subst (All (IsKeptFit d.setting.plan history)) r.kept_are r.fit.each) callers words for)
 
 -- ---- the race
 
@@ -175,28 +182,28 @@ none_owed meanings setting history seen work most calls ps qs w begun zip each f
         (λ a b v. v.works.same.2) (owes_none meanings setting seen work most calls) c ps qs zip begun fits (let one = each c l in omega (arith, one))
     split (inr l) = ap (owed_after None) (absent_records setting.callers c (length seen) (state_from setting.plan seen) work l (back_all (ByCaller setting.callers) seen work w.by))
 
-pub race_ended : (meanings : Meanings) (d : Desk) (steps : List Event) (calls workers : ℕ) (ps : List Pass) (history : List Event) (kept : List Kept) (graph : State) → d.setting.callers ≡ workers + 1 → IsBuilt d.setting.plan → All (IsStep (length d.setting.plan.stages)) steps
+pub race_ended : (meanings : Meanings) (d : Desk) (steps : List Event) (calls workers : ℕ) (ps : List Pass) (history : List Event) (kept : List Kept) (graph : State) → d.setting.callers ≡ workers + 1 → IsGrowing d.setting.plan → AreSteps d.setting.plan steps
     → (o : RanOut meanings d ps history kept graph) → Ended meanings d steps calls ps o.ran.qs history → IsRaced meanings d.setting.plan steps workers graph
-race_ended meanings d steps calls workers ps history kept graph callers built are o e =
+race_ended meanings d steps calls workers ps history kept graph callers growing are o e =
     let plan = d.setting.plan in
     let s = state_from plan e.seen in
     let is : history ≡ e.seen ++ e.work = e.whole.history_is in
     let fits : All (IsKeptFit plan (e.seen ++ e.work)) (map pass_did o.ran.qs) = subst (λ (h : List Event). All (IsKeptFit plan h) (map pass_did o.ran.qs)) is (subst (All (IsKeptFit plan history)) o.ran.kept_are o.ran.fit.each) in
     let last = last_plan d.setting (e.seen ++ e.work) in
     let works : AllWork meanings last nobody (length e.seen) s e.work = λ c. (all_share meanings d.setting history e.seen e.work e.whole c).work in
-    let started : All (IsStep (length plan.stages)) e.seen = subst (All (IsStep (length plan.stages))) (sym e.steps_are) are in
-    let outside : All (λ x. is_from_outside x ≡ true) e.seen = All-weaker (IsStep (length plan.stages)) (λ x. is_from_outside x ≡ true) (λ x h. h.0) e.seen started in
-    let none = steps_attach_none e.seen outside in
-    let shape = state_after-shape (start plan) e.seen none in
-    let lengths : length s.claims ≡ length s.stages =
-    shape.all_claims ∙ length-replicate (length plan.stages) None ∙ sym (length-new_states [] plan.stages (replicate (length plan.stages) Pending) ∙ length-replicate (length plan.stages) Pending) ∙ sym shape.all_stages in
+    let outside : All (λ x. is_from_outside x ≡ true) e.seen = subst (All (λ x. is_from_outside x ≡ true)) (sym e.steps_are) (All-weaker IsStep (λ x. is_from_outside x ≡ true) (λ x h. h.0) steps are.0) in
+    let grown = state_after-grows (start plan) e.seen in
+    let begun : length (start plan).claims ≡ length (start plan).stages =
+    length-replicate (length plan.stages) None ∙ sym (length-new_states [] plan.stages (replicate (length plan.stages) Pending) ∙ length-replicate (length plan.stages) Pending) in
+    let lengths : length s.claims ≡ length s.stages = grown.all_claims ∙ ap (λ (n : ℕ). n + length grown.more) begun ∙ sym grown.all_stages in
     let state : graph ≡ state_after (start plan) (steps ++ e.work) = o.ran.graph_is ∙ ap (state_from plan) (is ∙ ap (λ l. l ++ e.work) e.steps_are) in
     let whole : state_from plan (e.seen ++ e.work) ≡ state_after s e.work = state_after-append (start plan) e.seen e.work in
     let joined : state_after s e.work ≡ graph = sym whole ∙ sym (ap (state_from plan) is) ∙ sym o.ran.graph_is in
     let stays : (state_after s e.work).plan ≡ s.plan = work_leaves_plan meanings last nobody (length e.seen) s e.work works in
+    let of_plan : graph.plan ≡ plan_after plan steps = ap (λ (t : State). t.plan) (sym joined) ∙ stays ∙ ap (plan_after plan) e.steps_are in
     record {
-      built = built;
-      of_plan = ap (λ (t : State). t.plan) (sym joined) ∙ stays ∙ shape.plan;
+      of_plan = of_plan;
+      built = subst IsBuilt (sym of_plan) (grown_growing (start plan) steps growing are.1).built;
       work = e.work;
       done = subst (λ (l : List Event). IsWorkHistory meanings (grants_after nothing_granted (start plan) l) (state_after (start plan) l) e.work) e.steps_are
           (is_work_then meanings last nobody (grants_after nothing_granted (start plan) e.seen) (length e.seen) s e.work (sym stays ∙ ap (λ (t : State). t.plan) (sym whole)) (λ c i args owed. (let nothing : ⊥ = cc in absurd nothing)) works);
@@ -210,30 +217,43 @@ race_ended meanings d steps calls workers ps history kept graph callers built ar
 
 -- ---- as the code has it
 
--- a desk of this plan, which has no room for more stages, for so many workers and steps
+-- a plan that was built grows, where there is not too much room
+pub growing-with_room : (plan : Planned) (room : ℕ) → IsBuilt plan → plan ≡ plan_of plan.stages plan.limits → length plan.stages + room ≤ 4096 → edges_of plan.stages + 2 * room ≤ 16384 → IsGrowing (with_room plan room)
+growing-with_room plan room built whole stages edges = record {
+  built = IsBuilt-as plan (with_room plan room) refl refl built;
+  opened = (let opened : plan.opened ≡ length plan.stages = ap (λ (p : Planned). p.opened) whole in omega (arith, opened));
+  few_stages = stages;
+  few_edges = edges;
+}
+
+-- a desk of this plan with its room, for so many workers and steps
 pub record IsSized (d : Desk) (plan : Planned) (steps : List Event) (workers calls : ℕ) : Type 0 where
-  pub setting_is : d.setting ≡ record { plan = plan; callers = workers + 1; functions = function_bound plan.stages }
-  pub no_room : plan.room ≡ 0
-  pub words_are : d.words ≡ log_words (length steps) (length plan.stages) workers
-  pub calls_are : calls ≡ length steps + 2 * length plan.stages + 1
+  pub setting_is : d.setting ≡ record { plan = plan; callers = workers + 1; functions = race_functions }
+  pub words_are : d.words ≡ log_words (length steps) (most_stages plan) workers
+  pub calls_are : calls ≡ length steps + 2 * most_stages plan + 1
+  pub are : AreSteps plan steps
 
 sized_ended : (meanings : Meanings) (d : Desk) (plan : Planned) (steps : List Event) (calls workers : ℕ) (ps : List Pass) (history : List Event) (kept : List Kept) (graph : State) → IsSized d plan steps workers calls → HaveBegun d steps calls ps
     → (r : Ran meanings d ps history kept graph) → Ended meanings d steps calls ps r.qs history
 sized_ended meanings d plan steps calls workers ps history kept graph z b r =
     let same : d.setting.plan ≡ plan = ap (λ (s : Setting). s.plan) z.setting_is in
-    let none = z.no_room in
-    let n : most_stages d.setting.plan ≡ length plan.stages = ap most_stages same ∙ (let e : most_stages plan ≡ length plan.stages = omega (arith, none) in e) in
+    let n : most_stages d.setting.plan ≡ most_stages plan = ap most_stages same in
     let calls_are = z.calls_are in
     run_ended meanings d steps calls workers ps history kept graph b r (ap (λ (s : Setting). s.callers) z.setting_is)
-    (z.words_are ∙ ap (λ (k : ℕ). log_words (length steps) k workers) (sym n)) (omega (arith, n, calls_are))
+    (z.words_are ∙ ap (λ (k : ℕ). log_words (length steps) k workers) (sym n))
+    (record {
+      functions = ap (λ (s : Setting). s.functions) z.setting_is;
+      are = subst (λ (p : Planned). AreSteps p steps) (sym same) z.are;
+      enough = omega (arith, n, calls_are);
+    })
 
 -- what a run ends with is the race's state
 pub raced : (meanings : Meanings) (d : Desk) (plan : Planned) (steps : List Event) (calls workers : ℕ) (ps : List Pass) (history : List Event) (kept : List Kept) (graph : State) → IsSized d plan steps workers calls → HaveBegun d steps calls ps
-    → IsBuilt plan → All (IsStep (length plan.stages)) steps → RanOut meanings d ps history kept graph → IsRaced meanings plan steps workers graph
-raced meanings d plan steps calls workers ps history kept graph z b built are o =
+    → IsGrowing plan → RanOut meanings d ps history kept graph → IsRaced meanings plan steps workers graph
+raced meanings d plan steps calls workers ps history kept graph z b growing o =
     let same : d.setting.plan ≡ plan = ap (λ (s : Setting). s.plan) z.setting_is in
     subst (λ (p : Planned). IsRaced meanings p steps workers graph) same
-    (race_ended meanings d steps calls workers ps history kept graph (ap (λ (s : Setting). s.callers) z.setting_is) (subst IsBuilt (sym same) built) (subst (λ (p : Planned). All (IsStep (length p.stages)) steps) (sym same) are) o
+    (race_ended meanings d steps calls workers ps history kept graph (ap (λ (s : Setting). s.callers) z.setting_is) (subst IsGrowing (sym same) growing) (subst (λ (p : Planned). AreSteps p steps) (sym same) z.are) o
     (sized_ended meanings d plan steps calls workers ps history kept graph z b o.ran))
 
 -- and it meets no fault of the desk

@@ -1,30 +1,36 @@
 //! How a race begins: caller 0 does the steps, and then it meets each other caller.
 ghost use Rattle.std.specs.Prelude.{◌≡◌, ◌<◌, ◌≤◌, All, IfOk, length, vec_len};
-ghost use Rattle.cf_desk.specs.Functions.{function_bound};
+ghost use Rattle.cf_plan.specs.Plans.{with_room};
 ghost use Rattle.cf_desk.specs.Views.{IsOf};
 ghost use Rattle.cf_pool.specs.Beginnings.{HasDoneSteps, HasTaken, HaveBegun, IsApart, IsIdle};
-ghost use Rattle.cf_pool.specs.Races.{IsStep};
+ghost use Rattle.cf_pool.specs.Races.{IsStep, race_functions};
 
 use cf_core::Event;
 use cf_desk::{Call, Desk, Pass};
 use cf_plan::Plan;
 use std::alloc::{AllocError, Global};
 
-/// Opens a desk, and begins a race: its passes, caller 0's first.
+/// How many functions a race knows: as many as stages can name.
+const FUNCTIONS: u32 = 65_536;
+
+/// Opens a desk with room for so many stages, and begins a race: its passes, caller 0's first.
 pub(crate) fn begin(
     alloc: Global,
     plan: Plan,
+    room: u16,
     callers: u8,
     steps: &[Event],
     log: u16,
     calls: u16,
 ) -> Result<(Desk, Vec<Pass>), AllocError>
-    requires steps { All (IsStep (length plan.stages)) steps.now × (length steps.now < calls) }
-    ensures desk { IfOk result (λ r. (r.0.setting ≡ record { plan = plan; callers = callers; functions = function_bound plan.stages }) × (r.0.words ≡ log)) }
+    requires steps { All IsStep steps.now × (length steps.now < calls) }
+    ensures desk { IfOk result (λ r. (r.0.setting ≡ record { plan = with_room plan room; callers = callers; functions = race_functions }) × (r.0.words ≡ log)) }
     ensures passes { IfOk result (λ r. All (IsOf r.0) r.1.items × (vec_len r.1 ≡ callers)) }
     ensures begun { IfOk result (λ r. HaveBegun r.0 steps.now calls r.1.items) }
 {
-    let (desk, mut passes) = match Desk::open(alloc, plan, callers, log, calls) {
+    let (desk, mut passes) = match Desk::open_growing(
+        alloc, plan, callers, log, calls, room, FUNCTIONS,
+    ) {
         Ok(opened) => opened,
         Err(_) => return Err(AllocError),
     };
@@ -35,11 +41,11 @@ pub(crate) fn begin(
     Ok((desk, passes))
 }
 
-/// Does the steps in order, up to the first that finds the log full. In a race none does: all that caller 0 has then seen
-/// is its own, as it learns where it meets the others, and the log is longer than the steps.
+/// Does the steps in order, up to the first that is refused. In a race none is: all that caller 0 has then seen is its own,
+/// as it learns where it meets the others, so each step fits, and the log is longer than the steps.
 fn take_steps(desk: &Desk, pass: &mut Pass, steps: &[Event])
-    requires pass { HasTaken desk.now steps.now 0 pass.old × (length steps.now < pass.old.calls) }
-    requires steps { All (IsStep (length desk.now.setting.plan.stages)) steps.now }
+    requires pass { HasTaken desk.now steps.now 0 pass.old }
+    requires steps { All IsStep steps.now }
     ensures took { HasDoneSteps desk.now steps.now pass.new }
     ensures calls { pass.new.calls ≡ pass.old.calls }
 {

@@ -1,25 +1,26 @@
-use Rattle.std.proofs.Common.{◌≡◌, ◌+◌, ◌*◌, ◌∙◌, ap, length, ℕ, subst}
+use Rattle.std.proofs.Common.{◌+◌, ◌*◌, ◌∙◌, ap, length, ℕ, subst}
 use Rattle.cf_pool.specs.Closings.{IsRefused}
 use Rattle.cf_plan.specs.Meanings.{meanings_of}
-use Rattle.cf_plan.specs.Plans.{Planned}
+use Rattle.cf_plan.specs.Plans.{with_room}
 use Rattle.cf_pool.specs.Races.{log_words}
-use Rattle.cf_pool.proofs.Racing.Raced.{IsSized, never_full, raced}
+use Rattle.cf_pool.proofs.Racing.Raced.{IsSized, growing-with_room, never_full, raced}
 use Rattle.cf_pool.proofs.races.race.Given.{Over}
 use Rattle.cf_pool.proofs.races.race.Goals as goal
 use Rattle.cf_pool.proofs.races.race.Goals.{In-Ok}
 
-sized : (g : Over) (c : In-Ok g) → IsSized c.in-Ok.begun.0 c.args.plan c.args.steps.now c.args.workers c.in-Some.sizes.1
+sized : (g : Over) (c : In-Ok g) → IsSized c.in-Ok.begun.0 (with_room c.args.plan c.args.room) c.args.steps.now c.args.workers c.in-Some.sizes.1
 sized g c =
     let d = c.in-Ok.ensures.desk in
     let s = c.in-Some.ensures in
-    let n : c.stages.result ≡ length c.args.plan.stages = c.stages.ensures.count in
-    record { setting_is = d.0; no_room = ap (λ (p : Planned). p.room) c.stages.ensures.whole; words_are = d.1 ∙ s.0 ∙ ap (λ (k : ℕ). log_words (length c.args.steps.now) k c.args.workers) n; calls_are = s.1 ∙ ap (λ (k : ℕ). length c.args.steps.now + 2 * k + 1) n }
+    let n = ap (λ (k : ℕ). k + c.args.room) c.stages.ensures.count in
+    record { setting_is = d.0; words_are = d.1 ∙ s.0 ∙ ap (λ (k : ℕ). log_words (length c.args.steps.now) k c.args.workers) n; calls_are = s.1 ∙ ap (λ (k : ℕ). length c.args.steps.now + 2 * k + 1) n; are = c.requires.steps }
 
 pub returns-in-Ok-run-clause-raced : goal.returns-in-Ok-run-clause-raced
 returns-in-Ok-run-clause-raced g c =
-    raced _ _ c.args.plan c.args.steps.now _ c.args.workers _ _ _ _ (sized g (goal.at.returns-in-Ok-run-clause-raced g c).In-Ok) c.in-Ok.ensures.begun c.stages.ensures.built c.requires.steps c.in-Ok-run.ensures.ran
+    raced _ _ (with_room c.args.plan c.args.room) c.args.steps.now _ c.args.workers _ _ _ _ (sized g (goal.at.returns-in-Ok-run-clause-raced g c).In-Ok) c.in-Ok.ensures.begun
+    (growing-with_room c.args.plan c.args.room c.stages.ensures.built c.stages.ensures.whole c.requires.room.0 c.requires.room.1) c.in-Ok-run.ensures.ran
 
 pub unreachable-requires : goal.unreachable-requires
 unreachable-requires g c =
     let told = subst (IsRefused (meanings_of g.F.StageFn.meaning c.args.fns.now) c.in-Ok.begun.0 c.in-Ok.begun.1.items) c.in-Err-Desk.field-0-is c.in-Err-Desk.ensures.refused in
-    never_full _ c.in-Ok.begun.0 c.args.plan c.args.steps.now c.in-Some.sizes.1 c.args.workers c.in-Ok.begun.1.items _ _ _ (sized g (goal.at.unreachable-requires g c).In-Ok) c.in-Ok.ensures.begun c.in-Err-Desk.field-0-0 told.ran told.due
+    never_full _ c.in-Ok.begun.0 (with_room c.args.plan c.args.room) c.args.steps.now c.in-Some.sizes.1 c.args.workers c.in-Ok.begun.1.items _ _ _ (sized g (goal.at.unreachable-requires g c).In-Ok) c.in-Ok.ensures.begun c.in-Err-Desk.field-0-0 told.ran told.due

@@ -1,9 +1,8 @@
-use Rattle.std.proofs.Common.{◌≡◌, ◌∷◌, length, sym, ◌∙◌, ap, arith, subst, vec_len, ℕ}
+use Rattle.std.proofs.Common.{◌≡◌, ◌∷◌, sym, ◌∙◌, ap, arith, subst, vec_len, ℕ}
 use Rattle.std.specs.List.{All}
 use Rattle.cf_desk.specs.declared.row.Setting.{Setting}
 use Rattle.cf_desk.specs.Views.{Pass}
 use Rattle.cf_pool.specs.Beginnings.{HaveBegun, IsApart, IsIdle}
-use Rattle.cf_pool.specs.Races.{IsStep}
 use Rattle.cf_pool.proofs.Racing.Begun.{Parted, begun_of, none_taken, parted}
 use Rattle.cf_pool.proofs.races.beginning.begin.Goals as goal
 use Rattle.cf_pool.proofs.races.beginning.begin.Goals.{After-remove-first}
@@ -11,7 +10,7 @@ use Rattle.cf_pool.proofs.races.beginning.begin.Goals.{After-remove-first}
 first_and_others : (c : After-remove-first) → Parted c.in-Ok.opened.0 c.args.calls c.remove-first.result c.remove-first.new.self.items
 first_and_others c =
     let o = c.in-Ok.ensures.opened in
-    let n = c.in-Ok.ensures.counts in
+    let n = c.in-Ok.ensures.counts.0 in
     let r = c.remove-first.ensures in
     let callers : c.in-Ok.opened.0.setting.callers ≡ c.args.callers = ap (λ (s : Setting). s.callers) o.0 in
     parted c.in-Ok.opened.0 c.args.calls c.in-Ok.opened.1.items _ _ (let l = n.0 in omega arith) o.2 r.value r.by_index.2
@@ -19,11 +18,9 @@ first_and_others c =
 pub take_steps-requires : goal.take_steps-requires
 take_steps-requires c =
     let f = first_and_others (goal.at.take_steps-requires c).After-remove-first in
-    let o = c.in-Ok.ensures.opened in
-    let room = f.first.room in
     record {
-      pass = (none_taken c.in-Ok.opened.0 c.args.calls c.args.steps.now c.remove-first.result f.first f.zeroth, (let l = c.requires.steps.1 in omega arith));
-      steps = subst (λ (s : Setting). All (IsStep (length s.plan.stages)) c.args.steps.now) (sym o.0) c.requires.steps.0;
+      pass = none_taken c.in-Ok.opened.0 c.args.calls c.args.steps.now c.remove-first.result f.first f.zeroth;
+      steps = c.requires.steps.0;
     }
 
 pub meet_others-requires-clause-others : goal.meet_others-requires-clause-others

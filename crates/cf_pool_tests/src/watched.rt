@@ -1,12 +1,12 @@
 //! Workers whose gate and functions keep what happens to them: which function ran how often, and what the gate was told.
 ghost use Rattle.std.specs.Prelude.{◌<◌, ◌≤◌};
 
-use super::{open, supplies};
-use crate::{Gate, PoolFault, race, run, work};
+use crate::workers::{open, supplies};
 use cf_core::{Claimed, Reply};
 use cf_desk::{Call, DeskFault, Kept, Rec};
 use cf_outcome::Value;
 use cf_plan::{Answer, Args, StageFn};
+use cf_pool::{Gate, PoolFault, race, run, work};
 use std::alloc::{AllocError, Global};
 use std::sync::Wait;
 use std::sync::atomic::{AtomicBool, AtomicU32, Ordering};
@@ -217,6 +217,7 @@ fn watch_race<R: Threads + Wait + Sync>(rt: &R, alloc: Global, workers: u8) -> R
         rt,
         alloc,
         supplies(alloc, stages)?,
+        0,
         &[],
         &fns,
         &watch,

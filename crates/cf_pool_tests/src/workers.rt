@@ -1,14 +1,11 @@
-mod attached;
-mod watched;
-
 ghost use Rattle.std.specs.Prelude.{◌≡◌, ◌+◌, ◌≤◌, All, IfOk, vec_len};
 ghost use Rattle.cf_desk.specs.Views.{IsOf};
 
-use crate::{Done, Gate, NoGate, PoolFault, run, work};
 use cf_core::Event;
 use cf_desk::{Closed, Desk, DeskFault, Joined, Pass};
 use cf_outcome::{Outcome, Value};
 use cf_plan::{Answer, Args, Form, Plan, PlanBuilder, StageFn};
+use cf_pool::{Done, Gate, NoGate, PoolFault, run, work};
 use std::alloc::Global;
 use std::sync::Wait;
 use std::sync::atomic::{AtomicBool, Ordering};
@@ -17,7 +14,7 @@ use std::thread::Threads;
 
 /// Gives its value, whatever it is called with.
 #[derive(Clone, Copy, Drop)]
-struct Fixed {
+pub(crate) struct Fixed {
     value: Value,
 }
 
@@ -32,7 +29,7 @@ impl StageFn for Fixed {
 }
 
 /// Four functions, which give 4, 5, 6 and 7.
-const FUNCTIONS: [Fixed; 4] = [
+pub(crate) const FUNCTIONS: [Fixed; 4] = [
     Fixed {
         value: Value::Int(4),
     },
@@ -48,7 +45,7 @@ const FUNCTIONS: [Fixed; 4] = [
 ];
 
 /// A plan of so many supplies, each with the function of its number.
-fn supplies(alloc: Global, count: u16) -> Result<Plan, Fail> {
+pub(crate) fn supplies(alloc: Global, count: u16) -> Result<Plan, Fail> {
     let mut builder = PlanBuilder::new(alloc);
     for i in 0..count {
         builder
@@ -59,7 +56,7 @@ fn supplies(alloc: Global, count: u16) -> Result<Plan, Fail> {
 }
 
 /// A desk over a plan for so many workers and their caller.
-fn open(
+pub(crate) fn open(
     alloc: Global,
     plan: Plan,
     workers: u8,
@@ -142,7 +139,7 @@ impl Gate for Together {
 }
 
 /// The outcome of a stage of a closed desk.
-fn outcome_of(closed: &mut Closed, stage: u16) -> Option<Outcome> {
+pub(crate) fn outcome_of(closed: &mut Closed, stage: u16) -> Option<Outcome> {
     if closed.graph.has(stage) {
         closed.graph.outcome(stage)
     } else {

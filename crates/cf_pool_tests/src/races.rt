@@ -1,10 +1,10 @@
 //! Races of few workers and of many, and how large a race may be.
-ghost use Rattle.std.specs.Prelude.{◌≡◌, IfOk, replicate};
+ghost use Rattle.std.specs.Prelude.{◌≡◌, ◌<◌, ◌≤◌, IfOk, replicate};
 
-use crate::{NoGate, RaceFault, race};
 use cf_core::{Event, Graph};
 use cf_outcome::{Outcome, Value};
-use cf_plan::{Answer, Args, Form, Plan, PlanBuilder, StageFn};
+use cf_plan::{Answer, Args, Form, Of, Plan, PlanBuilder, StageFn};
+use cf_pool::{NoGate, RaceFault, race};
 use std::alloc::{AllocError, Global};
 use std::sync::Wait;
 use std::test::Fail;
@@ -17,7 +17,7 @@ struct Sample {
 }
 
 impl StageFn for Sample {
-    ghost use Rattle.cf_pool.specs.Samples.{sampled};
+    ghost use Rattle.cf_pool_tests.specs.Samples.{sampled};
 
     ghost meaning = { λ f args. sampled f.gives args };
 
@@ -86,7 +86,7 @@ fn number(n: i32) -> Option<Outcome> {
 fn any_number_of_workers_ends_as_one(rt: HostRuntime) -> Result<(), Fail> {
     for workers in 1..33u8 {
         let plan = sum_of_two(rt.alloc(), Form::Supply, [Some(0), Some(1)])?;
-        let mut graph = race(&rt, rt.alloc(), plan, &[], &FUNCTIONS, &NoGate, workers).map_err(
+        let mut graph = race(&rt, rt.alloc(), plan, 0, &[], &FUNCTIONS, &NoGate, workers).map_err(
             |_| "there was no race",
         )?;
         assert_eq!(rt; outcome(&mut graph, 0), number(4), "{workers} workers");
@@ -113,7 +113,7 @@ fn race_on<R: Threads + Wait + Sync>(rt: &R, alloc: Global, plan: Plan) -> Resul
         return Err(Fail::from("stages are missing"));
     }
     let steps = [complete(0, 3), complete(0, 4), complete(1, 6)];
-    race(rt, alloc, plan, &steps, &FUNCTIONS, &NoGate, 2).map_err(|_| Fail::from(
+    race(rt, alloc, plan, 0, &steps, &FUNCTIONS, &NoGate, 2).map_err(|_| Fail::from(
         "there was no race",
     ))
 }
@@ -128,32 +128,47 @@ fn the_first_of_two_steps_counts(rt: HostRuntime) -> Result<(), Fail> {
     Ok(())
 }
 
-/// Ticks so often, at most 17 times, and then races with 32 workers.
-fn race_after<R: Threads + Wait + Sync>(
+/// Attaches the sum of stages 0 and 1, and one stage more than there is room for, completes both, and then races.
+fn race_growing<R: Threads + Wait + Sync>(
     rt: &R,
     alloc: Global,
     plan: Plan,
-    ticks: usize,
-) -> Option<RaceFault> {
-    let steps = [Event::Tick { who: 0, now: 0 }; 17];
-    let taken = &steps[..ticks.min(17)];
-    race(rt, alloc, plan, taken, &FUNCTIONS, &NoGate, 32).err()
+    workers: u8,
+) -> Result<Graph, Fail>
+    requires { (0 < workers) × (workers ≤ 32) }
+{
+    if plan.stages() != 2 || plan.edges() > 0 {
+        return Err(Fail::from("two sources are wanted"));
+    }
+    let steps = [
+        Event::Attach {
+            who: 0,
+            form: Form::Combine,
+            of: Of::Two(0, 1),
+            function: Some(2),
+        },
+        Event::Attach {
+            who: 0,
+            form: Form::Source,
+            of: Of::None,
+            function: None,
+        },
+        complete(0, 3),
+        complete(1, 6),
+    ];
+    race(rt, alloc, plan, 1, &steps, &FUNCTIONS, &NoGate, workers).map_err(|_| Fail::from(
+        "there was no race",
+    ))
 }
 
 #[test]
-fn the_log_has_at_most_65_535_words(rt: HostRuntime) -> Result<(), Fail> {
-    assert_eq!(rt;
-        race_after(&rt, rt.alloc(), sources(rt.alloc(), 1_927)?, 16),
-        None
-    );
-    assert_eq!(rt;
-        race_after(&rt, rt.alloc(), sources(rt.alloc(), 1_927)?, 17),
-        Some(RaceFault::Size)
-    );
-    assert_eq!(rt;
-        race_after(&rt, rt.alloc(), sources(rt.alloc(), 1_928)?, 0),
-        Some(RaceFault::Size)
-    );
+fn a_race_does_what_its_steps_attach(rt: HostRuntime) -> Result<(), Fail> {
+    for workers in 1..33u8 {
+        let plan = sources(rt.alloc(), 2)?;
+        let mut graph = race_growing(&rt, rt.alloc(), plan, workers)?;
+        assert_eq!(rt; graph.stages(), 3, "{workers} workers");
+        assert_eq!(rt; outcome(&mut graph, 2), number(9), "{workers} workers");
+    }
     Ok(())
 }
 
@@ -172,7 +187,24 @@ fn race_behind<R: Threads + Wait + Sync>(
     count: usize,
 ) -> Result<Option<RaceFault>, Fail> {
     let steps = ticks(alloc, count)?;
-    Ok(race(rt, alloc, plan, &steps, &FUNCTIONS, &NoGate, 32).err())
+    Ok(race(rt, alloc, plan, 0, &steps, &FUNCTIONS, &NoGate, 32).err())
+}
+
+#[test]
+fn the_log_has_at_most_65_535_words(rt: HostRuntime) -> Result<(), Fail> {
+    assert_eq!(rt;
+        race_behind(&rt, rt.alloc(), sources(rt.alloc(), 1_927)?, 16)?,
+        None
+    );
+    assert_eq!(rt;
+        race_behind(&rt, rt.alloc(), sources(rt.alloc(), 1_927)?, 17)?,
+        Some(RaceFault::Size)
+    );
+    assert_eq!(rt;
+        race_behind(&rt, rt.alloc(), sources(rt.alloc(), 1_928)?, 0)?,
+        Some(RaceFault::Size)
+    );
+    Ok(())
 }
 
 #[test]

@@ -2,12 +2,12 @@
 ghost use Rattle.std.specs.Prelude.{◌≡◌, ◌+◌, ◌≤◌, All, IfOk, length, vec_len};
 ghost use Rattle.cf_desk.specs.Views.{IsOf};
 
-use super::{FUNCTIONS, outcome_of, supplies};
-use crate::{Done, Gate, NoGate, run, work};
+use crate::workers::{FUNCTIONS, outcome_of, supplies};
 use cf_core::Event;
 use cf_desk::{Call, Closed, Desk, Pass};
 use cf_outcome::{Outcome, Value};
 use cf_plan::{Answer, Form, Of};
+use cf_pool::{Done, Gate, NoGate, run, work};
 use std::alloc::Global;
 use std::sync::atomic::{AtomicBool, Ordering};
 use std::test::Fail;

@@ -1,0 +1,12 @@
+//! Tests of workers and races by the public calls alone. They stand in a crate of their own, since a crate that has tests is
+//! proved twice, with them and without.
+#![tactic(auto)]
+
+#[cfg(test)]
+mod attached;
+#[cfg(test)]
+mod races;
+#[cfg(test)]
+mod watched;
+#[cfg(test)]
+mod workers;
