@@ -13,7 +13,7 @@ fits_more : (n m : ℕ) → n ≤ m → (stage : PlannedStage) (f : Option ℕ) 
 fits_more n m h stage None fits = tt
 fits_more n m h stage (Some k) fits = omega arith
 
-length_after : (functions : List Func) (function : Option Func) → length functions ≤ length (with_function functions function)
+pub length_after : (functions : List Func) (function : Option Func) → length functions ≤ length (with_function functions function)
 length_after functions None = omega arith
 length_after functions (Some f) = omega (arith, length-append functions (f ∷ []))
 

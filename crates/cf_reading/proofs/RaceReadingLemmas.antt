@@ -12,7 +12,6 @@ use Rattle.cf_reading.specs.declared.fault.Part.TheVariants as parts
 use Rattle.cf_reading.specs.declared.fault.ReadingFault.{ReadingFault}
 use Rattle.cf_reading.specs.declared.fault.ReadingFault.TheVariants as faults
 use Rattle.cf_reading.specs.declared.purpose.Purpose.TheVariants.{Run, Race}
-use Rattle.cf_reading.specs.declared.script.Step.{Step}
 use Rattle.cf_reading.proofs.RaceSteps.{After, Differ, Same, among, at_first, cases, races, runs}
 use Rattle.cf_reading.specs.Checks.{◌>>=◌, fold_items, guard, ok_or, planned_unless}
 use Rattle.cf_reading.specs.Funcs.{function_said}
@@ -20,8 +19,11 @@ use Rattle.cf_reading.specs.Limits.{kind_of, limit_next, number_named}
 use Rattle.cf_reading.specs.Parts.{up_to}
 use Rattle.cf_reading.specs.Purposes.{IsForRace}
 use Rattle.cf_reading.specs.RaceReadings.{first_items, cut_at, reading_up_to, IsNotOfStep, IsFirstWrong, RacesAreReadAsRuns}
-use Rattle.cf_reading.specs.Reading.{Outline, has_version, items_said, json_of, outline, outline_of, with_steps, reading, race_reading}
+use Rattle.cf_reading.specs.Reading.{Outline, course_start, drafted_of, has_place, items_said, json_of, outline, outline_of, script_with, with_steps, reading, race_reading}
 use Rattle.cf_reading.specs.Scripts.{Script}
+use Rattle.cf_reading.specs.Courses.{Course}
+use Rattle.cf_reading.specs.Versions.{version_of, room_said}
+use Rattle.cf_reading.specs.declared.version.Version.{Version}
 use Rattle.cf_reading.specs.Stages.{Drafted, form_of, nothing_drafted, number_after, sources_said, source_next, stage_next, with_function}
 
 -- ---- before the steps are read no fault of a step is told
@@ -65,12 +67,12 @@ never-sources fault (Some d) h =
     never-next _ (fold_items (source_next fault) []) (never-ok_or fault (as_array d) h) (λ items.
     never-fold (source_next fault) (λ found e. never-ok_or fault (option_map (λ n. found ++ n ∷ []) (up_to 65535 e)) h) items [])
 
-never-stage : (drafted : Drafted) (d : Data) → NeverOfStep (stage_next drafted d)
+never-stage : (version : Version) (drafted : Drafted) (d : Data) → NeverOfStep (stage_next version drafted d)
 unfolding stage_next
-never-stage drafted d =
+never-stage version drafted d =
     let k = length drafted.plan.stages in
     let wrong = faults.Shape (parts.Stage k) in
-    never-next _ _ (never-ok_or wrong (form_of d) tt) (λ form.
+    never-next _ _ (never-ok_or wrong (form_of version d) tt) (λ form.
     never-next _ _ (never-sources wrong (get (codes "of") d) tt) (λ sources.
     never-next _ _ (never-ok_or (faults.Function k) (function_said (get (codes "fn") d)) tt) (λ function.
     let stage : PlannedStage = record { form = form; sources = sources; function = number_after drafted.functions function } in
@@ -88,17 +90,25 @@ never-limit plan d =
     let limit : Limit = record { stage = stage; at = at; kind = kind } in
     never-planned_unless (limit_fault plan limit.stage) k (with_limit plan limit))))
 
+never-drafted_of : (version : Version) (room : ℕ) (stages limits : Items) → NeverOfStep (drafted_of version room stages limits)
+unfolding drafted_of
+never-drafted_of version room stages limits =
+    never-next _ _ (never-fold (stage_next version) (never-stage version) stages nothing_drafted) (λ drafted.
+    never-next _ _ (never-fold limit_next never-limit limits drafted.plan) (λ plan.
+    never-next _ _ (never-guard (has_place plan room) (faults.Shape parts.Room) tt) (λ place.
+    never-ok (record { plan = plan; functions = drafted.functions }))))
+
 never-outline_of : (d : Data) → NeverOfStep (outline_of d)
 unfolding outline_of
 never-outline_of d =
     never-next _ _ (never-ok_or (faults.Shape parts.Top) (as_object d) tt) (λ top.
-    never-next _ _ (never-guard (has_version d) (faults.Shape parts.Version) tt) (λ version.
+    never-next _ _ (never-ok_or (faults.Shape parts.Version) (version_of d) tt) (λ version.
+    never-next _ _ (never-ok_or (faults.Shape parts.Room) (room_said version (get (codes "room") d)) tt) (λ room.
     never-next _ _ (never-ok_or (faults.Shape parts.Stages) (option_and_then as_array (get (codes "stages") d)) tt) (λ stages.
     never-next _ _ (never-ok_or (faults.Shape parts.Limits) (items_said (get (codes "limits") d)) tt) (λ limits.
     never-next _ _ (never-ok_or (faults.Shape parts.Steps) (items_said (get (codes "steps") d)) tt) (λ steps.
-    never-next _ _ (never-fold stage_next never-stage stages nothing_drafted) (λ drafted.
-    never-next _ _ (never-fold limit_next never-limit limits drafted.plan) (λ plan.
-    never-ok (record { plan = plan; functions = drafted.functions; steps = steps }))))))))
+    never-next _ _ (never-drafted_of version room stages limits) (λ drafted.
+    never-ok (record { version = version; plan = drafted.plan; room = room; functions = drafted.functions; steps = steps }))))))))
 
 never-if : (b : Bool) (x y : Result Outline ReadingFault) → NeverOfStep x → NeverOfStep y → NeverOfStep (if b then x else y)
 never-if true x y h k = h
@@ -111,50 +121,65 @@ never-outline bytes =
 
 -- ---- with its steps
 
+-- what makes a script of a course that was read
+made_of : (make : Course → Script) (r : Result Course ReadingFault) (s : Script) → (r >>= λ c. Ok (make c)) ≡ Ok s → (c : Course) × (r ≡ Ok c) × (make c ≡ s)
+made_of make (Ok c) s e = let same : make c ≡ s = cc in (c, refl, same)
+made_of make (Err fault) s e = absurd cc
+
+none_of : (make : Course → Script) (r : Result Course ReadingFault) (fault : ReadingFault) → (r >>= λ c. Ok (make c)) ≡ Err fault → r ≡ Err fault
+none_of make (Ok c) fault e = absurd cc
+none_of make (Err told) fault e = cc
+
 module _ (o : Outline) where
-  abbrev made : List Step → Script
-  made steps = record { plan = o.plan; functions = o.functions; steps = steps }
+  abbrev made : Course → Script
+  made = script_with o
 
-  abbrev n : ℕ
-  n = length o.plan.stages
+  abbrev start : Course
+  start = course_start o
 
-  made-ok : (r : Result (List Step) ReadingFault) (s : Script) → (r >>= λ steps. Ok (made steps)) ≡ Ok s → r ≡ Ok s.steps
-  made-ok (Ok steps) s e = let f : made steps ≡ s = cc in ap (λ (t : Script). Ok t.steps) f
-  made-ok (Err fault) s e = absurd cc
+  abbrev v : Version
+  v = o.version
 
-  made-err : (r : Result (List Step) ReadingFault) (fault : ReadingFault) → (r >>= λ steps. Ok (made steps)) ≡ Err fault → r ≡ Err fault
-  made-err (Ok steps) fault e = absurd cc
-  made-err (Err told) fault e = cc
+  abbrev scripted : Result Course ReadingFault → Result Script ReadingFault
+  scripted r = r >>= λ c. Ok (made c)
 
   module _ (bytes : List ℕ) (is : outline bytes ≡ Ok o) where
-    to_run : reading bytes ≡ (runs n [] o.steps >>= λ steps. Ok (made steps))
+    to_run : reading bytes ≡ scripted (runs v start o.steps)
     to_run = ap (λ x. x >>= with_steps Run) is
 
-    to_race : race_reading bytes ≡ (races n [] o.steps >>= λ steps. Ok (made steps))
+    to_race : race_reading bytes ≡ scripted (races v start o.steps)
     to_race = ap (λ x. x >>= with_steps Race) is
 
-    to_run_up_to : (k : ℕ) → reading_up_to k bytes ≡ (runs n [] (first_items k o.steps) >>= λ steps. Ok (made steps))
+    to_run_up_to : (k : ℕ) → reading_up_to k bytes ≡ scripted (runs v start (first_items k o.steps))
     to_run_up_to k = ap (λ x. x >>= λ p. with_steps Run (cut_at k p)) is
 
     first_is_told : (k : ℕ) → IsFirstWrong bytes k → race_reading bytes ≡ Err (faults.Step k)
     first_is_told k w =
-        let reads = made-ok _ w.before (sym (to_run_up_to k) ∙ w.reads) in
-        let count = w.count in
-        let told = at_first n o.steps [] k w.before.steps reads (omega arith) w.for_race (elim w.wrong [
-          | inl e ↦ inl (made-err _ _ (sym to_run ∙ e) ∙ ap (λ j. Err (faults.Step j)) (sym count))
+        let front = made_of made _ w.before (sym (to_run_up_to k) ∙ w.reads) in
+        let before = front.0 in
+        let same : before.steps ≡ w.before.steps = ap (λ (t : Script). t.steps) front.2 in
+        let count : length before.steps ≡ k = ap length same ∙ w.count in
+        let told = at_first v o.steps start k before front.1 (omega arith) (subst (All IsForRace) (sym same) w.for_race) (elim w.wrong [
+          | inl e ↦ inl (none_of made _ _ (sym to_run ∙ e) ∙ ap (λ j. Err (faults.Step j)) (sym count))
           | inr alone ↦ (let next : k + 1 ≡ suc k = omega arith in
-              let more = subst (λ j. runs n [] (first_items j o.steps) ≡ Ok alone.script.steps) next (made-ok _ alone.script (sym (to_run_up_to (k + 1)) ∙ alone.reads)) in
-              inr (alone.step, more ∙ ap Ok alone.goes_on, alone.not_taken))
+              let whole = made_of made _ alone.script (sym (to_run_up_to (k + 1)) ∙ alone.reads) in
+              inr (record {
+                step = alone.step;
+                with_it = whole.0;
+                goes_on = subst (λ j. runs v start (first_items j o.steps) ≡ Ok whole.0) next whole.1;
+                adds = ap (λ (t : Script). t.steps) whole.2 ∙ alone.goes_on ∙ ap (λ steps. steps ++ alone.step ∷ []) (sym same);
+                not_taken = alone.not_taken;
+              }))
         ]) in
-        to_race ∙ ap (λ r. r >>= λ steps. Ok (made steps)) told ∙ ap (λ j. Err (faults.Step j)) count
+        to_race ∙ ap scripted told ∙ ap (λ j. Err (faults.Step j)) count
 
-    law-same : Same n [] o.steps → RacesAreReadAsRuns bytes
+    law-same : Same v start o.steps → RacesAreReadAsRuns bytes
     law-same same =
-        let run = to_run ∙ ap (λ r. r >>= λ steps. Ok (made steps)) same.run_ok in
-        let race = to_race ∙ ap (λ r. r >>= λ steps. Ok (made steps)) same.race_ok in
+        let run = to_run ∙ ap scripted same.run_ok in
+        let race = to_race ∙ ap scripted same.race_ok in
         record {
           scripts = λ s. (
-            λ e. (let is_it : made same.steps ≡ s = cc in (run ∙ ap Ok is_it, subst (λ (t : Script). All IsForRace t.steps) is_it same.for_race)),
+            λ e. (let is_it : made same.course ≡ s = cc in (run ∙ ap Ok is_it, subst (λ (t : Script). All IsForRace t.steps) is_it same.for_race)),
             λ h. race ∙ sym run ∙ h.0,
           );
           other_faults = λ fault h. (λ e. absurd cc, λ e. absurd cc);
@@ -162,68 +187,71 @@ module _ (o : Outline) where
           no_later = λ j k e f. absurd cc;
         }
 
-    law-differ : Differ n [] o.steps → RacesAreReadAsRuns bytes
+    law-differ : Differ v start o.steps → RacesAreReadAsRuns bytes
     law-differ w =
-        let k0 = length w.before in
-        let race = to_race ∙ ap (λ r. r >>= λ steps. Ok (made steps)) w.race_told in
-        let one : (step : Step) → length (w.before ++ step ∷ []) ≡ length w.before + 1 = λ step. length-append w.before (step ∷ []) in
+        let k0 = length w.before.steps in
+        let race = to_race ∙ ap scripted w.race_told in
         record {
-          scripts = λ s. (λ e. absurd cc, λ h. absurd (not_all s.steps (made-ok _ s (sym to_run ∙ h.0)) h.1));
+          scripts = λ s. (
+            λ e. absurd cc,
+            λ h. absurd (let whole = made_of made _ s (sym to_run ∙ h.0) in
+                not_all whole.0 whole.1 (subst (λ (t : Script). All IsForRace t.steps) (sym whole.2) h.1)),
+          );
           other_faults = λ fault h. (
             λ e. (let same : fault ≡ faults.Step k0 = cc in absurd (of_step fault k0 same h)),
-            λ e. (let f = its_fault fault (made-err _ fault (sym to_run ∙ e)) in absurd (of_step fault f.0 f.1 h)),
+            λ e. (let f = its_fault fault (none_of made _ fault (sym to_run ∙ e)) in absurd (of_step fault f.0 f.1 h)),
           );
           steps = λ k. (λ e. (let same : k0 ≡ k = cc in subst (IsFirstWrong bytes) same is_first), first_is_told k);
           no_later = λ j k e f. (
               let here : j ≡ k0 = cc in
-              let told = its_fault (faults.Step k) (made-err _ _ (sym to_run ∙ f)) in
+              let told = its_fault (faults.Step k) (none_of made _ _ (sym to_run ∙ f)) in
               let there : k ≡ told.0 = cc in
               let le = told.2 in
               omega arith);
         }
       where
-        its_fault : (fault : ReadingFault) → runs n [] o.steps ≡ Err fault → (j : ℕ) × (fault ≡ faults.Step j) × (length w.before ≤ j)
+        its_fault : (fault : ReadingFault) → runs v start o.steps ≡ Err fault → (j : ℕ) × (fault ≡ faults.Step j) × (length w.before.steps ≤ j)
         its_fault fault e = elim w.wrong [
-          | inl told ↦ (let same : fault ≡ faults.Step (length w.before) = cc in (length w.before, same, omega arith))
-          | inr alone ↦ (let behind = subst (After n (w.before ++ alone.step ∷ [])) e alone.rest in
-              let one = length-append w.before (alone.step ∷ []) in
+          | inl told ↦ (let same : fault ≡ faults.Step (length w.before.steps) = cc in (length w.before.steps, same, omega arith))
+          | inr alone ↦ (let behind = subst (After v (w.before.steps ++ alone.step ∷ [])) e alone.rest in
+              let one = length-append w.before.steps (alone.step ∷ []) in
               let le = behind.2 in
               (behind.0, behind.1, omega arith))
         ]
 
-        not_all : (steps : List Step) → runs n [] o.steps ≡ Ok steps → All IsForRace steps → ⊥
-        not_all steps e h = elim w.wrong [
+        not_all : (course : Course) → runs v start o.steps ≡ Ok course → All IsForRace course.steps → ⊥
+        not_all course e h = elim w.wrong [
           | inl told ↦ absurd cc
-          | inr alone ↦ (let behind = subst (After n (w.before ++ alone.step ∷ [])) e alone.rest in
-              let taken = among w.before alone.step behind.0 (subst (All IsForRace) behind.1 h) in
+          | inr alone ↦ (let behind = subst (After v (w.before.steps ++ alone.step ∷ [])) e alone.rest in
+              let taken = among w.before.steps alone.step behind.0 (subst (All IsForRace) behind.1 h) in
               let not_taken = alone.not_taken in
               absurd cc)
         ]
 
-        is_first : IsFirstWrong bytes (length w.before)
+        is_first : IsFirstWrong bytes (length w.before.steps)
         is_first =
             let count = w.count in
-            let m : w.m ≡ length w.before = omega arith in
-            let next : suc w.m ≡ length w.before + 1 = omega arith in
+            let m : w.m ≡ length w.before.steps = omega arith in
+            let next : suc w.m ≡ length w.before.steps + 1 = omega arith in
             record {
               before = made w.before;
-              reads = to_run_up_to (length w.before) ∙ ap (λ r. r >>= λ steps. Ok (made steps)) (subst (λ j. runs n [] (first_items j o.steps) ≡ Ok w.before) m w.reads);
+              reads = to_run_up_to (length w.before.steps) ∙ ap scripted (subst (λ j. runs v start (first_items j o.steps) ≡ Ok w.before) m w.reads);
               count = refl;
               for_race = w.for_race;
               wrong = elim w.wrong [
-                | inl told ↦ inl (to_run ∙ ap (λ r. r >>= λ steps. Ok (made steps)) told)
+                | inl told ↦ inl (to_run ∙ ap scripted told)
                 | inr alone ↦ inr (record {
-                  script = made (w.before ++ alone.step ∷ []);
-                  reads = to_run_up_to (length w.before + 1) ∙ ap (λ r. r >>= λ steps. Ok (made steps)) (subst (λ j. runs n [] (first_items j o.steps) ≡ Ok (w.before ++ alone.step ∷ [])) next alone.goes_on);
+                  script = made alone.with_it;
+                  reads = to_run_up_to (length w.before.steps + 1) ∙ ap scripted (subst (λ j. runs v start (first_items j o.steps) ≡ Ok alone.with_it) next alone.goes_on);
                   step = alone.step;
-                  goes_on = refl;
+                  goes_on = alone.adds;
                   not_taken = alone.not_taken;
                 })
               ];
             }
 
 law-by : (bytes : List ℕ) (x : Result Outline ReadingFault) → outline bytes ≡ x → NeverOfStep x → RacesAreReadAsRuns bytes
-law-by bytes (Ok o) is never = elim (cases (length o.plan.stages) o.steps [] (All-nil IsForRace)) [ inl same ↦ law-same o bytes is same | inr w ↦ law-differ o bytes is w ]
+law-by bytes (Ok o) is never = elim (cases o.version o.steps (course_start o) (All-nil IsForRace)) [ inl same ↦ law-same o bytes is same | inr w ↦ law-differ o bytes is w ]
 law-by bytes (Err fault) is never =
     let run : reading bytes ≡ Err fault = ap (λ x. x >>= with_steps Run) is in
     let race : race_reading bytes ≡ Err fault = ap (λ x. x >>= with_steps Race) is in

@@ -8,10 +8,13 @@ use Rattle.cf_reading.specs.declared.fault.ReadingFault.{ReadingFault}
 use Rattle.cf_reading.specs.declared.fault.ReadingFault.TheVariants as faults
 use Rattle.cf_reading.specs.declared.purpose.Purpose.TheVariants.{Run, Race}
 use Rattle.cf_reading.specs.declared.script.Step.{Step}
+use Rattle.cf_reading.specs.declared.func.Func.{Func}
+use Rattle.cf_reading.specs.declared.version.Version.{Version}
 use Rattle.cf_reading.specs.Checks.{◌>>=◌, fold_items}
+use Rattle.cf_reading.specs.Courses.{Course, with_step}
 use Rattle.cf_reading.specs.Purposes.{takes_in_race, IsForRace}
 use Rattle.cf_reading.specs.RaceReadings.{first_items}
-use Rattle.cf_reading.specs.Steps.{step_next, step_of}
+use Rattle.cf_reading.specs.Steps.{step_next, step_said}
 
 -- ---- lists of steps
 
@@ -25,89 +28,91 @@ among (x ∷ xs) a more h = among xs a more (All-tail IsForRace x ((xs ++ a ∷ 
 
 -- ---- one step, and many
 
-module _ (n : ℕ) where
-  abbrev run : List Step → Data → Result (List Step) ReadingFault
-  run = step_next Run n
+module _ (version : Version) where
+  abbrev run : Course → Data → Result Course ReadingFault
+  run = step_next Run version
 
-  abbrev race : List Step → Data → Result (List Step) ReadingFault
-  race = step_next Race n
+  abbrev race : Course → Data → Result Course ReadingFault
+  race = step_next Race version
 
-  abbrev pub runs : List Step → Items → Result (List Step) ReadingFault
+  abbrev pub runs : Course → Items → Result Course ReadingFault
   runs = fold_items run
 
-  abbrev pub races : List Step → Items → Result (List Step) ReadingFault
+  abbrev pub races : Course → Items → Result Course ReadingFault
   races = fold_items race
 
   -- the next step is one, which a race takes or not
-  record Is (found : List Step) (d : Data) : Type 0 where
-    step : Step
-    runs_on : run found d ≡ Ok (found ++ step ∷ [])
-    taken : takes_in_race step ≡ true → race found d ≡ Ok (found ++ step ∷ [])
-    refused : takes_in_race step ≡ false → race found d ≡ Err (faults.Step (length found))
+  record Is (found : Course) (d : Data) : Type 0 where
+    said : Step × Option Func
+    runs_on : run found d ≡ Ok (with_step found said)
+    taken : takes_in_race said.0 ≡ true → race found d ≡ Ok (with_step found said)
+    refused : takes_in_race said.0 ≡ false → race found d ≡ Err (faults.Step (length found.steps))
 
   -- or it's none
-  record IsNone (found : List Step) (d : Data) : Type 0 where
-    run_told : run found d ≡ Err (faults.Step (length found))
-    race_told : race found d ≡ Err (faults.Step (length found))
+  record IsNone (found : Course) (d : Data) : Type 0 where
+    run_told : run found d ≡ Err (faults.Step (length found.steps))
+    race_told : race found d ≡ Err (faults.Step (length found.steps))
 
-  next_by : (found : List Step) (d : Data) (b : Bool) (o : Option Step) → nat_lt (length found) 20000 ≡ b → step_of n d ≡ o → Is found d ⊎ IsNone found d
+  next_by : (found : Course) (d : Data) (b : Bool) (o : Option (Step × Option Func)) → nat_lt (length found.steps) 20000 ≡ b → step_said version found d ≡ o → Is found d ⊎ IsNone found d
   unfolding step_next
   next_by found d false o few is = inr (record { run_told = rw few refl; race_told = rw few refl })
   next_by found d true None few is = inr (record { run_told = rw (few, is) refl; race_told = rw (few, is) refl })
-  next_by found d true (Some step) few is = inl (record {
-    step = step;
+  next_by found d true (Some said) few is = inl (record {
+    said = said;
     runs_on = rw (few, is) refl;
     taken = λ t. rw (few, is, t) refl;
     refused = λ t. rw (few, is, t) refl;
   })
 
-  next : (found : List Step) (d : Data) → Is found d ⊎ IsNone found d
-  next found d = next_by found d (nat_lt (length found) 20000) (step_of n d) refl refl
+  next : (found : Course) (d : Data) → Is found d ⊎ IsNone found d
+  next found d = next_by found d (nat_lt (length found.steps) 20000) (step_said version found d) refl refl
 
-  -- what was found stays, and a fault comes behind it
-  abbrev pub After : List Step → Result (List Step) ReadingFault → Type 0
-  After found (Ok steps) = (more : List Step) × (steps ≡ found ++ more)
+  -- these steps stay, and a fault comes behind them
+  abbrev pub After : List Step → Result Course ReadingFault → Type 0
+  After found (Ok course) = (more : List Step) × (course.steps ≡ found ++ more)
   After found (Err fault) = (k : ℕ) × (fault ≡ faults.Step k) × (length found ≤ k)
 
-  longer : (found : List Step) (step : Step) (r : Result (List Step) ReadingFault) → After (found ++ step ∷ []) r → After found r
-  longer found step (Ok steps) h = (step ∷ h.0, h.1 ∙ append_assoc found (step ∷ []) h.0)
+  longer : (found : List Step) (step : Step) (r : Result Course ReadingFault) → After (found ++ step ∷ []) r → After found r
+  longer found step (Ok course) h = (step ∷ h.0, h.1 ∙ append_assoc found (step ∷ []) h.0)
   longer found step (Err fault) h = let one = length-append found (step ∷ []) in (h.0, h.1, omega arith)
 
-  after : (items : Items) (found : List Step) → After found (runs found items)
+  after : (items : Items) (found : Course) → After found.steps (runs found items)
   unfolding fold_items
-  after no_items found = ([], sym (append-nil found))
+  after no_items found = ([], sym (append-nil found.steps))
   after (item d items) found = elim (next found d) [
-    | inl is ↦ subst (λ r. After found (r >>= λ t. runs t items)) (sym is.runs_on) (longer found is.step (runs (found ++ is.step ∷ []) items) (after items (found ++ is.step ∷ [])))
-    | inr none ↦ subst (λ r. After found (r >>= λ t. runs t items)) (sym none.run_told) (length found, refl, omega arith)
+    | inl is ↦ subst (λ r. After found.steps (r >>= λ t. runs t items)) (sym is.runs_on) (longer found.steps is.said.0 (runs (with_step found is.said) items) (after items (with_step found is.said)))
+    | inr none ↦ subst (λ r. After found.steps (r >>= λ t. runs t items)) (sym none.run_told) (length found.steps, refl, omega arith)
   ]
 
   -- after the steps before it comes one that a race doesn't take
-  pub record Alone (found : List Step) (items : Items) (m : ℕ) (before : List Step) : Type 0 where
+  pub record Alone (found : Course) (items : Items) (m : ℕ) (before : Course) : Type 0 where
     pub step : Step
-    pub goes_on : runs found (first_items (suc m) items) ≡ Ok (before ++ step ∷ [])
+    pub with_it : Course
+    pub goes_on : runs found (first_items (suc m) items) ≡ Ok with_it
+    pub adds : with_it.steps ≡ before.steps ++ step ∷ []
     pub not_taken : takes_in_race step ≡ false
-    pub rest : After (before ++ step ∷ []) (runs found items)
+    pub rest : After (before.steps ++ step ∷ []) (runs found items)
 
   -- all steps are a race's
-  pub record Same (found : List Step) (items : Items) : Type 0 where
-    pub steps : List Step
-    pub run_ok : runs found items ≡ Ok steps
-    pub race_ok : races found items ≡ Ok steps
-    pub for_race : All IsForRace steps
+  pub record Same (found : Course) (items : Items) : Type 0 where
+    pub course : Course
+    pub run_ok : runs found items ≡ Ok course
+    pub race_ok : races found items ≡ Ok course
+    pub for_race : All IsForRace course.steps
 
   -- step k is the first that isn't
-  pub record Differ (found : List Step) (items : Items) : Type 0 where
+  pub record Differ (found : Course) (items : Items) : Type 0 where
     pub m : ℕ
-    pub before : List Step
+    pub before : Course
     pub reads : runs found (first_items m items) ≡ Ok before
-    pub count : length before ≡ length found + m
-    pub for_race : All IsForRace before
-    pub race_told : races found items ≡ Err (faults.Step (length before))
-    pub wrong : (runs found items ≡ Err (faults.Step (length before))) ⊎ Alone found items m before
+    pub count : length before.steps ≡ length found.steps + m
+    pub for_race : All IsForRace before.steps
+    pub race_told : races found items ≡ Err (faults.Step (length before.steps))
+    pub wrong : (runs found items ≡ Err (faults.Step (length before.steps))) ⊎ Alone found items m before
 
-  cases-is : (d : Data) (items : Items) (found : List Step) → All IsForRace found → (is : Is found d) →
-      (All IsForRace (found ++ is.step ∷ []) → Same (found ++ is.step ∷ []) items ⊎ Differ (found ++ is.step ∷ []) items) →
-      (b : Bool) → takes_in_race is.step ≡ b → Same found (item d items) ⊎ Differ found (item d items)
+  cases-is : (d : Data) (items : Items) (found : Course) → All IsForRace found.steps → (is : Is found d) →
+      (All IsForRace (with_step found is.said).steps → Same (with_step found is.said) items ⊎ Differ (with_step found is.said) items) →
+      (b : Bool) → takes_in_race is.said.0 ≡ b → Same found (item d items) ⊎ Differ found (item d items)
   unfolding fold_items
   cases-is d items found h is rest false e =
       let on = ap (λ r. r >>= λ t. runs t items) is.runs_on in
@@ -118,13 +123,20 @@ module _ (n : ℕ) where
         count = omega arith;
         for_race = h;
         race_told = ap (λ r. r >>= λ t. races t items) (is.refused e);
-        wrong = inr (record { step = is.step; goes_on = ap (λ r. r >>= λ t. runs t no_items) is.runs_on; not_taken = e; rest = subst (After (found ++ is.step ∷ [])) (sym on) (after items (found ++ is.step ∷ [])) });
+        wrong = inr (record {
+          step = is.said.0;
+          with_it = with_step found is.said;
+          goes_on = ap (λ r. r >>= λ t. runs t no_items) is.runs_on;
+          adds = refl;
+          not_taken = e;
+          rest = subst (After (found.steps ++ is.said.0 ∷ [])) (sym on) (after items (with_step found is.said));
+        });
       })
   cases-is d items found h is rest true e =
-      let one = length-append found (is.step ∷ []) in
+      let one = length-append found.steps (is.said.0 ∷ []) in
       let on = ap (λ r. r >>= λ t. runs t items) is.runs_on in
-      elim (rest (All-push IsForRace found is.step h e)) [
-        | inl same ↦ inl (record { steps = same.steps; run_ok = on ∙ same.run_ok; race_ok = ap (λ r. r >>= λ t. races t items) (is.taken e) ∙ same.race_ok; for_race = same.for_race })
+      elim (rest (All-push IsForRace found.steps is.said.0 h e)) [
+        | inl same ↦ inl (record { course = same.course; run_ok = on ∙ same.run_ok; race_ok = ap (λ r. r >>= λ t. races t items) (is.taken e) ∙ same.race_ok; for_race = same.for_race })
         | inr w ↦ inr (record {
           m = suc w.m;
           before = w.before;
@@ -136,19 +148,21 @@ module _ (n : ℕ) where
             | inl told ↦ inl (on ∙ told)
             | inr alone ↦ inr (record {
               step = alone.step;
+              with_it = alone.with_it;
               goes_on = ap (λ r. r >>= λ t. runs t (first_items (suc w.m) items)) is.runs_on ∙ alone.goes_on;
+              adds = alone.adds;
               not_taken = alone.not_taken;
-              rest = subst (After (w.before ++ alone.step ∷ [])) (sym on) alone.rest;
+              rest = subst (After (w.before.steps ++ alone.step ∷ [])) (sym on) alone.rest;
             })
           ];
         })
       ]
 
-  pub cases : (items : Items) (found : List Step) → All IsForRace found → Same found items ⊎ Differ found items
+  pub cases : (items : Items) (found : Course) → All IsForRace found.steps → Same found items ⊎ Differ found items
   unfolding fold_items
-  cases no_items found h = inl (record { steps = found; run_ok = refl; race_ok = refl; for_race = h })
+  cases no_items found h = inl (record { course = found; run_ok = refl; race_ok = refl; for_race = h })
   cases (item d items) found h = elim (next found d) [
-    | inl is ↦ cases-is d items found h is (cases items (found ++ is.step ∷ [])) (takes_in_race is.step) refl
+    | inl is ↦ cases-is d items found h is (cases items (with_step found is.said)) (takes_in_race is.said.0) refl
     | inr none ↦ inr (record {
       m = zero;
       before = found;
@@ -161,48 +175,66 @@ module _ (n : ℕ) where
   ]
 
   -- Where the steps before it are a race's, a wrong one is what a race is told.
-  abbrev pub IsWrong : List Step → Items → ℕ → List Step → Type 0
-  IsWrong found items m before =
-      (runs found items ≡ Err (faults.Step (length before)))
-      ⊎ ((step : Step) × (runs found (first_items (suc m) items) ≡ Ok (before ++ step ∷ [])) × (takes_in_race step ≡ false))
+  pub record Exceeds (found : Course) (items : Items) (m : ℕ) (before : Course) : Type 0 where
+    pub step : Step
+    pub with_it : Course
+    pub goes_on : runs found (first_items (suc m) items) ≡ Ok with_it
+    pub adds : with_it.steps ≡ before.steps ++ step ∷ []
+    pub not_taken : takes_in_race step ≡ false
 
-  pub at_first : (items : Items) (found : List Step) (m : ℕ) (before : List Step) → runs found (first_items m items) ≡ Ok before → length before ≡ length found + m →
-      All IsForRace before → IsWrong found items m before → races found items ≡ Err (faults.Step (length before))
+  abbrev pub IsWrong : Course → Items → ℕ → Course → Type 0
+  IsWrong found items m before = (runs found items ≡ Err (faults.Step (length before.steps))) ⊎ Exceeds found items m before
+
+  pub at_first : (items : Items) (found : Course) (m : ℕ) (before : Course) → runs found (first_items m items) ≡ Ok before → length before.steps ≡ length found.steps + m →
+      All IsForRace before.steps → IsWrong found items m before → races found items ≡ Err (faults.Step (length before.steps))
   unfolding fold_items
   at_first no_items found zero before reads count h (inl told) = absurd cc
   at_first no_items found zero before reads count h (inr alone) =
-      let e : found ≡ before ++ alone.0 ∷ [] = cc in
-      let f = ap length e ∙ length-append before (alone.0 ∷ []) in
+      let e : found ≡ before = cc in
+      let same : found ≡ alone.with_it = (let on = alone.goes_on in cc) in
+      let f = ap (λ (c : Course). length c.steps) e in
+      let g = ap (λ (c : Course). length c.steps) same in
+      let adds = ap length alone.adds ∙ length-append before.steps (alone.step ∷ []) in
       absurd (omega arith)
   at_first no_items found (suc m) before reads count h wrong =
       let e : found ≡ before = cc in
-      let f = ap length e in
+      let f = ap (λ (c : Course). length c.steps) e in
       absurd (omega arith)
   at_first (item d items) found zero before reads count h wrong =
       let e : found ≡ before = cc in
-      subst (λ xs. races found (item d items) ≡ Err (faults.Step (length xs))) e (elim (next found d) [
+      subst (λ (c : Course). races found (item d items) ≡ Err (faults.Step (length c.steps))) e (elim (next found d) [
         | inl is ↦ ap (λ r. r >>= λ t. races t items) (is.refused (elim wrong [
           | inl told ↦ (let on = ap (λ r. r >>= λ t. runs t items) is.runs_on in
-              let behind = subst (After (found ++ is.step ∷ [])) (sym on ∙ told) (after items (found ++ is.step ∷ [])) in
-              let one = length-append found (is.step ∷ []) in
-              let same : length before ≡ behind.0 = cc in
+              let behind = subst (After (found.steps ++ is.said.0 ∷ [])) (sym on ∙ told) (after items (with_step found is.said)) in
+              let one = length-append found.steps (is.said.0 ∷ []) in
+              let same : length before.steps ≡ behind.0 = cc in
+              let f = ap (λ (c : Course). length c.steps) e in
+              let le = behind.2 in
               absurd (omega arith))
           | inr alone ↦ (let on = ap (λ r. r >>= λ t. runs t no_items) is.runs_on in
-              let both : found ++ is.step ∷ [] ≡ found ++ alone.0 ∷ [] = cc in
-              ap takes_in_race (last_same found is.step alone.0 both) ∙ alone.2)
+              let goes_on = alone.goes_on in
+              let both : with_step found is.said ≡ alone.with_it = cc in
+              let steps = ap (λ (c : Course). c.steps) both ∙ alone.adds ∙ ap (λ (c : Course). c.steps ++ alone.step ∷ []) (sym e) in
+              ap takes_in_race (last_same found.steps is.said.0 alone.step steps) ∙ alone.not_taken)
         ]))
         | inr none ↦ ap (λ r. r >>= λ t. races t items) none.race_told
       ])
   at_first (item d items) found (suc m) before reads count h wrong = elim (next found d) [
     | inl is ↦ (let on = ap (λ r. r >>= λ t. runs t items) is.runs_on in
         let reads_on = sym (ap (λ r. r >>= λ t. runs t (first_items m items)) is.runs_on) ∙ reads in
-        let front = subst (After (found ++ is.step ∷ [])) reads_on (after (first_items m items) (found ++ is.step ∷ [])) in
-        let taken = among found is.step front.0 (subst (All IsForRace) front.1 h) in
-        let one = length-append found (is.step ∷ []) in
+        let front = subst (After (found.steps ++ is.said.0 ∷ [])) reads_on (after (first_items m items) (with_step found is.said)) in
+        let taken = among found.steps is.said.0 front.0 (subst (All IsForRace) front.1 h) in
+        let one = length-append found.steps (is.said.0 ∷ []) in
         ap (λ r. r >>= λ t. races t items) (is.taken taken)
-        ∙ at_first items (found ++ is.step ∷ []) m before reads_on (omega arith) h (elim wrong [
+        ∙ at_first items (with_step found is.said) m before reads_on (omega arith) h (elim wrong [
           | inl told ↦ inl (sym on ∙ told)
-          | inr alone ↦ inr (alone.0, sym (ap (λ r. r >>= λ t. runs t (first_items (suc m) items)) is.runs_on) ∙ alone.1, alone.2)
+          | inr alone ↦ inr (record {
+            step = alone.step;
+            with_it = alone.with_it;
+            goes_on = sym (ap (λ r. r >>= λ t. runs t (first_items (suc m) items)) is.runs_on) ∙ alone.goes_on;
+            adds = alone.adds;
+            not_taken = alone.not_taken;
+          })
         ]))
     | inr none ↦ (let out = ap (λ r. r >>= λ t. runs t (first_items m items)) none.run_told in absurd cc)
   ]

@@ -7,6 +7,7 @@ use Rattle.cf_reading.specs.declared.fault.Part.TheVariants as parts
 abbrev pub part_name : Part → List ℕ
 part_name parts.Top = codes "top"
 part_name parts.Version = codes "cf"
+part_name parts.Room = codes "room"
 part_name parts.Stages = codes "stages"
 part_name parts.Limits = codes "limits"
 part_name parts.Steps = codes "steps"

@@ -6,7 +6,10 @@ pub mod Purposes
 pub mod Checks
 pub mod Parts
 pub mod Funcs
+pub mod Versions
 pub mod Stages
+pub mod Courses
+pub mod Attaching
 pub mod Limits
 pub mod Steps
 pub mod Reading

@@ -1,5 +1,5 @@
 -- Numbers, values and the parts of arrays and objects. Where a thing is not as it has to be, there is nothing.
-use Rattle.std.specs.Prelude.{◌==◌, ◌&&◌, ℕ, suc, ℤ, pos, negsuc, List, Option, Some, None, option_map, option_and_then, nat_le, int_le, if◌then◌else◌}
+use Rattle.std.specs.Prelude.{◌==◌, ◌&&◌, ℕ, suc, ℤ, pos, negsuc, List, Option, Some, None, option_map, option_and_then, nat_le, nat_lt, int_le, if◌then◌else◌}
 use Rattle.std.specs.Option.{option_map_or}
 use Rattle.serde_json.specs.Data.{Data, null, Items, no_items, item, Members, no_members, member}
 use Rattle.serde_json.specs.Find.{at, as_number, as_i64, as_array, as_object}
@@ -53,6 +53,10 @@ exactly n d = if elements d == n then Some tt else None
 -- the whole number from 0 to most that is element i
 abbrev pub number_at : ℕ → ℕ → Data → Option ℕ
 number_at most i d = option_and_then (up_to most) (at i d)
+
+-- the stage that is element i: a number below the number of stages
+abbrev pub stage_at : ℕ → ℕ → Data → Option ℕ
+stage_at stages i d = option_and_then (λ n. if nat_lt n stages then Some n else None) (number_at 65535 i d)
 
 -- the value that is element i
 abbrev pub value_at : ℕ → Data → Option Value

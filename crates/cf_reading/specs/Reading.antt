@@ -1,6 +1,5 @@
 -- What script bytes say, or the first fault in them.
-use Rattle.std.specs.Prelude.{ℕ, List, [], length, pos, Option, Some, None, option_map, option_and_then, unwrap_or, Bool, false, Result, Ok, Err, nat_lt, codes, if◌then◌else◌}
-use Rattle.std.specs.Ordering.{int_eq}
+use Rattle.std.specs.Prelude.{◌+◌, ◌*◌, ◌&&◌, ℕ, List, [], length, Option, Some, None, option_and_then, Bool, Result, Ok, Err, nat_lt, nat_le, codes, if◌then◌else◌}
 use Rattle.std.specs.Str.{is_utf8}
 use Rattle.serde_json.specs.Data.{Data, Items, no_items}
 use Rattle.serde_json.specs.Find.{get, as_array, as_object}
@@ -10,47 +9,67 @@ use Rattle.cf_reading.specs.declared.fault.ReadingFault.{ReadingFault}
 use Rattle.cf_reading.specs.declared.fault.ReadingFault.TheVariants as faults
 use Rattle.cf_reading.specs.declared.purpose.Purpose.{Purpose}
 use Rattle.cf_reading.specs.declared.purpose.Purpose.TheVariants.{Run, Race}
-use Rattle.cf_plan.specs.Plans.{Planned}
+use Rattle.cf_plan.specs.Plans.{Planned, edges_of, with_room}
 use Rattle.cf_reading.specs.declared.func.Func.{Func}
-use Rattle.cf_reading.specs.Scripts.{Script}
+use Rattle.cf_reading.specs.declared.version.Version.{Version}
+use Rattle.cf_reading.specs.Scripts.{Script, extent_of}
 use Rattle.cf_reading.specs.Checks.{◌>>=◌, ok_or, guard, fold_items}
-use Rattle.cf_reading.specs.Parts.{whole}
-use Rattle.cf_reading.specs.Stages.{nothing_drafted, stage_next}
+use Rattle.cf_reading.specs.Versions.{version_of, room_said}
+use Rattle.cf_reading.specs.Stages.{Drafted, nothing_drafted, stage_next}
 use Rattle.cf_reading.specs.Limits.{limit_next}
+use Rattle.cf_reading.specs.Courses.{Course}
 use Rattle.cf_reading.specs.Steps.{step_next}
-
--- whether the version is 1
-abbrev pub has_version : Data → Bool
-has_version d = unwrap_or (option_map (λ z. int_eq z (pos 1)) (option_and_then whole (get (codes "cf") d))) false
 
 -- the items of an array; none, where nothing is said
 abbrev pub items_said : Option Data → Option Items
 items_said None = Some no_items
 items_said (Some d) = as_array d
 
+-- whether a graph of the plan has place for so much room: so many stages more, of two sources each
+abbrev pub has_place : Planned → ℕ → Bool
+has_place plan room = nat_le (length plan.stages + room) 4096 && nat_le (edges_of plan.stages + 2 * room) 16384
+
+-- The plan and the functions that the stages and the limits make: each stage, each limit, then whether there is place for the
+-- room.
+unfoldable pub drafted_of : Version → ℕ → Items → Items → Result Drafted ReadingFault
+drafted_of version room stages limits = do
+  drafted ← fold_items (stage_next version) nothing_drafted stages
+  plan ← fold_items limit_next drafted.plan limits
+  place ← guard (has_place plan room) (faults.Shape parts.Room)
+  Ok (record { plan = plan; functions = drafted.functions })
+
 -- what is said of a script before its steps are read
 pub record Outline : Type 0 where
+  pub version : Version
   pub plan : Planned
+  pub room : ℕ
   pub functions : List Func
   -- the steps as they are written
   pub steps : Items
 
--- What a JSON value says of it: first the top, the version and the three arrays, then each stage and each limit.
+-- What a JSON value says of it: first the top, the version, the room and the three arrays, then the plan.
 unfoldable pub outline_of : Data → Result Outline ReadingFault
 outline_of d = do
   top ← ok_or (faults.Shape parts.Top) (as_object d)
-  version ← guard (has_version d) (faults.Shape parts.Version)
+  version ← ok_or (faults.Shape parts.Version) (version_of d)
+  room ← ok_or (faults.Shape parts.Room) (room_said version (get (codes "room") d))
   stages ← ok_or (faults.Shape parts.Stages) (option_and_then as_array (get (codes "stages") d))
   limits ← ok_or (faults.Shape parts.Limits) (items_said (get (codes "limits") d))
   steps ← ok_or (faults.Shape parts.Steps) (items_said (get (codes "steps") d))
-  drafted ← fold_items stage_next nothing_drafted stages
-  plan ← fold_items limit_next drafted.plan limits
-  Ok (record { plan = plan; functions = drafted.functions; steps = steps })
+  drafted ← drafted_of version room stages limits
+  Ok (record { version = version; plan = drafted.plan; room = room; functions = drafted.functions; steps = steps })
+
+-- where reading its steps begins: no step is read, and the functions are those of its stages
+abbrev pub course_start : Outline → Course
+course_start o = record { extent = extent_of (with_room o.plan o.room); functions = o.functions; steps = [] }
+
+-- the script with the steps and the functions that were read
+abbrev pub script_with : Outline → Course → Script
+script_with o course = record { plan = o.plan; room = o.room; functions = course.functions; steps = course.steps }
 
 -- the script, once each step is read for its purpose
 abbrev pub with_steps : Purpose → Outline → Result Script ReadingFault
-with_steps purpose o =
-    fold_items (step_next purpose (length o.plan.stages)) [] o.steps >>= λ steps. Ok (record { plan = o.plan; functions = o.functions; steps = steps })
+with_steps purpose o = fold_items (step_next purpose o.version) (course_start o) o.steps >>= λ course. Ok (script_with o course)
 
 -- what a JSON value says to what it is read for
 unfoldable pub script_of : Purpose → Data → Result Script ReadingFault

@@ -5,12 +5,14 @@ use Rattle.std.specs.Str.{bytes_eq}
 use Rattle.serde_json.specs.Data.{Data}
 use Rattle.serde_json.specs.Find.{get, as_str, as_array}
 use Rattle.cf_plan.specs.declared.forms.Form.{Form}
-use Rattle.cf_plan.specs.declared.forms.Form.TheVariants.{Source, Supply, RunAsync, Apply, Accept, ThenRun, Combine, AcceptBoth, RunBoth, ApplyEither, AcceptEither, RunEither, Compose, Handle, WhenComplete, Exceptionally, AllOf, AnyOf}
+use Rattle.cf_plan.specs.declared.forms.Form.TheVariants.{Source, Supply, RunAsync, Apply, Accept, ThenRun, Combine, AcceptBoth, RunBoth, ApplyEither, AcceptEither, RunEither, Compose, Handle, WhenComplete, Exceptionally, AllOf, AnyOf, ExceptionallyCompose}
 use Rattle.cf_plan.specs.Plans.{Planned, PlannedStage, edges_of, plan_of, stage_fault, with_stage}
 use Rattle.cf_reading.specs.declared.fault.Part.TheVariants as parts
 use Rattle.cf_reading.specs.declared.fault.ReadingFault.{ReadingFault}
 use Rattle.cf_reading.specs.declared.fault.ReadingFault.TheVariants as faults
 use Rattle.cf_reading.specs.declared.func.Func.{Func}
+use Rattle.cf_reading.specs.declared.version.Version.{Version}
+use Rattle.cf_reading.specs.declared.version.Version.TheVariants as versions
 use Rattle.cf_reading.specs.Checks.{◌>>=◌, ok_or, planned_unless, fold_items}
 use Rattle.cf_reading.specs.Parts.{up_to}
 use Rattle.cf_reading.specs.Funcs.{function_said}
@@ -48,13 +50,18 @@ other_form name =
     else (if bytes_eq name (codes "anyOf") then Some AnyOf
     else None)))))
 
+-- the forms that came with version 2
+unfoldable pub later_form : Version → List ℕ → Option Form
+later_form versions.One name = None
+later_form versions.Two name = if bytes_eq name (codes "exceptionallyCompose") then Some ExceptionallyCompose else None
+
 -- the form with a name
-unfoldable pub form_named : List ℕ → Option Form
-form_named name = option_or (single_form name) (option_or (pair_form name) (other_form name))
+unfoldable pub form_named : Version → List ℕ → Option Form
+form_named version name = option_or (single_form name) (option_or (pair_form name) (option_or (other_form name) (later_form version name)))
 
 -- the form of a stage
-abbrev pub form_of : Data → Option Form
-form_of d = option_and_then form_named (option_and_then as_str (get (codes "form") d))
+abbrev pub form_of : Version → Data → Option Form
+form_of version d = option_and_then (form_named version) (option_and_then as_str (get (codes "form") d))
 
 -- one source more, or the fault
 abbrev pub source_next : ReadingFault → List ℕ → Data → Result (List ℕ) ReadingFault
@@ -90,10 +97,10 @@ staged plan stage =
 
 -- The next stage: its form and its sources, then its function, then what the builder says of it. Its position is the
 -- number of stages before it.
-unfoldable pub stage_next : Drafted → Data → Result Drafted ReadingFault
-stage_next drafted d = do
+unfoldable pub stage_next : Version → Drafted → Data → Result Drafted ReadingFault
+stage_next version drafted d = do
   let k = length drafted.plan.stages
-  form ← ok_or (faults.Shape (parts.Stage k)) (form_of d)
+  form ← ok_or (faults.Shape (parts.Stage k)) (form_of version d)
   sources ← sources_said (faults.Shape (parts.Stage k)) (get (codes "of") d)
   function ← ok_or (faults.Function k) (function_said (get (codes "fn") d))
   plan ← staged drafted.plan (record { form = form; sources = sources; function = number_after drafted.functions function })

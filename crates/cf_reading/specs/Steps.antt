@@ -1,5 +1,5 @@
 -- The steps of a script. Each is an array of exactly the elements that its word asks for.
-use Rattle.std.specs.Prelude.{ℕ, List, [], ◌∷◌, ◌++◌, length, Option, Some, None, option_map, option_and_then, Result, Err, nat_lt, ◌==◌, codes, if◌then◌else◌}
+use Rattle.std.specs.Prelude.{ℕ, List, length, Option, Some, None, option_map, option_and_then, Result, Err, nat_lt, ◌==◌, codes, if◌then◌else◌}
 use Rattle.std.specs.Option.{option_or}
 use Rattle.std.specs.Str.{bytes_eq}
 use Rattle.serde_json.specs.Data.{Data}
@@ -8,19 +8,21 @@ use Rattle.cf_outcome.specs.declared.outcome.Value.TheVariants.{Nil}
 use Rattle.cf_plan.specs.declared.forms.Answer.{Answer}
 use Rattle.cf_plan.specs.declared.forms.Answer.TheVariants.{Give, Throw, Link}
 use Rattle.cf_core.specs.declared.asks.Ask.TheVariants.{Now as AsksNow, Outcome as AsksOutcome}
-use Rattle.cf_core.specs.declared.events.Event.TheVariants.{Complete as Completes, Fail as Fails, Cancel as Cancels, Claim as Claims, Finish as Finishes, Tick as Ticks}
+use Rattle.cf_core.specs.declared.events.Event.TheVariants.{Complete as Completes, Fail as Fails, Cancel as Cancels, Claim as Claims, Finish as Finishes, Tick as Ticks, Attach as Attaches}
 use Rattle.cf_reading.specs.declared.fault.ReadingFault.{ReadingFault}
 use Rattle.cf_reading.specs.declared.fault.ReadingFault.TheVariants as faults
 use Rattle.cf_reading.specs.declared.script.Step.{Step}
 use Rattle.cf_reading.specs.declared.script.Step.TheVariants.{Does, Asks, Work, Nudge}
 use Rattle.cf_reading.specs.declared.purpose.Purpose.{Purpose}
+use Rattle.cf_reading.specs.declared.func.Func.{Func}
+use Rattle.cf_reading.specs.declared.version.Version.{Version}
+use Rattle.cf_reading.specs.declared.version.Version.TheVariants.{One, Two}
+use Rattle.cf_reading.specs.Attaching.{attach_said}
+use Rattle.cf_reading.specs.Courses.{Course, with_step}
+use Rattle.cf_reading.specs.Scripts.{StepFits}
 use Rattle.cf_reading.specs.Purposes.{takes}
 use Rattle.cf_reading.specs.Checks.{ok_or}
-use Rattle.cf_reading.specs.Parts.{◌>>=◌, up_to, value_of, elements, exactly, number_at, value_at, only_member}
-
--- the stage that is element i: a number below the number of stages
-abbrev pub stage_at : ℕ → ℕ → Data → Option ℕ
-stage_at stages i d = option_and_then (λ n. if nat_lt n stages then Some n else None) (number_at 65535 i d)
+use Rattle.cf_reading.specs.Parts.{◌>>=◌, up_to, value_of, elements, exactly, number_at, stage_at, value_at, only_member}
 
 -- the caller that is element i
 abbrev pub caller_at : ℕ → Data → Option ℕ
@@ -135,16 +137,30 @@ other_step stages d word =
 unfoldable pub step_named : ℕ → Data → List ℕ → Option Step
 step_named stages d word = option_or (own_step stages d word) (other_step stages d word)
 
--- a step over so many stages
-abbrev pub step_of : ℕ → Data → Option Step
-step_of stages d = option_and_then (step_named stages d) (option_and_then as_str (at 0 d))
+-- it attaches no stage, and each that it names is one of n
+abbrev pub NamesWithin : ℕ → Step → Type 0
+NamesWithin n (Does (Attaches who form of function)) = ⊥
+NamesWithin n step = StepFits n step
 
--- a step over so many stages that is taken
-abbrev pub step_for : Purpose → ℕ → Data → Option Step
-step_for purpose stages d = option_and_then (λ s. if takes purpose s then Some s else None) (step_of stages d)
+-- a step of version 1, which brings no function
+abbrev pub step_alone : ℕ → Data → List ℕ → Option (Step × Option Func)
+step_alone stages d word = option_map (λ s. (s, None)) (step_named stages d word)
+
+-- a step, and the function that it brings, if it brings one: in version 2 it may attach a stage
+unfoldable pub step_worded : Version → ℕ → List Func → Data → List ℕ → Option (Step × Option Func)
+step_worded One stages functions d word = step_alone stages d word
+step_worded Two stages functions d word = if bytes_eq word (codes "attach") then attach_said stages functions d else step_alone stages d word
+
+-- the step that comes after these
+abbrev pub step_said : Version → Course → Data → Option (Step × Option Func)
+step_said version course d = option_and_then (step_worded version course.extent.stages course.functions d) (option_and_then as_str (at 0 d))
+
+-- that is taken
+abbrev pub step_for : Purpose → Version → Course → Data → Option (Step × Option Func)
+step_for purpose version course d = option_and_then (λ s. if takes purpose s.0 then Some s else None) (step_said version course d)
 
 -- the next step, of which there are at most 20,000
-unfoldable pub step_next : Purpose → ℕ → List Step → Data → Result (List Step) ReadingFault
-step_next purpose stages found d =
-    if nat_lt (length found) 20000 then ok_or (faults.Step (length found)) (option_map (λ s. found ++ s ∷ []) (step_for purpose stages d))
-    else Err (faults.Step (length found))
+unfoldable pub step_next : Purpose → Version → Course → Data → Result Course ReadingFault
+step_next purpose version course d =
+    if nat_lt (length course.steps) 20000 then ok_or (faults.Step (length course.steps)) (option_map (with_step course) (step_for purpose version course d))
+    else Err (faults.Step (length course.steps))

@@ -13,6 +13,8 @@ pub enum Part {
     Top,
     /// `cf` isn't the number of a version.
     Version,
+    /// `room` isn't a whole number from 0 to 4,096, or a graph has no place for so much of it beside the plan.
+    Room,
     /// `stages` isn't an array.
     Stages,
     /// `limits` is there and isn't an array.
@@ -63,6 +65,7 @@ impl Part {
         match self {
             Part::Top => "top",
             Part::Version => "cf",
+            Part::Room => "room",
             Part::Stages => "stages",
             Part::Limits => "limits",
             Part::Steps => "steps",

@@ -1,8 +1,9 @@
 //! The names of forms.
 ghost use Rattle.std.specs.Prelude.{◌≡◌};
 ghost use Rattle.serde_json.specs.View.{view};
-ghost use Rattle.cf_reading.specs.Stages.{form_named, form_of, other_form, pair_form, single_form};
+ghost use Rattle.cf_reading.specs.Stages.{form_named, form_of, later_form, other_form, pair_form, single_form};
 
+use crate::version::Version;
 use cf_plan::Form;
 use serde_json::Value as Json;
 
@@ -54,10 +55,24 @@ fn other(name: &str) -> Option<Form>
     }
 }
 
+/// The forms that came with version 2.
+#[tactic(auto, unfolding(crate::specs::Stages::later_form))]
+fn later(version: Version, name: &str) -> Option<Form>
+    ensures { result ≡ later_form version name.now }
+{
+    match version {
+        Version::One => None,
+        Version::Two => match name {
+            "exceptionallyCompose" => Some(Form::ExceptionallyCompose),
+            _ => None,
+        },
+    }
+}
+
 /// The form with this name.
 #[tactic(auto, unfolding(crate::specs::Stages::form_named))]
-fn named(name: &str) -> Option<Form>
-    ensures { result ≡ form_named name.now }
+fn named(version: Version, name: &str) -> Option<Form>
+    ensures { result ≡ form_named version name.now }
 {
     if let Some(form) = single(name) {
         return Some(form);
@@ -65,12 +80,15 @@ fn named(name: &str) -> Option<Form>
     if let Some(form) = pair(name) {
         return Some(form);
     }
-    other(name)
+    if let Some(form) = other(name) {
+        return Some(form);
+    }
+    later(version, name)
 }
 
 /// The form of a stage.
-pub(crate) fn form_of(json: &Json) -> Option<Form>
-    ensures { result ≡ form_of (view json.now) }
+pub(crate) fn form_of(version: Version, json: &Json) -> Option<Form>
+    ensures { result ≡ form_of version (view json.now) }
 {
-    named(json.get("form")?.as_str()?)
+    named(version, json.get("form")?.as_str()?)
 }

@@ -1,8 +1,10 @@
 //! The functions of stages, as a script writes them.
-ghost use Rattle.std.specs.Prelude.{◌≡◌, option_map};
+ghost use Rattle.std.specs.Prelude.{◌≡◌, ◌≤◌, IsOkUnless, OnErr, OnOk, length, option_map};
 ghost use Rattle.serde_json.specs.View.{view};
 ghost use Rattle.cf_reading.specs.Funcs.{func_of, function_said, given_func, member_func, number_func, select_of, word_func};
+ghost use Rattle.cf_reading.specs.Stages.{number_after, with_function};
 
+use crate::fault::ReadingFault;
 use crate::func::Func;
 use crate::parts::{int, large, len, member, small, small_in, value};
 use serde_json::Value as Json;
@@ -88,5 +90,31 @@ pub(crate) fn function(said: Option<&Json>) -> Option<Option<Func>>
     match said {
         None => Some(None),
         Some(json) => Some(Some(func(json)?)),
+    }
+}
+
+/// The number of a stage's function, which is the count of the functions before it.
+pub(crate) fn number_after(functions: &[Func], function: Option<Func>) -> Option<u16>
+    requires { length functions.now ≤ 4096 }
+    ensures { result ≡ number_after functions.now function }
+{
+    match function {
+        None => None,
+        Some(_) => Some(functions.len() as u16),
+    }
+}
+
+/// Takes a stage's function, if it has one.
+pub(crate) fn keep(functions: &mut Vec<Func>, function: Option<Func>) -> Result<(), ReadingFault>
+    ensures ok { OnOk result (functions.new.items ≡ with_function functions.old.items function) }
+    ensures err { OnErr result (functions.new.items ≡ functions.old.items) }
+    ensures refused { IsOkUnless result ReadingFault.NoMemory }
+{
+    match function {
+        None => Ok(()),
+        Some(f) => match functions.push(f) {
+            Ok(()) => Ok(()),
+            Err(_) => Err(ReadingFault::NoMemory),
+        },
     }
 }

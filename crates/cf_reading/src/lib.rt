@@ -1,12 +1,19 @@
 //! What a script asks for: the reading of bytes as a plan, its functions and its steps, or the first fault in them.
 //!
 //! A script is a JSON object (RFC 8259). Bytes are read in pieces, to their end or to the first that is too many and no
-//! further, made a JSON value by `serde_json`, and then checked in one fixed order: the top, the version, the three
-//! arrays, each stage, each limit, each step. The first thing that is wrong is the fault that is told.
+//! further, made a JSON value by `serde_json`, and then checked in one fixed order: the top, the version, the room, the
+//! three arrays, each stage, each limit, the place for the room, each step. The first thing that is wrong is the fault
+//! that is told.
+//!
+//! A script of version 2 may ask for room and attach stages in its steps. So steps are read with what those before them
+//! leave: the stages that there are then, the room that is left, and the functions so far (`src/course.rt`).
+//!
 //! `specs/Reading.antt` is that order as a definition over the JSON value, and `read_script` is proved to give what it
 //! gives. A script that is to be raced is read the same way, and may have fewer steps (`src/purpose.rt`).
 #![tactic(auto)]
 
+mod attaching;
+mod course;
 mod draft;
 mod fault;
 mod forms;
@@ -22,6 +29,7 @@ mod refused;
 mod script;
 mod stages;
 mod steps;
+mod version;
 mod words;
 
 pub use fault::{Part, ReadingFault};

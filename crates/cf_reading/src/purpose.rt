@@ -10,8 +10,8 @@ use cf_core::Event;
 pub(crate) enum Purpose {
     /// To be run: it may have every step.
     Run,
-    /// To be raced: it may have what caller 0 completes, fails and cancels, and its ticks, since the rest is the
-    /// workers' own.
+    /// To be raced: it may have what caller 0 completes, fails, cancels and attaches, and its ticks, since the rest is
+    /// the workers' own.
     Race,
 }
 
@@ -36,7 +36,8 @@ fn is_for_race(step: Step) -> bool
             Event::Complete { who, .. }
             | Event::Fail { who, .. }
             | Event::Cancel { who, .. }
-            | Event::Tick { who, .. },
+            | Event::Tick { who, .. }
+            | Event::Attach { who, .. },
         ) => who == 0,
         _ => false,
     }

@@ -1,30 +1,25 @@
 //! A script as a whole.
-ghost use Rattle.std.specs.Prelude.{◌≡◌, All, IfOk, option_map};
+ghost use Rattle.std.specs.Prelude.{◌≡◌, ◌≤◌, true, All, IfOk, length, option_map};
 ghost use Rattle.serde_json.specs.View.{items_view, view};
 ghost use Rattle.cf_reading.specs.Checks.{Gives};
+ghost use Rattle.cf_reading.specs.Scripts.{FunctionFits};
 ghost use Rattle.cf_reading.specs.Purposes.{IsForRace, IsTaken};
-ghost use Rattle.cf_reading.specs.Reading.{has_version, items_said, race_reading, reading, reading_for, script_of};
+ghost use Rattle.cf_reading.specs.Reading.{drafted_of, has_place, items_said, race_reading, reading, reading_for, script_of};
 
+use crate::course::Course;
 use crate::draft::Draft;
 use crate::fault::{Part, ReadingFault};
+use crate::func::Func;
 use crate::input::MAX_BYTES;
 use crate::limits::read_limits;
 use crate::purpose::Purpose;
 use crate::script::Script;
 use crate::stages::read_stages;
 use crate::steps::read_steps;
+use crate::version::{Version, room_said, version_of};
+use cf_plan::Plan;
 use serde_json::Value as Json;
 use std::alloc::Global;
-
-/// Whether the version is 1.
-fn is_version_one(json: &Json) -> bool
-    ensures { result ≡ has_version (view json.now) }
-{
-    match json.get("cf").and_then(Json::as_i64) {
-        Some(n) => n == 1,
-        None => false,
-    }
-}
 
 /// The items of an array, none where nothing is said.
 fn items<'a>(said: Option<&'a Json>) -> Option<&'a [Json]>
@@ -37,6 +32,43 @@ fn items<'a>(said: Option<&'a Json>) -> Option<&'a [Json]>
     }
 }
 
+/// Whether a graph of the plan has place for so much room: so many stages more, of two sources each.
+fn has_place(plan: &Plan, room: u16) -> bool
+    ensures { result ≡ has_place plan.now room }
+{
+    plan.stages() as u32 + room as u32 <= 4_096 && plan.edges() + 2 * room as u32 <= 16_384
+}
+
+/// The plan and the functions that the stages and the limits make, where there is place for the room.
+#[tactic(auto, unfolding(crate::specs::Reading::drafted_of))]
+fn planned(
+    alloc: Global,
+    version: Version,
+    room: u16,
+    stages: &[Json],
+    limits: &[Json],
+) -> Result<(Plan, Vec<Func>), ReadingFault>
+    ensures gives { Gives (λ p. record { plan = p.0; functions = p.1.items }) result
+        (drafted_of version room (items_view stages.now) (items_view limits.now)) }
+    ensures numbered { IfOk result (λ p. All (FunctionFits (length p.1.items)) p.0.stages) }
+    ensures few { IfOk result (λ p. length p.1.items ≤ 4096) }
+    ensures place { IfOk result (λ p. has_place p.0 room ≡ true) }
+{
+    let Draft {
+        mut plan,
+        functions,
+    } = read_stages(alloc, version, stages)?;
+    read_limits(&mut plan, limits)?;
+    let Ok(plan) = plan.build() else {
+        return Err(ReadingFault::NoMemory);
+    };
+    if has_place(&plan, room) {
+        Ok((plan, functions))
+    } else {
+        Err(ReadingFault::Shape(Part::Room))
+    }
+}
+
 /// What a JSON value says to what it is read for.
 #[tactic(auto, unfolding(crate::specs::Reading::outline_of, crate::specs::Reading::script_of))]
 fn script(alloc: Global, purpose: Purpose, json: &Json) -> Result<Script, ReadingFault>
@@ -46,9 +78,12 @@ fn script(alloc: Global, purpose: Purpose, json: &Json) -> Result<Script, Readin
     if !json.is_object() {
         return Err(ReadingFault::Shape(Part::Top));
     }
-    if !is_version_one(json) {
+    let Some(version) = version_of(json) else {
         return Err(ReadingFault::Shape(Part::Version));
-    }
+    };
+    let Some(room) = room_said(version, json.get("room")) else {
+        return Err(ReadingFault::Shape(Part::Room));
+    };
     let Some(stages) = json.get("stages").and_then(Json::as_array) else {
         return Err(ReadingFault::Shape(Part::Stages));
     };
@@ -58,33 +93,31 @@ fn script(alloc: Global, purpose: Purpose, json: &Json) -> Result<Script, Readin
     let Some(steps) = items(json.get("steps")) else {
         return Err(ReadingFault::Shape(Part::Steps));
     };
-    let draft = read_stages(alloc, stages.as_slice())?;
-    let Draft {
-        mut plan,
+    let (plan, functions) = planned(alloc, version, room, stages.as_slice(), limits)?;
+    let mut course = Course {
+        stages: plan.stages(),
+        room,
         functions,
-    } = draft;
-    read_limits(&mut plan, limits)?;
-    let steps = read_steps(alloc, purpose, plan.stages(), steps)?;
-    match plan.build() {
-        Ok(plan) => Ok(Script::new(plan, functions, steps)),
-        Err(_) => Err(ReadingFault::NoMemory),
-    }
+        steps: Vec::new(alloc),
+    };
+    read_steps(purpose, version, &mut course, steps)?;
+    Ok(Script::new(plan, room, course.functions, course.steps))
 }
 
 /// The script that the bytes say, or the first fault in them.
 ///
 /// The bytes are at most `MAX_BYTES`, UTF-8, and one JSON text (RFC 8259) that `serde_json` reads. Then the order of
-/// checks is: the top, the version, the arrays `stages`, `limits` and `steps`, each stage (its form and sources, its
-/// function, the builder), each limit (its shape, the builder), each step. A refused growth is `NoMemory` wherever it
-/// is met. `Read` never comes.
+/// checks is: the top, the version, the range of `room`, the arrays `stages`, `limits` and `steps`, each stage (its form
+/// and sources, its function, the builder), each limit (its shape, the builder), the place for the room, each step. A
+/// refused growth is `NoMemory` wherever it is met. `Read` never comes.
 pub fn read_script(alloc: Global, bytes: &[u8]) -> Result<Script, ReadingFault>
     ensures { Gives (λ s. s) result (reading bytes.now) }
 {
     read_for(alloc, Purpose::Run, bytes)
 }
 
-/// The same of a script that is raced: a step that isn't a `complete`, `fail`, `cancel` or `tick` of caller 0 is the
-/// fault `Step` where it stands in the order of steps.
+/// The same of a script that is raced: a step that isn't a `complete`, `fail`, `cancel`, `tick` or `attach` of
+/// caller 0 is the fault `Step` where it stands in the order of steps.
 pub fn read_race(alloc: Global, bytes: &[u8]) -> Result<Script, ReadingFault>
     ensures says { Gives (λ s. s) result (race_reading bytes.now) }
     ensures raced { IfOk result (λ s. All IsForRace s.steps) }

@@ -7,7 +7,7 @@ use std::marker::Model;
 /// One step of a script.
 #[derive(Clone, Copy, Debug, PartialEq, Eq)]
 pub enum Step {
-    /// A changing call of one caller. A script's attaches no stage.
+    /// A changing call of one caller.
     Does(Event),
     /// A question.
     Asks(Ask),
@@ -21,6 +21,7 @@ pub enum Step {
 #[derive(Drop)]
 pub struct Script {
     plan: Plan,
+    room: u16,
     functions: Vec<Func>,
     steps: Vec<Step>,
 }
@@ -30,9 +31,9 @@ impl Model for Script {
 
     ghost Value = { Script };
 
-    ghost view = { λ s. record { plan = s.plan; functions = s.functions.items; steps = s.steps.items } };
+    ghost view = { λ s. record { plan = s.plan; room = s.room; functions = s.functions.items; steps = s.steps.items } };
 
-    ghost invariant = { λ s. IsScript (record { plan = s.plan; functions = s.functions.items; steps = s.steps.items }) };
+    ghost invariant = { λ s. IsScript (record { plan = s.plan; room = s.room; functions = s.functions.items; steps = s.steps.items }) };
 }
 
 impl Script {
@@ -40,29 +41,32 @@ impl Script {
     ghost use Rattle.cf_reading.specs.Scripts.{Script, IsScript};
 
     /// A script of these parts.
-    pub(crate) fn new(plan: Plan, functions: Vec<Func>, steps: Vec<Step>) -> Script
-        requires { IsScript (record { plan = plan; functions = functions.items; steps = steps.items }) }
-        ensures { result ≡ record { plan = plan; functions = functions.items; steps = steps.items } }
+    pub(crate) fn new(plan: Plan, room: u16, functions: Vec<Func>, steps: Vec<Step>) -> Script
+        requires { IsScript (record { plan = plan; room = room; functions = functions.items; steps = steps.items }) }
+        ensures { result ≡ record { plan = plan; room = room; functions = functions.items; steps = steps.items } }
     {
         Script {
             plan,
+            room,
             functions,
             steps,
         }
     }
 
-    /// Its plan, its functions by their numbers, and its steps.
-    pub fn into_parts(self) -> (Plan, Vec<Func>, Vec<Step>)
+    /// Its plan, for how many stages that its steps attach there is room, its functions by their numbers, and its steps.
+    pub fn into_parts(self) -> (Plan, u16, Vec<Func>, Vec<Step>)
         ensures plan { result.0 ≡ self.plan }
-        ensures functions { result.1.items ≡ self.functions }
-        ensures steps { result.2.items ≡ self.steps }
+        ensures room { result.1 ≡ self.room }
+        ensures functions { result.2.items ≡ self.functions }
+        ensures steps { result.3.items ≡ self.steps }
         ensures said { IsScript self }
     {
         let Script {
             plan,
+            room,
             functions,
             steps,
         } = self;
-        (plan, functions, steps)
+        (plan, room, functions, steps)
     }
 }

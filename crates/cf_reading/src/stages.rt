@@ -1,18 +1,18 @@
 //! The stages of a script.
-ghost use Rattle.std.specs.Prelude.{◌≡◌, ◌≤◌, All, IfOk, IsOkUnless, OnErr, OnOk, [], length, option_map};
+ghost use Rattle.std.specs.Prelude.{All, IfOk, OnOk, [], length, option_map};
 ghost use Rattle.serde_json.specs.View.{items_view, view};
 ghost use Rattle.cf_reading.specs.Checks.{Gives, fold_items};
 ghost use Rattle.cf_reading.specs.Scripts.{FunctionFits};
-ghost use Rattle.cf_reading.specs.Stages.{nothing_drafted, number_after, source_next, sources_said, stage_next, with_function};
+ghost use Rattle.cf_reading.specs.Stages.{nothing_drafted, source_next, sources_said, stage_next};
 ghost use Rattle.cf_reading.specs.Views.{drafted};
 
 use crate::draft::Draft;
 use crate::fault::{Part, ReadingFault};
 use crate::forms::form_of;
-use crate::func::Func;
-use crate::functions::function;
+use crate::functions::{function, keep, number_after};
 use crate::parts::small;
 use crate::refused::plan_stage;
+use crate::version::Version;
 use cf_plan::PlanBuilder;
 use serde_json::Value as Json;
 use std::alloc::Global;
@@ -59,41 +59,20 @@ fn sources(alloc: Global, said: Option<&Json>, k: u32) -> Result<Vec<u16>, Readi
     read_sources(alloc, list.as_slice(), k)
 }
 
-/// The number of a stage's function, which is the count of the functions before it.
-fn number_after(functions: &[Func], function: Option<Func>) -> Option<u16>
-    requires { length functions.now ≤ 4096 }
-    ensures { result ≡ number_after functions.now function }
-{
-    match function {
-        None => None,
-        Some(_) => Some(functions.len() as u16),
-    }
-}
-
-/// Takes a stage's function, if it has one.
-fn keep(functions: &mut Vec<Func>, function: Option<Func>) -> Result<(), ReadingFault>
-    ensures ok { OnOk result (functions.new.items ≡ with_function functions.old.items function) }
-    ensures err { OnErr result (functions.new.items ≡ functions.old.items) }
-    ensures refused { IsOkUnless result ReadingFault.NoMemory }
-{
-    match function {
-        None => Ok(()),
-        Some(f) => match functions.push(f) {
-            Ok(()) => Ok(()),
-            Err(_) => Err(ReadingFault::NoMemory),
-        },
-    }
-}
-
 /// Takes the next stage into the draft.
 #[tactic(auto, unfolding(crate::specs::Stages::stage_next))]
-fn add_stage(alloc: Global, draft: &mut Draft, json: &Json) -> Result<(), ReadingFault>
-    ensures gives { Gives (λ _. drafted draft.new) result (stage_next (drafted draft.old) (view json.now)) }
+fn add_stage(
+    alloc: Global,
+    version: Version,
+    draft: &mut Draft,
+    json: &Json,
+) -> Result<(), ReadingFault>
+    ensures gives { Gives (λ _. drafted draft.new) result (stage_next version (drafted draft.old) (view json.now)) }
     ensures numbered { OnOk result (All (FunctionFits (length draft.old.functions.items)) draft.old.plan.stages
         → All (FunctionFits (length draft.new.functions.items)) draft.new.plan.stages) }
 {
     let k = draft.plan.stages() as u32;
-    let Some(form) = form_of(json) else {
+    let Some(form) = form_of(version, json) else {
         return Err(ReadingFault::Shape(Part::Stage(k)));
     };
     let of = sources(alloc, json.get("of"), k)?;
@@ -106,8 +85,12 @@ fn add_stage(alloc: Global, draft: &mut Draft, json: &Json) -> Result<(), Readin
 }
 
 /// The stages of an array, in order.
-pub(crate) fn read_stages(alloc: Global, list: &[Json]) -> Result<Draft, ReadingFault>
-    ensures gives { Gives drafted result (fold_items stage_next nothing_drafted (items_view list.now)) }
+pub(crate) fn read_stages(
+    alloc: Global,
+    version: Version,
+    list: &[Json],
+) -> Result<Draft, ReadingFault>
+    ensures gives { Gives drafted result (fold_items (stage_next version) nothing_drafted (items_view list.now)) }
     ensures numbered { IfOk result
         (λ draft. All (FunctionFits (length draft.functions.items)) draft.plan.stages) }
 {
@@ -116,7 +99,7 @@ pub(crate) fn read_stages(alloc: Global, list: &[Json]) -> Result<Draft, Reading
         functions: Vec::new(alloc),
     };
     'stages: for json in list {
-        if let Err(e) = add_stage(alloc, &mut draft, json) {
+        if let Err(e) = add_stage(alloc, version, &mut draft, json) {
             return Err(e);
         }
     }

@@ -1,17 +1,22 @@
 //! The steps of a script.
-ghost use Rattle.std.specs.Prelude.{◌≡◌, ◌≤◌, ◌<◌, All, IfOk, IfSome, OnOk, [], length};
+ghost use Rattle.std.specs.Prelude.{◌≡◌, ◌≤◌, IfSome, OnOk, [], length};
 ghost use Rattle.serde_json.specs.View.{items_view, view};
 ghost use Rattle.cf_reading.specs.Checks.{Gives, fold_items};
-ghost use Rattle.cf_reading.specs.Scripts.{StepFits};
-ghost use Rattle.cf_reading.specs.Steps.{own_step, other_step, step_for, step_named, step_of, step_next};
+ghost use Rattle.cf_reading.specs.Steps.{NamesWithin, own_step, other_step, step_alone, step_for, step_named, step_next, step_said, step_worded};
+ghost use Rattle.cf_reading.specs.Courses.{FitsNext, GoesOn, IsCourse};
+ghost use Rattle.cf_reading.specs.Views.{coursed};
 ghost use Rattle.cf_reading.specs.Purposes.{IsTaken};
 
+use crate::attaching::attach;
+use crate::course::{Course, extent_after};
 use crate::fault::ReadingFault;
+use crate::func::Func;
+use crate::functions::keep;
 use crate::purpose::Purpose;
 use crate::script::Step;
+use crate::version::Version;
 use crate::words::{cancel, claim, complete, fail, finish, now, nudge, outcome, tick, work};
 use serde_json::Value as Json;
-use std::alloc::Global;
 
 /// The most steps that a script has.
 pub const MAX_STEPS: usize = 20_000;
@@ -20,7 +25,7 @@ pub const MAX_STEPS: usize = 20_000;
 #[tactic(auto, unfolding(crate::specs::Steps::own_step))]
 fn own(stages: u16, json: &Json, word: &str) -> Option<Step>
     ensures said { result ≡ own_step stages (view json.now) word.now }
-    ensures fits { IfSome result (StepFits stages) }
+    ensures fits { IfSome result (NamesWithin stages) }
 {
     match word {
         "complete" => complete(stages, json),
@@ -35,7 +40,7 @@ fn own(stages: u16, json: &Json, word: &str) -> Option<Step>
 #[tactic(auto, unfolding(crate::specs::Steps::other_step))]
 fn other(stages: u16, json: &Json, word: &str) -> Option<Step>
     ensures said { result ≡ other_step stages (view json.now) word.now }
-    ensures fits { IfSome result (StepFits stages) }
+    ensures fits { IfSome result (NamesWithin stages) }
 {
     match word {
         "claim" => claim(stages, json),
@@ -52,7 +57,7 @@ fn other(stages: u16, json: &Json, word: &str) -> Option<Step>
 #[tactic(auto, unfolding(crate::specs::Steps::step_named))]
 fn named(stages: u16, json: &Json, word: &str) -> Option<Step>
     ensures said { result ≡ step_named stages (view json.now) word.now }
-    ensures fits { IfSome result (StepFits stages) }
+    ensures fits { IfSome result (NamesWithin stages) }
 {
     match own(stages, json, word) {
         Some(step) => Some(step),
@@ -60,23 +65,67 @@ fn named(stages: u16, json: &Json, word: &str) -> Option<Step>
     }
 }
 
-/// A step over so many stages.
-fn step(stages: u16, json: &Json) -> Option<Step>
-    ensures said { result ≡ step_of stages (view json.now) }
-    ensures fits { IfSome result (StepFits stages) }
+/// A step that brings no function.
+#[tactic(auto, using(crate::proofs::Courses::fits_alone))]
+fn alone(stages: u16, functions: &[Func], json: &Json, word: &str) -> Option<(Step, Option<Func>)>
+    requires { length functions.now ≤ 4096 }
+    ensures said { result ≡ step_alone stages (view json.now) word.now }
+    ensures fits { IfSome result (FitsNext stages functions.now) }
 {
-    named(stages, json, json.get(0usize)?.as_str()?)
+    Some((named(stages, json, word)?, None))
 }
 
-/// A step over so many stages that is taken.
-fn step_taken(purpose: Purpose, stages: u16, json: &Json) -> Option<Step>
-    ensures said { result ≡ step_for purpose stages (view json.now) }
-    ensures fits { IfSome result (StepFits stages) }
-    ensures taken { IfSome result (IsTaken purpose) }
+/// The step with this word that comes after these.
+#[tactic(auto, unfolding(crate::specs::Steps::step_worded))]
+fn worded(
+    version: Version,
+    stages: u16,
+    functions: &[Func],
+    json: &Json,
+    word: &str,
+) -> Option<(Step, Option<Func>)>
+    requires { length functions.now ≤ 4096 }
+    ensures said { result ≡ step_worded version stages functions.now (view json.now) word.now }
+    ensures fits { IfSome result (FitsNext stages functions.now) }
 {
-    let step = step(stages, json)?;
+    match version {
+        Version::One => alone(stages, functions, json, word),
+        Version::Two => match word {
+            "attach" => attach(stages, functions, json),
+            _ => alone(stages, functions, json, word),
+        },
+    }
+}
+
+/// The step that comes after these.
+fn step(version: Version, course: &Course, json: &Json) -> Option<(Step, Option<Func>)>
+    ensures said { result ≡ step_said version (coursed course.now) (view json.now) }
+    ensures fits { IfSome result (FitsNext course.now.stages course.now.functions.items) }
+{
+    let word = json.get(0usize)?.as_str()?;
+    worded(
+        version,
+        course.stages,
+        course.functions.as_slice(),
+        json,
+        word,
+    )
+}
+
+/// The step that comes after these, if it is taken.
+fn step_taken(
+    purpose: Purpose,
+    version: Version,
+    course: &Course,
+    json: &Json,
+) -> Option<(Step, Option<Func>)>
+    ensures said { result ≡ step_for purpose version (coursed course.now) (view json.now) }
+    ensures fits { IfSome result (FitsNext course.now.stages course.now.functions.items) }
+    ensures taken { IfSome result (λ s. IsTaken purpose s.0) }
+{
+    let (step, function) = step(version, course, json)?;
     if purpose.takes(step) {
-        Some(step)
+        Some((step, function))
     } else {
         None
     }
@@ -86,45 +135,48 @@ fn step_taken(purpose: Purpose, stages: u16, json: &Json) -> Option<Step>
 #[tactic(auto, unfolding(crate::specs::Steps::step_next))]
 fn add_step(
     purpose: Purpose,
-    stages: u16,
-    found: &mut Vec<Step>,
+    version: Version,
+    course: &mut Course,
     json: &Json,
 ) -> Result<(), ReadingFault>
-    requires { length found.old.items ≤ MAX_STEPS }
-    ensures gives { Gives (λ _. found.new.items) result (step_next purpose stages found.old.items (view json.now)) }
-    ensures most { OnOk result (length found.new.items ≤ MAX_STEPS) }
-    ensures fits { All (StepFits stages) found.old.items → All (StepFits stages) found.new.items }
-    ensures taken { All (IsTaken purpose) found.old.items → All (IsTaken purpose) found.new.items }
+    ensures gives { Gives (λ _. coursed course.new) result
+        (step_next purpose version (coursed course.old) (view json.now)) }
+    ensures goes_on { OnOk result (GoesOn purpose (coursed course.old) (coursed course.new)) }
 {
-    let k = found.len();
+    let k = course.steps.len();
     if k >= MAX_STEPS {
         return Err(ReadingFault::Step(k as u32));
     }
-    let Some(step) = step_taken(purpose, stages, json) else {
+    let Some((step, function)) = step_taken(purpose, version, course, json) else {
         return Err(ReadingFault::Step(k as u32));
     };
-    if found.push(step).is_err() {
+    keep(&mut course.functions, function)?;
+    if course.steps.push(step).is_err() {
         return Err(ReadingFault::NoMemory);
     }
+    let (stages, room) = extent_after(step, course.stages, course.room);
+    course.stages = stages;
+    course.room = room;
     Ok(())
 }
 
-/// The steps of an array, in order.
+/// Reads the steps of an array, in order.
 pub(crate) fn read_steps(
-    alloc: Global,
     purpose: Purpose,
-    stages: u16,
+    version: Version,
+    course: &mut Course,
     list: &[Json],
-) -> Result<Vec<Step>, ReadingFault>
-    ensures gives { Gives (λ v. v.items) result (fold_items (step_next purpose stages) [] (items_view list.now)) }
-    ensures fits { IfOk result (λ v. All (StepFits stages) v.items) }
-    ensures taken { IfOk result (λ v. All (IsTaken purpose) v.items) }
+) -> Result<(), ReadingFault>
+    requires { course.old.steps.items ≡ [] }
+    ensures gives { Gives (λ _. coursed course.new) result
+        (fold_items (step_next purpose version) (coursed course.old) (items_view list.now)) }
+    ensures leads { OnOk result (IsCourse purpose (record { stages = course.old.stages; room = course.old.room })
+        (length course.old.functions.items) (coursed course.new)) }
 {
-    let mut found = Vec::new(alloc);
     'steps: for json in list {
-        if let Err(e) = add_step(purpose, stages, &mut found, json) {
+        if let Err(e) = add_step(purpose, version, course, json) {
             return Err(e);
         }
     }
-    Ok(found)
+    Ok(())
 }

@@ -1,8 +1,8 @@
 //! The steps by their words. Each is an array of exactly the elements that its word asks for.
 ghost use Rattle.std.specs.Prelude.{◌≡◌, ◌<◌, ℕ, IfSome};
 ghost use Rattle.serde_json.specs.View.{view};
-ghost use Rattle.cf_reading.specs.Scripts.{StepFits};
-ghost use Rattle.cf_reading.specs.Steps.{answer_at, answer_named, answer_of, caller_at, cancel_said, claim_said, complete_said, fail_said, finish_said, now_said, nudge_said, outcome_said, stage_at, tick_said, work_said};
+ghost use Rattle.cf_reading.specs.Parts.{stage_at};
+ghost use Rattle.cf_reading.specs.Steps.{NamesWithin, answer_at, answer_named, answer_of, caller_at, cancel_said, claim_said, complete_said, fail_said, finish_said, now_said, nudge_said, outcome_said, tick_said, work_said};
 
 use crate::parts::{caller, large, large_in, len, member, small, small_in, value, value_in};
 use crate::script::Step;
@@ -12,7 +12,7 @@ use cf_plan::Answer;
 use serde_json::Value as Json;
 
 /// The stage in place `i`, if the plan has it.
-fn stage_in(stages: u16, json: &Json, i: usize) -> Option<u16>
+pub(crate) fn stage_in(stages: u16, json: &Json, i: usize) -> Option<u16>
     ensures said { result ≡ stage_at stages i (view json.now) }
     ensures fits { IfSome result (λ n. n < stages) }
 {
@@ -59,7 +59,7 @@ fn answer_in(json: &Json, i: usize) -> Option<Answer>
 #[tactic(auto, unfolding(crate::specs::Steps::complete_said))]
 pub(crate) fn complete(stages: u16, json: &Json) -> Option<Step>
     ensures said { result ≡ complete_said stages (view json.now) }
-    ensures fits { IfSome result (StepFits stages) }
+    ensures fits { IfSome result (NamesWithin stages) }
 {
     if len(json) != 3 {
         return None;
@@ -77,7 +77,7 @@ pub(crate) fn complete(stages: u16, json: &Json) -> Option<Step>
 #[tactic(auto, unfolding(crate::specs::Steps::fail_said))]
 pub(crate) fn fail(stages: u16, json: &Json) -> Option<Step>
     ensures said { result ≡ fail_said stages (view json.now) }
-    ensures fits { IfSome result (StepFits stages) }
+    ensures fits { IfSome result (NamesWithin stages) }
 {
     if len(json) != 3 {
         return None;
@@ -95,7 +95,7 @@ pub(crate) fn fail(stages: u16, json: &Json) -> Option<Step>
 #[tactic(auto, unfolding(crate::specs::Steps::cancel_said))]
 pub(crate) fn cancel(stages: u16, json: &Json) -> Option<Step>
     ensures said { result ≡ cancel_said stages (view json.now) }
-    ensures fits { IfSome result (StepFits stages) }
+    ensures fits { IfSome result (NamesWithin stages) }
 {
     if len(json) != 2 {
         return None;
@@ -108,7 +108,7 @@ pub(crate) fn cancel(stages: u16, json: &Json) -> Option<Step>
 #[tactic(auto, unfolding(crate::specs::Steps::tick_said))]
 pub(crate) fn tick(json: &Json) -> Option<Step>
     ensures said { result ≡ tick_said (view json.now) }
-    ensures fits { (stages : ℕ) → IfSome result (StepFits stages) }
+    ensures fits { (stages : ℕ) → IfSome result (NamesWithin stages) }
 {
     if len(json) != 2 {
         return None;
@@ -121,7 +121,7 @@ pub(crate) fn tick(json: &Json) -> Option<Step>
 #[tactic(auto, unfolding(crate::specs::Steps::claim_said))]
 pub(crate) fn claim(stages: u16, json: &Json) -> Option<Step>
     ensures said { result ≡ claim_said stages (view json.now) }
-    ensures fits { IfSome result (StepFits stages) }
+    ensures fits { IfSome result (NamesWithin stages) }
 {
     if len(json) != 3 {
         return None;
@@ -135,7 +135,7 @@ pub(crate) fn claim(stages: u16, json: &Json) -> Option<Step>
 #[tactic(auto, unfolding(crate::specs::Steps::finish_said))]
 pub(crate) fn finish(stages: u16, json: &Json) -> Option<Step>
     ensures said { result ≡ finish_said stages (view json.now) }
-    ensures fits { IfSome result (StepFits stages) }
+    ensures fits { IfSome result (NamesWithin stages) }
 {
     if len(json) != 4 {
         return None;
@@ -150,7 +150,7 @@ pub(crate) fn finish(stages: u16, json: &Json) -> Option<Step>
 #[tactic(auto, unfolding(crate::specs::Steps::now_said))]
 pub(crate) fn now(stages: u16, json: &Json) -> Option<Step>
     ensures said { result ≡ now_said stages (view json.now) }
-    ensures fits { IfSome result (StepFits stages) }
+    ensures fits { IfSome result (NamesWithin stages) }
 {
     let n = len(json);
     if n == 2 {
@@ -167,7 +167,7 @@ pub(crate) fn now(stages: u16, json: &Json) -> Option<Step>
 #[tactic(auto, unfolding(crate::specs::Steps::outcome_said))]
 pub(crate) fn outcome(stages: u16, json: &Json) -> Option<Step>
     ensures said { result ≡ outcome_said stages (view json.now) }
-    ensures fits { IfSome result (StepFits stages) }
+    ensures fits { IfSome result (NamesWithin stages) }
 {
     if len(json) != 2 {
         return None;
@@ -180,7 +180,7 @@ pub(crate) fn outcome(stages: u16, json: &Json) -> Option<Step>
 #[tactic(auto, unfolding(crate::specs::Steps::work_said))]
 pub(crate) fn work(json: &Json) -> Option<Step>
     ensures said { result ≡ work_said (view json.now) }
-    ensures fits { (stages : ℕ) → IfSome result (StepFits stages) }
+    ensures fits { (stages : ℕ) → IfSome result (NamesWithin stages) }
 {
     if len(json) == 1 {
         Some(Step::Work)
@@ -193,7 +193,7 @@ pub(crate) fn work(json: &Json) -> Option<Step>
 #[tactic(auto, unfolding(crate::specs::Steps::nudge_said))]
 pub(crate) fn nudge(json: &Json) -> Option<Step>
     ensures said { result ≡ nudge_said (view json.now) }
-    ensures fits { (stages : ℕ) → IfSome result (StepFits stages) }
+    ensures fits { (stages : ℕ) → IfSome result (NamesWithin stages) }
 {
     if len(json) != 2 {
         return None;

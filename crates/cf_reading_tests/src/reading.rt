@@ -249,7 +249,7 @@ fn reads_a_script(rt: HostRuntime) -> Result<(), Fail> {
     let text =
         "{\"cf\":1,\"stages\":[{\"form\":\"source\"},{\"form\":\"apply\",\"of\":[0],\"fn\":{\"add\":5}}],\
 \"limits\":[{\"stage\":1,\"at\":9,\"kind\":\"timeout\"}],\"steps\":[[\"complete\",0,3],[\"work\"],[\"now\",1]]}";
-    let (plan, functions, steps) = read_script(rt.alloc(), text.as_bytes())?.into_parts();
+    let (plan, room, functions, steps) = read_script(rt.alloc(), text.as_bytes())?.into_parts();
     let limit = Limit {
         stage: 1,
         at: 9,
@@ -261,7 +261,7 @@ fn reads_a_script(rt: HostRuntime) -> Result<(), Fail> {
         Step::Work,
         Step::Asks(Ask::Now(1, Value::Nil)),
     ];
-    assert_eq!(rt; plan.stages(), 2);
+    assert_eq!(rt; (plan.stages(), room), (2, 0));
     assert_eq!(rt; plan.limits(), [limit].as_slice());
     assert_eq!(rt; functions.as_slice(), [Func::Add(5)].as_slice());
     assert_eq!(rt; steps.as_slice(), asked.as_slice());

@@ -6,13 +6,13 @@ use Rattle.cf_reading.proofs.stages.read_stages.Goals as goal
 pub stages-preserved : goal.stages-preserved
 stages-preserved c = record {
   numbered = c.in_default.ensures.numbered c.stages.invariant.numbered;
-  so_far = goes_on stage_next (drafted c.stages.draft) (drafted c.add_stage.new.draft) c.args.list.now c.stages.json-index c.json-item.result _
+  so_far = goes_on (stage_next c.args.version) (drafted c.stages.draft) (drafted c.add_stage.new.draft) c.args.list.now c.stages.json-index c.json-item.result _
       c.stages-test.true c.json-item.is c.in_default.ensures.gives c.stages.invariant.so_far;
 }
 
 pub returns-in-Err-clause-gives : goal.returns-in-Err-clause-gives
-returns-in-Err-clause-gives c = fails_at stage_next c.in-Err.e (drafted c.stages.draft) c.args.list.now c.stages.json-index c.json-item.result _
+returns-in-Err-clause-gives c = fails_at (stage_next c.args.version) c.in-Err.e (drafted c.stages.draft) c.args.list.now c.stages.json-index c.json-item.result _
     c.stages-test.true c.json-item.is c.in-Err.ensures.gives c.stages.invariant.so_far
 
 pub returns-clause-gives : goal.returns-clause-gives
-returns-clause-gives c = is_done stage_next (drafted c.stages.draft) c.args.list.now c.stages.json-index _ c.stages-test.false c.stages.invariant.so_far
+returns-clause-gives c = is_done (stage_next c.args.version) (drafted c.stages.draft) c.args.list.now c.stages.json-index _ c.stages-test.false c.stages.invariant.so_far

@@ -10,5 +10,5 @@ use Rattle.cf_reading.proofs.stages.read_stages.Given as goal
 abbrev pub invariant-stages : goal.invariant-stages
 invariant-stages l = record {
   numbered : All (FunctionFits (length l.draft.functions.items)) l.draft.plan.stages;
-  so_far : fold_items stage_next (drafted l.draft) (items_view (drop l.json-index l.list)) ≡ fold_items stage_next nothing_drafted (items_view l.list);
+  so_far : fold_items (stage_next l.version) (drafted l.draft) (items_view (drop l.json-index l.list)) ≡ fold_items (stage_next l.version) nothing_drafted (items_view l.list);
 }
