@@ -1,6 +1,7 @@
 -- What a race gives.
-use Rattle.std.specs.Prelude.{◌≡◌, ◌≤◌, ◌<◌, ℕ, List, [], ◌∷◌, length}
+use Rattle.std.specs.Prelude.{◌≡◌, ◌+◌, ◌≤◌, ◌<◌, ℕ, List, [], ◌∷◌, length}
 use Rattle.cf_plan.specs.Meanings.{meanings_of}
+use Rattle.cf_plan.specs.Plans.{Planned}
 use Rattle.cf_core.specs.declared.events.Event.{Event}
 use Rattle.cf_core.specs.States.{State, start}
 use Rattle.cf_expr.specs.Expressions.{expr}
@@ -9,8 +10,8 @@ use Rattle.cf_reading.specs.declared.script.Step.{Step}
 use Rattle.cf_reading.specs.declared.script.Step.TheVariants.{Does}
 use Rattle.cf_reading.specs.Functions.{func_answer}
 use Rattle.cf_reading.specs.Reading.{race_reading}
-use Rattle.cf_reading.specs.Scripts.{Script}
-use Rattle.cf_pool.specs.Races.{IsRaced, log_words}
+use Rattle.cf_reading.specs.Scripts.{Script, opening}
+use Rattle.cf_pool.specs.Races.{IsRaced, log_words, plan_after}
 use Rattle.cf_script.specs.declared.fault.ScriptFault.{ScriptFault}
 use Rattle.cf_script.specs.declared.fault.ScriptFault.TheVariants as faults
 use Rattle.cf_script.specs.Printing.{Given, MayGive}
@@ -22,9 +23,9 @@ events_of [] = []
 events_of (Does e ∷ xs) = e ∷ events_of xs
 events_of (x ∷ xs) = events_of xs
 
--- how many words the log of a race has, of which there may be 65,535
+-- how many words the log of a race has, of which there may be 65,535: stages that steps may attach count as those that are there
 abbrev pub words_of : ℕ → Script → ℕ
-words_of workers s = log_words (length s.steps) (length s.plan.stages) workers
+words_of workers s = log_words (length s.steps) (length s.plan.stages + s.room) workers
 
 abbrev pub IsTooLargeToRace : ℕ → Script → Type 0
 IsTooLargeToRace workers s = 65535 < words_of workers s
@@ -34,7 +35,7 @@ IsTooLargeToRace workers s = 65535 < words_of workers s
 -- nothing is ready or claimed in it.
 pub record IsRaceEnd (workers : ℕ) (s : Script) (end : State) : Type 0 where
   pub fits : words_of workers s ≤ 65535
-  pub raced : IsRaced (meanings_of func_answer s.functions) s.plan (events_of s.steps) workers end
+  pub raced : IsRaced (meanings_of func_answer s.functions) (opening s) (events_of s.steps) workers end
 
 -- the lines of the stages, as a race of this script may leave them
 pub record IsRaceText (workers : ℕ) (s : Script) (text : List ℕ) : Type 0 where
@@ -52,13 +53,17 @@ IsRaceRefused workers s fault = ⊥
 abbrev pub RaceGives : ℕ → List ℕ → Given → Type 0
 RaceGives workers input = MayGive (race_reading input) (IsRaceText workers) (IsTooLargeToRace workers)
 
--- a plan without either forms, and steps that settle sources alone and reach no limit
+-- the plan as the steps leave it, with the stages that they attach
+abbrev pub grown_by : Script → Planned
+grown_by s = plan_after (opening s) (events_of s.steps)
+
+-- a plan that is without either forms once it has grown, and steps that settle sources alone and reach no limit
 pub record IsPlainScript (s : Script) : Type 0 where
-  pub plan : IsPlainPlan s.plan
-  pub steps : IsPlain (meanings_of func_answer s.functions) nothing_granted (start s.plan) (events_of s.steps)
+  pub plan : IsPlainPlan (grown_by s)
+  pub steps : IsPlain (meanings_of func_answer s.functions) nothing_granted (start (opening s)) (events_of s.steps)
 
 -- Of a plain script a race gives the lines of the expressions, with however many workers.
 abbrev pub PlainRacesGiveExpressions : Type 0
 PlainRacesGiveExpressions =
     (workers : ℕ) (s : Script) (text : List ℕ) → IsRaceText workers s text → IsPlainScript s →
-    text ≡ stage_lines (expr s.plan (events_of s.steps) (meanings_of func_answer s.functions)) 0 s.plan.stages
+    text ≡ stage_lines (expr (grown_by s) (events_of s.steps) (meanings_of func_answer s.functions)) 0 (grown_by s).stages

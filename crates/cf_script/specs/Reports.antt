@@ -8,7 +8,7 @@ use Rattle.cf_core.specs.Events.{answered, told}
 use Rattle.cf_reading.specs.declared.func.Func.{Func}
 use Rattle.cf_reading.specs.declared.script.Step.{Step}
 use Rattle.cf_reading.specs.declared.script.Step.TheVariants.{Does, Asks, Work, Nudge}
-use Rattle.cf_reading.specs.Scripts.{Script}
+use Rattle.cf_reading.specs.Scripts.{Script, opening}
 use Rattle.cf_script.specs.Texts.{line, reply_text, settled_text, told_text}
 use Rattle.cf_script.specs.Working.{worked}
 
@@ -52,5 +52,5 @@ stages_lines s = stage_lines (outcome_at s) 0 s.plan.stages
 -- the lines of the steps in order, then those of the stages as the steps leave them
 abbrev pub report : Script → List ℕ
 report said =
-    let s = start said.plan in
+    let s = start (opening said) in
     steps_lines said.functions s said.steps ++ stages_lines (after_steps said.functions s said.steps)

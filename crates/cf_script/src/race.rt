@@ -45,11 +45,11 @@ fn graph_of<R: Threads + Wait + Sync, G: Gate + Sync>(
     ensures ends { IfOk result (λ g. IsRaceEnd workers script g.state) }
     ensures refused { IfErr result (IsRaceRefused workers script) }
 {
-    let (plan, functions, steps) = script.into_parts();
+    let (plan, room, functions, steps) = script.into_parts();
     let Ok(events) = events(alloc, &steps) else {
         return Err(ScriptFault::NoMemory);
     };
-    match race(rt, alloc, plan, &events, &functions, gate, workers) {
+    match race(rt, alloc, plan, room, &events, &functions, gate, workers) {
         Ok(graph) => Ok(graph),
         Err(RaceFault::NoMemory) => Err(ScriptFault::NoMemory),
         Err(RaceFault::Size) => Err(ScriptFault::RaceSize),
@@ -86,12 +86,14 @@ fn raced<R: Threads + Wait + Sync, I: Read, G: Gate + Sync>(
     }
 }
 
-/// Reads a script to its end, or to the first byte that is too many, races it with 1 to 32 workers on threads of their own, and writes the lines of its stages.
+/// Reads a script to its end, or to the first byte that is too many, races it with 1 to 32 workers on threads of their
+/// own, and writes the lines of its stages, the attached ones too.
 ///
-/// Caller 0 does the steps, each of which is a `complete`, `fail`, `cancel` or `tick`; another is the fault `Step`. Then
-/// each worker claims ready stages, lets the gate pass, calls their functions and finishes them, until none is ready.
-/// The faults are those of `run_script`, and `RaceSize` where the log of the race would have more than 65,535 words; a
-/// thread that was refused is `NoMemory` too.
+/// Caller 0 does the steps, each of which is a `complete`, `fail`, `cancel` or `tick`, and in version 2 an `attach` too;
+/// another is the fault `Step`. Then each worker claims ready stages, lets the gate pass, calls their functions and
+/// finishes them, until none is ready. The faults are those of `run_script`, and `RaceSize` where the log of the race
+/// would have more than 65,535 words, for whose number the room for stages counts as the stages do; a thread that was
+/// refused is `NoMemory` too.
 pub fn race_script<R: Threads + Wait + Sync, I: Read, W: Write, G: Gate + Sync>(
     rt: &R,
     alloc: Global,

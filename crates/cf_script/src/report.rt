@@ -1,7 +1,7 @@
 //! The report of a script.
-ghost use Rattle.std.specs.Prelude.{◌≡◌, ◌++◌, ◌<◌, length, OnOk, IfOk, All, string_bytes};
+ghost use Rattle.std.specs.Prelude.{◌≡◌, ◌++◌, ◌<◌, length, OnOk, IfOk, string_bytes};
 ghost use Rattle.cf_core.specs.States.{outcome_at};
-ghost use Rattle.cf_reading.specs.Scripts.{StepFits};
+ghost use Rattle.cf_reading.specs.Scripts.{StepFits, StepsFit, extent_of};
 ghost use Rattle.cf_script.specs.Texts.{line};
 ghost use Rattle.cf_script.specs.Reports.{after_step, after_steps, report, stage_text, stages_lines, step_text, steps_lines};
 
@@ -44,7 +44,7 @@ fn write_steps(
     functions: &[Func],
     steps: &[Step],
 ) -> Result<(), AllocError>
-    requires { All (StepFits (length graph.old.state.plan.stages)) steps.now }
+    requires { StepsFit (extent_of graph.old.state.plan) steps.now }
     ensures lines { OnOk result
         (string_bytes text.new ≡ string_bytes text.old ++ steps_lines functions.now graph.old.state steps.now) }
     ensures state { OnOk result (graph.new.state ≡ after_steps functions.now graph.old.state steps.now) }
@@ -83,8 +83,8 @@ pub(crate) fn write_stages(text: &mut String, graph: &mut Graph) -> Result<(), A
 pub(crate) fn report_of(alloc: Global, script: Script) -> Result<String, AllocError>
     ensures { IfOk result (λ text. string_bytes text ≡ report script) }
 {
-    let (plan, functions, steps) = script.into_parts();
-    let mut graph = match Graph::new(alloc, plan) {
+    let (plan, room, functions, steps) = script.into_parts();
+    let mut graph = match Graph::new_growing(alloc, plan, room) {
         Ok(graph) => graph,
         Err(_) => return Err(AllocError),
     };

@@ -1,7 +1,9 @@
 //! Scripts with what they print, read and written whole, a byte at a time, up to where a device fails, and where memory is
 //! refused.
+mod attached;
 mod devices;
 mod gates;
+mod growing;
 mod races;
 mod rows;
 
@@ -49,7 +51,7 @@ fn status<R: Read, W: Write>(alloc: Global, words: &[&str], r: &mut R, w: &mut W
 }
 
 /// Runs each row, with the whole script in one call, and then with devices that move one byte a call.
-fn check_rows(rt: &(impl Abort + AllocGlobal), rows: &[Row]) -> Result<(), Fail> {
+pub(crate) fn check_rows(rt: &(impl Abort + AllocGlobal), rows: &[Row]) -> Result<(), Fail> {
     for row in rows {
         let name = row.name;
         let report = lines(rt.alloc(), row.report)?;
@@ -125,9 +127,12 @@ fn long_script(alloc: Global, row: &LongRow) -> Result<String, AllocError> {
     Ok(text)
 }
 
-#[test]
-fn long_rows_print_their_reports(rt: HostRuntime) -> Result<(), Fail> {
-    for row in &LONG {
+/// Runs each row, with the whole script in one call.
+pub(crate) fn check_long_rows(
+    rt: &(impl Abort + AllocGlobal),
+    rows: &[LongRow],
+) -> Result<(), Fail> {
+    for row in rows {
         let name = row.name;
         let script = long_script(rt.alloc(), row)?;
         let mut report = String::new(rt.alloc());
@@ -137,10 +142,15 @@ fn long_rows_print_their_reports(rt: HostRuntime) -> Result<(), Fail> {
         let mut out: Vec<u8> = Vec::new(rt.alloc());
         let mut input = script.as_str().as_bytes();
         let ended = status(rt.alloc(), &["run"], &mut input, &mut out);
-        assert!(&rt; out.as_slice() == report.as_str().as_bytes(), "{name}");
-        assert_eq!(&rt; ended, row.status, "{name}");
+        assert!(rt; out.as_slice() == report.as_str().as_bytes(), "{name}");
+        assert_eq!(rt; ended, row.status, "{name}");
     }
     Ok(())
+}
+
+#[test]
+fn long_rows_print_their_reports(rt: HostRuntime) -> Result<(), Fail> {
+    check_long_rows(&rt, &LONG)
 }
 
 #[test]

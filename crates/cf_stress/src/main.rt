@@ -46,7 +46,7 @@ fn main(rt: HostRuntime) -> Result<()> {
     let Words { sizes, in_turn } = read_words(&rt)?;
     let input = read_input(rt.alloc(), &mut rt.reader()).map_err(|_| anyhow!("no input"))?;
     let script = read_script(rt.alloc(), &input).map_err(|_| anyhow!("no script"))?;
-    let (plan, functions, _) = script.into_parts();
+    let (plan, _, functions, _) = script.into_parts();
     let steps = read_steps(rt.alloc(), &input)?;
     let (desk, passes) = open(rt.alloc(), plan, sizes)?;
     let mut hands = hands_of(rt.alloc(), &desk, passes)?;

@@ -197,7 +197,7 @@ fn functions_are_called_once_behind_the_gate(rt: HostRuntime) -> Result<(), Fail
         }
         assert!(rt; workers >= 1 && workers <= 32);
         let plan = pairs(rt.alloc())?;
-        let raced = race(&rt, rt.alloc(), plan, &[], &functions, &calls, workers);
+        let raced = race(&rt, rt.alloc(), plan, 0, &[], &functions, &calls, workers);
         assert!(rt; raced.is_ok());
         assert!(rt; !calls.is_early.load(Ordering::SeqCst), "{workers} workers");
         for called in calls.called.iter() {
