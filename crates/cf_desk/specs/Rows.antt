@@ -22,9 +22,10 @@ Begins xs log = (rest : List Event) × (log ≡ xs ++ rest)
 abbrev pub GoesOn : List Known → List Known → Type 0
 GoesOn v w = (more : List Event) × (longest w ≡ longest v ++ more) × All (λ c. own c more ≡ []) (callers_of v)
 
--- The filled words are a front of the row, each the word of an event of one of the callers, on a stage of the plan. What a seat
--- has seen begins them. No two seats share a caller. A filled place with an event of a seat's caller is one that this seat has
--- seen. Of two parts of one seat the list of the one that has seen less begins the other's, which goes on with events of others.
+-- The filled words are a front of the row, each the word of an event of one of the callers, on stages of the plan as the words
+-- before it leave it. What a seat has seen begins them. No two seats share a caller. A filled place with an event of a seat's
+-- caller is one that this seat has seen. Of two parts of one seat the list of the one that has seen less begins the other's, which
+-- goes on with events of others.
 pub record RowHolds (t : Terms) (words : List ℕ) (views : List (List Known)) : Type 0 where
   pub log : List Event
   pub filled : IsRow t log words
