@@ -8,10 +8,8 @@ Values are None (nil) or an int. An outcome is ("value", v) or ("fault", cause, 
 ("give", v), ("throw", code) or ("link", j). An event is (kind, who, ...): complete who i v, fail who i code, cancel who i,
 claim who i, finish who i answer, tick who now, attach who form sources function. A function is its number.
 
-As a program it reads a script of the first version from standard input and writes its report, as `cf run` does.
+bench/reading.py says which scripts are right.
 """
-import json
-import sys
 from collections import namedtuple
 
 Stage = namedtuple("Stage", "form sources function")
@@ -274,16 +272,26 @@ def call(function, args):
 
 # Scripts.
 
+def stage_of(said, functions):
+    """The stage that an object asks for. Its function, if it has one, is put behind the others."""
+    number = len(functions) if "fn" in said else None
+    functions += [said["fn"]] if "fn" in said else []
+    return Stage(said["form"], tuple(said.get("of", [])), number)
+
+
 def plan_of(script):
     """The plan of a script that is right, and its functions by their numbers."""
-    stages, functions = [], []
-    for s in script["stages"]:
-        stages.append(Stage(s["form"], tuple(s.get("of", [])), len(functions) if "fn" in s else None))
-        functions += [s["fn"]] if "fn" in s else []
+    functions = []
+    stages = [stage_of(s, functions) for s in script["stages"]]
     limits = [Limit(m["stage"], m["at"],
                     ("fault", ("timeout",), False) if m["kind"] == "timeout" else ("value", m["value"]))
               for m in script.get("limits", [])]
     return Plan(tuple(stages), tuple(sorted(limits, key=lambda m: m.at))), functions
+
+
+def room_of(script):
+    """For how many stages more a script has room. In the first version it has none, whatever stands there."""
+    return script.get("room", 0) if script["cf"] == 2 else 0
 
 
 def answer_of(said):
@@ -303,10 +311,21 @@ def work(functions, state, who=63):
     return events, state
 
 
+def event_of(step, functions):
+    """The event that a step of a script is. The function of an attach counts on, also where there is no room."""
+    if step[0] == "attach":
+        return ("attach", 0) + tuple(stage_of(step[1], functions))
+    if step[0] == "claim":
+        return ("claim", step[1], step[2])
+    if step[0] == "finish":
+        return ("finish", step[1], step[2], answer_of(step[3]))
+    return (step[0], 0) + tuple(step[1:])
+
+
 def run(script):
     """The report of a script that is right, line by line."""
     plan, functions = plan_of(script)
-    state = start(plan)
+    state = start(plan, room_of(script))
     lines = []
     for step in script.get("steps", []):
         kind = step[0]
@@ -320,15 +339,18 @@ def run(script):
         elif kind == "outcome":
             lines.append(settled_text(outcome(state, step[1])))
         else:
-            if kind == "claim":
-                event = ("claim", step[1], step[2])
-            elif kind == "finish":
-                event = ("finish", step[1], step[2], answer_of(step[3]))
-            else:
-                event = (kind, 0) + tuple(step[1:])
-            reply, state = answered(state, event)
+            reply, state = answered(state, event_of(step, functions))
             lines.append(reply_text(reply))
     return lines + stage_lines(state)
+
+
+def race(script):
+    """The report of a race with one worker, or of a plain script's with any number: the steps, then one caller's work."""
+    plan, functions = plan_of(script)
+    state = start(plan, room_of(script))
+    for step in script.get("steps", []):
+        state = answered(state, event_of(step, functions))[1]
+    return stage_lines(work(functions, state)[1])
 
 
 def stage_lines(state):
@@ -378,11 +400,3 @@ def reply_text(reply):
     if kind == "attach":
         return "stagesfull" if said is None else f"attached {said}"
     return " ".join(str(word) for word in said)
-
-
-def main():
-    sys.stdout.write("".join(line + "\n" for line in run(json.load(sys.stdin))))
-
-
-if __name__ == "__main__":
-    main()
