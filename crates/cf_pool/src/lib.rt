@@ -6,11 +6,12 @@
 //! attached while they work is found as any other, and its function is the one with which it was attached. `work` is one
 //! worker, on the thread of its caller. `run` starts a thread for each worker, joins them all, and closes the desk.
 //!
-//! In a `race` caller 0 settles what a plan's sources take, and then workers do all the work that there is. A race's desk
-//! has a caller for each worker beside caller 0. Its log is as long as the steps, a claim of each stage by each caller, and
-//! one finish for each stage need, and one word more. So by count neither the log nor a pass is ever full, and a race fails
-//! for want of memory or for its size alone. What the workers do comes between one another in any order, but in a plain
-//! plan each stage ends as its expression, whatever the order and however many workers there are.
+//! In a `race` caller 0 settles what a plan's sources take and attaches stages, and then workers do all the work that there
+//! is. A race's desk has a caller for each worker beside caller 0. Its log is as long as the steps, a claim of each stage,
+//! attached ones too, by each caller, and one finish for each stage need, and one word more. So by count neither the log
+//! nor a pass is ever full, and a race fails for want of memory or for its size alone. What the workers do comes between one
+//! another in any order, but in a plain plan each stage ends as its expression, whatever the order and however many workers
+//! there are.
 #![tactic(auto)]
 
 mod faults;

@@ -1,5 +1,5 @@
-//! Races: caller 0 settles what a plan's sources take, and then workers, each on a thread of its own, do all the work
-//! that there is.
+//! Races: caller 0 settles what a plan's sources take and attaches stages, and then workers, each on a thread of its own,
+//! do all the work that there is.
 mod beginning;
 mod sizes;
 
