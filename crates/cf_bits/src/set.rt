@@ -55,6 +55,17 @@ impl BitSet {
         *bound += 1;
     }
 
+    /// Makes it the empty set of the numbers below a bound of at most 4,096. It takes no memory.
+    pub fn reset(&mut self, bound: u16)
+        requires { bound ≤ 4096 }
+        ensures { self.new ≡ replicate bound false }
+    {
+        let len = &mut self.len;
+        *len = bound;
+        self.top = 0;
+        self.words.fill(0);
+    }
+
     /// Puts a number in. One that is in stays in.
     pub fn insert(&mut self, i: u16)
         requires { i < length self.old }

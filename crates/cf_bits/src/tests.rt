@@ -40,3 +40,23 @@ fn grows_by_a_number_that_is_not_in(rt: HostRuntime) -> Result<(), Fail> {
     assert_eq!(rt; set.lowest(), Some(64));
     Ok(())
 }
+
+#[test]
+fn resets_to_the_empty_set(rt: HostRuntime) -> Result<(), Fail> {
+    let mut set = BitSet::new(rt.alloc(), 4096)?;
+    for i in [0, 65, 4095] {
+        assert!(rt; i < set.bound());
+        set.insert(i);
+    }
+    set.reset(70);
+    assert!(rt; set.bound() == 70);
+    assert_eq!(rt; set.lowest(), None);
+    assert!(rt; !set.contains(65));
+    set.insert(66);
+    assert_eq!(rt; set.lowest(), Some(66));
+    set.reset(4096);
+    assert!(rt; set.bound() == 4096);
+    assert_eq!(rt; set.lowest(), None);
+    assert!(rt; !set.contains(4095));
+    Ok(())
+}

@@ -169,6 +169,8 @@ AreGrowing-start opening room row_room cell_room is built stages edges rows cell
       short = All-nil (λ (row : AttachedRow). row.count ≤ 2);
       room_for_rows = omega arith;
       room_for_cells = omega arith;
+      room_again = (let no_rows : length {A = AttachedRow} [] ≡ 0 = refl in omega (arith, no_rows));
+      edges_again = (let no_rows : length {A = AttachedRow} [] ≡ 0 = refl in omega (arith, no_rows));
       all_cells = refl;
       all_heads = length-replicate (length opening.stages + room) empty ∙ omega arith;
       threads = no_threads (length opening.stages + room) (later_of opening []) (λ i. refl);
@@ -205,6 +207,8 @@ AreGrowing-attach opening rows row heads new_heads cells new_cells room row_room
       short = All-push (λ (r : AttachedRow). r.count ≤ 2) rows row h.short count;
       room_for_rows = omega (arith, h.room_for_rows, rows_more);
       room_for_cells = omega (arith, h.room_for_cells, all_cells);
+      room_again = omega (arith, h.room_again, rows_more);
+      edges_again = omega (arith, h.edges_again, rows_more);
       all_cells = omega (arith, h.all_cells, all_cells, new_edges);
       all_heads = omega (arith, h.all_heads, all_heads, rows_more);
       threads = threads;

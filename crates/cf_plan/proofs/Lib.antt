@@ -6,3 +6,4 @@ pub mod Filling
 pub mod FillingRows
 pub mod ThreadLemmas
 pub mod GrowingLemmas
+pub mod StartLemmas

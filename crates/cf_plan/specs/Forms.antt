@@ -104,3 +104,10 @@ landing form i source (Throw code) = Lands (Fault (Thrown code) true)
 landing form i source (Link j) = if composes form && nat_lt j i then Links j else bad_answer
 landing WhenComplete i (Some (Gives v)) (Give w) = Lands (Gives v)
 landing form i source (Give v) = if composes form then bad_answer else Lands (Gives (kept_value form v))
+
+-- whether a stage of this form with these sources has something to take from the start on, when nothing has settled
+abbrev pub starts : Form → List ℕ → Bool
+starts Supply sources = true
+starts RunAsync sources = true
+starts AllOf [] = true
+starts form sources = false

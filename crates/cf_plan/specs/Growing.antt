@@ -23,13 +23,15 @@ grown_of opening rows room = record {
 abbrev pub later_of : Planned → List AttachedRow → ℕ → List ℕ
 later_of opening rows i = reverse (dependents_from (length opening.stages) (map attached_of rows) i)
 
--- the rows and lists are those of a plan that grows, and there is room for the rows and cells of all that may be attached
+-- The rows and lists are those of a plan that grows, and there is room for the rows and cells of all that may be attached. Without its attached stages the plan has room for as many more.
 pub record AreGrowing (opening : Planned) (rows : List AttachedRow) (heads : List Head) (cells : List Cell) (room row_room cell_room : ℕ) : Type 0 where
   pub is_opening : opening ≡ plan_of opening.stages opening.limits
   pub growing : IsGrowing (grown_of opening rows room)
   pub short : All (λ (row : AttachedRow). row.count ≤ 2) rows
   pub room_for_rows : length rows + room ≤ row_room
   pub room_for_cells : length cells + 2 * room ≤ cell_room
+  pub room_again : 2 * (length rows + room) ≤ cell_room
+  pub edges_again : edges_of opening.stages + 2 * (length rows + room) ≤ 16384
   pub all_cells : length cells ≡ edges_of (map attached_of rows)
   pub all_heads : length heads ≡ length opening.stages + length rows + room
   pub threads : AreThreads heads cells (later_of opening rows)

@@ -9,6 +9,7 @@ use Rattle.cf_plan.specs.declared.forms.Of.TheVariants.{None as NoSource, One, T
 use Rattle.cf_plan.specs.declared.faults.PlanFault.{PlanFault}
 use Rattle.cf_plan.specs.declared.faults.PlanFault.TheVariants.{TooManyStages, SourceNotLower, WrongSourceCount, FunctionMissing, FunctionUnwanted, TooManyEdges, NoSuchStage, TooManyLimits}
 use Rattle.cf_plan.specs.declared.limits.Limit.{Limit}
+use Rattle.cf_plan.specs.Forms.{starts}
 
 -- a stage as it was planned
 pub record PlannedStage : Type 0 where
@@ -38,6 +39,10 @@ and_stage plan new = record plan { stages = plan.stages ++ new ∷ []; room = pl
 -- the plan as it was opened
 abbrev pub opening_of : Planned → Planned
 opening_of plan = plan_of (take plan.opened plan.stages) plan.limits
+
+-- the plan as it was opened, with its room free again
+abbrev pub reopened : Planned → Planned
+reopened plan = record plan { stages = take plan.opened plan.stages; room = plan.room + (length plan.stages - plan.opened) }
 
 -- the form, the sources and the function of stage i
 abbrev pub form_at : List PlannedStage → ℕ → Form
@@ -130,6 +135,14 @@ dependents_from k (s ∷ stages) i = replicate (mentions i s.sources) k ++ depen
 
 abbrev pub dependents_of : List PlannedStage → ℕ → List ℕ
 dependents_of stages i = dependents_from 0 stages i
+
+-- the stages that have something to take from the start on, in rising order, the first stage here being stage k
+abbrev pub starts_from : ℕ → List PlannedStage → List ℕ
+starts_from k [] = []
+starts_from k (s ∷ stages) = if starts s.form s.sources then k ∷ starts_from (k + 1) stages else starts_from (k + 1) stages
+
+abbrev pub starts_of : List PlannedStage → List ℕ
+starts_of stages = starts_from 0 stages
 
 -- no number is above one behind it
 abbrev pub IsRising : List ℕ → Type 0

@@ -1,7 +1,7 @@
 //! Plans to which stages are attached.
 ghost use Rattle.std.specs.Prelude.{◌≡◌, ℕ, ◌+◌, ◌*◌, ◌<◌, ◌≤◌, ◌++◌, true, All, IfOk, is_some, length, reverse};
 ghost use Rattle.cf_plan.specs.Growing.{attached_of};
-ghost use Rattle.cf_plan.specs.Plans.{IsGrowing, and_stage, attached_stage, dependents_of, edges_of, fits_form, form_at, function_at, opening_of, sources_at, sources_of, with_room};
+ghost use Rattle.cf_plan.specs.Plans.{IsGrowing, and_stage, attached_stage, dependents_of, edges_of, fits_form, form_at, function_at, opening_of, reopened, sources_at, sources_of, with_room};
 
 use crate::forms::{Form, Of};
 use crate::limits::Limit;
@@ -184,6 +184,21 @@ impl GrowingPlan {
                 self.threads.push(a, number);
                 self.threads.push(b, number);
             }
+        }
+    }
+
+    /// Takes out all attached stages: it is the plan as it was opened, with its room free again. It takes no memory, and
+    /// does nothing where no stage was attached.
+    pub fn restart(&mut self)
+        ensures { self.new ≡ reopened self.old }
+    {
+        let attached = self.rows.len();
+        if attached > 0 {
+            // A plan that was built is within its bounds.
+            let _stages = self.opening.stages();
+            self.room += attached as u16;
+            self.rows.clear();
+            self.threads.clear();
         }
     }
 }

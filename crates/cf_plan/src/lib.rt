@@ -9,7 +9,7 @@
 //!
 //! A `GrowingPlan` is a built plan with room for stages that are attached later, each with at most two sources. They
 //! stand behind those of the opening, whose dependents stay where they are: each stage has beside them a list of the
-//! attached stages that name it.
+//! attached stages that name it. A restart takes them all out again.
 #![tactic(auto)]
 
 mod builder;
@@ -23,6 +23,7 @@ pub mod laws;
 mod limits;
 mod plan;
 mod rows;
+mod starting;
 mod tables;
 mod threads;
 
@@ -34,5 +35,6 @@ pub use functions::StageFn;
 pub use growing::GrowingPlan;
 pub use limits::{Limit, LimitKind};
 pub use plan::Plan;
+pub use starting::starts;
 pub use tables::{due_one, due_two, landing};
 pub use threads::Later;

@@ -1,6 +1,6 @@
 //! Plans, and what is asked of them.
 ghost use Rattle.std.specs.Prelude.{◌≡◌, ℕ, ◌<◌, ◌≤◌, All, IfOk, IsOkUnless, length};
-ghost use Rattle.cf_plan.specs.Plans.{IsBuilt, IsRising, dependents_of, edges_of, form_at, function_at, mentions, plan_of, sources_at};
+ghost use Rattle.cf_plan.specs.Plans.{IsBuilt, IsRising, dependents_of, edges_of, form_at, function_at, mentions, plan_of, sources_at, starts_of};
 ghost use Rattle.cf_plan.specs.Rows.{ArePlanned, planned_of};
 
 use crate::dependents::Dependents;
@@ -8,6 +8,7 @@ use crate::faults::PlanFault;
 use crate::forms::Form;
 use crate::limits::Limit;
 use crate::rows::Row;
+use crate::starting::starts_of;
 use std::marker::Model;
 
 /// A plan, which no longer changes: its stages in order, and its limits in firing order.
@@ -17,6 +18,7 @@ pub struct Plan {
     sources: Vec<u16>,
     limits: Vec<Limit>,
     dependents: Dependents,
+    starts: Vec<u16>,
 }
 
 impl Model for Plan {
@@ -24,17 +26,20 @@ impl Model for Plan {
 
     ghost Value = { Planned };
 
+    ghost use Rattle.std.specs.Prelude.{◌≡◌};
+    ghost use Rattle.cf_plan.specs.Plans.{starts_of};
     ghost use Rattle.cf_plan.specs.Rows.{AreDependents, ArePlanned, planned_of, stages_of};
 
     ghost view = { λ p. planned_of p.rows.items p.sources.items p.limits.items };
 
     ghost invariant = { λ p.
         ArePlanned p.rows.items p.sources.items p.limits.items
-        × AreDependents p.dependents.starts.items p.dependents.block.items (stages_of p.sources.items p.rows.items) };
+        × AreDependents p.dependents.starts.items p.dependents.block.items (stages_of p.sources.items p.rows.items)
+        × (p.starts.items ≡ starts_of (stages_of p.sources.items p.rows.items)) };
 }
 
 impl Plan {
-    /// The plan of these rows, whose dependents are computed.
+    /// The plan of these rows, whose dependents and starts are computed.
     pub(crate) fn of_rows(
         rows: Vec<Row>,
         sources: Vec<u16>,
@@ -46,11 +51,13 @@ impl Plan {
     {
         let alloc = *rows.allocator();
         let dependents = Dependents::new(alloc, &rows, &sources)?;
+        let starts = starts_of(alloc, &rows, &sources)?;
         Ok(Plan {
             rows,
             sources,
             limits,
             dependents,
+            starts,
         })
     }
 
@@ -95,6 +102,16 @@ impl Plan {
         self.dependents.of(i)
     }
 
+    /// The stages that have something to take from the start on, when nothing has settled, in rising order: each supply and
+    /// runAsync, and each allOf without sources.
+    pub fn starts(&self) -> &[u16]
+        ensures starts { result.now ≡ starts_of self.now.stages }
+        ensures below { All (λ k. k < length self.now.stages) result.now }
+        ensures rising { IsRising result.now }
+    {
+        self.starts.as_slice()
+    }
+
     /// The number of stage i's function, if its form has one.
     pub fn function(&self, i: u16) -> Option<u16>
         requires { i < length self.now.stages }
@@ -129,6 +146,7 @@ impl Plan {
             sources: Vec::from_slice(alloc, &self.sources)?,
             limits: Vec::from_slice(alloc, &self.limits)?,
             dependents: self.dependents.copy(alloc)?,
+            starts: Vec::from_slice(alloc, &self.starts)?,
         })
     }
 }

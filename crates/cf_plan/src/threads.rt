@@ -61,6 +61,16 @@ impl Threads {
         };
     }
 
+    /// Empties all lists. It takes no memory.
+    pub(crate) fn clear(&mut self)
+        ensures heads { self.new.heads.items ≡ replicate (length self.old.heads.items) (record { first = 0; count = 0 }) }
+        ensures cells { self.new.cells.items ≡ [] }
+        ensures room { vec_capacity self.new.cells ≡ vec_capacity self.old.cells }
+    {
+        self.heads.fill(Head { first: 0, count: 0 });
+        self.cells.clear();
+    }
+
     /// How many cells are taken.
     pub(crate) fn cells(&self) -> usize
         ensures { result ≡ length self.now.cells.items }

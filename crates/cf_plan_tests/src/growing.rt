@@ -161,3 +161,29 @@ fn as_many_are_attached_as_there_may_be(rt: HostRuntime) -> Result<(), Fail> {
     assert_eq!(rt; plan.edges(), 8_190);
     assert_same(&rt, rt.alloc(), &plan, &builder.build()?)
 }
+
+#[test]
+fn a_restart_takes_out_what_was_attached(rt: HostRuntime) -> Result<(), Fail> {
+    let whole = opening(rt.alloc())?.build()?;
+    let mut plan = with_four(&rt, rt.alloc())?;
+    plan.restart();
+    assert_eq!(rt; plan.room(), 4);
+    assert_same(&rt, rt.alloc(), &plan, &whole)?;
+    for _ in 0..3 {
+        attach(&rt, &mut plan, Form::Supply, Of::None, Some(0));
+        attach(&rt, &mut plan, Form::Combine, Of::Two(1, 3), Some(7));
+        attach(&rt, &mut plan, Form::AllOf, Of::Two(4, 1), None);
+        assert_eq!(rt; plan.room(), 1);
+        assert_eq!(rt; plan.edges(), 5);
+        plan.restart();
+        assert_eq!(rt; plan.room(), 4);
+        assert_same(&rt, rt.alloc(), &plan, &whole)?;
+    }
+    let mut builder = opening(rt.alloc())?;
+    for _ in 0..4 {
+        attach(&rt, &mut plan, Form::AllOf, Of::Two(0, 0), None);
+        builder.stage(Form::AllOf, &[0, 0], None)?;
+    }
+    assert_eq!(rt; plan.room(), 0);
+    assert_same(&rt, rt.alloc(), &plan, &builder.build()?)
+}

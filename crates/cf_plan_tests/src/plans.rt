@@ -410,6 +410,7 @@ fn every_number_of_stages_is_built(rt: HostRuntime) -> Result<(), Fail> {
         let plan = builder.build()?;
         assert_eq!(rt; plan.stages(), stages);
         assert_eq!(rt; plan.edges(), 0);
+        assert_eq!(rt; plan.starts().len(), stages as usize);
         assert_eq!(rt; plan.copy()?.stages(), stages);
     }
     Ok(())
@@ -530,5 +531,72 @@ fn a_refused_growth_can_be_tried_again(rt: HostRuntime) -> Result<(), Fail> {
     assert_eq!(rt; copy.dependents(0), [1u16, 2, 2].as_slice());
     assert_eq!(rt; copy.dependents(1), [2u16].as_slice());
     assert_eq!(rt; copy.limits().len(), 1);
+    Ok(())
+}
+
+/// A plan of three stages with four edges, built with room for them. Once the room is made, none of the stages is refused.
+fn built_with_room(rt: &impl Abort, alloc: Global) -> Result<Plan, PlanFault> {
+    let mut builder = PlanBuilder::with_room(alloc, 3, 4)?;
+    assert_eq!(rt; builder.stages(), 0);
+    assert!(rt; builder.limits().is_empty());
+    assert_eq!(rt; builder.stage(Form::Source, &[], None), Ok(0));
+    assert_eq!(rt; builder.stage(Form::Apply, &[0], Some(4)), Ok(1));
+    assert_eq!(rt; builder.stage(Form::AnyOf, &[0, 1, 0], None), Ok(2));
+    builder.build()
+}
+
+#[test]
+fn stages_within_their_room_take_no_memory(rt: HostRuntime) -> Result<(), Fail> {
+    let plan = match built_with_room(&rt, rt.alloc()) {
+        Ok(plan) => plan,
+        Err(fault) => {
+            assert_eq!(rt; fault, PlanFault::NoMemory);
+            built_with_room(&rt, rt.alloc())?
+        }
+    };
+    assert_eq!(rt; plan.stages(), 3);
+    assert_eq!(rt; plan.edges(), 4);
+    Ok(())
+}
+
+#[test]
+fn room_is_no_bound(rt: HostRuntime) -> Result<(), Fail> {
+    for (stages, edges) in [(0, 0), (1, 1), (u16::MAX, u16::MAX)] {
+        let mut builder = PlanBuilder::with_room(rt.alloc(), stages, edges)?;
+        for i in 0..100u16 {
+            assert_eq!(rt;
+                builder.stage(Form::AllOf, &[0, 0][..(i as usize).min(2)], None),
+                Ok(i)
+            );
+        }
+        assert_eq!(rt; builder.limit(99, 1, LimitKind::Timeout), Ok(()));
+        let plan = builder.build()?;
+        assert_eq!(rt; plan.stages(), 100);
+        assert_eq!(rt; plan.edges(), 197);
+    }
+    Ok(())
+}
+
+#[test]
+fn stages_that_start_are_told(rt: HostRuntime) -> Result<(), Fail> {
+    let mut builder = PlanBuilder::new(rt.alloc());
+    for (form, of, function) in [
+        (Form::Source, [].as_slice(), None),
+        (Form::Supply, [].as_slice(), Some(0)),
+        (Form::AllOf, [].as_slice(), None),
+        (Form::AnyOf, [].as_slice(), None),
+        (Form::Apply, [1u16].as_slice(), Some(1)),
+        (Form::AllOf, [2u16].as_slice(), None),
+        (Form::RunAsync, [].as_slice(), Some(2)),
+        (Form::Source, [].as_slice(), None),
+    ] {
+        builder.stage(form, of, function)?;
+    }
+    let plan = builder.build()?;
+    assert_eq!(rt; plan.starts(), [1u16, 2, 6].as_slice());
+    assert_eq!(rt; plan.copy()?.starts(), [1u16, 2, 6].as_slice());
+    let mut builder = PlanBuilder::new(rt.alloc());
+    builder.stage(Form::Source, &[], None)?;
+    assert!(rt; builder.build()?.starts().is_empty());
     Ok(())
 }
