@@ -1,3 +1,4 @@
+pub mod CellLemmas
 pub mod Dues
 pub mod Turns
 pub mod Settling
@@ -15,6 +16,8 @@ pub mod Places
 pub mod Lowest
 pub mod StartSound
 pub mod GraphLemmas
+pub mod Serving
+pub mod Settled
 pub mod TurnLemmas
 pub mod Attaching
 pub mod AttachSound

@@ -5,6 +5,7 @@ pub mod Shape
 pub mod Growing
 pub mod Firing
 pub mod LowestReady
+pub mod Working
 pub mod Keeping
 pub mod Stable
 pub mod Closed

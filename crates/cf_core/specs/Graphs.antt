@@ -6,9 +6,9 @@ use Rattle.cf_core.specs.States.{State}
 pub record Graph : Type 0 where
   -- the state in which all consequences have come to pass, whether they were worked out yet or not
   pub state : State
-  -- how many turns were taken since the graph was made
+  -- how many turns were taken since the graph was opened, or was last restarted
   pub turns : ℕ
 
--- how many turns a graph of this plan takes at most in its whole life
+-- how many turns a graph of this plan takes at most since its opening, or since its last restart
 abbrev pub most_turns : List PlannedStage → ℕ
 most_turns plan = edges_of plan + length plan

@@ -1,7 +1,7 @@
 -- Laws of how plans grow.
-use Rattle.std.specs.Prelude.{◌≡◌, ◌+◌, ◌++◌, false, length, List, All}
-use Rattle.cf_plan.specs.Plans.{IsGrowing, PlannedStage}
-use Rattle.cf_core.specs.States.{State}
+use Rattle.std.specs.Prelude.{◌≡◌, ℕ, ◌+◌, ◌++◌, false, length, List, All}
+use Rattle.cf_plan.specs.Plans.{IsGrowing, Planned, PlannedStage, reopened, with_room}
+use Rattle.cf_core.specs.States.{State, start}
 use Rattle.cf_core.specs.declared.events.Event.{Event}
 use Rattle.cf_core.specs.Calls.{is_attach}
 use Rattle.cf_core.specs.Events.{state_after}
@@ -34,3 +34,9 @@ OthersKeepShape = (s : State) (events : List Event) → All (λ e. is_attach e �
 -- a plan that is built, and within its bounds with all that there is room for, is so still once it has grown
 abbrev pub GrownAreGrowing : Type 0
 GrownAreGrowing = (s : State) (events : List Event) → IsGrowing s.plan → EventsFit s events → IsGrowing ((state_after s events).plan)
+
+-- a plan that was opened with all its stages, and with room for more, is so again once it is reopened, whatever events came
+abbrev pub GrownReopenAsTheyWere : Type 0
+GrownReopenAsTheyWere =
+    (plan : Planned) (room : ℕ) (events : List Event) →
+    plan.opened ≡ length plan.stages → reopened ((state_after (start (with_room plan room)) events).plan) ≡ with_room plan room

@@ -1,3 +1,4 @@
+pub mod Cells
 pub mod Late
 pub mod Starts
 pub mod Writes
@@ -6,6 +7,7 @@ pub mod Links
 pub mod Sound
 pub mod SoundStages
 pub mod Landings
+pub mod Serving
 pub mod Graphs
 pub mod Turns
 pub mod Attaching

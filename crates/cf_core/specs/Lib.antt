@@ -7,5 +7,6 @@ pub mod Claims
 pub mod Laws
 pub mod Growth
 pub mod Graphs
+pub mod Working
 -- How the code keeps it.
 pub mod Keeping

@@ -5,32 +5,32 @@ ghost use Rattle.cf_plan.specs.Forms.{first_there, follows};
 ghost use Rattle.cf_core.specs.Keeping.Attaching.{attached_kept, takes_now};
 ghost use Rattle.cf_core.specs.Keeping.Late.{dated_in, outcome_part};
 
+use crate::cells::Cells;
 use crate::kept::KeptStage;
-use crate::stages::starts;
 use crate::treat::{all_settled, due_both, joint_outcome, keep, outcome_below};
 use cf_outcome::Outcome;
-use cf_plan::{Args, Due, Form, due_one};
+use cf_plan::{Args, Due, Form, due_one, starts};
 
 /// Whether the stage takes something: it starts by itself, or one of its sources is settled.
-pub fn takes_now(kept: &[KeptStage], form: Form, sources: &[u16]) -> bool
-    requires { All (λ j. j < length kept.now) sources.now }
-    ensures { result ≡ takes_now kept.now form sources.now }
+pub fn takes_now(kept: &Cells, form: Form, sources: &[u16]) -> bool
+    requires { All (λ j. j < length kept.now.items) sources.now }
+    ensures { result ≡ takes_now kept.now.items form sources.now }
 {
     starts(form, sources) || any_settled(kept, sources)
 }
 
 /// What the stage is then, where this is the step of its attaching.
-pub fn attached(kept: &[KeptStage], form: Form, sources: &[u16], step: u32) -> KeptStage
-    requires { All (λ j. j < length kept.now) sources.now }
-    ensures { result ≡ attached_kept kept.now form sources.now step }
+pub fn attached(kept: &Cells, form: Form, sources: &[u16], step: u32) -> KeptStage
+    requires { All (λ j. j < length kept.now.items) sources.now }
+    ensures { result ≡ attached_kept kept.now.items form sources.now step }
 {
     keep(due_now(kept, form, sources), step, 0)
 }
 
 /// What the stage does by what its sources hold.
-fn due_now(kept: &[KeptStage], form: Form, sources: &[u16]) -> Due
-    requires { All (λ j. j < length kept.now) sources.now }
-    ensures { result ≡ follows form (map outcome_part (map (dated_in kept.now) sources.now)) }
+fn due_now(kept: &Cells, form: Form, sources: &[u16]) -> Due
+    requires { All (λ j. j < length kept.now.items) sources.now }
+    ensures { result ≡ follows form (map outcome_part (map (dated_in kept.now.items) sources.now)) }
 {
     match form {
         Form::Source => Due::Waits,
@@ -51,9 +51,9 @@ fn due_now(kept: &[KeptStage], form: Form, sources: &[u16]) -> Due
 }
 
 /// Whether one of these stages is settled.
-fn any_settled(kept: &[KeptStage], sources: &[u16]) -> bool
-    requires { All (λ j. j < length kept.now) sources.now }
-    ensures { result ≡ list_any is_some (map outcome_part (map (dated_in kept.now) sources.now)) }
+fn any_settled(kept: &Cells, sources: &[u16]) -> bool
+    requires { All (λ j. j < length kept.now.items) sources.now }
+    ensures { result ≡ list_any is_some (map outcome_part (map (dated_in kept.now.items) sources.now)) }
 {
     for j in sources {
         if outcome_below(kept, *j).is_some() {
@@ -64,9 +64,9 @@ fn any_settled(kept: &[KeptStage], sources: &[u16]) -> bool
 }
 
 /// The outcome of the first of these stages that is settled.
-fn first_there(kept: &[KeptStage], sources: &[u16]) -> Option<Outcome>
-    requires { All (λ j. j < length kept.now) sources.now }
-    ensures { result ≡ first_there (map outcome_part (map (dated_in kept.now) sources.now)) }
+fn first_there(kept: &Cells, sources: &[u16]) -> Option<Outcome>
+    requires { All (λ j. j < length kept.now.items) sources.now }
+    ensures { result ≡ first_there (map outcome_part (map (dated_in kept.now.items) sources.now)) }
 {
     for j in sources {
         if let Some(o) = outcome_below(kept, *j) {

@@ -3,7 +3,9 @@ mod answering;
 mod attaching;
 mod claims;
 mod limits;
+mod restarting;
 mod settling;
+mod working;
 
 ghost use Rattle.std.specs.Prelude.{◌≡◌, ◌+◌, ◌*◌, ◌<◌, ◌≤◌, ◌↔◌, IfOk, IsTrue, None, length, nat_lt, replicate, vec_capacity};
 ghost use Rattle.cf_outcome.specs.Outcomes.{now_of};
@@ -127,6 +129,9 @@ impl Graph {
         ensures counted { self.old.turns ≤ self.new.turns }
         ensures few { self.new.turns ≤ most_turns self.new.state.plan.stages }
     {
+        if let Some(o) = self.stages.outcome(i) {
+            return Some(o);
+        }
         self.stages.treat_up_to(&self.plan, i);
         self.stages.outcome(i)
     }
@@ -151,7 +156,7 @@ impl Graph {
         self.stages.nudge(&self.plan, k)
     }
 
-    /// How many turns were taken so far, over the graph's whole life.
+    /// How many turns were taken so far, since the graph was opened or was last restarted.
     pub fn turns(&self) -> u64
         ensures told { result ≡ self.now.turns }
         ensures few { result ≤ most_turns self.now.state.plan.stages }

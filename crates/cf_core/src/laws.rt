@@ -1,5 +1,5 @@
 //! Laws of whole runs of events.
-ghost use Rattle.cf_core.specs.Growth.{EventsGrowPlans, GrownAreGrowing, OthersKeepShape};
+ghost use Rattle.cf_core.specs.Growth.{EventsGrowPlans, GrownAreGrowing, GrownReopenAsTheyWere, OthersKeepShape};
 ghost use Rattle.cf_core.specs.Laws.{GrantsLeaveFewer, GrantsOnce, KeepsClosed, KeepsOutcomes, NeverMoreClaimable, NeverReadyAgain, PendingHasNoneSettled, ReachedAreClosed, ReachedLinkLower};
 
 /// A settled stage keeps its outcome, whatever events come.
@@ -41,6 +41,12 @@ pub fn other_events_keep_the_shape()
 /// A plan that grows by stages that fit stays built and within its bounds.
 pub fn grown_plans_are_growing()
     ensures { GrownAreGrowing }
+{}
+
+/// A plan with room is, whatever events came, once more what it was at the opening when it is reopened. So a graph that is
+/// restarted is at its very start.
+pub fn grown_plans_reopen_as_they_were()
+    ensures { GrownReopenAsTheyWere }
 {}
 
 /// A state in which nothing is due any more stays so, whatever events come.

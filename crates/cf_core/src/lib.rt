@@ -4,8 +4,9 @@
 //! with a function isn't run here: it becomes ready, a caller claims it and is handed the arguments, and later finishes it
 //! with the function's answer. In between any other call may settle the stage; the late finish then closes the claim and
 //! changes nothing. Once settled, a stage keeps its outcome. `Graph::answer` does any call, as an `Event`, and
-//! `Graph::tell` answers any question, as an `Ask`. A graph that was opened with room takes more stages by
-//! `Graph::attach`; its plan then has grown. The forms and their rules are those of Java SE 17's
+//! `Graph::tell` answers any question, as an `Ask`. `Graph::work` claims and finishes ready stages until there is none, by
+//! the functions that it is given. A graph that was opened with room takes more stages by `Graph::attach`; its plan then
+//! has grown. The forms and their rules are those of Java SE 17's
 //! `CompletableFuture` and `CompletionStage`.
 //!
 //! # What it means
@@ -41,13 +42,17 @@
 //! the first to settle decides it, is a law (`laws::pending_stages_have_no_settled_source`).
 //!
 //! What bounds the work: each mark comes from an edge of the plan whose source settles, from a link whose target settles,
-//! or from the start, each once. So over a graph's whole life there are at most as many turns as the plan has edges and
-//! stages, which a contract sees as `turns`.
+//! or from the start, each once. So since the opening, or the last restart, there are at most as many turns as the plan has
+//! edges and stages, which a contract sees as `turns`.
 //!
 //! How a stage is attached, where a graph was opened with room: all that waits is treated first, so that what the sources
 //! hold is what they will hold. Then the stage is appended and takes that in one turn, in argument order; one that has
 //! nothing to take stays pending, without a turn. A turn for it and the marks that can still come of it are at most its
 //! edges and itself, so the bound above counts the plan as it has grown.
+//!
+//! How a graph starts again (`Graph::restart`): the attached stages are taken out, the stages of the opening are kept as ones
+//! that were never treated, and sets and lists are emptied, all of it in place. By `laws::grown_plans_reopen_as_they_were`
+//! the graph is then what it was at its opening, with all of its room.
 //!
 //! No call but `Graph::new` and `Graph::new_growing` takes memory: the marks and the ready stages are sets of bits
 //! (`cf_bits`), the stages linked to a stage are a list threaded through arrays (`Links`), so that none is searched for,
@@ -56,6 +61,8 @@
 
 mod asks;
 mod attach;
+mod cell;
+mod cells;
 mod events;
 mod graph;
 mod kept;

@@ -42,6 +42,13 @@ impl Links {
         Ok(Links { heads, next })
     }
 
+    /// Empties all lists.
+    pub fn reset(&mut self)
+        ensures { self.new ≡ replicate (length self.old) [] }
+    {
+        self.heads.fill(Head { first: 0, count: 0 });
+    }
+
     /// Puts a stage that stands in no list at the head of that of `target`.
     pub fn push(&mut self, target: u16, stage: u16)
         requires target { target < length self.old }

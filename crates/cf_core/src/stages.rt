@@ -1,9 +1,10 @@
 //! The stages of a graph, of which some wait for treatment.
 mod attaching;
+mod restarting;
 
-ghost use Rattle.std.specs.Prelude.{◌≡◌, ℕ, ◌+◌, ◌<◌, ◌≤◌, [], All, IfNone, IfOk, IfSome, None, Some, length, option_and_then, position, replicate, slice_get, slice_set, true, vec_capacity, if◌then◌else◌};
+ghost use Rattle.std.specs.Prelude.{◌≡◌, ℕ, ◌+◌, ◌<◌, ◌≤◌, [], All, IfNone, IfOk, IfSome, None, Some, drop, false, length, option_and_then, position, replicate, slice_get, slice_set, true, vec_capacity, if◌then◌else◌};
 ghost use Rattle.cf_plan.specs.declared.forms.Landing.TheVariants.{Links as LinksTo};
-ghost use Rattle.cf_plan.specs.Forms.{composes};
+ghost use Rattle.cf_plan.specs.Forms.{composes, starts};
 ghost use Rattle.cf_plan.specs.Plans.{form_at, sources_at};
 ghost use Rattle.cf_core.specs.declared.stage.Stage.TheVariants.{Claimed, Linked, Pending, Settled};
 ghost use Rattle.cf_core.specs.States.{is_ready, new_states, outcome_in, outcome_of};
@@ -12,23 +13,24 @@ ghost use Rattle.cf_core.specs.Keeping.Links.{list_at};
 ghost use Rattle.cf_core.specs.Keeping.Sound.{AreTreated, ReadyIsTreated, StayTaken, StayTakenBut, is_taken, kept_at, links_after, marks_after};
 ghost use Rattle.cf_core.specs.Keeping.SoundStages.{AreSound, HasRoom, SameRoom, outlook_of};
 ghost use Rattle.cf_core.specs.Keeping.Turns.{TurnsBelowReady, TurnsUpTo, turned};
-ghost use Rattle.cf_core.specs.Keeping.Starts.{mark_starts, starts, untreated};
+ghost use Rattle.cf_core.specs.Keeping.Starts.{mark_starts, mark_those, untreated};
 
+use crate::cells::Cells;
 use crate::kept::KeptStage;
 use crate::links::Links;
-use crate::mark::{is_waiting, mark_each, mark_later, mark_linked};
+use crate::mark::{mark_each, mark_later, mark_linked};
 use crate::stage::Stage;
-use crate::treat::treated;
+use crate::treat::treat;
 use cf_bits::BitSet;
 use cf_outcome::{Outcome, wrap};
-use cf_plan::{Form, GrowingPlan, Landing};
+use cf_plan::{Form, GrowingPlan, Landing, Plan, starts};
 use std::alloc::{AllocError, Global};
 
 /// The stages of a plan: what is kept of each, which of them are marked for treatment, which are ready, which are linked
 /// to each, how many steps settled or linked a stage so far, and how many turns were taken.
 #[derive(Drop)]
 pub struct Stages {
-    kept: Vec<KeptStage>,
+    kept: Cells,
     marks: BitSet,
     ready: BitSet,
     links: Links,
@@ -47,7 +49,7 @@ impl Stages {
     {
         let count = plan.stages();
         let room = plan.room();
-        let kept = untreated(alloc, count, room)?;
+        let kept = Cells::new(alloc, count, room)?;
         let mut marks = BitSet::new(alloc, count)?;
         let ready = BitSet::new(alloc, count)?;
         let links = Links::new(alloc, (count + room) as usize)?;
@@ -81,8 +83,29 @@ impl Stages {
         ensures turns { self.new.turns ≡ self.old.turns }
         ensures room { SameRoom self.old self.new }
     {
-        self.kept[d as usize] = new;
-        match new.stage {
+        self.kept.put(d, new);
+        self.note(plan, d);
+    }
+
+    /// Notes what a stage is that was written: a ready one is among the ready ones, and no other is. One that settled
+    /// marks its dependents and the stages linked to it.
+    #[inline(always)]
+    fn note(&mut self, plan: &GrowingPlan, d: u16)
+        requires stage { d < length plan.now.stages }
+        requires all_kept { length self.old.kept.items ≡ length plan.now.stages }
+        requires all_marks { length self.old.marks ≡ length plan.now.stages }
+        requires all_ready { length self.old.ready ≡ length plan.now.stages }
+        requires all_links { length plan.now.stages ≤ length self.old.links }
+        requires linked { All (λ i. i < length plan.now.stages) (list_at self.old.links d) }
+        ensures kept { self.new.kept ≡ self.old.kept }
+        ensures marks { self.new.marks ≡ marks_after plan.now.stages self.old.kept.items self.old.links self.old.marks d ((kept_at self.old.kept.items d).stage) }
+        ensures ready { self.new.ready ≡ slice_set self.old.ready d (is_ready ((kept_at self.old.kept.items d).stage)) }
+        ensures links { self.new.links ≡ links_after self.old.links d ((kept_at self.old.kept.items d).stage) }
+        ensures steps { self.new.steps ≡ self.old.steps }
+        ensures turns { self.new.turns ≡ self.old.turns }
+        ensures room { SameRoom self.old self.new }
+    {
+        match self.kept.stage(d) {
             Stage::Settled(_) => {
                 self.ready.remove(d);
                 mark_each(&self.kept, &mut self.marks, plan.dependents(d));
@@ -94,12 +117,15 @@ impl Stages {
         }
     }
 
-    /// Treats the lowest marked stage: this is a turn. Nothing else is called a turn.
-    fn turn(&mut self, plan: &GrowingPlan, m: u16)
+    /// Treats the lowest marked stage: this is a turn. Nothing else is called a turn. It says whether the stage is ready
+    /// then.
+    fn turn(&mut self, plan: &GrowingPlan, m: u16) -> bool
         requires sound { AreSound plan.now.stages self.old }
         requires lowest { position (λ b. b) self.old.marks ≡ Some m }
         ensures turned { self.new.kept.items ≡ turned plan.now.stages self.old.kept.items m }
         ensures counted { self.new.turns ≡ self.old.turns + 1 }
+        ensures ready { result ≡ true → self.new.ready ≡ slice_set self.old.ready m true }
+        ensures marks { result ≡ true → self.new.marks ≡ slice_set self.old.marks m false }
         ensures same { outlook_of plan.now.stages self.new ≡ outlook_of plan.now.stages self.old }
         ensures taken { StayTaken self.old.kept.items self.new.kept.items }
         ensures room { SameRoom self.old self.new }
@@ -107,9 +133,12 @@ impl Stages {
     {
         self.marks.remove(m);
         self.turns += 1;
-        if is_waiting(self.stage(m)) {
-            let new = treated(&self.kept, plan.form(m), plan.sources(m), m);
-            self.put(plan, m, new);
+        if self.kept.is_waiting(m) {
+            treat(&mut self.kept, plan.form(m), plan.sources(m), m);
+            self.note(plan, m);
+            self.kept.is_ready(m)
+        } else {
+            false
         }
     }
 
@@ -168,8 +197,11 @@ impl Stages {
         ensures room { SameRoom self.old self.new }
         ensures sound { AreSound plan.now.stages self.new }
     {
+        // A stage that a turn made ready here is the lowest, so it isn't looked for again.
         while let Some(m) = self.marked_below_ready() {
-            self.turn(plan, m);
+            if self.turn(plan, m) {
+                return Some(m);
+            }
         }
         self.ready.lowest()
     }
@@ -204,7 +236,9 @@ impl Stages {
         let mut taken = 0;
         while taken < k {
             match self.marks.lowest() {
-                Some(m) => self.turn(plan, m),
+                Some(m) => {
+                    self.turn(plan, m);
+                }
                 None => return taken,
             }
             taken += 1;
@@ -224,7 +258,7 @@ impl Stages {
         requires { i < length self.now.kept.items }
         ensures { result ≡ (kept_at self.now.kept.items i).stage }
     {
-        self.kept[i as usize].stage
+        self.kept.stage(i)
     }
 
     /// Settles a stage that isn't settled, in a step of its own. No stage up to it waits for treatment.
@@ -265,7 +299,7 @@ impl Stages {
         ensures room { SameRoom self.old self.new }
         ensures sound { AreSound plan.now.stages self.new }
     {
-        let step = self.kept[d as usize].step;
+        let step = self.kept.step(d);
         self.put(
             plan,
             d,
@@ -310,10 +344,7 @@ impl Stages {
         requires { i < length self.now.kept.items }
         ensures { result ≡ outcome_of ((kept_at self.now.kept.items i).stage) }
     {
-        match self.kept[i as usize].stage {
-            Stage::Settled(o) => Some(o),
-            _ => None,
-        }
+        self.kept.outcome(i)
     }
 
     /// The outcome of a stage's first source. No stage up to it waits for treatment.
@@ -353,32 +384,35 @@ impl Stages {
     }
 }
 
-/// So many stages that were never treated, with room for more.
-fn untreated(alloc: Global, count: u16, room: u16) -> Result<Vec<KeptStage>, AllocError>
-    ensures kept { IfOk result (λ kept. kept.items ≡ replicate count untreated) }
-    ensures room { IfOk result (λ kept. count + room ≤ vec_capacity kept) }
-{
-    let mut kept = pending_stages(alloc, count)?;
-    kept.reserve(room as usize)?;
-    Ok(kept)
-}
-
-/// So many pending stages.
-fn pending_stages(alloc: Global, count: u16) -> Result<Vec<KeptStage>, AllocError>
-    ensures { IfOk result (λ kept. kept.items ≡ replicate count untreated) }
-{
-    vec![in alloc; KeptStage {
-        stage: Stage::Pending,
-        step: 0
-    }; count as usize]
-}
-
 /// Marks the stages that have something to take from the start on.
-fn mark_starts(plan: &GrowingPlan, marks: &mut BitSet)
+pub fn mark_starts(plan: &GrowingPlan, marks: &mut BitSet)
     requires { length marks.old ≡ length plan.now.stages }
     ensures { marks.new ≡ mark_starts 0 plan.now.stages marks.old }
 {
-    for i in 0..plan.stages() {
+    // Those of the opening were found once, when its plan was built.
+    let opening = plan.opening();
+    mark_those(opening.starts(), marks);
+    mark_attached(plan, opening.stages(), marks);
+}
+
+/// Marks these stages.
+fn mark_those(stages: &[u16], marks: &mut BitSet)
+    requires { All (λ i. i < length marks.old) stages.now }
+    ensures marks { marks.new ≡ mark_those stages.now marks.old }
+    ensures all { length marks.new ≡ length marks.old }
+{
+    for i in stages {
+        marks.insert(*i);
+    }
+}
+
+/// Marks those from stage `first` on.
+fn mark_attached(plan: &GrowingPlan, first: u16, marks: &mut BitSet)
+    requires first { first ≤ length plan.now.stages }
+    requires all { length marks.old ≡ length plan.now.stages }
+    ensures { marks.new ≡ mark_starts first (drop first plan.now.stages) marks.old }
+{
+    for i in first..plan.stages() {
         mark_start(plan.form(i), plan.sources(i), marks, i);
     }
 }
@@ -390,16 +424,5 @@ fn mark_start(form: Form, sources: &[u16], marks: &mut BitSet, i: u16)
 {
     if starts(form, sources) {
         marks.insert(i);
-    }
-}
-
-/// Whether a stage has something to take from the start on.
-pub fn starts(form: Form, sources: &[u16]) -> bool
-    ensures { result ≡ starts form sources.now }
-{
-    match form {
-        Form::Supply | Form::RunAsync => true,
-        Form::AllOf => sources.is_empty(),
-        _ => false,
     }
 }

@@ -1,90 +1,140 @@
-//! The treatment of one stage: what it takes from what the stages below it have, and at which step.
-ghost use Rattle.std.specs.Prelude.{◌≡◌, ℕ, ◌<◌, ◌∷◌, [], All, Option, is_some, length, map};
+//! The treatment of one stage: it takes what the stages below it have, and keeps at which step.
+ghost use Rattle.std.specs.Prelude.{◌≡◌, ℕ, ◌<◌, ◌∷◌, [], All, Option, is_some, length, map, slice_set};
 ghost use Rattle.std.specs.List.{list_all};
 ghost use Rattle.cf_plan.specs.Forms.{first_fault, due_of_both};
-ghost use Rattle.cf_core.specs.States.{outcome_of};
+ghost use Rattle.cf_core.specs.declared.stage.Stage.TheVariants.{Linked, Pending};
+ghost use Rattle.cf_core.specs.Laws.{is_decided_by_first};
 ghost use Rattle.cf_core.specs.Keeping.Sound.{kept_at};
 ghost use Rattle.cf_core.specs.Keeping.Late.{dated_in, due_kept, earlier, earliest, late_due, latest, linked_kept, outcome_part, treated};
 
+use crate::cells::Cells;
 use crate::kept::KeptStage;
 use crate::stage::Stage;
 use cf_outcome::{Outcome, Value, is_exceptional, wrap};
 use cf_plan::{Args, Due, Form, due_one, due_two};
 
-/// What becomes of stage `m` when it is treated, by its form and its sources.
-pub fn treated(kept: &[KeptStage], form: Form, sources: &[u16], m: u16) -> KeptStage
-    requires stage { m < length kept.now }
-    requires sources { All (λ j. j < length kept.now) sources.now }
-    ensures { (function : Option ℕ) → result ≡ treated kept.now (record { form = form; sources = sources.now; function = function }) (kept_at kept.now m) }
+/// Treats stage `m`, which waits, by its form and its sources, and writes what becomes of it part by part.
+#[inline(always)]
+pub fn treat(kept: &mut Cells, form: Form, sources: &[u16], m: u16)
+    requires stage { m < length kept.old.items }
+    requires sources { All (λ j. j < length kept.old.items) sources.now }
+    ensures kept { (function : Option ℕ) → kept.new.items ≡ slice_set kept.old.items m (treated kept.old.items (record { form = form; sources = sources.now; function = function }) (kept_at kept.old.items m)) }
+    ensures room { kept.new.capacity ≡ kept.old.capacity }
 {
-    let k = &kept[m as usize];
-    match k.stage {
-        Stage::Pending => due(kept, form, sources, k.step),
-        Stage::Linked(j) => linked(kept, j, k.step),
-        _ => *k,
+    match kept.stage(m) {
+        Stage::Pending => take_due(kept, form, sources, m),
+        Stage::Linked(j) => take_linked(kept, j, m),
+        _ => {}
     }
 }
 
 /// The outcome of a settled stage, with the step at which it settled.
-fn dated(kept: &[KeptStage], j: u16) -> Option<(Outcome, u32)>
-    requires { j < length kept.now }
-    ensures { result ≡ dated_in kept.now j }
+#[inline(always)]
+fn dated(kept: &Cells, j: u16) -> Option<(Outcome, u32)>
+    requires { j < length kept.now.items }
+    ensures { result ≡ dated_in kept.now.items j }
 {
-    let k = kept[j as usize];
-    match k.stage {
-        Stage::Settled(o) => Some((o, k.step)),
-        _ => None,
+    match kept.outcome(j) {
+        Some(o) => Some((o, kept.step(j))),
+        None => None,
     }
 }
 
-/// What becomes of a stage that is linked to a stage below.
-fn linked(kept: &[KeptStage], j: u16, step: u32) -> KeptStage
-    ensures { result ≡ linked_kept j step (dated_in kept.now j) }
+/// The outcome of a settled stage with its step, if there is such a stage.
+fn dated_if(kept: &Cells, j: u16) -> Option<(Outcome, u32)>
+    ensures { result ≡ dated_in kept.now.items j }
 {
-    match kept.get(j as usize) {
-        Some(
-            KeptStage {
-                stage: Stage::Settled(o),
-                step: settled,
-            },
-        ) => KeptStage {
-            stage: Stage::Settled(wrap(*o)),
-            step: step.max(*settled),
-        },
-        _ => KeptStage {
-            stage: Stage::Linked(j),
-            step,
-        },
+    if (j as usize) < kept.len() {
+        dated(kept, j)
+    } else {
+        None
     }
 }
 
-/// What becomes of a pending stage.
-fn due(kept: &[KeptStage], form: Form, sources: &[u16], step: u32) -> KeptStage
-    requires { All (λ j. j < length kept.now) sources.now }
-    ensures { let due = late_due form (map (dated_in kept.now) sources.now) in result ≡ due_kept due.0 due.1 step }
+/// Lets a stage that is linked to a stage below take what that one has.
+fn take_linked(kept: &mut Cells, j: u16, m: u16)
+    requires stage { m < length kept.old.items }
+    requires linked { (kept_at kept.old.items m).stage ≡ Linked j }
+    ensures kept { kept.new.items ≡ slice_set kept.old.items m (linked_kept j (kept_at kept.old.items m).step (dated_in kept.old.items j)) }
+    ensures room { kept.new.capacity ≡ kept.old.capacity }
 {
-    match form {
-        Form::Source => keep(Due::Waits, 0, step),
-        Form::Supply | Form::RunAsync => keep(Due::Needs(Args::None), 0, step),
-        Form::Combine | Form::AcceptBoth | Form::RunBoth => {
-            match due_both(kept, form, sources) {
-                Due::Settles(o) => keep(Due::Settles(o), latest(kept, sources), step),
-                Due::Needs(args) => keep(Due::Needs(args), 0, step),
-                Due::Waits => keep(Due::Waits, 0, step),
-            }
+    if let Some((o, settled)) = dated_if(kept, j) {
+        let step = kept.step(m).max(settled);
+        kept.settle(m, wrap(o), step);
+    }
+}
+
+/// Lets a pending stage take what its sources have.
+#[inline(always)]
+fn take_due(kept: &mut Cells, form: Form, sources: &[u16], m: u16)
+    requires stage { m < length kept.old.items }
+    requires sources { All (λ j. j < length kept.old.items) sources.now }
+    requires pending { (kept_at kept.old.items m).stage ≡ Pending }
+    ensures kept { let due = late_due form (map (dated_in kept.old.items) sources.now) in kept.new.items ≡ slice_set kept.old.items m (due_kept due.0 due.1 (kept_at kept.old.items m).step) }
+    ensures room { kept.new.capacity ≡ kept.old.capacity }
+{
+    if let [j] = sources {
+        if waits_for_one(form) {
+            kept.take_one(form, *j, m);
+            return;
         }
+    }
+    match form {
+        Form::Source => take(kept, Due::Waits, 0, m),
+        Form::Supply | Form::RunAsync => take(kept, Due::Needs(Args::None), 0, m),
+        Form::Combine | Form::AcceptBoth | Form::RunBoth => match due_both(kept, form, sources) {
+            Due::Settles(o) => {
+                let at = latest(kept, sources);
+                take(kept, Due::Settles(o), at, m);
+            }
+            Due::Needs(args) => take(kept, Due::Needs(args), 0, m),
+            Due::Waits => take(kept, Due::Waits, 0, m),
+        },
         Form::AllOf => {
             if all_settled(kept, sources) {
                 let due = Due::Settles(joint_outcome(kept, sources));
-                keep(due, latest(kept, sources), step)
+                let at = latest(kept, sources);
+                take(kept, due, at, m);
             } else {
-                keep(Due::Waits, 0, step)
+                take(kept, Due::Waits, 0, m);
             }
         }
         _ => match earliest(kept, sources) {
-            None => keep(Due::Waits, 0, step),
-            Some((o, at)) => keep(due_one(form, o), at, step),
+            None => take(kept, Due::Waits, 0, m),
+            Some((o, at)) => take(kept, due_one(form, o), at, m),
         },
+    }
+}
+
+/// Whether a form takes what its first source to settle has.
+#[inline(always)]
+fn waits_for_one(form: Form) -> bool
+    ensures { result ≡ is_decided_by_first form }
+{
+    match form {
+        Form::Source
+        | Form::Supply
+        | Form::RunAsync
+        | Form::Combine
+        | Form::AcceptBoth
+        | Form::RunBoth
+        | Form::AllOf => false,
+        _ => true,
+    }
+}
+
+/// Lets a pending stage take what is due, where this is the step at which it settles.
+#[inline(always)]
+fn take(kept: &mut Cells, due: Due, at: u32, m: u16)
+    requires stage { m < length kept.old.items }
+    requires pending { (kept_at kept.old.items m).stage ≡ Pending }
+    ensures kept { kept.new.items ≡ slice_set kept.old.items m (due_kept due at (kept_at kept.old.items m).step) }
+    ensures room { kept.new.capacity ≡ kept.old.capacity }
+{
+    match due {
+        Due::Waits => {}
+        Due::Settles(o) => kept.settle(m, o, at),
+        Due::Needs(args) => kept.make_ready(m, args),
     }
 }
 
@@ -120,9 +170,9 @@ fn earlier(x: Option<(Outcome, u32)>, y: Option<(Outcome, u32)>) -> Option<(Outc
 }
 
 /// The source that settled first. Most forms have one.
-fn earliest(kept: &[KeptStage], sources: &[u16]) -> Option<(Outcome, u32)>
-    requires { All (λ j. j < length kept.now) sources.now }
-    ensures { result ≡ earliest (map (dated_in kept.now) sources.now) }
+fn earliest(kept: &Cells, sources: &[u16]) -> Option<(Outcome, u32)>
+    requires { All (λ j. j < length kept.now.items) sources.now }
+    ensures { result ≡ earliest (map (dated_in kept.now.items) sources.now) }
 {
     if let [j] = sources {
         return dated(kept, *j);
@@ -135,9 +185,9 @@ fn earliest(kept: &[KeptStage], sources: &[u16]) -> Option<(Outcome, u32)>
 }
 
 /// The greatest step of the sources.
-fn latest(kept: &[KeptStage], sources: &[u16]) -> u32
-    requires { All (λ j. j < length kept.now) sources.now }
-    ensures { result ≡ latest (map (dated_in kept.now) sources.now) }
+fn latest(kept: &Cells, sources: &[u16]) -> u32
+    requires { All (λ j. j < length kept.now.items) sources.now }
+    ensures { result ≡ latest (map (dated_in kept.now.items) sources.now) }
 {
     let mut last = 0;
     for j in sources {
@@ -149,20 +199,17 @@ fn latest(kept: &[KeptStage], sources: &[u16]) -> u32
 }
 
 /// The outcome of a source.
-pub fn outcome_below(kept: &[KeptStage], j: u16) -> Option<Outcome>
-    requires { j < length kept.now }
-    ensures { result ≡ outcome_part (dated_in kept.now j) }
+pub fn outcome_below(kept: &Cells, j: u16) -> Option<Outcome>
+    requires { j < length kept.now.items }
+    ensures { result ≡ outcome_part (dated_in kept.now.items j) }
 {
-    match kept[j as usize].stage {
-        Stage::Settled(o) => Some(o),
-        _ => None,
-    }
+    kept.outcome(j)
 }
 
 /// What a form of two sources that waits for both does.
-pub fn due_both(kept: &[KeptStage], form: Form, sources: &[u16]) -> Due
-    requires { All (λ j. j < length kept.now) sources.now }
-    ensures { result ≡ due_of_both form (map outcome_part (map (dated_in kept.now) sources.now)) }
+pub fn due_both(kept: &Cells, form: Form, sources: &[u16]) -> Due
+    requires { All (λ j. j < length kept.now.items) sources.now }
+    ensures { result ≡ due_of_both form (map outcome_part (map (dated_in kept.now.items) sources.now)) }
 {
     if let [a, b] = sources {
         let first = outcome_below(kept, *a);
@@ -184,9 +231,9 @@ fn due_if_both(form: Form, first: Option<Outcome>, second: Option<Outcome>) -> D
 }
 
 /// Whether all sources are settled.
-pub fn all_settled(kept: &[KeptStage], sources: &[u16]) -> bool
-    requires { All (λ j. j < length kept.now) sources.now }
-    ensures { result ≡ list_all is_some (map outcome_part (map (dated_in kept.now) sources.now)) }
+pub fn all_settled(kept: &Cells, sources: &[u16]) -> bool
+    requires { All (λ j. j < length kept.now.items) sources.now }
+    ensures { result ≡ list_all is_some (map outcome_part (map (dated_in kept.now.items) sources.now)) }
 {
     for j in sources {
         if outcome_below(kept, *j).is_none() {
@@ -197,9 +244,9 @@ pub fn all_settled(kept: &[KeptStage], sources: &[u16]) -> bool
 }
 
 /// The fault at the lowest place, wrapped, or nil where none has failed.
-pub fn joint_outcome(kept: &[KeptStage], sources: &[u16]) -> Outcome
-    requires { All (λ j. j < length kept.now) sources.now }
-    ensures { result ≡ first_fault (map outcome_part (map (dated_in kept.now) sources.now)) }
+pub fn joint_outcome(kept: &Cells, sources: &[u16]) -> Outcome
+    requires { All (λ j. j < length kept.now.items) sources.now }
+    ensures { result ≡ first_fault (map outcome_part (map (dated_in kept.now.items) sources.now)) }
 {
     for j in sources {
         if let Some(o) = outcome_below(kept, *j) {

@@ -12,7 +12,12 @@ use std::process::Abort;
 use std::test::Fail;
 
 /// The graph of a plan, with room for so many stages.
-fn with_room(rt: &impl Abort, alloc: Global, plan: Plan, room: u16) -> Result<Graph, Fail> {
+pub(crate) fn with_room(
+    rt: &impl Abort,
+    alloc: Global,
+    plan: Plan,
+    room: u16,
+) -> Result<Graph, Fail> {
     assert!(rt; room <= 16 && plan.stages() <= 4080 && plan.edges() <= 16352);
     Ok(Graph::new_growing(alloc, plan, room)?)
 }
@@ -36,7 +41,7 @@ fn are_there(graph: &Graph, of: Of) -> bool
     }
 }
 
-fn attach(
+pub(crate) fn attach(
     rt: &impl Abort,
     graph: &mut Graph,
     form: Form,

@@ -6,3 +6,7 @@
 mod attaching;
 #[cfg(test)]
 mod graphs;
+#[cfg(test)]
+mod restarting;
+#[cfg(test)]
+mod working;

@@ -139,17 +139,16 @@ none_listed next heads t head l e none = ap (λ xs. slice_get xs 0) (list_at-hea
 
 -- ---- at first
 
-pub lists_of-empty : (n m : ℕ) → lists_of (replicate n 0) (replicate m (record { first = 0; count = 0 })) ≡ replicate m []
-lists_of-empty n zero = refl
-lists_of-empty n (suc m) = ap (λ r. [] ∷ r) (lists_of-empty n m)
+pub lists_of-empty : (next : List ℕ) (n : ℕ) → lists_of next (replicate n (record { first = 0; count = 0 })) ≡ replicate n []
+lists_of-empty next zero = refl
+lists_of-empty next (suc n) = ap (λ r. [] ∷ r) (lists_of-empty next n)
 
-pub AreLinks-empty : (n : ℕ) → AreLinks (replicate n 0) (replicate n (record { first = 0; count = 0 }))
-AreLinks-empty n =
-    let zeros : List ℕ = replicate n 0 in
+pub AreLinks-empty : (next : List ℕ) (n : ℕ) → n ≡ length next → AreLinks next (replicate n (record { first = 0; count = 0 }))
+AreLinks-empty next n all =
     let head : Head = record { first = 0; count = 0 } in
-    let P : List ℕ → Type 0 = λ stages. All (λ i. i < length zeros) stages in
+    let P : List ℕ → Type 0 = λ stages. All (λ i. i < length next) stages in
     let Q : List (List ℕ) → Type 0 = λ lists. All P lists in
     record {
-      all_heads = length-replicate n head ∙ sym (length-replicate {A = ℕ} n 0);
-      within = subst Q (sym (lists_of-empty n n)) (All-replicate P n [] (none_below (length zeros)));
+      all_heads = length-replicate n head ∙ all;
+      within = subst Q (sym (lists_of-empty next n)) (All-replicate P n [] (none_below (length next)));
     }

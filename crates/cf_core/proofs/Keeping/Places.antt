@@ -13,7 +13,8 @@ use Rattle.cf_core.specs.States.{is_ready, outcome_of}
 use Rattle.cf_core.specs.declared.kept.KeptStage.{KeptStage}
 use Rattle.cf_core.specs.Keeping.Late.{dated_in, dated_of, treated, treated_by}
 use Rattle.cf_core.specs.Keeping.Turns.{planned_at, turned}
-use Rattle.std.proofs.lemmas.List.{set-get_or}
+use Rattle.std.proofs.lemmas.List.{length-set, set-get_or}
+use Rattle.cf_bits.proofs.Positions.{position_is}
 use Rattle.cf_core.specs.Keeping.Sound.{AreTreated, IsSound, StayTaken, StayTakenBut, is_taken, is_waiting, kept_at, links_after, marks_after, outlook}
 use Rattle.cf_core.proofs.Keeping.Marking.{get-set_same, get-set_other}
 use Rattle.cf_core.proofs.Keeping.Sums.{kept_is, kept_there}
@@ -25,14 +26,14 @@ planned_there [] i l = absurd (omega arith)
 planned_there (p ∷ plan) zero l = refl
 planned_there (p ∷ plan) (suc i) l = planned_there plan i (omega arith)
 
--- a stage that was read
-pub kept_read : (kept : List KeptStage) (i : ℕ) (k : KeptStage) → i < length kept → k ≡ get_or kept i k → kept_at kept i ≡ k
-kept_read kept i k l e = kept_is kept i k (slice_get-get_or kept i k l ∙ ap (λ x. Some x) (sym e))
-
 kept_as_read : (kept : List KeptStage) (i : ℕ) → i < length kept → kept_at kept i ≡ get_or kept i (kept_at kept i)
 kept_as_read kept i l = kept_is kept i (get_or kept i (kept_at kept i)) (slice_get-get_or kept i (kept_at kept i) l)
 
-treated_idle : (below : List KeptStage) (p : PlannedStage) (k : KeptStage) → is_waiting k.stage ≡ false → treated below p k ≡ k
+-- to write what is there changes nothing
+pub same_put : (kept : List KeptStage) (i : ℕ) (k : KeptStage) → i < length kept → kept_at kept i ≡ k → set kept i k ≡ kept
+same_put kept i k l e = ap (set kept i) (sym e ∙ kept_as_read kept i l) ∙ set-get_or kept i (kept_at kept i)
+
+pub treated_idle : (below : List KeptStage) (p : PlannedStage) (k : KeptStage) → is_waiting k.stage ≡ false → treated below p k ≡ k
 treated_idle below p k idle = by_stage k.stage k.step idle
   where
     by_stage : (stage : Stage) (step : ℕ) → is_waiting stage ≡ false → treated_by below p stage step ≡ record { stage = stage; step = step }
@@ -41,6 +42,18 @@ treated_idle below p k idle = by_stage k.stage k.step idle
     by_stage (Ready args) step e = refl
     by_stage Claimed step e = refl
     by_stage (Settled o) step e = refl
+
+-- a stage that is neither pending nor linked doesn't wait
+pub idle_stage : (stage : Stage) → (stage ≡ Pending → ⊥) → ((j : ℕ) → stage ≡ Linked j → ⊥) → is_waiting stage ≡ false
+idle_stage Pending e f = absurd (e refl)
+idle_stage (Linked j) e f = absurd (f j refl)
+idle_stage (Ready args) e f = refl
+idle_stage Claimed e f = refl
+idle_stage (Settled o) e f = refl
+
+-- a stage that was written is there
+pub kept_put : (kept : List KeptStage) (d : ℕ) (new : KeptStage) → d < length kept → kept_at (set kept d new) d ≡ new
+kept_put kept d new l = kept_is (set kept d new) d new (get-set_same kept d new l)
 
 -- ---- the lowest mark
 
@@ -124,3 +137,27 @@ pub StayTakenBut-set : (kept : List KeptStage) (d : ℕ) (new : KeptStage) → S
 StayTakenBut-set kept d new i ne b =
     let is : kept_at (set kept d new) i ≡ kept_at kept i = ap (λ x. unwrap_or x (record { stage = Pending; step = 0 })) (get-set_other kept d i new ne) in
     ap (λ (k : KeptStage). is_taken k.stage) is ∙ b
+
+-- ---- a stage that a turn has made ready
+
+pub ready_marks : (plan : List PlannedStage) (kept : List KeptStage) (links : List (List ℕ)) (marks : List Bool) (d : ℕ) (stage : Stage) → is_ready stage ≡ true → marks_after plan kept links marks d stage ≡ marks
+ready_marks plan kept links marks d (Ready args) e = refl
+ready_marks plan kept links marks d Pending e = cc
+ready_marks plan kept links marks d Claimed e = cc
+ready_marks plan kept links marks d (Linked j) e = cc
+ready_marks plan kept links marks d (Settled o) e = cc
+
+read_as : (xs : List Bool) (i : ℕ) (b : Bool) → i < length xs → slice_get xs i ≡ Some b → get_or xs i false ≡ b
+read_as xs i b l e = let is : Some (get_or xs i false) ≡ Some b = sym (slice_get-get_or xs i false l) ∙ e in cc
+
+-- where none below a place is in, the one that is put in there is the first
+pub first_put : (ready : List Bool) (m : ℕ) → m < length ready → AreTreated m ready → position (λ b. b) (set ready m true) ≡ Some m
+first_put ready m l h =
+    let same = length-set ready m true in
+    position_is (λ b. b) (set ready m true) m false (omega (arith, l, same))
+    (λ j b. read_as (set ready m true) j false (omega (arith, l, same, b)) (get-set_other ready m j true (λ e. absurd (omega (arith, e, b))) ∙ h j b))
+    (read_as (set ready m true) m true (omega (arith, l, same)) (get-set_same ready m true l))
+
+-- to take one out leaves those below it
+pub treated_out : (marks : List Bool) (m : ℕ) → AreTreated m marks → AreTreated m (set marks m false)
+treated_out marks m h i l = get-set_other marks m i false (λ e. absurd (omega (arith, e, l))) ∙ h i l

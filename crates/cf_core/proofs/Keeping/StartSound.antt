@@ -1,9 +1,9 @@
 -- What is true between calls is true at the start.
-use Rattle.std.proofs.Common.{◌≡◌, ℕ, ◌+◌, ◌*◌, ◌<◌, ◌≤◌, ◌∷◌, [], List, All, Bool, true, false, cond, Option, Some, None, length, suc, zero, arith, ap, sym, ◌∙◌, refl, map, set, drop, get_or, replicate, add-one}
-use Rattle.std.specs.Prelude.{slice_get, count_by}
+use Rattle.std.proofs.Common.{◌≡◌, ℕ, ◌+◌, ◌*◌, ◌<◌, ◌≤◌, ◌∷◌, ◌++◌, [], List, All, Bool, true, false, cond, Option, Some, None, length, suc, zero, arith, ap, sym, ◌∙◌, refl, map, set, drop, get_or, take, replicate, add-one}
+use Rattle.std.specs.Prelude.{slice_get, count_by, if◌then◌else◌}
 use Rattle.std.specs.List.{range_with_len, sum_by}
 use Rattle.std.proofs.Math.Seq.{drop-cons}
-use Rattle.std.proofs.lemmas.List.{length-replicate}
+use Rattle.std.proofs.lemmas.List.{length-replicate, length-take}
 use Rattle.std.proofs.lemmas.List.Elements.{All-nil, All-replicate}
 use Rattle.std.proofs.lemmas.List.Sums.{sum_by-cons}
 use Rattle.cf_outcome.specs.declared.outcome.Outcome.{Outcome}
@@ -11,15 +11,15 @@ use Rattle.cf_plan.specs.declared.forms.Form.{Form}
 use Rattle.cf_plan.specs.declared.forms.Form.TheVariants.{Source, Supply, RunAsync, Apply, Accept, ThenRun, Combine, AcceptBoth, RunBoth, ApplyEither, AcceptEither, RunEither, Compose, Handle, WhenComplete, Exceptionally, AllOf, AnyOf, ExceptionallyCompose}
 use Rattle.cf_plan.specs.declared.forms.Due.{Due}
 use Rattle.cf_plan.specs.declared.forms.Due.TheVariants.{Waits}
-use Rattle.cf_plan.specs.Forms.{due_of_both, due_of_first}
-use Rattle.cf_plan.specs.Plans.{PlannedStage, HasLowerSources, dependents_of, edges_of, form_at, sources_at}
+use Rattle.cf_plan.specs.Forms.{due_of_both, due_of_first, starts}
+use Rattle.cf_plan.specs.Plans.{starts_from, starts_of, PlannedStage, HasLowerSources, dependents_of, edges_of, form_at, sources_at}
 use Rattle.cf_plan.proofs.DependentLemmas.{all_dependents}
 use Rattle.cf_core.specs.States.{is_ready}
 use Rattle.cf_core.proofs.StateLemmas.{form_at-within, sources_at-within}
 use Rattle.cf_core.specs.declared.kept.KeptStage.{KeptStage}
 use Rattle.cf_core.specs.Keeping.Late.{StepsUpTo, dated_in, due_kept, earliest, late_due, outcome_part, treated}
 use Rattle.cf_core.specs.Keeping.Sound.{IsSound, is_bound, kept_at, link_marks, marks_from, steps_of}
-use Rattle.cf_core.specs.Keeping.Starts.{mark_starts, starts, untreated}
+use Rattle.cf_core.specs.Keeping.Starts.{mark_starts, mark_those, untreated}
 use Rattle.cf_core.proofs.Keeping.Marking.{count-set_true, get-set_same, get-set_other, length-mark_one}
 
 -- ---- what isn't marked waits
@@ -214,3 +214,42 @@ mark_starts-step plan i marks l =
     let none : PlannedStage = record { form = Source; sources = []; function = None } in
     let rest : drop i plan ≡ get_or plan i none ∷ drop (i + 1) plan = drop-cons plan i none l ∙ ap (λ n. get_or plan i none ∷ drop n plan) (sym (add-one i)) in
     rw (form_at-within plan i none l, sources_at-within plan i none l, rest) refl
+
+by_start : (b : Bool) (i : ℕ) (plan : List PlannedStage) (marks : List Bool) →
+    ((m : List Bool) → mark_those (starts_from (i + 1) plan) m ≡ mark_starts (i + 1) plan m) →
+    mark_those (if b then i ∷ starts_from (i + 1) plan else starts_from (i + 1) plan) marks ≡ mark_starts (i + 1) plan (if b then set marks i true else marks)
+by_start true i plan marks rest = rest (set marks i true)
+by_start false i plan marks rest = rest marks
+
+-- to mark those that start is to mark each where it starts
+pub mark_those-starts : (i : ℕ) (plan : List PlannedStage) (marks : List Bool) → mark_those (starts_from i plan) marks ≡ mark_starts i plan marks
+mark_those-starts i [] marks = refl
+mark_those-starts i (p ∷ plan) marks = by_start (starts p.form p.sources) i plan marks (λ m. mark_those-starts (i + 1) plan m)
+
+-- some stages are marked, and then those behind them
+pub mark_starts-both : (i : ℕ) (plan more : List PlannedStage) (marks : List Bool) →
+    mark_starts i (plan ++ more) marks ≡ mark_starts (i + length plan) more (mark_starts i plan marks)
+mark_starts-both i [] more marks = let same : i + 0 ≡ i = omega arith in rw same refl
+mark_starts-both i (p ∷ plan) more marks =
+    let same : i + 1 + length plan ≡ i + length (p ∷ plan) = omega arith in
+    mark_starts-both (i + 1) plan more (if starts p.form p.sources then set marks i true else marks)
+    ∙ ap (λ n. mark_starts n more (mark_starts i (p ∷ plan) marks)) same
+
+-- the first so many of a list, and those behind them
+pub first_and_rest : {A : Type 0} (n : ℕ) (xs : List A) → take n xs ++ drop (length (take n xs)) xs ≡ xs
+first_and_rest zero xs = refl
+first_and_rest (suc n) [] = refl
+first_and_rest (suc n) (x ∷ xs) = ap (λ l. x ∷ l) (first_and_rest n xs)
+
+from_none : (n : ℕ) → n ≡ 0 + n
+from_none n = omega arith
+
+-- those of the opening are marked, and then those behind them
+pub mark_starts-opened : (n : ℕ) (opened plan : List PlannedStage) (marks : List Bool) → opened ≡ take n plan →
+    mark_starts (length opened) (drop (length opened) plan) (mark_those (starts_of opened) marks) ≡ mark_starts 0 plan marks
+mark_starts-opened n opened plan marks is =
+    ap (mark_starts (length opened) (drop (length opened) plan)) (mark_those-starts 0 opened marks)
+    ∙ rw is (ap (λ k. mark_starts k (drop (length (take n plan)) plan) (mark_starts 0 (take n plan) marks)) (from_none (length (take n plan))) ∙ sym (mark_starts-both 0 (take n plan) (drop (length (take n plan)) plan) marks) ∙ ap (λ l. mark_starts 0 l marks) (first_and_rest n plan))
+
+pub opened_within : (n : ℕ) (opened plan : List PlannedStage) → opened ≡ take n plan → length opened ≤ length plan
+opened_within n opened plan is = let e = ap length is ∙ length-take n plan in omega (arith, e)

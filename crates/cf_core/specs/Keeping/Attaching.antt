@@ -3,7 +3,7 @@ use Rattle.std.specs.Prelude.{◌≡◌, ℕ, ◌+◌, Bool, ◌||◌, is_some, 
 use Rattle.std.specs.List.{list_any}
 use Rattle.cf_plan.specs.declared.forms.Due.{Due}
 use Rattle.cf_plan.specs.declared.forms.Form.{Form}
-use Rattle.cf_plan.specs.Forms.{follows}
+use Rattle.cf_plan.specs.Forms.{follows, starts}
 use Rattle.cf_plan.specs.Plans.{PlannedStage}
 use Rattle.cf_core.specs.declared.stage.Stage.{Stage}
 use Rattle.cf_core.specs.declared.stage.Stage.TheVariants.{Pending, Settled}
@@ -11,7 +11,6 @@ use Rattle.cf_core.specs.States.{new_states}
 use Rattle.cf_core.specs.declared.kept.KeptStage.{KeptStage}
 use Rattle.cf_core.specs.Keeping.Late.{all_treated, dated_in, due_kept, outcome_part}
 use Rattle.cf_core.specs.Keeping.Sound.{kept_at, outlook}
-use Rattle.cf_core.specs.Keeping.Starts.{starts}
 
 -- what a stage does by what its sources have now, in argument order
 abbrev pub due_now : List KeptStage → Form → List ℕ → Due

@@ -1,5 +1,5 @@
 -- The stages of a graph, as contracts speak of them.
-use Rattle.std.specs.Prelude.{◌≡◌, ◌≤◌, ℕ, List, length, vec_capacity}
+use Rattle.std.specs.Prelude.{◌≡◌, ◌≤◌, ℕ, List, length}
 use Rattle.cf_plan.specs.Plans.{PlannedStage}
 use Rattle.cf_core.specs.declared.stage.Stage.{Stage}
 use Rattle.cf_core.specs.declared.stages.Stages.{Stages}
@@ -15,8 +15,8 @@ outlook_of plan s = outlook plan s.kept.items
 
 -- there is room for so many stages
 abbrev pub HasRoom : ℕ → Stages → Type 0
-HasRoom most s = (most ≤ vec_capacity s.kept) × (most ≤ length s.links)
+HasRoom most s = (most ≤ s.kept.capacity) × (most ≤ length s.links)
 
 -- the room that was made for stages stays
 abbrev pub SameRoom : Stages → Stages → Type 0
-SameRoom old new = (vec_capacity new.kept ≡ vec_capacity old.kept) × (length new.links ≡ length old.links)
+SameRoom old new = (new.kept.capacity ≡ old.kept.capacity) × (length new.links ≡ length old.links)

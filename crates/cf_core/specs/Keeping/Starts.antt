@@ -1,7 +1,6 @@
 -- Stages at the start, where nothing has settled yet.
-use Rattle.std.specs.Prelude.{◌≡◌, ℕ, ◌+◌, Bool, true, false, List, [], ◌∷◌, replicate, slice_set, if◌then◌else◌}
-use Rattle.cf_plan.specs.declared.forms.Form.{Form}
-use Rattle.cf_plan.specs.declared.forms.Form.TheVariants.{Supply, RunAsync, AllOf}
+use Rattle.std.specs.Prelude.{◌≡◌, ℕ, ◌+◌, Bool, true, List, [], ◌∷◌, replicate, slice_set, if◌then◌else◌}
+use Rattle.cf_plan.specs.Forms.{starts}
 use Rattle.cf_plan.specs.Plans.{PlannedStage}
 use Rattle.cf_core.specs.declared.stage.Stage.TheVariants.{Pending}
 use Rattle.cf_core.specs.States.{new_states}
@@ -18,14 +17,12 @@ TreatingStarts =
     (plan : List PlannedStage) (n : ℕ) →
     stages_of (all_treated [] plan (replicate n untreated)) ≡ new_states [] plan (replicate n Pending)
 
--- whether a stage has something to take from the start on
-abbrev pub starts : Form → List ℕ → Bool
-starts Supply sources = true
-starts RunAsync sources = true
-starts AllOf [] = true
-starts form sources = false
-
 -- these stages, the first of them being stage i, are marked where they start
 abbrev pub mark_starts : ℕ → List PlannedStage → List Bool → List Bool
 mark_starts i [] marks = marks
 mark_starts i (p ∷ plan) marks = mark_starts (i + 1) plan (if starts p.form p.sources then slice_set marks i true else marks)
+
+-- these stages are marked, one after another
+abbrev pub mark_those : List ℕ → List Bool → List Bool
+mark_those [] marks = marks
+mark_those (i ∷ stages) marks = mark_those stages (slice_set marks i true)

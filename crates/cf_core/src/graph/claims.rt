@@ -27,6 +27,9 @@ impl Graph {
         ensures counted { self.old.turns ≤ self.new.turns }
         ensures few { self.new.turns ≤ most_turns self.new.state.plan.stages }
     {
+        if self.stages.outcome(i).is_some() {
+            return Claimed::Settled;
+        }
         self.stages.treat_up_to(&self.plan, i);
         match self.stages.stage(i) {
             Stage::Ready(args) => {
@@ -73,7 +76,7 @@ fn has_claim(claims: &[Option<u8>], who: u8, i: u16) -> bool
 }
 
 /// Where a stage lands with an answer. Of all forms `WhenComplete` alone looks at its source.
-fn landing_of(stages: &Stages, plan: &GrowingPlan, i: u16, answer: Answer) -> Landing
+pub(super) fn landing_of(stages: &Stages, plan: &GrowingPlan, i: u16, answer: Answer) -> Landing
     requires sound { AreSound plan.now.stages stages.now }
     requires stage { i < length plan.now.stages }
     requires treated { AreTreated (i + 1) stages.now.marks }

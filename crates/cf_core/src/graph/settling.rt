@@ -57,13 +57,17 @@ impl Graph {
         }
     }
 
-    /// Settles a stage, unless it is settled, and says whether it did.
+    /// Settles a stage, unless it is settled, and says whether it did. One that is kept as settled is so whatever waits for
+    /// treatment, so nothing is treated for it.
     pub(super) fn settle(&mut self, i: u16, o: Outcome) -> bool
         requires { i < length self.old.state.plan.stages }
         ensures told { (result, self.new.state) ≡ settling self.old.state i o }
         ensures counted { self.old.turns ≤ self.new.turns }
         ensures few { self.new.turns ≤ most_turns self.new.state.plan.stages }
     {
+        if self.stages.outcome(i).is_some() {
+            return false;
+        }
         self.stages.treat_up_to(&self.plan, i);
         match self.stages.outcome(i) {
             Some(_) => false,

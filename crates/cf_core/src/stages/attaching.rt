@@ -1,5 +1,5 @@
 //! The attaching of a stage.
-ghost use Rattle.std.specs.Prelude.{◌≡◌, ℕ, ◌+◌, ◌<◌, ◌≤◌, ◌∷◌, ◌++◌, [], All, Option, false, length, vec_capacity, if◌then◌else◌};
+ghost use Rattle.std.specs.Prelude.{◌≡◌, ℕ, ◌+◌, ◌<◌, ◌≤◌, ◌∷◌, ◌++◌, [], All, Option, false, length, if◌then◌else◌};
 ghost use Rattle.cf_plan.specs.Plans.{attached_stage, edges_of, sources_of};
 ghost use Rattle.cf_core.specs.declared.stage.Stage.TheVariants.{Pending};
 ghost use Rattle.cf_core.specs.States.{is_ready, new_states};
@@ -24,7 +24,7 @@ impl Stages {
         requires sources { All (λ j. j < length plan.now.stages) (sources_of of) }
         requires few { length plan.now.stages < 4096 }
         requires few_edges { edges_of plan.now.stages + 2 ≤ 16384 }
-        requires room { length plan.now.stages < vec_capacity self.old.kept }
+        requires room { length plan.now.stages < self.old.kept.capacity }
         requires lists { length plan.now.stages < length self.old.links }
         ensures attached { (function : Option ℕ) → let grown = plan.now.stages ++ attached_stage form of function ∷ [] in outlook_of grown self.new ≡ new_states [] grown (outlook_of plan.now.stages self.old ++ Pending ∷ []) }
         ensures counted { self.new.turns ≡ self.old.turns + (if takes_now self.old.kept.items form (sources_of of) then 1 else 0) }
@@ -84,7 +84,7 @@ impl Stages {
         requires few { length self.old.kept.items < 4096 }
         requires marks { length self.old.marks ≡ length self.old.kept.items }
         requires ready { length self.old.ready ≡ length self.old.kept.items }
-        requires room { length self.old.kept.items < vec_capacity self.old.kept }
+        requires room { length self.old.kept.items < self.old.kept.capacity }
         ensures kept { self.new.kept.items ≡ self.old.kept.items ++ new ∷ [] }
         ensures marks { self.new.marks ≡ self.old.marks ++ false ∷ [] }
         ensures ready { self.new.ready ≡ self.old.ready ++ is_ready new.stage ∷ [] }
@@ -94,7 +94,7 @@ impl Stages {
         ensures room { SameRoom self.old self.new }
     {
         let d = self.ready.bound();
-        self.kept.push_reserved(new);
+        self.kept.push(new);
         self.marks.grow();
         self.ready.grow();
         if let Stage::Ready(_) = new.stage {

@@ -5,4 +5,4 @@ use Rattle.cf_core.proofs.attach.any_settled.Given as goal
 
 -- what is left decides
 abbrev pub invariant-loop-j : goal.invariant-loop-j
-invariant-loop-j l = list_any is_some (map outcome_part (map (dated_in l.kept) (drop l.j-index l.sources))) ≡ list_any is_some (map outcome_part (map (dated_in l.kept) l.sources))
+invariant-loop-j l = list_any is_some (map outcome_part (map (dated_in l.kept.items) (drop l.j-index l.sources))) ≡ list_any is_some (map outcome_part (map (dated_in l.kept.items) l.sources))

@@ -5,9 +5,9 @@ use Rattle.cf_core.proofs.mark.mark_later.Given as goal
 -- those that are left lead to what all lead to
 abbrev pub invariant-loop-i : goal.invariant-loop-i
 invariant-loop-i l = record {
-  marked : mark_all l.kept l.rest l.marks ≡ mark_all l.kept l.initial.rest l.initial.marks;
-  all : length l.marks ≡ length l.kept;
-  within : All (λ i. i < length l.kept) l.rest;
+  marked : mark_all l.kept.items l.rest l.marks ≡ mark_all l.kept.items l.initial.rest l.initial.marks;
+  all : length l.marks ≡ length l.kept.items;
+  within : All (λ i. i < length l.kept.items) l.rest;
 }
 
 abbrev pub decreases-loop-i : goal.decreases-loop-i

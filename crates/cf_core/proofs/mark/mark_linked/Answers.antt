@@ -7,7 +7,7 @@ use Rattle.cf_core.proofs.mark.mark_linked.Goals as goal
 
 pub loop-i-preserved : goal.loop-i-preserved
 loop-i-preserved c =
-    let kept = c.args.kept.now in
+    let kept = c.args.kept.now.items in
     let lists = c.loop-i.links in
     let within : c.args.target < length lists = omega (arith, c.loop-i.invariant.lists, c.requires.target) in
     let marked = pop_marks kept lists c.pop.new.self c.args.target c.loop-i.marks c.in-Some.i within c.in-Some.ensures.first c.pop.ensures.rest in
@@ -21,4 +21,4 @@ loop-i-preserved c =
 
 pub mark-requires-clause-stage : goal.mark-requires-clause-stage
 mark-requires-clause-stage c =
-    first_within (list_at c.loop-i.links c.args.target) (length c.args.kept.now) c.in-Some.i c.in-Some.ensures.first c.loop-i.invariant.linked
+    first_within (list_at c.loop-i.links c.args.target) (length c.args.kept.now.items) c.in-Some.i c.in-Some.ensures.first c.loop-i.invariant.linked

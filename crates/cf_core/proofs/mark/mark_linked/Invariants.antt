@@ -6,11 +6,11 @@ use Rattle.cf_core.proofs.mark.mark_linked.Given as goal
 -- those that are left lead to what all lead to, and the other lists stay
 abbrev pub invariant-loop-i : goal.invariant-loop-i
 invariant-loop-i l = record {
-  marked : mark_all l.kept (list_at l.links l.target) l.marks ≡ mark_all l.kept (list_at l.initial.links l.target) l.initial.marks;
+  marked : mark_all l.kept.items (list_at l.links l.target) l.marks ≡ mark_all l.kept.items (list_at l.initial.links l.target) l.initial.marks;
   emptied : set l.links l.target [] ≡ set l.initial.links l.target [];
-  all : length l.marks ≡ length l.kept;
-  lists : length l.kept ≤ length l.links;
-  linked : All (λ i. i < length l.kept) (list_at l.links l.target);
+  all : length l.marks ≡ length l.kept.items;
+  lists : length l.kept.items ≤ length l.links;
+  linked : All (λ i. i < length l.kept.items) (list_at l.links l.target);
 }
 
 abbrev pub decreases-loop-i : goal.decreases-loop-i

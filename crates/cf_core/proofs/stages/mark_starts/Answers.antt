@@ -1,18 +1,26 @@
-use Rattle.std.proofs.Common.{◌≡◌, ◌∙◌, ◌+◌, ap, arith, drop, length}
-use Rattle.std.specs.Prelude.{if◌then◌else◌, slice_set, true}
-use Rattle.cf_plan.specs.Plans.{form_at, sources_at}
-use Rattle.cf_core.specs.Keeping.Starts.{mark_starts, starts}
-use Rattle.cf_core.proofs.Keeping.StartSound.{mark_starts-step}
-use Rattle.cf_core.proofs.Keeping.Marking.{length-mark_one}
+use Rattle.std.proofs.Common.{◌≡◌, ◌≤◌, ◌∙◌, ap, arith, drop, length}
+use Rattle.cf_plan.specs.Plans.{Planned, starts_of}
+use Rattle.cf_core.specs.Keeping.Starts.{mark_starts, mark_those}
+use Rattle.cf_core.proofs.Keeping.StartSound.{mark_starts-opened, opened_within}
 use Rattle.cf_core.proofs.stages.mark_starts.Goals as goal
 
-pub loop-i-preserved : goal.loop-i-preserved
-loop-i-preserved c =
-    let plan = c.args.plan.now.stages in
-    let i = c.loop-i.i in
-    let is : c.mark_start.new.marks ≡ (if starts (form_at plan i) (sources_at plan i) then slice_set c.loop-i.marks i true else c.loop-i.marks) =
-    rw (← c.form.ensures, ← c.sources.ensures.sources) c.mark_start.ensures in
-    record {
-      marked = ap (mark_starts (i + 1) (drop (i + 1) plan)) is ∙ mark_starts-step plan i c.loop-i.marks (omega (arith, c.loop-i-test.true, c.stages-i-end.ensures.count)) ∙ c.loop-i.invariant.marked;
-      all = ap length is ∙ length-mark_one (starts (form_at plan i) (sources_at plan i)) c.loop-i.marks i ∙ c.loop-i.invariant.all;
-    }
+pub mark_those-requires : goal.mark_those-requires
+mark_those-requires c =
+    let plan = c.args.plan.now in
+    let few = opened_within plan.opened c.opening-opening.result.now.stages plan.stages (ap (λ (p : Planned). p.stages) c.opening-opening.ensures) in
+    λ m d l. let below = c.starts.ensures.below m d l in omega (arith, below, few, c.requires)
+
+pub mark_attached-requires-clause-first : goal.mark_attached-requires-clause-first
+mark_attached-requires-clause-first c =
+    let plan = c.args.plan.now in
+    let few = opened_within plan.opened c.opening-opening.result.now.stages plan.stages (ap (λ (p : Planned). p.stages) c.opening-opening.ensures) in
+    omega (arith, few, c.stages.ensures.count)
+
+pub returns : goal.returns
+returns c =
+    let plan = c.args.plan.now in
+    let opened = c.opening-opening.result.now.stages in
+    let marks = c.args.marks.now in
+    c.mark_attached.ensures ∙ ap (mark_starts c.stages.result (drop c.stages.result plan.stages)) (c.mark_those.ensures.marks ∙ ap (λ s. mark_those s marks) c.starts.ensures.starts)
+    ∙ ap (λ n. mark_starts n (drop n plan.stages) (mark_those (starts_of opened) marks)) c.stages.ensures.count
+    ∙ mark_starts-opened plan.opened opened plan.stages marks (ap (λ (p : Planned). p.stages) c.opening-opening.ensures)

@@ -5,4 +5,4 @@ use Rattle.cf_core.proofs.treat.joint_outcome.Given as goal
 
 -- what is left decides
 abbrev pub invariant-loop-j : goal.invariant-loop-j
-invariant-loop-j l = first_fault (map outcome_part (map (dated_in l.kept) (drop l.j-index l.sources))) ≡ first_fault (map outcome_part (map (dated_in l.kept) l.sources))
+invariant-loop-j l = first_fault (map outcome_part (map (dated_in l.kept.items) (drop l.j-index l.sources))) ≡ first_fault (map outcome_part (map (dated_in l.kept.items) l.sources))

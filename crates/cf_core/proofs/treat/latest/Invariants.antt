@@ -4,4 +4,4 @@ use Rattle.cf_core.proofs.treat.latest.Given as goal
 
 -- the greatest so far, and the greatest of what is left
 abbrev pub invariant-loop-j : goal.invariant-loop-j
-invariant-loop-j l = max l.last (latest (map (dated_in l.kept) (drop l.j-index l.sources))) ≡ latest (map (dated_in l.kept) l.sources)
+invariant-loop-j l = max l.last (latest (map (dated_in l.kept.items) (drop l.j-index l.sources))) ≡ latest (map (dated_in l.kept.items) l.sources)

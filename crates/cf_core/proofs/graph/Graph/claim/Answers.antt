@@ -1,9 +1,12 @@
 use Rattle.std.proofs.Common.{◌≡◌, ◌∙◌, Some, ap, refl, sym, length-set, inl, inr}
-use Rattle.std.specs.Prelude.{slice_get}
+use Rattle.std.specs.Prelude.{is_some, slice_get}
 use Rattle.cf_core.specs.declared.stage.Stage.TheVariants.{Pending, Ready, Claimed, Linked, Settled}
 use Rattle.cf_core.specs.declared.replies.Claimed.TheVariants.{Settled as IsSettled, Taken, NotReady}
+use Rattle.cf_core.specs.States.{outcome_of}
+use Rattle.cf_core.specs.Keeping.Sound.{kept_at}
 use Rattle.cf_core.specs.Keeping.SoundStages.{outlook_of}
 use Rattle.cf_core.proofs.Keeping.GraphLemmas.{AreClaimed-set, AreClaimed-stay, claims_not, claims_now, room_stays, told_stage}
+use Rattle.cf_core.proofs.Keeping.Settled.{some_there, told_settled_stage}
 use Rattle.cf_core.proofs.graph.Graph.claim.Goals as goal
 
 pub invariant_of-self : goal.invariant_of-self
@@ -20,6 +23,13 @@ invariant_of-self c =
       claims_room = h.claims_room;
       few_used = h.few_used;
     }
+
+pub returns-then-is_some-clause-told : goal.returns-then-is_some-clause-told
+returns-then-is_some-clause-told c =
+    let plan = c.self.inside.plan.stages in
+    let s = c.self.inside.stages in
+    let old = some_there (outcome_of ((kept_at s.kept.items c.args.i).stage)) (ap is_some (sym c.outcome.ensures) ∙ sym c.is_some.ensures ∙ c.if-is_some.true) in
+    rw (← c.self.view_is) (claims_not _ c.args.who c.args.i (Settled old.0) IsSettled (outlook_of plan s) refl (told_settled_stage plan s c.args.i old.0 old.1) refl)
 
 pub returns-in-Ready-clause-told : goal.returns-in-Ready-clause-told
 returns-in-Ready-clause-told c =

@@ -5,7 +5,7 @@ use Rattle.cf_core.specs.Keeping.Sound.{StayTaken, is_taken, kept_at, outlook}
 use Rattle.cf_core.proofs.Keeping.Marking.{get-set_same}
 use Rattle.cf_core.proofs.Keeping.Sums.{StepsUpTo-at, kept_is, kept_there}
 use Rattle.cf_core.proofs.Keeping.Moves.{links_within, claim_same, claim_sound, is_steady}
-use Rattle.cf_core.proofs.Keeping.Places.{IsSound-same, StayTaken-set, kept_read, ready_args}
+use Rattle.cf_core.proofs.Keeping.Places.{IsSound-same, StayTaken-set, ready_args}
 use Rattle.cf_core.proofs.stages.Stages.claim.Goals as goal
 
 pub put-requires-clause-linked : goal.put-requires-clause-linked
@@ -21,19 +21,19 @@ returns-clause-claimed c =
     let is = ready_args ((kept_at s.kept.items c.args.d).stage) c.requires.ready in
     let steady = is_steady plan s.kept.items s.marks s.ready s.links s.steps s.turns h (c.args.d + 1) c.requires.treated in
     ap (outlook plan) c.put.ensures.kept
-    ∙ claim_same plan s.kept.items s.marks s.ready s.links s.steps s.turns h c.args.d c.index.result.now.step (c.args.d + 1) is.0 c.requires.stage steady (omega arith) is.1
+    ∙ claim_same plan s.kept.items s.marks s.ready s.links s.steps s.turns h c.args.d c.step-step.result (c.args.d + 1) is.0 c.requires.stage steady (omega arith) is.1
 
 pub returns-clause-here : goal.returns-clause-here
 returns-clause-here c =
     let s = c.args.self.now in
-    let new : KeptStage = record { stage = Claimed; step = c.index.result.now.step } in
+    let new : KeptStage = record { stage = Claimed; step = c.step-step.result } in
     let there = get-set_same s.kept.items c.args.d new (omega (arith, c.requires.stage, c.requires.sound.all_kept)) in
     ap (λ kept. is_taken ((kept_at kept c.args.d).stage)) c.put.ensures.kept ∙ ap (λ (k : KeptStage). is_taken k.stage) (kept_is _ c.args.d new there)
 
 pub returns-clause-taken : goal.returns-clause-taken
 returns-clause-taken c =
     let s = c.args.self.now in
-    let new : KeptStage = record { stage = Claimed; step = c.index.result.now.step } in
+    let new : KeptStage = record { stage = Claimed; step = c.step-step.result } in
     subst (StayTaken s.kept.items) (sym c.put.ensures.kept) (StayTaken-set s.kept.items c.args.d new (omega (arith, c.requires.stage, c.requires.sound.all_kept)) (λ _. refl))
 
 pub returns-clause-sound : goal.returns-clause-sound
@@ -44,8 +44,7 @@ returns-clause-sound c =
     let h = c.requires.sound in
     let l : c.args.d < length s.kept.items = omega (arith, c.requires.stage, h.all_kept) in
     let is = ready_args ((kept_at s.kept.items c.args.d).stage) c.requires.ready in
-    let read = kept_read s.kept.items c.args.d c.index.result.now l c.index.ensures in
     let few = StepsUpTo-at s.steps s.kept.items c.args.d (kept_at s.kept.items c.args.d) h.kept_steps (kept_there s.kept.items c.args.d l) in
-    let few2 : c.index.result.now.step ≤ s.steps = subst (λ (k : KeptStage). k.step ≤ s.steps) read few in
+    let few2 : c.step-step.result ≤ s.steps = subst (λ n. n ≤ s.steps) (sym c.step-step.ensures) few in
     IsSound-same plan t.kept.items _ t.marks _ t.ready _ t.links _ t.steps _ t.turns _ c.put.ensures.kept c.put.ensures.marks c.put.ensures.ready c.put.ensures.links c.put.ensures.steps c.put.ensures.turns
-    (claim_sound plan s.kept.items s.marks s.ready s.links s.steps s.turns h c.args.d c.index.result.now.step is.0 c.requires.stage is.1 few2)
+    (claim_sound plan s.kept.items s.marks s.ready s.links s.steps s.turns h c.args.d c.step-step.result is.0 c.requires.stage is.1 few2)

@@ -1,57 +1,99 @@
-use Rattle.std.proofs.Common.{◌≡◌, ◌∙◌, ap, false, set, subst, sym, true}
+use Rattle.std.proofs.Common.{◌<◌, ◌≡◌, ◌∙◌, ap, arith, false, length, length-set, refl, set, subst, sym, true}
 use Rattle.cf_plan.specs.Plans.{function_at}
+use Rattle.cf_core.specs.declared.kept.KeptStage.{KeptStage}
+use Rattle.cf_core.specs.States.{is_ready}
+use Rattle.cf_core.specs.Keeping.Cells.{KeptStages}
 use Rattle.cf_core.specs.Keeping.Late.{treated}
 use Rattle.cf_core.specs.Keeping.Turns.{planned_at}
-use Rattle.cf_core.specs.Keeping.Sound.{StayTaken, is_waiting, kept_at, marks_after, outlook}
+use Rattle.cf_core.specs.Keeping.Sound.{StayTaken, is_waiting, kept_at, links_after, marks_after, outlook}
 use Rattle.cf_core.proofs.Keeping.Moves.{links_within}
-use Rattle.cf_core.proofs.Keeping.Places.{IsSound-same, turn_idle, turn_idly, turn_kept, turn_outlook, turn_taken}
+use Rattle.cf_core.proofs.Keeping.Places.{IsSound-same, kept_put, lowest_within, ready_marks, turn_idle, turn_idly, turn_kept, turn_outlook, turn_taken}
 use Rattle.cf_core.proofs.stages.Stages.turn.Goals as goal
 
-pub put-requires-clause-linked : goal.put-requires-clause-linked
-put-requires-clause-linked c =
+pub note-requires-clause-all_kept : goal.note-requires-clause-all_kept
+note-requires-clause-all_kept c =
+    let s = c.args.self.now in
+    ap length (c.treat.ensures.kept (function_at c.args.plan.now.stages c.args.m)) ∙ length-set s.kept.items c.args.m _ ∙ c.requires.sound.all_kept
+
+pub note-requires-clause-linked : goal.note-requires-clause-linked
+note-requires-clause-linked c =
     let s = c.args.self.now in
     links_within c.args.plan.now.stages s.kept.items s.marks s.ready s.links s.steps s.turns c.requires.sound c.args.m
+
+pub is_ready-requires : goal.is_ready-requires
+is_ready-requires c =
+    let s = c.args.self.now in
+    let l = lowest_within s.marks c.args.m c.requires.lowest in
+    let same = ap (λ (k : KeptStages). length k.items) c.note.ensures.kept ∙ ap length (c.treat.ensures.kept (function_at c.args.plan.now.stages c.args.m)) ∙ length-set s.kept.items c.args.m _ in
+    omega (arith, l, same, c.requires.sound.all_marks, c.requires.sound.all_kept)
+
+pub returns-then-is_waiting-clause-turned : goal.returns-then-is_waiting-clause-turned
+returns-then-is_waiting-clause-turned c =
+    let plan = c.args.plan.now.stages in
+    ap (λ (k : KeptStages). k.items) c.note.ensures.kept
+    ∙ rw (← c.form.ensures, ← c.sources.ensures.sources) (c.treat.ensures.kept (function_at plan c.args.m))
 
 pub returns-then-is_waiting-clause-same : goal.returns-then-is_waiting-clause-same
 returns-then-is_waiting-clause-same c =
     let s = c.args.self.now in
     let plan = c.args.plan.now.stages in
-    let is : c.treated-new.result ≡ treated s.kept.items (planned_at plan c.args.m) (kept_at s.kept.items c.args.m) =
-    rw (← c.form.ensures, ← c.sources.ensures.sources) (rw c.deref.ensures.value at c.treated-new.ensures (function_at plan c.args.m)) in
-    ap (outlook plan) c.put.ensures.kept ∙ turn_outlook plan s.kept.items s.marks s.ready s.links s.steps s.turns c.requires.sound c.args.m c.requires.lowest c.treated-new.result is
+    let new = treated s.kept.items (planned_at plan c.args.m) (kept_at s.kept.items c.args.m) in
+    let is : c.treat.new.kept.items ≡ set s.kept.items c.args.m new = rw (← c.form.ensures, ← c.sources.ensures.sources) (c.treat.ensures.kept (function_at plan c.args.m)) in
+    ap (outlook plan) (ap (λ (k : KeptStages). k.items) c.note.ensures.kept ∙ is)
+    ∙ turn_outlook plan s.kept.items s.marks s.ready s.links s.steps s.turns c.requires.sound c.args.m c.requires.lowest new refl
 
 pub returns-then-is_waiting-clause-taken : goal.returns-then-is_waiting-clause-taken
 returns-then-is_waiting-clause-taken c =
     let s = c.args.self.now in
     let plan = c.args.plan.now.stages in
-    let waiting : is_waiting ((kept_at s.kept.items c.args.m).stage) ≡ true = ap is_waiting (sym c.stage.ensures) ∙ sym c.is_waiting.ensures ∙ c.if-is_waiting.true in
-    subst (StayTaken s.kept.items) (sym c.put.ensures.kept)
-    (turn_taken plan s.kept.items s.marks s.ready s.links s.steps s.turns c.requires.sound c.args.m c.requires.lowest c.treated-new.result waiting)
+    let new = treated s.kept.items (planned_at plan c.args.m) (kept_at s.kept.items c.args.m) in
+    let is : c.treat.new.kept.items ≡ set s.kept.items c.args.m new = rw (← c.form.ensures, ← c.sources.ensures.sources) (c.treat.ensures.kept (function_at plan c.args.m)) in
+    let waiting : is_waiting ((kept_at s.kept.items c.args.m).stage) ≡ true = sym c.is_waiting.ensures ∙ c.if-is_waiting.true in
+    subst (StayTaken s.kept.items) (sym (ap (λ (k : KeptStages). k.items) c.note.ensures.kept ∙ is))
+    (turn_taken plan s.kept.items s.marks s.ready s.links s.steps s.turns c.requires.sound c.args.m c.requires.lowest new waiting)
 
 pub returns-then-is_waiting-clause-sound : goal.returns-then-is_waiting-clause-sound
 returns-then-is_waiting-clause-sound c =
     let s = c.args.self.now in
-    let t = c.put.new.self in
+    let t = c.note.new.self in
     let plan = c.args.plan.now.stages in
-    let new = c.treated-new.result in
-    let waiting : is_waiting ((kept_at s.kept.items c.args.m).stage) ≡ true = ap is_waiting (sym c.stage.ensures) ∙ sym c.is_waiting.ensures ∙ c.if-is_waiting.true in
-    let is : new ≡ treated s.kept.items (planned_at plan c.args.m) (kept_at s.kept.items c.args.m) =
-    rw (← c.form.ensures, ← c.sources.ensures.sources) (rw c.deref.ensures.value at c.treated-new.ensures (function_at plan c.args.m)) in
-    IsSound-same plan t.kept.items _ t.marks _ t.ready _ t.links _ t.steps _ t.turns _ c.put.ensures.kept
-    (c.put.ensures.marks ∙ ap (λ marks. marks_after plan (set s.kept.items c.args.m new) s.links marks c.args.m new.stage) c.remove.ensures)
-    c.put.ensures.ready c.put.ensures.links c.put.ensures.steps c.put.ensures.turns
-    (turn_kept plan s.kept.items s.marks s.ready s.links s.steps s.turns c.requires.sound c.args.m c.requires.lowest new is waiting)
+    let new = treated s.kept.items (planned_at plan c.args.m) (kept_at s.kept.items c.args.m) in
+    let is : c.treat.new.kept.items ≡ set s.kept.items c.args.m new = rw (← c.form.ensures, ← c.sources.ensures.sources) (c.treat.ensures.kept (function_at plan c.args.m)) in
+    let waiting : is_waiting ((kept_at s.kept.items c.args.m).stage) ≡ true = sym c.is_waiting.ensures ∙ c.if-is_waiting.true in
+    let there : c.args.m < length s.kept.items = (let l = lowest_within s.marks c.args.m c.requires.lowest in omega (arith, l, c.requires.sound.all_marks, c.requires.sound.all_kept)) in
+    let stage = ap (λ kept. (kept_at kept c.args.m).stage) is ∙ ap (λ (k : KeptStage). k.stage) (kept_put s.kept.items c.args.m new there) in
+    IsSound-same plan t.kept.items _ t.marks _ t.ready _ t.links _ t.steps _ t.turns _ (ap (λ (k : KeptStages). k.items) c.note.ensures.kept ∙ is)
+    (c.note.ensures.marks ∙ rw (is, kept_put s.kept.items c.args.m new there, c.remove.ensures) refl)
+    (c.note.ensures.ready ∙ ap (λ x. set s.ready c.args.m (is_ready x)) stage)
+    (c.note.ensures.links ∙ ap (links_after s.links c.args.m) stage)
+    c.note.ensures.steps c.note.ensures.turns
+    (turn_kept plan s.kept.items s.marks s.ready s.links s.steps s.turns c.requires.sound c.args.m c.requires.lowest new refl waiting)
+
+pub returns-then-is_waiting-clause-ready : goal.returns-then-is_waiting-clause-ready
+returns-then-is_waiting-clause-ready c e =
+    let s = c.args.self.now in
+    let same = ap (λ (k : KeptStages). k.items) c.note.ensures.kept in
+    let is = ap (λ kept. is_ready ((kept_at kept c.args.m).stage)) (sym same) ∙ sym c.is_ready.ensures ∙ e in
+    c.note.ensures.ready ∙ ap (set s.ready c.args.m) is
+
+pub returns-then-is_waiting-clause-marks : goal.returns-then-is_waiting-clause-marks
+returns-then-is_waiting-clause-marks c e =
+    let s = c.args.self.now in
+    let kept = c.treat.new.kept.items in
+    let same = ap (λ (k : KeptStages). k.items) c.note.ensures.kept in
+    let is = ap (λ kept. is_ready ((kept_at kept c.args.m).stage)) (sym same) ∙ sym c.is_ready.ensures ∙ e in
+    c.note.ensures.marks ∙ ready_marks c.args.plan.now.stages kept s.links c.remove.new.self c.args.m ((kept_at kept c.args.m).stage) is ∙ c.remove.ensures
 
 pub returns-else-is_waiting-clause-sound : goal.returns-else-is_waiting-clause-sound
 returns-else-is_waiting-clause-sound c =
     let s = c.args.self.now in
     let plan = c.args.plan.now.stages in
-    let idle : is_waiting ((kept_at s.kept.items c.args.m).stage) ≡ false = ap is_waiting (sym c.stage.ensures) ∙ sym c.is_waiting.ensures ∙ c.if-is_waiting.false in
+    let idle : is_waiting ((kept_at s.kept.items c.args.m).stage) ≡ false = sym c.is_waiting.ensures ∙ c.if-is_waiting.false in
     rw c.remove.ensures (turn_idle plan s.kept.items s.marks s.ready s.links s.steps s.turns c.requires.sound c.args.m c.requires.lowest idle)
 
 pub returns-else-is_waiting-clause-turned : goal.returns-else-is_waiting-clause-turned
 returns-else-is_waiting-clause-turned c =
     let s = c.args.self.now in
     let plan = c.args.plan.now.stages in
-    let idle : is_waiting ((kept_at s.kept.items c.args.m).stage) ≡ false = ap is_waiting (sym c.stage.ensures) ∙ sym c.is_waiting.ensures ∙ c.if-is_waiting.false in
+    let idle : is_waiting ((kept_at s.kept.items c.args.m).stage) ≡ false = sym c.is_waiting.ensures ∙ c.if-is_waiting.false in
     turn_idly plan s.kept.items s.marks s.ready s.links s.steps s.turns c.requires.sound c.args.m c.requires.lowest idle

@@ -1,0 +1,64 @@
+-- A list of cells, as a list of what is kept.
+use Rattle.std.proofs.Common.{◌≡◌, ◌<◌, ◌∙◌, ℕ, ℤ, Bool, Some, None, zero, suc, List, [], ◌∷◌, ◌++◌, map, length, set, get_or, replicate, refl, ap, sym, arith}
+use Rattle.std.specs.Prelude.{option_and_then, slice_get}
+use Rattle.std.specs.Option.{option_map}
+use Rattle.std.proofs.lemmas.List.{length-map, map-set}
+use Rattle.cf_core.specs.declared.stage.Stage.TheVariants.{Pending}
+use Rattle.cf_core.specs.declared.kept.KeptStage.{KeptStage}
+use Rattle.cf_core.specs.declared.cell.Cell.{Cell}
+use Rattle.cf_core.specs.declared.cell.Kind.{Kind}
+use Rattle.cf_core.specs.declared.cell.Kind.TheVariants as kinds
+use Rattle.cf_core.specs.declared.cell.Detail.{Detail}
+use Rattle.cf_core.specs.States.{outcome_of}
+use Rattle.cf_core.specs.Keeping.Cells.{blank, kept_of, outcome_in, stage_in}
+use Rattle.cf_core.specs.Keeping.Late.{dated_in, dated_of}
+use Rattle.cf_core.specs.Keeping.Sound.{kept_at}
+
+pub map_written : (cells : List Cell) (i : ℕ) (c : Cell) → map kept_of (set cells i c) ≡ set (map kept_of cells) i (kept_of c)
+map_written cells i c = map-set kept_of cells i c
+
+pub map_blank : (n : ℕ) → map kept_of (replicate n blank) ≡ replicate n (record { stage = Pending; step = 0 })
+map_blank zero = refl
+map_blank (suc n) = ap (λ ks. record { stage = Pending; step = 0 } ∷ ks) (map_blank n)
+
+-- stage i of the list is what its cell says
+pub kept_there : (cells : List Cell) (i : ℕ) (c : Cell) → i < length (map kept_of cells) → c ≡ get_or cells i c → kept_at (map kept_of cells) i ≡ kept_of c
+kept_there [] i c l e = absurd (omega (arith, l))
+kept_there (x ∷ cells) zero c l e = ap kept_of (sym e)
+kept_there (x ∷ cells) (suc i) c l e = kept_there cells i c (omega (arith, l)) e
+
+pub count_kept : (cells : List Cell) → length (map kept_of cells) ≡ length cells
+count_kept cells = length-map cells kept_of
+
+pub map_pushed : (cells : List Cell) (c : Cell) → map kept_of (cells ++ c ∷ []) ≡ map kept_of cells ++ kept_of c ∷ []
+map_pushed [] c = refl
+map_pushed (x ∷ cells) c = ap (λ ks. kept_of x ∷ ks) (map_pushed cells c)
+
+get_there : (cells : List Cell) (i : ℕ) (c : Cell) → i < length (map kept_of cells) → c ≡ get_or cells i c → slice_get (map kept_of cells) i ≡ Some (kept_of c)
+get_there [] i c l e = absurd (omega (arith, l))
+get_there (x ∷ cells) zero c l e = ap (λ y. Some (kept_of y)) (sym e)
+get_there (x ∷ cells) (suc i) c l e = get_there cells i c (omega (arith, l)) e
+
+-- a cell that is settled has its outcome, at its step
+pub dated_there : (cells : List Cell) (i : ℕ) (c : Cell) → i < length (map kept_of cells) → c ≡ get_or cells i c → c.kind ≡ kinds.Settled →
+    dated_in (map kept_of cells) i ≡ Some (outcome_in c.detail c.flag c.number c.word, c.step)
+dated_there cells i c l e is =
+    ap (option_and_then dated_of) (get_there cells i c l e)
+    ∙ ap (λ kind. option_map (λ o. (o, c.step)) (outcome_of (stage_in kind c.detail c.flag c.number c.word))) is
+
+unsettled : (kind : Kind) (detail : Detail) (flag : Bool) (number : ℤ) (word : ℕ) → (kind ≡ kinds.Settled → ⊥) → outcome_of (stage_in kind detail flag number word) ≡ None
+unsettled kinds.Pending detail flag number word not = refl
+unsettled kinds.Linked detail flag number word not = refl
+unsettled kinds.None detail flag number word not = refl
+unsettled kinds.One detail flag number word not = refl
+unsettled kinds.Two detail flag number word not = refl
+unsettled kinds.Got detail flag number word not = refl
+unsettled kinds.Claimed detail flag number word not = refl
+unsettled kinds.Settled detail flag number word not = absurd (not refl)
+
+-- and any other has none
+pub undated_there : (cells : List Cell) (i : ℕ) (c : Cell) → i < length (map kept_of cells) → c ≡ get_or cells i c → (c.kind ≡ kinds.Settled → ⊥) →
+    dated_in (map kept_of cells) i ≡ None
+undated_there cells i c l e not =
+    ap (option_and_then dated_of) (get_there cells i c l e)
+    ∙ ap (option_map (λ o. (o, c.step))) (unsettled c.kind c.detail c.flag c.number c.word not)

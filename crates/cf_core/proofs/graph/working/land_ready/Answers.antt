@@ -1,0 +1,13 @@
+use Rattle.cf_core.specs.Keeping.SoundStages.{outlook_of}
+use Rattle.cf_core.proofs.Keeping.Serving.{kept_claimed, settles-claimed}
+use Rattle.cf_core.proofs.graph.working.land_ready.Goals as goal
+
+pub land-requires-clause-claimed : goal.land-requires-clause-claimed
+land-requires-clause-claimed c =
+    kept_claimed c.args.plan.now.stages c.args.stages.now c.claim.new.self c.treat_up_to.new.self c.args.d c.requires.sound c.requires.stage c.requires.treated
+    c.claim.ensures.claimed c.treat_up_to.ensures.same c.treat_up_to.ensures.sound c.treat_up_to.ensures.treated
+
+pub returns-in-Settles-clause-landed : goal.returns-in-Settles-clause-landed
+returns-in-Settles-clause-landed c =
+    let plan = c.args.plan.now.stages in
+    settles-claimed plan (outlook_of plan c.args.stages.now) (outlook_of plan c.settle.new.self) c.args.d c.args.at c.in-Settles.o c.in-Settles.is c.settle.ensures.after

@@ -1,0 +1,26 @@
+use Rattle.std.proofs.Common.{◌∙◌, refl, ap, length}
+use Rattle.std.specs.Prelude.{false, replicate}
+use Rattle.cf_core.specs.Keeping.Sound.{outlook}
+use Rattle.cf_core.specs.Keeping.Starts.{mark_starts, untreated}
+use Rattle.cf_core.proofs.Keeping.Places.{IsSound-same}
+use Rattle.cf_core.proofs.Keeping.StartLemmas.{treating_starts}
+use Rattle.cf_core.proofs.Keeping.StartSound.{start_sound}
+use Rattle.cf_core.proofs.stages.Stages.restart.Goals as goal
+
+pub returns-clause-start : goal.returns-clause-start
+returns-clause-start c =
+    let plan = c.args.plan.now.stages in
+    ap (outlook plan) (c.restart.ensures.kept ∙ ap (λ n. replicate n untreated) c.stages-count.ensures.count) ∙ treating_starts plan (length plan)
+
+pub returns-clause-sound : goal.returns-clause-sound
+returns-clause-sound c =
+    let plan = c.args.plan.now.stages in
+    let built = c.stages-count.ensures.growing.built in
+    let count = c.stages-count.ensures.count in
+    IsSound-same plan c.restart.new.self.items _ c.mark_starts.new.marks _ c.reset-2.new.self _ c.reset-3.new.self _ 0 _ 0 _
+    (c.restart.ensures.kept ∙ ap (λ n. replicate n untreated) count)
+    (c.mark_starts.ensures ∙ ap (mark_starts 0 plan) (c.reset.ensures ∙ ap (λ n. replicate n false) count))
+    (c.reset-2.ensures ∙ ap (λ n. replicate n false) count)
+    c.reset-3.ensures
+    refl refl
+    (start_sound plan (length c.args.self.now.links) c.requires.lists built.few_stages built.few_edges built.lower)

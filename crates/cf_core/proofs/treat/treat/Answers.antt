@@ -1,0 +1,17 @@
+use Rattle.std.proofs.Common.{◌∙◌, ap, refl, sym}
+use Rattle.cf_plan.specs.Plans.{PlannedStage}
+use Rattle.cf_core.specs.Keeping.Late.{treated}
+use Rattle.cf_core.specs.Keeping.Sound.{is_waiting, kept_at}
+use Rattle.cf_core.proofs.Keeping.Places.{idle_stage, same_put, treated_idle}
+use Rattle.cf_core.proofs.treat.treat.Goals as goal
+
+pub returns-in_default : goal.returns-in_default
+returns-in_default c =
+    let kept = c.args.kept.now.items in
+    let k = kept_at kept c.args.m in
+    let idle = ap is_waiting (sym c.stage.ensures) ∙ idle_stage c.stage.result c.in_default.not-Pending c.in_default.not-Linked in
+    record {
+      kept = λ function. let p : PlannedStage = record { form = c.args.form; sources = c.args.sources.now; function = function } in
+          sym (same_put kept c.args.m (treated kept p k) c.requires.stage (sym (treated_idle kept p k idle)));
+      room = refl;
+    }

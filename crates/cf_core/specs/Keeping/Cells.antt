@@ -1,0 +1,57 @@
+-- What a cell says of its stage.
+use Rattle.std.specs.Prelude.{ℕ, ℤ, pos, ◌%◌, Bool, true, false, List}
+use Rattle.std.specs.Int.{w32, cast_signed}
+use Rattle.cf_outcome.specs.declared.outcome.Value.{Value}
+use Rattle.cf_outcome.specs.declared.outcome.Value.TheVariants as values
+use Rattle.cf_outcome.specs.declared.outcome.Cause.TheVariants as causes
+use Rattle.cf_outcome.specs.declared.outcome.Outcome.{Outcome}
+use Rattle.cf_outcome.specs.declared.outcome.Outcome.TheVariants as outcomes
+use Rattle.cf_plan.specs.declared.forms.Args.TheVariants as arguments
+use Rattle.cf_core.specs.declared.stage.Stage.{Stage}
+use Rattle.cf_core.specs.declared.stage.Stage.TheVariants as stages
+use Rattle.cf_core.specs.declared.kept.KeptStage.{KeptStage}
+use Rattle.cf_core.specs.declared.cell.Kind.{Kind}
+use Rattle.cf_core.specs.declared.cell.Kind.TheVariants as kinds
+use Rattle.cf_core.specs.declared.cell.Detail.{Detail}
+use Rattle.cf_core.specs.declared.cell.Detail.TheVariants as details
+use Rattle.cf_core.specs.declared.cell.Cell.{Cell}
+
+-- what is kept of the stages, and for how many there is room
+pub record KeptStages : Type 0 where
+  pub items : List KeptStage
+  pub capacity : ℕ
+
+-- a value, or the first of two
+abbrev pub value_in : Detail → ℤ → Value
+value_in details.Nil number = values.Nil
+value_in detail number = values.Int number
+
+-- the second of two values
+abbrev pub second_in : Bool → ℕ → Value
+second_in false word = values.Nil
+second_in true word = values.Int (cast_signed w32 word)
+
+abbrev pub outcome_in : Detail → Bool → ℤ → ℕ → Outcome
+outcome_in details.Nil flag number word = outcomes.Value values.Nil
+outcome_in details.Int flag number word = outcomes.Value (values.Int number)
+outcome_in details.Thrown flag number word = outcomes.Fault (causes.Thrown word) flag
+outcome_in details.Cancelled flag number word = outcomes.Fault causes.Cancelled flag
+outcome_in details.TimedOut flag number word = outcomes.Fault causes.TimedOut flag
+outcome_in details.BadAnswer flag number word = outcomes.Fault causes.BadAnswer flag
+
+abbrev pub stage_in : Kind → Detail → Bool → ℤ → ℕ → Stage
+stage_in kinds.Pending detail flag number word = stages.Pending
+stage_in kinds.Linked detail flag number word = stages.Linked (word % 65536)
+stage_in kinds.None detail flag number word = stages.Ready arguments.None
+stage_in kinds.One detail flag number word = stages.Ready (arguments.One (value_in detail number))
+stage_in kinds.Two detail flag number word = stages.Ready (arguments.Two (value_in detail number) (second_in flag word))
+stage_in kinds.Got detail flag number word = stages.Ready (arguments.Got (outcome_in detail flag number word))
+stage_in kinds.Claimed detail flag number word = stages.Claimed
+stage_in kinds.Settled detail flag number word = stages.Settled (outcome_in detail flag number word)
+
+abbrev pub kept_of : Cell → KeptStage
+kept_of c = record { stage = stage_in c.kind c.detail c.flag c.number c.word; step = c.step }
+
+-- a cell of a pending stage
+abbrev pub blank : Cell
+blank = record { kind = kinds.Pending; detail = details.Nil; flag = false; step = 0; number = pos 0; word = 0 }

@@ -1,0 +1,190 @@
+//! What is kept of the stages of a graph.
+ghost use Rattle.std.specs.Prelude.{◌≡◌, ℕ, ◌+◌, ◌<◌, ◌≤◌, ◌∷◌, ◌++◌, [], IfOk, length, replicate, slice_set};
+ghost use Rattle.cf_plan.specs.Forms.{due_of_first};
+ghost use Rattle.cf_core.specs.declared.stage.Stage.TheVariants.{Pending, Ready, Settled};
+ghost use Rattle.cf_core.specs.States.{is_ready, outcome_of};
+ghost use Rattle.cf_core.specs.Keeping.Cells.{blank};
+ghost use Rattle.cf_core.specs.Keeping.Late.{dated_in, due_kept, outcome_part, step_part};
+ghost use Rattle.cf_core.specs.Keeping.Sound.{is_waiting, kept_at};
+ghost use Rattle.cf_core.specs.Keeping.Starts.{untreated};
+
+use crate::cell::{Cell, Detail, Kind};
+use crate::kept::KeptStage;
+use crate::stage::Stage;
+use cf_outcome::Outcome;
+use cf_plan::{Args, Form};
+use std::alloc::{AllocError, Global};
+use std::marker::Model;
+
+/// A list of `KeptStage`, each in a cell of 16 bytes, with room for more.
+#[derive(Drop)]
+pub struct Cells {
+    cells: Vec<Cell>,
+}
+
+impl Model for Cells {
+    ghost use Rattle.cf_core.specs.Keeping.Cells.{KeptStages};
+
+    ghost Value = { KeptStages };
+
+    ghost use Rattle.std.specs.Prelude.{map};
+    ghost use Rattle.std.specs.Vec.{vec_capacity};
+    ghost use Rattle.cf_core.specs.Keeping.Cells.{kept_of};
+
+    ghost view = { λ s. record { items = map kept_of s.cells.items; capacity = vec_capacity s.cells } };
+}
+
+impl Cells {
+    /// So many stages that were never treated, with room for more.
+    #[tactic(auto, using(crate::proofs::Keeping::CellLemmas::map_blank))]
+    pub fn new(alloc: Global, count: u16, room: u16) -> Result<Cells, AllocError>
+        ensures kept { IfOk result (λ kept. kept.items ≡ replicate count untreated) }
+        ensures room { IfOk result (λ kept. count + room ≤ kept.capacity) }
+    {
+        let mut cells = blanks(alloc, count)?;
+        cells.reserve(room as usize)?;
+        Ok(Cells { cells })
+    }
+
+    /// Keeps so many stages, as ones that were never treated. It takes no memory.
+    #[tactic(auto, using(crate::proofs::Keeping::CellLemmas::map_blank, crate::proofs::Keeping::CellLemmas::count_kept))]
+    pub fn restart(&mut self, count: u16)
+        requires { count ≤ length self.old.items }
+        ensures kept { self.new.items ≡ replicate count untreated }
+        ensures room { self.new.capacity ≡ self.old.capacity }
+    {
+        self.cells.truncate(count as usize);
+        self.cells.fill(blank());
+    }
+
+    /// How many stages it has.
+    #[inline(always)]
+    #[tactic(auto, using(crate::proofs::Keeping::CellLemmas::count_kept))]
+    pub fn len(&self) -> usize
+        ensures { result ≡ length self.now.items }
+    {
+        self.cells.len()
+    }
+
+    /// A stage's state.
+    #[inline(always)]
+    pub fn stage(&self, i: u16) -> Stage
+        requires { i < length self.now.items }
+        ensures { result ≡ (kept_at self.now.items i).stage }
+    {
+        self.cells[i as usize].stage()
+    }
+
+    /// A stage's step.
+    #[inline(always)]
+    pub fn step(&self, i: u16) -> u32
+        requires { i < length self.now.items }
+        ensures { result ≡ (kept_at self.now.items i).step }
+    {
+        self.cells[i as usize].step
+    }
+
+    /// A stage's outcome, if it is settled.
+    #[inline(always)]
+    pub fn outcome(&self, i: u16) -> Option<Outcome>
+        requires { i < length self.now.items }
+        ensures { result ≡ outcome_of ((kept_at self.now.items i).stage) }
+    {
+        self.cells[i as usize].outcome()
+    }
+
+    /// Whether a stage waits, for its sources or for the stage that it is linked to.
+    #[inline(always)]
+    pub fn is_waiting(&self, i: u16) -> bool
+        requires { i < length self.now.items }
+        ensures { result ≡ is_waiting ((kept_at self.now.items i).stage) }
+    {
+        self.cells[i as usize].is_waiting()
+    }
+
+    /// Whether a stage is ready.
+    #[inline(always)]
+    pub fn is_ready(&self, i: u16) -> bool
+        requires { i < length self.now.items }
+        ensures { result ≡ is_ready ((kept_at self.now.items i).stage) }
+    {
+        self.cells[i as usize].is_ready()
+    }
+
+    /// Writes a stage's state and step.
+    #[inline(always)]
+    #[tactic(auto, using(crate::proofs::Keeping::CellLemmas::map_written))]
+    pub fn put(&mut self, i: u16, new: KeptStage)
+        requires { i < length self.old.items }
+        ensures { self.new ≡ record self.old { items = slice_set self.old.items i new } }
+    {
+        self.cells[i as usize].put(new);
+    }
+
+    /// Settles a stage.
+    #[inline(always)]
+    #[tactic(auto, using(crate::proofs::Keeping::CellLemmas::map_written))]
+    pub fn settle(&mut self, i: u16, o: Outcome, step: u32)
+        requires { i < length self.old.items }
+        ensures { self.new ≡ record self.old { items = slice_set self.old.items i (record { stage = Settled o; step = step }) } }
+    {
+        self.cells[i as usize].settle(o, step);
+    }
+
+    /// Makes a stage ready. Its step stays.
+    #[inline(always)]
+    #[tactic(auto, using(crate::proofs::Keeping::CellLemmas::map_written, crate::proofs::Keeping::CellLemmas::kept_there))]
+    pub fn make_ready(&mut self, i: u16, args: Args)
+        requires { i < length self.old.items }
+        ensures { self.new ≡ record self.old { items = slice_set self.old.items i (record { stage = Ready args; step = (kept_at self.old.items i).step }) } }
+    {
+        self.cells[i as usize].make_ready(args);
+    }
+
+    /// Lets a pending stage take what its one source has, if that has settled.
+    #[inline(always)]
+    pub fn take_one(&mut self, form: Form, j: u16, m: u16)
+        requires stage { m < length self.old.items }
+        requires source { j < length self.old.items }
+        requires pending { (kept_at self.old.items m).stage ≡ Pending }
+        ensures kept { let x = dated_in self.old.items j in self.new.items ≡ slice_set self.old.items m (due_kept (due_of_first form (outcome_part x)) (step_part x) (kept_at self.old.items m).step) }
+        ensures room { self.new.capacity ≡ self.old.capacity }
+    {
+        let from = self.cells[j as usize];
+        if let Kind::Settled = from.kind {
+            self.cells[m as usize].take_one(form, from);
+        }
+    }
+
+    /// Puts a stage behind all others. Its place is reserved.
+    #[tactic(auto, using(crate::proofs::Keeping::CellLemmas::map_pushed, crate::proofs::Keeping::CellLemmas::count_kept))]
+    pub fn push(&mut self, new: KeptStage)
+        requires { length self.old.items < self.old.capacity }
+        ensures { self.new ≡ record self.old { items = self.old.items ++ new ∷ [] } }
+    {
+        let mut cell = blank();
+        cell.put(new);
+        self.cells.push_reserved(cell);
+    }
+}
+
+/// A cell of a pending stage.
+fn blank() -> Cell
+    ensures { result ≡ blank }
+{
+    Cell {
+        kind: Kind::Pending,
+        detail: Detail::Nil,
+        flag: false,
+        step: 0,
+        number: 0,
+        word: 0,
+    }
+}
+
+/// So many cells of pending stages.
+fn blanks(alloc: Global, count: u16) -> Result<Vec<Cell>, AllocError>
+    ensures { IfOk result (λ cells. cells.items ≡ replicate count blank) }
+{
+    vec![in alloc; blank(); count as usize]
+}

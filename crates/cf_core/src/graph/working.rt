@@ -1,0 +1,125 @@
+//! Work: the functions of ready stages are called.
+ghost use Rattle.std.specs.Prelude.{◌≡◌, ℕ, ◌+◌, ◌<◌, ◌≤◌, length, slice_set, true};
+ghost use Rattle.std.specs.Option.{option_map_or};
+ghost use Rattle.cf_plan.specs.declared.forms.Landing.TheVariants.{Links as LinksTo};
+ghost use Rattle.cf_plan.specs.Forms.{composes};
+ghost use Rattle.cf_plan.specs.Meanings.{meanings_of, stage_answer};
+ghost use Rattle.cf_plan.specs.Plans.{form_at};
+ghost use Rattle.cf_core.specs.declared.stage.Stage.TheVariants.{Claimed as IsClaimed};
+ghost use Rattle.cf_core.specs.States.{is_ready, lowest_ready_of};
+ghost use Rattle.cf_core.specs.Working.{worked, worked_once};
+ghost use Rattle.cf_core.specs.Keeping.Landings.{landed_stages};
+ghost use Rattle.cf_core.specs.Keeping.Serving.{served};
+ghost use Rattle.cf_core.specs.Keeping.Sound.{AreTreated, StayTakenBut, kept_at};
+ghost use Rattle.cf_core.specs.Keeping.SoundStages.{AreSound, SameRoom, outlook_of};
+ghost use Rattle.cf_core.specs.Graphs.{most_turns};
+
+use crate::graph::Graph;
+use crate::graph::claims::landing_of;
+use crate::stage::Stage;
+use crate::stages::Stages;
+use cf_outcome::Value;
+use cf_plan::{Answer, Args, GrowingPlan, Landing, StageFn};
+
+impl Graph {
+    /// Works for a caller until no stage is ready: the lowest ready stage is claimed, its function called, and the stage
+    /// finished with the answer. It says how many functions were called: at most one for each stage, since none is claimed
+    /// twice.
+    ///
+    /// The functions stand at their numbers. A number without a function is answered by nil.
+    pub fn work<F: StageFn>(&mut self, who: u8, functions: &[F]) -> u32
+        ensures told { (result, self.new.state) ≡ worked who (meanings_of F.meaning functions.now) self.old.state }
+        ensures counted { self.old.turns ≤ self.new.turns }
+        ensures few { self.new.turns ≤ most_turns self.new.state.plan.stages }
+    {
+        let stages = u32::from(self.stages());
+        let mut calls = 0;
+        'ready: while self.work_once(who, functions).is_some() {
+            calls += 1;
+            prove!(calls <= stages);
+        }
+        calls
+    }
+
+    /// Claims and finishes the lowest ready stage, and says which it was. Its claim is open at no time in between that
+    /// anyone could see, so nothing is written of it but that it is closed.
+    #[inline(always)]
+    fn work_once<F: StageFn>(&mut self, who: u8, functions: &[F]) -> Option<u16>
+        ensures next { result ≡ lowest_ready_of self.old.state }
+        ensures worked { self.new.state ≡ option_map_or (worked_once who (meanings_of F.meaning functions.now) self.old.state) result self.old.state }
+        ensures counted { self.old.turns ≤ self.new.turns }
+        ensures few { self.new.turns ≤ most_turns self.new.state.plan.stages }
+    {
+        let _who = who;
+        match self.stages.lowest_ready(&self.plan) {
+            None => None,
+            Some(i) => {
+                self.claims[i as usize] = None;
+                serve(&mut self.stages, &self.plan, functions, i);
+                Some(i)
+            }
+        }
+    }
+}
+
+/// Calls the function of a stage that is ready, and lets the stage land with the answer.
+#[inline(always)]
+fn serve<F: StageFn>(stages: &mut Stages, plan: &GrowingPlan, functions: &[F], i: u16)
+    requires sound { AreSound plan.now.stages stages.old }
+    requires stage { i < length plan.now.stages }
+    ensures served { outlook_of plan.now.stages stages.new ≡ served (meanings_of F.meaning functions.now) plan.now.stages (outlook_of plan.now.stages stages.old) i }
+    ensures taken { StayTakenBut i stages.old.kept.items stages.new.kept.items }
+    ensures counted { stages.old.turns ≤ stages.new.turns }
+    ensures room { SameRoom stages.old stages.new }
+    ensures sound { AreSound plan.now.stages stages.new }
+{
+    stages.treat_up_to(plan, i);
+    match stages.stage(i) {
+        Stage::Ready(args) => {
+            let answer = answer_of(plan, functions, i, &args);
+            let at = landing_of(stages, plan, i, answer);
+            land_ready(stages, plan, i, at);
+        }
+        _ => {}
+    }
+}
+
+/// What the function of a stage answers to these arguments.
+#[inline(always)]
+fn answer_of<F: StageFn>(plan: &GrowingPlan, functions: &[F], i: u16, args: &Args) -> Answer
+    requires { i < length plan.now.stages }
+    ensures { result ≡ stage_answer (meanings_of F.meaning functions.now) plan.now.stages i args.now }
+{
+    let number = plan.function(i).unwrap_or(0);
+    match functions.get(number as usize) {
+        None => Answer::Give(Value::Nil),
+        Some(function) => function.call(args),
+    }
+}
+
+/// A ready stage lands as if it had been claimed before. No stage up to it waits for treatment.
+///
+/// One that settles isn't written twice. One that links is claimed first.
+#[inline(always)]
+fn land_ready(stages: &mut Stages, plan: &GrowingPlan, d: u16, at: Landing)
+    requires sound { AreSound plan.now.stages stages.old }
+    requires stage { d < length plan.now.stages }
+    requires treated { AreTreated (d + 1) stages.old.marks }
+    requires ready { is_ready ((kept_at stages.old.kept.items d).stage) ≡ true }
+    requires target { (j : ℕ) → at ≡ LinksTo j → j < d }
+    requires composes { (j : ℕ) → at ≡ LinksTo j → composes (form_at plan.now.stages d) ≡ true }
+    ensures landed { outlook_of plan.now.stages stages.new ≡ landed_stages plan.now.stages (slice_set (outlook_of plan.now.stages stages.old) d IsClaimed) d at }
+    ensures taken { StayTakenBut d stages.old.kept.items stages.new.kept.items }
+    ensures counted { stages.old.turns ≤ stages.new.turns }
+    ensures room { SameRoom stages.old stages.new }
+    ensures sound { AreSound plan.now.stages stages.new }
+{
+    match at {
+        Landing::Settles(o) => stages.settle(plan, d, o),
+        Landing::Links(_) => {
+            stages.claim(plan, d);
+            stages.treat_up_to(plan, d);
+            stages.land(plan, d, at);
+        }
+    }
+}
