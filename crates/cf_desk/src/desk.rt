@@ -4,7 +4,7 @@ mod closing;
 mod reading;
 mod steps;
 
-ghost use Rattle.std.specs.Prelude.{◌≡◌, ◌≢◌, ◌<◌, ◌≤◌, ◌↔◌, All, IfErr, IfOk, IsTrue, MatchOption, length, vec_len};
+ghost use Rattle.std.specs.Prelude.{◌≡◌, ◌≢◌, ◌<◌, ◌≤◌, ◌↔◌, All, IfErr, IfOk, IsTrue, MatchOption, [], length, vec_capacity, vec_len};
 ghost use Rattle.cf_plan.specs.Plans.{function_at, with_room};
 ghost use Rattle.cf_core.specs.States.{start};
 ghost use Rattle.cf_desk.specs.declared.faults.OpenFault.TheVariants.{NoMemory};
@@ -12,13 +12,13 @@ ghost use Rattle.cf_desk.specs.Faults.{AreCounts, IsDueToGrow, IsDueToOpen, IsOv
 ghost use Rattle.cf_desk.specs.Functions.{function_bound};
 ghost use Rattle.cf_desk.specs.Views.{IsOf, opened};
 
-use crate::calls::Kept;
+use crate::calls::{Kept, Rec};
 use crate::faults::OpenFault;
 use crate::functions::function_bound;
 use crate::pass::Pass;
 use crate::row::{GivesFirst, RowRule, Setting, Terms, View};
 use atomic_table::Table;
-use cf_core::{Event, Graph};
+use cf_core::{Ask, Event, Graph, Told};
 use cf_plan::{GrowingPlan, MAX_EDGES, MAX_STAGES, Plan};
 use std::alloc::{AllocError, Global};
 use std::marker::Model;
@@ -172,16 +172,23 @@ fn is_overfull(plan: &Plan, room: u16) -> bool
 }
 
 /// The graph of a plan with so much room, at its start.
-fn graph_of(alloc: Global, plan: &Plan, room: u16) -> Result<Graph, AllocError>
+fn graph_of(alloc: Global, plan: Plan, room: u16) -> Result<Graph, AllocError>
+    requires { ¬ IsOverfull plan.stages room }
+    ensures { IfOk result (λ g. g.state ≡ start (with_room plan room)) }
+{
+    match Graph::new_growing(alloc, plan, room) {
+        Ok(graph) => Ok(graph),
+        Err(_) => Err(AllocError),
+    }
+}
+
+/// The graph of a copy of a plan with so much room, at its start.
+fn copy_of(alloc: Global, plan: &Plan, room: u16) -> Result<Graph, AllocError>
     requires { ¬ IsOverfull plan.now.stages room }
     ensures { IfOk result (λ g. g.state ≡ start (with_room plan.now room)) }
 {
-    let plan = match plan.copy() {
-        Ok(plan) => plan,
-        Err(_) => return Err(AllocError),
-    };
-    match Graph::new_growing(alloc, plan, room) {
-        Ok(graph) => Ok(graph),
+    match plan.copy() {
+        Ok(plan) => graph_of(alloc, plan, room),
         Err(_) => Err(AllocError),
     }
 }
@@ -195,6 +202,24 @@ fn growing(alloc: Global, plan: &Plan, room: u16) -> Result<GrowingPlan, AllocEr
         Ok(plan) => GrowingPlan::new(alloc, plan, room),
         Err(_) => Err(AllocError),
     }
+}
+
+/// What a place for a record holds before any call.
+const NO_RECORD: Rec = Rec::Saw {
+    place: 0,
+    ask: Ask::Outcome(0),
+    told: Told::Outcome(None),
+};
+
+/// An empty list with room for so many records. Each place was written once, since the first write to each page of new
+/// memory goes through the system, and would else be made in the middle of a call, by all threads at the same time.
+fn no_records(alloc: Global, calls: u16) -> Result<Vec<Rec>, AllocError>
+    ensures items { IfOk result (λ records. records.items ≡ []) }
+    ensures capacity { IfOk result (λ records. calls ≤ vec_capacity records) }
+{
+    let mut records = vec![in alloc; NO_RECORD; calls as usize]?;
+    records.clear();
+    Ok(records)
 }
 
 /// A desk with empty words, and its passes.
@@ -215,7 +240,6 @@ fn open_with(
     let history = Vec::with_capacity(alloc, log as usize)?;
     let kept = Vec::with_capacity(alloc, callers as usize)?;
     let zeros = vec![in alloc; 0u64; log as usize]?;
-    let opening = graph_of(alloc, &plan, room)?;
     let terms = Terms {
         setting: Setting {
             plan: growing(alloc, &plan, room)?,
@@ -225,10 +249,10 @@ fn open_with(
         words: log,
     };
     let (table, mut seat) = Table::of_words(alloc, zeros.as_slice(), &terms)?;
-    let mut passes = Vec::new(alloc);
+    let mut passes = Vec::with_capacity(alloc, callers as usize)?;
     for caller in 0..callers {
-        let records = Vec::with_capacity(alloc, calls as usize)?;
-        let copy = graph_of(alloc, &plan, room)?;
+        let records = no_records(alloc, calls)?;
+        let copy = copy_of(alloc, &plan, room)?;
         let mine = table.shared.split_seat::<GivesFirst>(&mut seat);
         let pass = Pass {
             seat: mine,
@@ -238,9 +262,11 @@ fn open_with(
             copy,
             records,
             calls,
+            padding: [0; 16],
         };
         passes.push(pass)?;
     }
+    let opening = graph_of(alloc, plan, room)?;
     let desk = Desk {
         table,
         callers,

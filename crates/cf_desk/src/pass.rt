@@ -29,6 +29,8 @@ pub struct Pass {
     pub(crate) copy: Graph,
     pub(crate) records: Vec<Rec>,
     pub(crate) calls: u16,
+    // It keeps two neighbours out of one cache line.
+    pub(crate) padding: [u64; 16],
 }
 
 impl Model for Pass {
@@ -179,9 +181,7 @@ impl Pass {
             ask,
             told,
         };
-        if self.records.push(record).is_err() {
-            unreachable!();
-        }
+        self.records.push_reserved(record);
         told
     }
 }

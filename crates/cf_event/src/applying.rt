@@ -9,6 +9,7 @@ use cf_core::{Event, Graph, Reply};
 
 /// Does an event to a graph, and gives its reply. The stages that it names are there, and a stage that it attaches fits its
 /// form.
+#[inline(always)]
 pub fn apply(g: &mut Graph, e: &Event) -> Reply
     requires { EventFits (length g.old.state.plan.stages) e.now }
     ensures told { (result, g.new.state) ≡ answered g.old.state e.now }

@@ -110,7 +110,9 @@ fn form_number(form: Form) -> u32
     }
 }
 
-/// The attaching with these fields, if there is one.
+/// The attaching with these fields, if there is one. It is a call of its own, since `decode`, in whose code it would else
+/// stand, stands in the code of its callers, and few events attach.
+#[inline(never)]
 pub(crate) fn attach_with(who: u8, first: u16, count: u8, low: u32) -> Option<Event>
     ensures { result ≡ attach_with who first count low }
 {

@@ -49,6 +49,7 @@ fn has_room(who: u8, stage: u16) -> bool
 }
 
 /// The word of an event. It is never 0.
+#[inline(always)]
 #[tactic(auto, using(crate::proofs::WordLemmas::event_of_own_word))]
 pub fn encode(e: &Event) -> u64
     requires { IsEvent e.now }
@@ -80,6 +81,7 @@ pub fn encode(e: &Event) -> u64
 }
 
 /// The event of a word, or nothing where the word is no event's.
+#[inline(always)]
 #[tactic(auto, unfolding(crate::specs::Decoding::event_of))]
 pub fn decode(w: u64) -> Option<Event>
     ensures value { result ≡ event_of w }

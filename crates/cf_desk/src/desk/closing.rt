@@ -80,13 +80,12 @@ fn gather(
             copy: mine,
             records,
             calls: _,
+            padding: _,
         } = pass;
         row.shared.join_seat::<StandsForBoth>(&mut seat, other);
         copy = later(copy, most, mine, count);
         most = most.max(count);
-        if kept.push(Kept { caller, records }).is_err() {
-            unreachable!();
-        }
+        kept.push_reserved(Kept { caller, records });
     }
     (seat, copy, kept)
 }
@@ -112,11 +111,7 @@ fn decode_row(
     for place in 0..words {
         match decode(row.word(place as usize)) {
             None => return history,
-            Some(event) => {
-                if history.push(event).is_err() {
-                    unreachable!();
-                }
-            }
+            Some(event) => history.push_reserved(event),
         }
     }
     history

@@ -39,9 +39,7 @@ impl Desk {
                     call,
                     reply,
                 };
-                if p.records.push(record).is_err() {
-                    unreachable!();
-                }
+                p.records.push_reserved(record);
                 Some(reply)
             }
             Some(theirs) => {

@@ -1,4 +1,4 @@
-use Rattle.std.proofs.Common.{◌≡◌, ℕ, ◌<◌, ◌+◌, ◌++◌, ◌∷◌, [], length, length-append, is_ok, not, true, sym, ap, ◌∙◌, subst, arith}
+use Rattle.std.proofs.Common.{◌≡◌, ℕ, ◌<◌, ◌+◌, ◌++◌, ◌∷◌, [], length, length-append, sym, ap, ◌∙◌, subst, arith}
 use Rattle.atomic_table.specs.Seated.{TableId}
 use Rattle.cf_core.specs.declared.events.Event.{Event}
 use Rattle.cf_core.specs.declared.events.Reply.{Reply}
@@ -14,7 +14,7 @@ use Rattle.cf_desk.specs.Views.{Pass, Desk, known_of, state_of}
 use Rattle.cf_desk.proofs.Recs.{own_call}
 use Rattle.cf_desk.proofs.Passes.{adds_at, one_known, short_more, agrees_own, agrees_other, on_plan}
 use Rattle.cf_desk.proofs.desk.Desk.add.Goals as goal
-use Rattle.cf_desk.proofs.desk.Desk.add.Goals.{After-event_by-event, After-compare_exchange-found, Else-is_err}
+use Rattle.cf_desk.proofs.desk.Desk.add.Goals.{After-event_by-event, After-compare_exchange-found, After-push_reserved}
 
 -- the event is that of the pass's caller
 event_is : (c : After-event_by-event) → c.event_by-event.result ≡ event_by (known_of c.p.inside.seat.me.0).caller c.args.call
@@ -65,8 +65,8 @@ overflow_add-p c =
     let words = ap (λ (h : Desk). h.words) c.self.view_is in
     omega arith
 
-more : (c : Else-is_err) → c.push.new.self.items ≡ c.p.inside.records.items ++ Did (c.p.inside.count + 1) c.args.call c.apply-reply.result ∷ []
-more c = let ok : is_ok c.push.result ≡ true = c.is_err.ensures.negation ∙ ap not c.if-is_err.false in rw ok at c.push.ensures.items
+more : (c : After-push_reserved) → c.push_reserved.new.self.items ≡ c.p.inside.records.items ++ Did (c.p.inside.count + 1) c.args.call c.apply-reply.result ∷ []
+more c = c.push_reserved.ensures.items
 
 pub apply-reply-requires : goal.apply-reply-requires
 apply-reply-requires c =
@@ -78,18 +78,18 @@ apply-requires c =
     on_plan (known_of c.p.inside.seat.me.0) _ _ c.p.invariant.agrees.state t.1
 
 -- a won exchange makes the pass's event the next that it has seen
-won : (c : Else-is_err) → c.compare_exchange-found.new.seat.me.0 ≡ saw (known_of c.p.inside.seat.me.0) (event_by (known_of c.p.inside.seat.me.0).caller c.args.call) ∷ []
+won : (c : After-push_reserved) → c.compare_exchange-found.new.seat.me.0 ≡ saw (known_of c.p.inside.seat.me.0) (event_by (known_of c.p.inside.seat.me.0).caller c.args.call) ∷ []
 won c =
-    (told (goal.at.Else-is_err c).After-compare_exchange-found).won c.event_by-event.result c.encode-word.ensures.back (sym c.in-None.ensures.value)
-    ∙ ap (λ (e : Event). saw (known_of c.p.inside.seat.me.0) e ∷ []) (event_is (goal.at.Else-is_err c).After-event_by-event)
+    (told (goal.at.After-push_reserved c).After-compare_exchange-found).won c.event_by-event.result c.encode-word.ensures.back (sym c.in-None.ensures.value)
+    ∙ ap (λ (e : Event). saw (known_of c.p.inside.seat.me.0) e ∷ []) (event_is (goal.at.After-push_reserved c).After-event_by-event)
 
-now : (c : Else-is_err) → (c.apply-reply.result, c.apply-reply.new.g.state) ≡ answered c.p.inside.copy.state (event_by (known_of c.p.inside.seat.me.0).caller c.args.call)
-now c = c.apply-reply.ensures.told ∙ ap (answered c.p.inside.copy.state) (event_is (goal.at.Else-is_err c).After-event_by-event)
+now : (c : After-push_reserved) → (c.apply-reply.result, c.apply-reply.new.g.state) ≡ answered c.p.inside.copy.state (event_by (known_of c.p.inside.seat.me.0).caller c.args.call)
+now c = c.apply-reply.ensures.told ∙ ap (answered c.p.inside.copy.state) (event_is (goal.at.After-push_reserved c).After-event_by-event)
 
 pub invariant_of-p : goal.invariant_of-p
 invariant_of-p c =
     let at = (goal.at.invariant_of-p c).After-compare_exchange-found in
-    let won_at = (goal.at.invariant_of-p c).Else-is_err in
+    let won_at = (goal.at.invariant_of-p c).After-push_reserved in
     let i = c.p.invariant in
     let is = won won_at in
     let calls = ap (λ (h : Pass). h.calls) c.p.view_is in
@@ -97,14 +97,14 @@ invariant_of-p c =
     let longer = ap length (more won_at) in record {
       one = one_known _ _ is (none_held at);
       agrees = agrees_own _ _ _ _ _ _ _ _ _ c.args.call c.apply-reply.result (ap known_of is) (of_pass (goal.at.invariant_of-p c).After-event_by-event) (now won_at) (more won_at) i.agrees;
-      room = (let r = i.room in omega (arith, c.push.ensures.capacity));
+      room = (let r = i.room in omega (arith, c.push_reserved.ensures.capacity));
       within = omega (arith, length-append c.p.inside.records.items (Did (c.p.inside.count + 1) c.args.call c.apply-reply.result ∷ []));
       short = short_more _ _ _ c.compare_exchange-found.ensures.0 (left_over at);
     }
 
-pub returns-else-is_err : goal.returns-else-is_err
-returns-else-is_err c =
-    let won_at = (goal.at.returns-else-is_err c).Else-is_err in
+pub returns-in-None : goal.returns-in-None
+returns-in-None c =
+    let won_at = (goal.at.returns-in-None c).After-push_reserved in
     let k = known_of c.p.inside.seat.me.0 in
     let is = won won_at in
     let a = c.p.invariant.agrees in

@@ -1,4 +1,4 @@
-use Rattle.std.proofs.Common.{List, map, append-nil, ◌≡◌, ◌++◌, ◌∷◌, [], length, is_ok, not, true, refl, sym, ap, ◌∙◌, subst, append_assoc, arith}
+use Rattle.std.proofs.Common.{List, map, append-nil, ◌≡◌, ◌++◌, ◌∷◌, [], length, refl, sym, ap, ◌∙◌, subst, append_assoc, arith}
 use Rattle.std.proofs.lemmas.List.Elements.{All-nil, All-push}
 use Rattle.std.specs.List.{All}
 use Rattle.std.specs.Vec.Iter.{into_iter_items}
@@ -27,14 +27,13 @@ pub next-preserved : goal.next-preserved
 next-preserved c =
     let i = c.next.invariant in
     let at = (goal.at.next-preserved c).In-Some in
-    let ok : is_ok c.push.result ≡ true = c.is_err.ensures.negation ∙ ap not c.if-is_err.false in
-    let items = rw ok at c.push.ensures.items in
-    let len = rw ok at c.push.ensures.len in
+    let items = c.push_reserved.ensures.items in
+    let len = c.push_reserved.ensures.len in
     let v = c.pass.view_is in
     let a = c.pass.invariant.agrees in record {
       done = i.done ++ c.in-Some.pass ∷ [];
       parts = parts at ∙ sym (append_assoc i.done (c.in-Some.pass ∷ []) (into_iter_items c.next-in-next.new.self));
-      left = (let l = i.left in let r = c.in-Some.ensures.cases.1 in omega (arith, c.push.ensures.capacity));
+      left = (let l = i.left in let r = c.in-Some.ensures.cases.1 in omega (arith, c.push_reserved.ensures.capacity));
       table = c.join_seat.ensures.0 ∙ i.table;
       seat = joined_one i.done c.in-Some.pass (known_of c.pass.inside.seat.me.0) _ _ _ i.seat c.pass.invariant.one (ap (λ (h : Pass). h.known) v) c.join_seat.ensures.2;
       kept = kept_one _ _ _ _ _ i.kept items (λ j. ((a.caller ∙ ap (λ (h : Pass). h.known.caller) v) j, ap (λ (h : Pass). h.records) v j));

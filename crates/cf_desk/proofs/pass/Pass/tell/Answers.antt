@@ -1,4 +1,4 @@
-use Rattle.std.proofs.Common.{◌≡◌, ℕ, List, ◌++◌, ◌∷◌, [], length, length-append, is_ok, not, true, sym, refl, ap, ◌∙◌, subst, append-nil, arith}
+use Rattle.std.proofs.Common.{◌≡◌, ℕ, List, ◌++◌, ◌∷◌, [], length, length-append, sym, refl, ap, ◌∙◌, subst, append-nil, arith}
 use Rattle.std.proofs.lemmas.List.Elements.{All-nil}
 use Rattle.cf_desk.specs.declared.calls.Rec.TheVariants.{Saw}
 use Rattle.cf_core.specs.States.{State}
@@ -8,10 +8,10 @@ use Rattle.cf_desk.specs.declared.row.Known.{Known}
 use Rattle.cf_desk.specs.Views.{Pass, IsBetween, known_of, state_of}
 use Rattle.cf_desk.proofs.Passes.{agrees_told, none_new, asked_there}
 use Rattle.cf_desk.proofs.pass.Pass.tell.Goals as goal
-use Rattle.cf_desk.proofs.pass.Pass.tell.Goals.{Else-is_err}
+use Rattle.cf_desk.proofs.pass.Pass.tell.Goals.{After-push_reserved}
 
-more : (c : Else-is_err) → c.push.new.self.items ≡ c.self.inside.records.items ++ Saw c.self.inside.count c.args.ask c.tell-told.result ∷ []
-more c = let ok : is_ok c.push.result ≡ true = c.is_err.ensures.negation ∙ ap not c.if-is_err.false in rw ok at c.push.ensures.items
+more : (c : After-push_reserved) → c.push_reserved.new.self.items ≡ c.self.inside.records.items ++ Saw c.self.inside.count c.args.ask c.tell-told.result ∷ []
+more c = c.push_reserved.ensures.items
 
 pub tell-told-requires : goal.tell-told-requires
 tell-told-requires c =
@@ -21,20 +21,20 @@ tell-told-requires c =
 pub invariant_of-self : goal.invariant_of-self
 invariant_of-self c =
     let i = c.self.invariant in
-    let m = more (goal.at.invariant_of-self c).Else-is_err in
+    let m = more (goal.at.invariant_of-self c).After-push_reserved in
     let v = ap (λ (h : Pass). length h.records) c.self.view_is in
     let calls = ap (λ (h : Pass). h.calls) c.self.view_is in
     let longer = ap length m in record {
       one = i.one;
       agrees = agrees_told _ _ _ _ _ _ _ _ c.args.ask c.tell-told.result c.tell-told.ensures.unchanged c.tell-told.ensures.told m i.agrees;
-      room = (let r = i.room in omega (arith, c.push.ensures.capacity));
+      room = (let r = i.room in omega (arith, c.push_reserved.ensures.capacity));
       within = omega (arith, length-append c.self.inside.records.items (Saw c.self.inside.count c.args.ask c.tell-told.result ∷ []));
       short = i.short;
     }
 
 pub returns : goal.returns
 returns c =
-    let m = more (goal.at.returns c).Else-is_err in
+    let m = more (goal.at.returns c).After-push_reserved in
     let a = c.self.invariant.agrees in
     let k = known_of c.self.inside.seat.me.0 in
     rw (← c.self.view_is) (
