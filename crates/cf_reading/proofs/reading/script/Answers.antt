@@ -1,0 +1,7 @@
+use Rattle.std.proofs.Common.{rules}
+use Rattle.cf_reading.specs.Reading.{outline_of, script_of}
+use Rattle.cf_reading.proofs.reading.script.Goals as goal
+
+pub returns-in_err-read_steps-clause-says : goal.returns-in_err-read_steps-clause-says
+unfolding script_of outline_of
+returns-in_err-read_steps-clause-says c = search rules
