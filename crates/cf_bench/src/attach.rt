@@ -1,6 +1,6 @@
 //! Attaching a stage to each stage of a graph of which the first half is settled.
 use crate::shape::{Shape, plan_of};
-use crate::shorter;
+use crate::times::{Shown, Times};
 use crate::work::{checksum, settle};
 use anyhow::{Result, anyhow};
 use cf_core::Graph;
@@ -11,7 +11,7 @@ use std::time::{Clock, Instant};
 /// How many stages the graph is opened with, and how many are attached.
 const STAGES: u16 = 2048;
 
-const ROUNDS: u32 = 20;
+const ROUNDS: u32 = 200;
 
 /// A chain whose first half is settled, with room for as many stages as it has.
 fn half_settled(alloc: Global) -> Result<Graph> {
@@ -34,16 +34,16 @@ fn attach_all(graph: &mut Graph) {
     }
 }
 
-/// The least nanoseconds that attaching a stage took, over the rounds.
-pub(crate) fn measured_attach<R: Clock>(rt: &R, alloc: Global) -> Result<u128> {
-    let mut best = None;
+/// What attaching a stage took.
+pub(crate) fn measured_attach<R: Clock>(rt: &R, alloc: Global) -> Result<Shown> {
+    let mut times = Times::new(alloc, ROUNDS)?;
     for _ in 0..ROUNDS {
         let mut graph = half_settled(alloc)?;
         let start = Instant::now(rt)?;
         attach_all(&mut graph);
-        best = shorter(best, start.elapsed(rt)?.as_nanos());
+        times.add(start.elapsed(rt)?)?;
     }
-    Ok(best.unwrap_or(0) / u128::from(STAGES))
+    Ok(times.a_part(STAGES)?)
 }
 
 /// How many stages there are then, and a checksum of all outcomes once the attached ones that are ready are done.

@@ -1,70 +1,74 @@
-//! Builds and settles graphs of five shapes at three sizes.
+//! Builds and settles graphs of five shapes at three sizes, and what else takes time.
 //!
-//! Without words it prints a checksum of the outcomes of each, which doesn't depend on the machine, and one of the report
-//! of a script of 1 MiB. With the word `time` it prints, for each, the nanoseconds a stage that building and settling
-//! took, the best of several rounds, and for the script the milliseconds of a run beside those of reading it as JSON.
-//! Then the same for stages that are attached one by one, for 1, 2 and 4 threads that complete the same 4,095 stages
-//! through one desk, and for a read that finds nothing new.
+//! Without words it prints checksums of the outcomes of each, which don't depend on the machine: settled by a claim and a
+//! finish for each stage, by one call of `work`, and by one call of `work` after a restart. Then those of the report of a
+//! script of 1 MiB, of stages that are attached one by one, of 1, 2 and 4 threads that complete the same 4,095 stages
+//! through one desk, and of a desk over a chain of 16 stages.
+//!
+//! With the word `time` it prints how long each takes: the best and the median of many rounds, in picoseconds, and how
+//! many rounds there were.
+//!
+//! - `from scratch`: a plan is built with its room, and a graph of it, and the graph is settled; a stage of it.
+//! - `per request`: a graph that is there is restarted and settled; a stage of it.
+//! - `json`: the bytes of the script are read as JSON, and the value is let go.
+//! - `script`: the script is run.
+//! - `attach`: a stage is attached.
+//! - `race`: so many threads complete the same stages, from when all are there to the end of the last; a stage of it.
+//! - `desk`: a desk for so many callers is opened of a plan that is there, its 16 stages are settled and seen by each
+//!   caller, and it is closed; all of it.
+//! - `read`: a read that finds nothing new.
 #![tactic(auto)]
 
 mod attach;
+mod desk;
+mod gate;
+mod graphs;
 mod race;
 mod script;
 mod shape;
+mod times;
 mod work;
 
-use anyhow::{Result, anyhow};
+use anyhow::Result;
 use attach::{attach_checksum, measured_attach};
-use cf_core::Graph;
-use cf_plan::Plan;
+use desk::{desk_checksum, measured_desk};
+use graphs::{measured_from_scratch, measured_per_request, sums_of};
 use race::{measured_race, measured_read, race_checksum};
-use script::{measured_script, report_checksum, script_text};
-use shape::{Shape, plan_of};
+use script::{measured_json, measured_script, report_checksum, script_text};
+use shape::Shape;
 use std::alloc::Global;
 use std::env;
 use std::thread::Threads;
-use std::time::{Clock, Instant};
-use work::{checksum, settle};
+use std::time::Clock;
 
 const SIZES: [u16; 3] = [64, 512, 4095];
 
-/// How many stages are settled for one measurement, over all of its rounds.
-const STAGES_A_SHAPE: u32 = 40_950;
+const SHAPES: [Shape; 5] = [
+    Shape::Chain,
+    Shape::FailedChain,
+    Shape::FanOut,
+    Shape::CombineTree,
+    Shape::AllOf,
+];
 
-fn graph_of(alloc: Global, shape: Shape, stages: u16) -> Result<Graph> {
-    let plan = plan_of(alloc, shape, stages).map_err(|_| anyhow!("the plan was refused"))?;
-    started(alloc, plan)
+/// Prints the checksums of the outcomes of a shape at a size.
+fn show_sums<R: Print>(rt: &R, alloc: Global, shape: Shape, stages: u16) -> Result<()> {
+    let sums = sums_of(alloc, shape, stages)?;
+    let (calls, work, again) = (sums.calls, sums.work, sums.again);
+    println!(rt; "{shape} {stages}: checksum {calls}, by work {work}, after a restart {again}")?;
+    Ok(())
 }
 
-fn started(alloc: Global, plan: Plan) -> Result<Graph> {
-    Graph::new(alloc, plan).map_err(|_| anyhow!("no memory for the graph"))
+/// Prints how long a shape takes at a size, from scratch and per request.
+fn show_graphs<R: Clock + Print>(rt: &R, alloc: Global, shape: Shape, stages: u16) -> Result<()> {
+    let took = measured_from_scratch(rt, alloc, shape, stages)?;
+    println!(rt; "from scratch {shape} {stages}: {took}")?;
+    let took = measured_per_request(rt, alloc, shape, stages)?;
+    println!(rt; "per request {shape} {stages}: {took}")?;
+    Ok(())
 }
 
-/// The shorter of two times, the first of which may be none.
-pub(crate) fn shorter(best: Option<u128>, now: u128) -> Option<u128> {
-    match best {
-        Some(best) if best <= now => Some(best),
-        _ => Some(now),
-    }
-}
-
-/// The least nanoseconds that building and that settling took, over the rounds.
-fn measured<R: Clock>(rt: &R, alloc: Global, shape: Shape, stages: u16) -> Result<(u128, u128)> {
-    let rounds = STAGES_A_SHAPE / u32::from(stages).max(1);
-    let mut building = None;
-    let mut settling = None;
-    for _ in 0..rounds {
-        let start = Instant::now(rt)?;
-        let mut graph = graph_of(alloc, shape, stages)?;
-        building = shorter(building, start.elapsed(rt)?.as_nanos());
-        let start = Instant::now(rt)?;
-        settle(&mut graph, shape, stages);
-        settling = shorter(settling, start.elapsed(rt)?.as_nanos());
-    }
-    Ok((building.unwrap_or(0), settling.unwrap_or(0)))
-}
-
-/// Prints what came of a shape at a size: how long it took, or a checksum.
+/// Prints what came of a shape at a size: how long it took, or checksums.
 fn show_shape<R: Clock + Print>(
     rt: &R,
     alloc: Global,
@@ -73,26 +77,20 @@ fn show_shape<R: Clock + Print>(
     stages: u16,
 ) -> Result<()> {
     if timed {
-        let (building, settling) = measured(rt, alloc, shape, stages)?;
-        let count = u128::from(stages).max(1);
-        let (a, b) = (building / count, settling / count);
-        println!(rt; "{shape} {stages}: built {a} ns, settled {b} ns a stage")?;
+        show_graphs(rt, alloc, shape, stages)
     } else {
-        let mut graph = graph_of(alloc, shape, stages)?;
-        settle(&mut graph, shape, stages);
-        let sum = checksum(&mut graph, stages);
-        println!(rt; "{shape} {stages}: checksum {sum}")?;
+        show_sums(rt, alloc, shape, stages)
     }
-    Ok(())
 }
 
 /// The same for the script.
 fn show_script<R: Clock + Print>(rt: &R, alloc: Global, timed: bool) -> Result<()> {
     let text = script_text(alloc)?;
     if timed {
-        let (reading, running) = measured_script(rt, alloc, &text)?;
-        let (a, b) = (reading / 1000, running / 1000);
-        println!(rt; "script: read as JSON {a} us, run {b} us")?;
+        let took = measured_json(rt, alloc, &text)?;
+        println!(rt; "json: {took}")?;
+        let took = measured_script(rt, alloc, &text)?;
+        println!(rt; "script: {took}")?;
     } else {
         let sum = report_checksum(alloc, &text)?;
         println!(rt; "script: checksum {sum}")?;
@@ -104,7 +102,7 @@ fn show_script<R: Clock + Print>(rt: &R, alloc: Global, timed: bool) -> Result<(
 fn show_attach<R: Clock + Print>(rt: &R, alloc: Global, timed: bool) -> Result<()> {
     if timed {
         let took = measured_attach(rt, alloc)?;
-        println!(rt; "attach: {took} ns a stage")?;
+        println!(rt; "attach: {took}")?;
     } else {
         let (stages, sum) = attach_checksum(alloc)?;
         println!(rt; "attach: {stages} stages, checksum {sum}")?;
@@ -121,7 +119,7 @@ fn show_race<R: Clock + Print + Threads + Sync>(
 ) -> Result<()> {
     if timed {
         let took = measured_race(rt, alloc, threads)?;
-        println!(rt; "race {threads}: {took} ns a stage")?;
+        println!(rt; "race {threads}: {took}")?;
     } else {
         let (sum, events) = race_checksum(rt, alloc, threads)?;
         println!(rt; "race {threads}: {events} events, checksum {sum}")?;
@@ -129,27 +127,52 @@ fn show_race<R: Clock + Print + Threads + Sync>(
     Ok(())
 }
 
-fn main(rt: HostRuntime) -> Result<()> {
-    let timed = env::args(&rt)?.any(|word| word.as_str() == "time");
-    for shape in [
-        Shape::Chain,
-        Shape::FailedChain,
-        Shape::FanOut,
-        Shape::CombineTree,
-        Shape::AllOf,
-    ] {
+/// The same for a desk over a few stages.
+fn show_desk<R: Clock + Print>(rt: &R, alloc: Global, timed: bool, callers: u8) -> Result<()> {
+    if timed {
+        let took = measured_desk(rt, alloc, callers)?;
+        println!(rt; "desk {callers}: {took}")?;
+    } else {
+        let (sum, events) = desk_checksum(alloc, callers)?;
+        println!(rt; "desk {callers}: {events} events, checksum {sum}")?;
+    }
+    Ok(())
+}
+
+/// How long a read that finds nothing new takes.
+fn show_read<R: Clock + Print>(rt: &R, alloc: Global) -> Result<()> {
+    let took = measured_read(rt, alloc)?;
+    println!(rt; "read: {took}")?;
+    Ok(())
+}
+
+fn show_shapes<R: Clock + Print>(rt: &R, alloc: Global, timed: bool) -> Result<()> {
+    for shape in SHAPES {
         for stages in SIZES {
-            show_shape(&rt, rt.alloc(), timed, shape, stages)?;
+            show_shape(rt, alloc, timed, shape, stages)?;
         }
     }
+    Ok(())
+}
+
+fn show_desks<R: Clock + Print + Threads + Sync>(rt: &R, alloc: Global, timed: bool) -> Result<()> {
+    for threads in [1, 2, 4] {
+        show_race(rt, alloc, timed, threads)?;
+    }
+    for callers in [1, 4] {
+        show_desk(rt, alloc, timed, callers)?;
+    }
+    Ok(())
+}
+
+fn main(rt: HostRuntime) -> Result<()> {
+    let timed = env::args(&rt)?.any(|word| word.as_str() == "time");
+    show_shapes(&rt, rt.alloc(), timed)?;
     show_script(&rt, rt.alloc(), timed)?;
     show_attach(&rt, rt.alloc(), timed)?;
-    for threads in [1, 2, 4] {
-        show_race(&rt, rt.alloc(), timed, threads)?;
-    }
+    show_desks(&rt, rt.alloc(), timed)?;
     if timed {
-        let took = measured_read(&rt, rt.alloc())?;
-        println!(rt; "read: {took} ps")?;
+        show_read(&rt, rt.alloc())?;
     }
     Ok(())
 }

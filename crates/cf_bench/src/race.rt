@@ -1,6 +1,8 @@
 //! Threads that complete the same stages through one desk, and reads that find nothing new.
 ghost use Rattle.std.specs.Prelude.{◌≡◌, All, IfOk, length, vec_len};
 
+use crate::gate::Gate;
+use crate::times::{Shown, Times};
 use crate::work::checksum;
 use anyhow::{Result, anyhow};
 use cf_desk::{Ask, Call, Closed, Desk, Pass};
@@ -18,7 +20,7 @@ const STAGES: u16 = 4095;
 const READS: u16 = 60_000;
 
 /// How often a race is measured.
-const ROUNDS: u32 = 50;
+const ROUNDS: u32 = 300;
 
 /// A plan of sources.
 fn sources(alloc: Global) -> Result<Plan, PlanFault> {
@@ -48,27 +50,41 @@ fn complete_all(desk: &Desk, p: &mut Pass)
     }
 }
 
-/// Lets each pass complete all stages, on a thread for each.
-fn race<R: Threads + Sync>(rt: &R, desk: &Desk, passes: &mut [Pass])
+/// Completes each stage with its number once all threads are there, and leaves.
+fn complete_together<R: Clock>(rt: &R, gate: &Gate, desk: &Desk, p: &mut Pass)
+    requires { p.old.table ≡ desk.now.table }
+    ensures { p.new.table ≡ p.old.table }
+{
+    gate.pass(rt);
+    complete_all(desk, p);
+    gate.leave(rt);
+}
+
+/// Lets each pass complete all stages, on a thread for each. They begin together.
+fn race<R: Clock + Threads + Sync>(rt: &R, gate: &Gate, desk: &Desk, passes: &mut [Pass])
     requires { All (λ p. p.table ≡ desk.now.table) passes.old }
     ensures table { All (λ p. p.table ≡ desk.now.table) passes.new }
     ensures count { length passes.new ≡ length passes.old }
 {
     let threads = passes.len().max(1);
-    thread::for_each_mut(rt, passes, threads, &|_, p| complete_all(desk, p));
+    thread::for_each_mut(
+        rt,
+        passes,
+        threads,
+        &|_, p| complete_together(rt, gate, desk, p),
+    );
 }
 
-/// The nanoseconds that a race took, and what the desk then holds.
-fn raced<R: Clock + Threads + Sync>(rt: &R, alloc: Global, callers: u8) -> Result<(u128, Closed)> {
+/// What the desk holds after a race, and the gate at which its threads met.
+fn raced<R: Clock + Threads + Sync>(rt: &R, alloc: Global, callers: u8) -> Result<(Gate, Closed)> {
     let log = u16::from(callers).saturating_mul(STAGES);
     let (desk, mut passes) = open(alloc, callers, log, STAGES)?;
-    let start = Instant::now(rt)?;
-    race(rt, &desk, passes.as_mut_slice());
-    let took = start.elapsed(rt)?.as_nanos();
+    let gate = Gate::new(rt, callers)?;
+    race(rt, &gate, &desk, passes.as_mut_slice());
     let closed = desk
         .close(passes)
         .map_err(|_| anyhow!("the desk wasn't closed"))?;
-    Ok((took, closed))
+    Ok((gate, closed))
 }
 
 /// A sum over the outcomes after a race, and the number of its events.
@@ -81,17 +97,17 @@ pub(crate) fn race_checksum<R: Clock + Threads + Sync>(
     Ok((checksum(&mut closed.graph, STAGES), closed.history.len()))
 }
 
-/// The least nanoseconds a stage that a race took.
+/// What a race took, a stage.
 pub(crate) fn measured_race<R: Clock + Threads + Sync>(
     rt: &R,
     alloc: Global,
     callers: u8,
-) -> Result<u128> {
-    let mut best = None;
+) -> Result<Shown> {
+    let mut times = Times::new(alloc, ROUNDS)?;
     for _ in 0..ROUNDS {
-        best = crate::shorter(best, raced(rt, alloc, callers)?.0);
+        times.add(raced(rt, alloc, callers)?.0.took()?)?;
     }
-    Ok(best.unwrap_or(0) / u128::from(STAGES))
+    Ok(times.a_part(STAGES)?)
 }
 
 /// Asks so many times for the outcome of a stage.
@@ -113,14 +129,14 @@ fn read_first(desk: &Desk, passes: &mut [Pass])
     }
 }
 
-/// The least picoseconds that a read took which found nothing new.
-pub(crate) fn measured_read<R: Clock>(rt: &R, alloc: Global) -> Result<u128> {
-    let mut best = None;
+/// What a read took which found nothing new.
+pub(crate) fn measured_read<R: Clock>(rt: &R, alloc: Global) -> Result<Shown> {
+    let mut times = Times::new(alloc, ROUNDS)?;
     for _ in 0..ROUNDS {
         let (desk, mut passes) = open(alloc, 1, 1, READS)?;
         let start = Instant::now(rt)?;
         read_first(&desk, passes.as_mut_slice());
-        best = crate::shorter(best, start.elapsed(rt)?.as_nanos());
+        times.add(start.elapsed(rt)?)?;
     }
-    Ok(best.unwrap_or(0).saturating_mul(1000) / u128::from(READS))
+    Ok(times.a_part(READS)?)
 }

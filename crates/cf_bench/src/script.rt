@@ -1,4 +1,5 @@
 //! A script as large as scripts may be, and what running it takes beside reading its bytes as JSON alone.
+use crate::times::{Shown, Times};
 use anyhow::{Result, anyhow};
 use cf_script::run_script;
 use serde_json::Value as Json;
@@ -13,7 +14,7 @@ const STEPS: u16 = 20_000;
 
 const BYTES: usize = 1_048_576;
 
-const ROUNDS: u32 = 7;
+const ROUNDS: u32 = 20;
 
 /// Sources, and combines of two stages each up to the root; each source is completed, all functions are called, and the
 /// other steps ask for outcomes. It is filled with blanks to 1 MiB.
@@ -74,18 +75,29 @@ pub(crate) fn report_checksum(alloc: Global, text: &str) -> Result<u64> {
     Ok(sum)
 }
 
-/// The least nanoseconds that reading the bytes as JSON and that running the script took.
-pub(crate) fn measured_script<R: Clock>(rt: &R, alloc: Global, text: &str) -> Result<(u128, u128)> {
-    let mut reading = None;
-    let mut running = None;
+/// What reading the bytes as JSON and letting the value go again took.
+pub(crate) fn measured_json<R: Clock>(rt: &R, alloc: Global, text: &str) -> Result<Shown> {
+    let mut times = Times::new(alloc, ROUNDS)?;
     for _ in 0..ROUNDS {
         let start = Instant::now(rt)?;
         let json = Json::from_slice(alloc, text.as_bytes());
-        reading = crate::shorter(reading, start.elapsed(rt)?.as_nanos());
-        json.map_err(|_| anyhow!("the bytes are no JSON"))?;
+        let read = json.is_ok();
+        drop(json);
+        times.add(start.elapsed(rt)?)?;
+        if !read {
+            return Err(anyhow!("the bytes are no JSON"));
+        }
+    }
+    Ok(times.a_part(1)?)
+}
+
+/// What running the script took.
+pub(crate) fn measured_script<R: Clock>(rt: &R, alloc: Global, text: &str) -> Result<Shown> {
+    let mut times = Times::new(alloc, ROUNDS)?;
+    for _ in 0..ROUNDS {
         let start = Instant::now(rt)?;
         report(alloc, text)?;
-        running = crate::shorter(running, start.elapsed(rt)?.as_nanos());
+        times.add(start.elapsed(rt)?)?;
     }
-    Ok((reading.unwrap_or(0), running.unwrap_or(0)))
+    Ok(times.a_part(1)?)
 }

@@ -41,13 +41,18 @@ pub(crate) fn sources_of(shape: Shape, stages: u16) -> u16 {
 
 /// The plan of a shape.
 pub(crate) fn plan_of(alloc: Global, shape: Shape, stages: u16) -> Result<Plan, PlanFault> {
-    let mut builder = PlanBuilder::new(alloc);
+    let mut builder = PlanBuilder::with_room(alloc, stages, stages.saturating_mul(2))?;
     let sources = sources_of(shape, stages);
     let mut all = Vec::new(alloc);
+    if shape == Shape::AllOf {
+        all.reserve(sources as usize)?;
+    }
     for i in 0..stages {
         if i < sources {
             builder.stage(Form::Source, &[], None)?;
-            all.push(i).map_err(|_| PlanFault::NoMemory)?;
+            if shape == Shape::AllOf {
+                all.push(i).map_err(|_| PlanFault::NoMemory)?;
+            }
         } else {
             add(&mut builder, shape, i, sources, all.as_slice())?;
         }

@@ -1,14 +1,31 @@
 //! Settling a graph of one of the shapes, and summing up what came of it.
+ghost use Rattle.std.specs.Prelude.{◌≡◌};
+ghost use Rattle.cf_bench.specs.Answers.{number_of, one_more, sum_of};
+
 use crate::shape::{Shape, sources_of};
 use cf_core::{Claimed, Graph};
 use cf_outcome::{Cause, Outcome, Value};
-use cf_plan::{Answer, Args};
+use cf_plan::{Answer, Args, StageFn};
 
 /// The caller that does all the work.
 const WORKER: u8 = 0;
 
-/// Settles the sources, and then all stages whose function is due, the lowest first.
-pub(crate) fn settle(graph: &mut Graph, shape: Shape, stages: u16) {
+/// The function of all stages that have one, which the shapes give the number 0.
+#[derive(Clone, Copy, Debug)]
+pub(crate) struct OneMore;
+
+impl StageFn for OneMore {
+    ghost use Rattle.cf_bench.specs.Answers.{one_more};
+
+    ghost meaning = { λ _ args. one_more args };
+
+    fn call(&self, args: &Args) -> Answer {
+        answer(*args)
+    }
+}
+
+/// Settles the sources.
+fn settle_sources(graph: &mut Graph, shape: Shape, stages: u16) {
     for i in 0..sources_of(shape, stages) {
         if graph.has(i) {
             if shape == Shape::FailedChain {
@@ -18,11 +35,22 @@ pub(crate) fn settle(graph: &mut Graph, shape: Shape, stages: u16) {
             }
         }
     }
+}
+
+/// Settles the sources, and then all stages whose function is due, the lowest first, a claim and a finish for each.
+pub(crate) fn settle(graph: &mut Graph, shape: Shape, stages: u16) {
+    settle_sources(graph, shape, stages);
     for _ in 0..stages {
         if !work_once(graph) {
             break;
         }
     }
+}
+
+/// The same in one call for all stages whose function is due.
+pub(crate) fn settle_at_once(graph: &mut Graph, shape: Shape, stages: u16) {
+    settle_sources(graph, shape, stages);
+    graph.work(WORKER, [OneMore].as_slice());
 }
 
 /// Runs the function of the lowest ready stage, if a stage is ready.
@@ -41,16 +69,26 @@ fn work_once(graph: &mut Graph) -> bool {
 }
 
 /// One more than the sum of the arguments.
-fn answer(args: Args) -> Answer {
-    let sum = match args {
+fn answer(args: Args) -> Answer
+    ensures { result ≡ one_more args }
+{
+    Answer::Give(Value::Int(sum(args).wrapping_add(1)))
+}
+
+/// The sum of the arguments.
+fn sum(args: Args) -> i32
+    ensures { result ≡ sum_of args }
+{
+    match args {
         Args::One(v) => number(v),
         Args::Two(v, w) => number(v).wrapping_add(number(w)),
         Args::None | Args::Got(_) => 0,
-    };
-    Answer::Give(Value::Int(sum.wrapping_add(1)))
+    }
 }
 
-fn number(v: Value) -> i32 {
+fn number(v: Value) -> i32
+    ensures { result ≡ number_of v }
+{
     match v {
         Value::Nil => 0,
         Value::Int(n) => n,

@@ -1,0 +1,85 @@
+//! Graphs of the shapes: what came of them, and how long it took.
+use crate::shape::{Shape, plan_of};
+use crate::times::{Shown, Times};
+use crate::work::{checksum, settle, settle_at_once};
+use anyhow::{Result, anyhow};
+use cf_core::Graph;
+use std::alloc::Global;
+use std::time::{Clock, Instant};
+
+/// How many stages are settled for one measurement, over all of its rounds.
+const STAGES_A_SHAPE: u32 = 4_095_000;
+
+/// A new graph of a shape, whose plan is built for it.
+pub(crate) fn graph_of(alloc: Global, shape: Shape, stages: u16) -> Result<Graph> {
+    let plan = plan_of(alloc, shape, stages).map_err(|_| anyhow!("the plan was refused"))?;
+    Graph::new(alloc, plan).map_err(|_| anyhow!("no memory for the graph"))
+}
+
+/// Checksums of all outcomes of a graph of a shape.
+#[derive(Clone, Copy, Debug)]
+pub(crate) struct Sums {
+    /// Settled by a claim and a finish for each stage.
+    pub(crate) calls: u64,
+    /// Settled by one call of `work`.
+    pub(crate) work: u64,
+    /// Settled by one call of `work` after a restart.
+    pub(crate) again: u64,
+}
+
+/// The checksums of a shape at a size.
+pub(crate) fn sums_of(alloc: Global, shape: Shape, stages: u16) -> Result<Sums> {
+    let mut graph = graph_of(alloc, shape, stages)?;
+    settle(&mut graph, shape, stages);
+    let calls = checksum(&mut graph, stages);
+    graph.restart();
+    settle_at_once(&mut graph, shape, stages);
+    let again = checksum(&mut graph, stages);
+    let mut graph = graph_of(alloc, shape, stages)?;
+    settle_at_once(&mut graph, shape, stages);
+    let work = checksum(&mut graph, stages);
+    Ok(Sums { calls, work, again })
+}
+
+fn rounds_of(stages: u16) -> u32 {
+    STAGES_A_SHAPE / u32::from(stages).max(1)
+}
+
+/// What building a plan with its room and a graph of it, and settling all its stages took, a stage. That the graph is
+/// let go isn't counted.
+pub(crate) fn measured_from_scratch<R: Clock>(
+    rt: &R,
+    alloc: Global,
+    shape: Shape,
+    stages: u16,
+) -> Result<Shown> {
+    let rounds = rounds_of(stages);
+    let mut times = Times::new(alloc, rounds)?;
+    for _ in 0..rounds {
+        let start = Instant::now(rt)?;
+        let mut graph = graph_of(alloc, shape, stages)?;
+        settle_at_once(&mut graph, shape, stages);
+        times.add(start.elapsed(rt)?)?;
+    }
+    Ok(times.a_part(stages)?)
+}
+
+/// What restarting a graph that is there and settling all its stages again took, a stage.
+pub(crate) fn measured_per_request<R: Clock>(
+    rt: &R,
+    alloc: Global,
+    shape: Shape,
+    stages: u16,
+) -> Result<Shown> {
+    let rounds = rounds_of(stages);
+    let mut times = Times::new(alloc, rounds)?;
+    let mut graph = graph_of(alloc, shape, stages)?;
+    settle_at_once(&mut graph, shape, stages);
+    for _ in 0..rounds {
+        let start = Instant::now(rt)?;
+        graph.restart();
+        settle_at_once(&mut graph, shape, stages);
+        times.add(start.elapsed(rt)?)?;
+    }
+    Ok(times.a_part(stages)?)
+}

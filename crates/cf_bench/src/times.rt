@@ -1,0 +1,62 @@
+//! The times of many rounds of the same work.
+use anyhow::Result;
+use std::alloc::{AllocError, Global};
+use std::fmt;
+use std::time::Duration;
+
+/// How long each round took, in nanoseconds.
+#[derive(Drop)]
+pub(crate) struct Times {
+    rounds: Vec<u64>,
+}
+
+impl Times {
+    /// No times yet, with room for those of so many rounds.
+    pub(crate) fn new(alloc: Global, rounds: u32) -> Result<Times, AllocError> {
+        Ok(Times {
+            rounds: Vec::with_capacity(alloc, rounds as usize)?,
+        })
+    }
+
+    /// One more round.
+    pub(crate) fn add(&mut self, took: Duration) -> Result<(), AllocError> {
+        let nanos = u64::try_from(took.as_nanos()).unwrap_or(u64::MAX);
+        Ok(self.rounds.push(nanos)?)
+    }
+
+    /// The best and the median of the rounds, each of which did so many parts of work.
+    pub(crate) fn a_part(mut self, parts: u16) -> Result<Shown, AllocError> {
+        self.rounds.sort()?;
+        let rounds = self.rounds.len();
+        Ok(Shown {
+            best: self.picos(0, parts),
+            median: self.picos(rounds / 2, parts),
+            rounds,
+        })
+    }
+
+    /// The picoseconds a part of the round at this place, 0 where there is none.
+    fn picos(&self, place: usize, parts: u16) -> u64 {
+        let nanos = self.rounds.get(place).copied().unwrap_or(0);
+        nanos.saturating_mul(1000) / u64::from(parts).max(1)
+    }
+}
+
+/// What is shown of the times of some rounds, in picoseconds.
+#[derive(Clone, Copy, Debug)]
+pub(crate) struct Shown {
+    best: u64,
+    median: u64,
+    rounds: usize,
+}
+
+impl fmt::Display for Shown {
+    fn fmt<W: fmt::Write>(&self, f: &mut fmt::Formatter<W>) -> fmt::Result {
+        let Shown {
+            best,
+            median,
+            rounds,
+        } = self;
+        write!(f, "best {best} ps, median {median} ps, {rounds} rounds")
+    }
+}
