@@ -5,6 +5,7 @@ mod claims;
 mod limits;
 mod restarting;
 mod settling;
+mod sweeping;
 mod working;
 
 ghost use Rattle.std.specs.Prelude.{◌≡◌, ◌+◌, ◌*◌, ◌<◌, ◌≤◌, ◌↔◌, IfOk, IsTrue, None, length, nat_lt, replicate, vec_capacity};

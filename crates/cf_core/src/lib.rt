@@ -41,6 +41,11 @@
 //! settled in one step the first in argument order is taken. That a pending either form has no settled source, so that
 //! the first to settle decides it, is a law (`laws::pending_stages_have_no_settled_source`).
 //!
+//! How `Graph::work` finds what is to be done: the first few stages by the marks, as a caller would. Where there are more,
+//! it goes up through all stages once, treats each that waits and serves each that is ready then (a sweep,
+//! `specs/Keeping/Sweeps`). A stage takes from lower stages alone, so none below is or will be marked or ready, and the
+//! stage at hand is the lowest. In a sweep neither the marks nor the ready stages are written: at its end there are none.
+//!
 //! What bounds the work: each mark comes from an edge of the plan whose source settles, from a link whose target settles,
 //! or from the start, each once. So since the opening, or the last restart, there are at most as many turns as the plan has
 //! edges and stages, which a contract sees as `turns`.

@@ -49,6 +49,15 @@ impl Links {
         self.heads.fill(Head { first: 0, count: 0 });
     }
 
+    /// Empties the list of `target`.
+    #[inline(always)]
+    pub fn clear(&mut self, target: u16)
+        requires { target < length self.old }
+        ensures { self.new ≡ slice_set self.old target [] }
+    {
+        self.heads[target as usize] = Head { first: 0, count: 0 };
+    }
+
     /// Puts a stage that stands in no list at the head of that of `target`.
     pub fn push(&mut self, target: u16, stage: u16)
         requires target { target < length self.old }

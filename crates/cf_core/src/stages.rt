@@ -1,6 +1,7 @@
 //! The stages of a graph, of which some wait for treatment.
 mod attaching;
 mod restarting;
+mod sweeping;
 
 ghost use Rattle.std.specs.Prelude.{◌≡◌, ℕ, ◌+◌, ◌<◌, ◌≤◌, [], All, IfNone, IfOk, IfSome, None, Some, drop, false, length, option_and_then, position, replicate, slice_get, slice_set, true, vec_capacity, if◌then◌else◌};
 ghost use Rattle.cf_plan.specs.declared.forms.Landing.TheVariants.{Links as LinksTo};
@@ -12,6 +13,7 @@ ghost use Rattle.cf_core.specs.Keeping.Landings.{landed_stages};
 ghost use Rattle.cf_core.specs.Keeping.Links.{list_at};
 ghost use Rattle.cf_core.specs.Keeping.Sound.{AreTreated, ReadyIsTreated, StayTaken, StayTakenBut, is_taken, kept_at, links_after, marks_after};
 ghost use Rattle.cf_core.specs.Keeping.SoundStages.{AreSound, HasRoom, SameRoom, outlook_of};
+ghost use Rattle.cf_core.specs.Keeping.Sweeps.{AreSwept};
 ghost use Rattle.cf_core.specs.Keeping.Turns.{TurnsBelowReady, TurnsUpTo, turned};
 ghost use Rattle.cf_core.specs.Keeping.Starts.{mark_starts, mark_those, untreated};
 
@@ -349,9 +351,8 @@ impl Stages {
 
     /// The outcome of a stage's first source. No stage up to it waits for treatment.
     pub fn source(&self, plan: &GrowingPlan, i: u16) -> Option<Outcome>
-        requires sound { AreSound plan.now.stages self.now }
+        requires treated { AreSwept plan.now.stages (i + 1) 0 self.now }
         requires stage { i < length plan.now.stages }
-        requires treated { AreTreated (i + 1) self.now.marks }
         ensures { result ≡ option_and_then (outcome_in (outlook_of plan.now.stages self.now)) (slice_get (sources_at plan.now.stages i) 0) }
     {
         match plan.sources(i).first() {

@@ -48,6 +48,7 @@ pub fn due_two(form: Form, a: Outcome, b: Outcome) -> Due
 /// source's outcome, and for the others it isn't looked at. An answer that the form has no use for is the fault
 /// `BadAnswer`: a link by any form but `Compose` and `ExceptionallyCompose`, or to a stage that isn't lower, and a value
 /// by these two.
+#[inline(always)]
 pub fn landing(form: Form, stage: u16, source: Option<Outcome>, answer: Answer) -> Landing
     ensures { result ≡ landing form stage source answer }
 {

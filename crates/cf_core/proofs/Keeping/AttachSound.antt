@@ -293,6 +293,7 @@ attach_sound plan kept marks ready links steps turns h p due turns2 is few edges
       ];
       bound = All-more (All (λ i. is_bound ((kept_at kept i).stage) ≡ true)) (All (λ i. is_bound ((kept_at (kept ++ fresh ∷ []) i).stage) ≡ true)) links
           (λ xs a. All-more (λ i. is_bound ((kept_at kept i).stage) ≡ true) (λ i. is_bound ((kept_at (kept ++ fresh ∷ []) i).stage) ≡ true) xs (λ i e. bound_old kept fresh i e) a) h.bound;
+      above = h.above;
       kept_steps = StepsUpTo-push (steps + 1) kept fresh (StepsUpTo-le steps (steps + 1) kept (omega arith) h.kept_steps) (due_step due steps);
       steps_left = (let left = h.steps_left in omega (arith, left, steps_more, steps_one, steps_few, longer));
       turns_left = (let left = h.turns_left in omega (arith, left, marks_count, marks_one, new_marks, few_marks, old_marks, mentioned, linkable, none_yet, more_edges, one_edge, longer, budget));

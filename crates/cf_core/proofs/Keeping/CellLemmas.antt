@@ -4,7 +4,6 @@ use Rattle.std.specs.Prelude.{option_and_then, slice_get}
 use Rattle.std.specs.Option.{option_map}
 use Rattle.std.proofs.lemmas.List.{length-map, map-set}
 use Rattle.cf_core.specs.declared.stage.Stage.TheVariants.{Pending}
-use Rattle.cf_core.specs.declared.kept.KeptStage.{KeptStage}
 use Rattle.cf_core.specs.declared.cell.Cell.{Cell}
 use Rattle.cf_core.specs.declared.cell.Kind.{Kind}
 use Rattle.cf_core.specs.declared.cell.Kind.TheVariants as kinds

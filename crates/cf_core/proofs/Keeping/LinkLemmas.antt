@@ -122,6 +122,19 @@ AreLinks-pop next heads t head then l e some is h =
       within = subst Q (sym (lists_of-pop next heads t head then l e some is)) (All-set P (lists_of next heads) t (drop 1 (list_at (lists_of next heads) t)) fewer h.within);
     }
 
+-- ---- all out at once
+
+pub lists_of-clear : (next : List ℕ) (heads : List Head) (t : ℕ) → lists_of next (set heads t (record { first = 0; count = 0 })) ≡ set (lists_of next heads) t []
+lists_of-clear next heads t = map-set (list_of next) heads t (record { first = 0; count = 0 })
+
+pub AreLinks-clear : (next : List ℕ) (heads : List Head) (t : ℕ) → AreLinks next heads → AreLinks next (set heads t (record { first = 0; count = 0 }))
+AreLinks-clear next heads t h =
+    let P : List ℕ → Type 0 = λ stages. All (λ i. i < length next) stages in
+    record {
+      all_heads = length-set heads t (record { first = 0; count = 0 }) ∙ h.all_heads;
+      within = subst (λ lists. All P lists) (sym (lists_of-clear next heads t)) (All-set P (lists_of next heads) t [] (none_below (length next)) h.within);
+    }
+
 -- nothing is taken out of an empty list
 pub lists_of-pop_none : (next : List ℕ) (heads : List Head) (t : ℕ) (head : Head) → t < length heads → head ≡ get_or heads t head → head.count ≡ 0 →
     lists_of next heads ≡ set (lists_of next heads) t (drop 1 (list_at (lists_of next heads) t))

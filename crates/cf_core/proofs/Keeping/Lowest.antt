@@ -54,7 +54,7 @@ pub ready_above : (marks ready : List Bool) (m r : ℕ) → position (λ b. b) m
 ready_above marks ready m r e f l =
     subst (λ x. MatchOption x (position (λ b. b) marks ≡ None) (λ n. AreTreated n marks)) (sym f) (λ i below. lowest_below marks m e i (omega arith))
 
-get_is : {X : Type 0} (xs : List X) (i : ℕ) (x d : X) → slice_get xs i ≡ Some x → get_or xs i d ≡ x
+pub get_is : {X : Type 0} (xs : List X) (i : ℕ) (x d : X) → slice_get xs i ≡ Some x → get_or xs i d ≡ x
 get_is [] i x d e = cc
 get_is (y ∷ xs) zero x d e = cc
 get_is (y ∷ xs) (suc i) x d e = get_is xs i x d e
@@ -77,7 +77,7 @@ ready_idle (Linked j) e = cc
 ready_idle (Settled o) e = cc
 
 module _ (plan : List PlannedStage) (kept : List KeptStage) (marks ready : List Bool) (links : List (List ℕ)) (steps turns : ℕ) (h : IsSound plan kept marks ready links steps turns) where
-  flag_at : (i : ℕ) → i < length kept → slice_get ready i ≡ Some (is_ready ((kept_at kept i).stage))
+  pub flag_at : (i : ℕ) → i < length kept → slice_get ready i ≡ Some (is_ready ((kept_at kept i).stage))
   flag_at i l = ap (λ xs. slice_get xs i) h.ready_are ∙ get-map (λ (k : KeptStage). is_ready k.stage) kept i ∙ ap (option_map (λ (k : KeptStage). is_ready k.stage)) (kept_there kept i l)
 
   -- the stages up to a ready one are steady where none below it is marked
@@ -97,7 +97,7 @@ module _ (plan : List PlannedStage) (kept : List KeptStage) (marks ready : List 
   flag_is : (i : ℕ) → i < length kept → is_ready ((kept_at kept i).stage) ≡ get_or ready i false
   flag_is i l = sym (get_is ready i (is_ready ((kept_at kept i).stage)) false (flag_at i l))
 
-  all_flags : length ready ≡ length kept
+  pub all_flags : length ready ≡ length kept
   all_flags = ap length h.ready_are ∙ length-map kept (λ (k : KeptStage). is_ready k.stage)
 
   pub ready_first : (r : ℕ) → position (λ b. b) ready ≡ Some r → AreTreated r marks → position is_ready (outlook plan kept) ≡ Some r

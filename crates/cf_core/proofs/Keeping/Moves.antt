@@ -21,7 +21,7 @@ use Rattle.cf_core.proofs.Keeping.Turns.{turns_change_nothing}
 use Rattle.cf_core.proofs.Keeping.Settling.{settling_is_after}
 use Rattle.cf_core.proofs.Keeping.Writes.{claiming_is_alone, linking_is_alone}
 use Rattle.cf_core.proofs.Keeping.Marks.{dated_in-set}
-use Rattle.cf_core.proofs.Keeping.Soundness.{All-more, settled_sound, unsettled_sound, bound_within, bound_more, bound_free, kept_lists, listed_unsettled, names_dependents}
+use Rattle.cf_core.proofs.Keeping.Soundness.{All-more, above_pushed, settled_sound, unsettled_sound, bound_within, bound_more, bound_free, kept_lists, listed_unsettled, names_dependents}
 
 pub get-map : {X Y : Type 0} (f : X → Y) (xs : List X) (i : ℕ) → slice_get (map f xs) i ≡ option_map f (slice_get xs i)
 get-map f [] i = refl
@@ -82,7 +82,7 @@ module _ (plan : List PlannedStage) (kept : List KeptStage) (marks ready : List 
       let budget = ap (marks_of plan d) e in
       unsettled_sound plan kept marks ready links steps turns h d new steps turns marks links l before refl (omega arith) few (omega (arith, two)) refl (λ i ne. refl)
       (λ p ep em. refl) refl (kept_lists kept links d new k there before refl h.listed (λ j s. cc))
-      (bound_more kept links d new (there_within kept d k there) (λ b. (let f = ap is_bound e in cc)) h.bound)
+      (bound_more kept links d new (there_within kept d k there) (λ b. (let f = ap is_bound e in cc)) h.bound) h.above
       (omega (arith, budget))
 
   pub claim_same : (d step m : ℕ) (args : Args) → d < length plan → IsSteady [] plan kept m → d < m → (kept_at kept d).stage ≡ Ready args →
@@ -134,7 +134,7 @@ module _ (plan : List PlannedStage) (kept : List KeptStage) (marks ready : List 
       (length-set links j (d ∷ list_at links j))
       (listed_unsettled kept links (set links j (d ∷ list_at links j)) d new k there before refl h.listed (contains_more links j d in_links)
       (λ i s. (let same : i ≡ j = cc in record { lower = subst (λ n. n < d) (sym same) lower; listed = λ none. subst (λ n. Contains (list_at (set links j (d ∷ list_at links j)) n) d) (sym same) (contains_new links j d in_links) })))
-      (All-set (All P) links j (d ∷ list_at links j) (All-cons P d (list_at links j) here at_j) others)
+      (All-set (All P) links j (d ∷ list_at links j) (All-cons P d (list_at links j) here at_j) others) (above_pushed links j d in_links lower h.above)
       (omega (arith, budget, one, longer))
     where
       list_is : (links : List (List ℕ)) (j d : ℕ) → j < length links → list_at (set links j (d ∷ list_at links j)) j ≡ d ∷ list_at links j

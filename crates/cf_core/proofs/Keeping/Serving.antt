@@ -6,10 +6,11 @@ use Rattle.std.proofs.lemmas.Bool.Decides.{nat_tests}
 use Rattle.std.proofs.lemmas.Option.{slice_get-get_or, slice_get_within}
 use Rattle.std.proofs.lemmas.List.Quantifiers.{position-Some}
 use Rattle.cf_outcome.specs.declared.outcome.Outcome.{Outcome}
+use Rattle.cf_outcome.specs.Outcomes.{wrap}
 use Rattle.cf_plan.specs.declared.forms.Args.{Args}
 use Rattle.cf_plan.specs.declared.forms.Answer.{Answer}
 use Rattle.cf_plan.specs.declared.forms.Landing.{Landing}
-use Rattle.cf_plan.specs.declared.forms.Landing.TheVariants.{Settles as Lands}
+use Rattle.cf_plan.specs.declared.forms.Landing.TheVariants.{Settles as Lands, Links}
 use Rattle.cf_plan.specs.Forms.{landing}
 use Rattle.cf_plan.specs.Meanings.{Meanings, stage_answer}
 use Rattle.cf_plan.specs.Plans.{PlannedStage, form_at, sources_at}
@@ -24,7 +25,7 @@ use Rattle.cf_core.specs.declared.events.Reply.TheVariants.{Claim as ToldClaim}
 use Rattle.cf_core.specs.States.{State, is_ready, outcome_of, outcome_in, new_states}
 use Rattle.cf_core.specs.Events.{answered, claimed_by, claiming, finishing, told_as}
 use Rattle.cf_core.specs.Working.{finished_after, worked_once}
-use Rattle.cf_core.specs.Keeping.Landings.{landed_stages}
+use Rattle.cf_core.specs.Keeping.Landings.{landed_stages, linked_stages}
 use Rattle.cf_core.specs.Keeping.Serving.{served, served_by}
 use Rattle.cf_core.specs.Keeping.Sound.{AreTreated, kept_at}
 use Rattle.cf_core.specs.Keeping.SoundStages.{AreSound, outlook_of}
@@ -62,6 +63,17 @@ kept_claimed plan s r t d before l first claimed same sound treated =
 pub settles-claimed : (plan : List PlannedStage) (xs new : List Stage) (d : ℕ) (at : Landing) (o : Outcome) → at ≡ Lands o → new ≡ new_states [] plan (set xs d (Settled o)) → new ≡ landed_stages plan (set xs d Claimed) d at
 settles-claimed plan xs new d at o is e =
     e ∙ ap (new_states [] plan) (sym (set-set xs d Claimed (Settled o))) ∙ sym (ap (landed_stages plan (set xs d Claimed) d) is)
+
+-- one that links is linked, or settles where the other one has
+pub links-claimed : (plan : List PlannedStage) (xs new : List Stage) (d j : ℕ) (at : Landing) (args : Args) (x : Option Outcome) → at ≡ Links j → slice_get xs d ≡ Some (Ready args) → outcome_in xs j ≡ x →
+    new ≡ linked_stages x plan xs d j → new ≡ landed_stages plan (set xs d Claimed) d at
+links-claimed plan xs new d j at args x is e told new_is =
+    let seen : outcome_in (set xs d Claimed) j ≡ x = claimed-outcome xs d j args e ∙ told in
+    new_is ∙ by_outcome x ∙ ap (λ y. linked_stages y plan (set xs d Claimed) d j) (sym seen) ∙ sym (ap (landed_stages plan (set xs d Claimed) d) is)
+  where
+    by_outcome : (y : Option Outcome) → linked_stages y plan xs d j ≡ linked_stages y plan (set xs d Claimed) d j
+    by_outcome (Some o) = ap (new_states [] plan) (sym (set-set xs d Claimed (Settled (wrap o))))
+    by_outcome None = sym (set-set xs d Claimed (Linked j))
 
 -- ---- what is done with a stage
 

@@ -19,7 +19,7 @@ use Rattle.cf_core.specs.declared.kept.KeptStage.{KeptStage}
 use Rattle.cf_core.specs.Keeping.Late.{dated_in, dated_of, treated, treated_by, due_kept, late_due, linked_kept}
 use Rattle.cf_core.specs.Keeping.Marks.{WaitsNow}
 use Rattle.cf_core.specs.Keeping.Links.{list_at, IsFree}
-use Rattle.cf_core.specs.Keeping.Sound.{IsSound, IsListed, AreListed, AreBound, is_waiting, is_bound, kept_at, mark_all, marks_after, links_after, marks_of, steps_of, link_marks}
+use Rattle.cf_core.specs.Keeping.Sound.{IsSound, IsListed, AreAbove, AreListed, AreBound, is_waiting, is_bound, kept_at, mark_all, marks_after, links_after, marks_of, steps_of, link_marks}
 use Rattle.cf_core.proofs.Keeping.Marking.{mentioned, get-set_same, get-set_other, length-mark_all, count-mark_all, count-set_false}
 use Rattle.cf_core.proofs.Keeping.Sums.{sum_by-set_at, marks_from-set, kept_there, kept_is, list_there, there_within, StepsUpTo-set, StepsUpTo-le, StepsUpTo-at}
 use Rattle.cf_core.proofs.Keeping.Waiting.{never_linked, links_same, NamesDependents, but_marks, but_closed, but_unsettled, but_settled, stays, treated_again, treated-few, sources_below}
@@ -73,6 +73,35 @@ pub bound_free : (kept : List KeptStage) (links : List (List ℕ)) (d : ℕ) →
 bound_free kept links d e =
     let P : ℕ → Type 0 = λ i. is_bound ((kept_at kept i).stage) ≡ true in
     All-more (All P) (All (λ i. i ≢ d)) links (λ xs a. All-more P (λ i. i ≢ d) xs (λ i b s. (let f = ap (λ n. is_bound ((kept_at kept n).stage)) s in cc)) a)
+
+-- ---- stages in lists are above
+
+list_emptied : (links : List (List ℕ)) (d : ℕ) → list_at (set links d []) d ≡ []
+list_emptied [] d = refl
+list_emptied (xs ∷ links) zero = refl
+list_emptied (xs ∷ links) (suc d) = list_emptied links d
+
+in_none : (i : ℕ) → Contains [] i → ⊥
+in_none i c = absurd (omega (arith, c.1))
+
+pub above_emptied : (links : List (List ℕ)) (d : ℕ) → AreAbove links → AreAbove (set links d [])
+above_emptied links d h j i c = elim (eqb_tells j d) [
+  | inl s ↦ (let none = ap (list_at (set links d [])) s.1 ∙ list_emptied links d in absurd (in_none i (subst (λ xs. Contains xs i) none c)))
+  | inr s ↦ h j i (subst (λ xs. Contains xs i) (ap (λ x. unwrap_or x []) (get-set_other links d j [] s.1)) c)
+]
+
+front_or_rest : (xs : List ℕ) (d i : ℕ) (P : ℕ → Type 0) → P d → ((n : ℕ) → Contains xs n → P n) → Contains (d ∷ xs) i → P i
+front_or_rest xs d i P here rest (zero, l, e) = let same : d ≡ i = e in subst P same here
+front_or_rest xs d i P here rest (suc k, l, e) = rest i (k, omega arith, e)
+
+pub above_pushed : (links : List (List ℕ)) (j d : ℕ) → j < length links → j < d → AreAbove links → AreAbove (set links j (d ∷ list_at links j))
+above_pushed links j d within lower h t i c = elim (eqb_tells t j) [
+  | inl s ↦ (let new = d ∷ list_at links j in
+      let same = s.1 in
+      let is : list_at (set links j new) t ≡ new = ap (list_at (set links j new)) same ∙ ap (λ x. unwrap_or x []) (get-set_same links j new within) in
+      front_or_rest (list_at links j) d i (λ n. t < n) (omega arith) (λ n b. (let l = h j n b in omega (arith, l))) (subst (λ xs. Contains xs i) is c))
+  | inr s ↦ h t i (subst (λ xs. Contains xs i) (ap (λ x. unwrap_or x []) (get-set_other links j t (d ∷ list_at links j) s.1)) c)
+]
 
 -- ---- links once a stage is written
 
@@ -153,6 +182,7 @@ settled_sound plan kept marks ready links steps turns named h d o step steps2 tu
           (λ p k ep ek em. (let is : Some k ≡ Some new = sym ek ∙ get-set_same kept d new in_kept in let same : k ≡ new = cc in rw same refl));
       listed = listed_settled kept links d step o in_kept h.listed;
       bound = All-set (λ xs. All (λ i. is_bound ((kept_at (set kept d new) i).stage) ≡ true) xs) links d [] (All-nil (λ i. is_bound ((kept_at (set kept d new) i).stage) ≡ true)) (bound_more kept links d new in_kept (λ _. refl) h.bound);
+      above = above_emptied links d h.above;
       kept_steps = StepsUpTo-set steps2 kept d new (StepsUpTo-le steps steps2 kept more h.kept_steps) step_few;
       steps_left = (let left = h.steps_left in omega (arith, steps_sum, settles, left));
       turns_left = (let left = h.turns_left in omega (arith, marks_sum2, links_sum, count_first, count_second, frees, left));
@@ -165,10 +195,10 @@ pub unsettled_sound : (plan : List PlannedStage) (kept : List KeptStage) (marks 
     steps ≤ steps2 → new.step ≤ steps2 → steps2 + steps_of new.stage ≤ steps + steps_of ((kept_at kept d).stage) →
     length first ≡ length marks → ((i : ℕ) → i ≢ d → slice_get first i ≡ slice_get marks i) →
     ((p : PlannedStage) → slice_get plan d ≡ Some p → slice_get first d ≡ Some false → WaitsNow (set kept d new) p new) →
-    length more ≡ length links → AreListed (set kept d new) more → AreBound (set kept d new) more →
+    length more ≡ length links → AreListed (set kept d new) more → AreBound (set kept d new) more → AreAbove more →
     turns2 + count_by (λ b. b) first + marks_of plan d new.stage + sum_by length more ≤ turns + count_by (λ b. b) marks + marks_of plan d ((kept_at kept d).stage) + sum_by length links →
     IsSound plan (set kept d new) first (set ready d (is_ready new.stage)) more steps2 turns2
-unsettled_sound plan kept marks ready links steps turns h d new steps2 turns2 first more l before then later step_few fewer count others waits same_links listed bound budget =
+unsettled_sound plan kept marks ready links steps turns h d new steps2 turns2 first more l before then later step_few fewer count others waits same_links listed bound above budget =
     let old = kept_at kept d in
     let in_kept : d < length kept = omega (arith, h.all_kept) in
     let there = kept_there kept d in_kept in
@@ -188,6 +218,7 @@ unsettled_sound plan kept marks ready links steps turns h d new steps2 turns2 fi
           (λ p k ep ek em. (let is : Some k ≡ Some new = sym ek ∙ get-set_same kept d new in_kept in let same : k ≡ new = cc in subst (WaitsNow (set kept d new) p) (sym same) (waits p ep em)));
       listed = listed;
       bound = bound;
+      above = above;
       kept_steps = StepsUpTo-set steps2 kept d new (StepsUpTo-le steps steps2 kept later h.kept_steps) step_few;
       steps_left = (let left = h.steps_left in omega (arith, steps_sum, fewer, left));
       turns_left = (let left = h.turns_left in omega (arith, marks_sum2, budget, left));
@@ -295,6 +326,7 @@ module _ (plan : List PlannedStage) (kept : List KeptStage) (marks ready : List 
         (λ q k eq ek em. (let is = kept_is kept m k ek in stays kept q k.stage k.step (ap (λ (x : KeptStage). is_waiting x.stage) (sym is) ∙ idle)));
     listed = h.listed;
     bound = h.bound;
+    above = h.above;
     kept_steps = h.kept_steps;
     steps_left = h.steps_left;
     turns_left = (let left = h.turns_left in let e = fewer in omega (arith, left, e));
@@ -338,7 +370,7 @@ module _ (plan : List PlannedStage) (kept : List KeptStage) (marks ready : List 
         unsettled_sound plan kept marks ready links steps turns h m new steps (turns + 1) (set marks m false) links within before none (omega arith) s (omega (arith, fewer_steps))
         (length-set marks m false) (λ i ne. get-set_other marks m i false ne)
         (λ q eq em. (let same : q ≡ p = (let t : Some q ≡ Some p = sym eq ∙ planned in cc) in rw same again))
-        refl (kept_lists kept links m new k there before none h.listed linked) (bound_more kept links m new (there_within kept m k there) bound h.bound)
+        refl (kept_lists kept links m new k there before none h.listed linked) (bound_more kept links m new (there_within kept m k there) bound h.bound) h.above
         (omega (arith, fewer_marks, f))
 
     by_stage : (x : Stage) (step : ℕ) → treated kept p (kept_at kept m) ≡ record { stage = x; step = step } →

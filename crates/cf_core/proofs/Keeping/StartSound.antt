@@ -1,5 +1,5 @@
 -- What is true between calls is true at the start.
-use Rattle.std.proofs.Common.{◌≡◌, ℕ, ◌+◌, ◌*◌, ◌<◌, ◌≤◌, ◌∷◌, ◌++◌, [], List, All, Bool, true, false, cond, Option, Some, None, length, suc, zero, arith, ap, sym, ◌∙◌, refl, map, set, drop, get_or, take, replicate, add-one}
+use Rattle.std.proofs.Common.{◌≡◌, ℕ, ◌+◌, ◌*◌, ◌<◌, ◌≤◌, ◌∷◌, ◌++◌, [], List, All, Bool, true, false, cond, Option, Some, None, length, suc, zero, arith, ap, sym, ◌∙◌, refl, map, set, drop, get_or, take, replicate, add-one, Contains}
 use Rattle.std.specs.Prelude.{slice_get, count_by, if◌then◌else◌}
 use Rattle.std.specs.List.{range_with_len, sum_by}
 use Rattle.std.proofs.Math.Seq.{drop-cons}
@@ -18,6 +18,7 @@ use Rattle.cf_core.specs.States.{is_ready}
 use Rattle.cf_core.proofs.StateLemmas.{form_at-within, sources_at-within}
 use Rattle.cf_core.specs.declared.kept.KeptStage.{KeptStage}
 use Rattle.cf_core.specs.Keeping.Late.{StepsUpTo, dated_in, due_kept, earliest, late_due, outcome_part, treated}
+use Rattle.cf_core.specs.Keeping.Links.{list_at}
 use Rattle.cf_core.specs.Keeping.Sound.{IsSound, is_bound, kept_at, link_marks, marks_from, steps_of}
 use Rattle.cf_core.specs.Keeping.Starts.{mark_starts, mark_those, untreated}
 use Rattle.cf_core.proofs.Keeping.Marking.{count-set_true, get-set_same, get-set_other, length-mark_one}
@@ -176,6 +177,11 @@ no_steps : (n : ℕ) → StepsUpTo 0 (replicate n untreated)
 no_steps zero = tt
 no_steps (suc n) = (omega arith, no_steps n)
 
+no_list : (n j i : ℕ) → Contains (list_at (replicate n []) j) i → ⊥
+no_list zero j i c = absurd (omega (arith, c.1))
+no_list (suc n) zero i c = absurd (omega (arith, c.1))
+no_list (suc n) (suc j) i c = no_list n j i c
+
 pub start_sound : (plan : List PlannedStage) (most : ℕ) → length plan ≤ most → length plan ≤ 4096 → edges_of plan ≤ 16384 → HasLowerSources 0 plan →
     IsSound plan (replicate (length plan) untreated) (mark_starts 0 plan (replicate (length plan) false)) (replicate (length plan) false) (replicate most []) 0 0
 start_sound plan most enough few edges lower =
@@ -202,6 +208,7 @@ start_sound plan most enough few edges lower =
           rw is (unstarted n p first));
       listed = λ i j k ek linked. (let is = get-replicate n i untreated k ek in let stage = ap (λ (x : KeptStage). x.stage) is in cc);
       bound = All-replicate (All P) most [] (All-nil P);
+      above = λ j i c. absurd (no_list most j i c);
       kept_steps = no_steps n;
       steps_left = omega (arith, steps);
       turns_left = omega (arith, start, unmarked, lists, all);

@@ -67,6 +67,10 @@ AreListed kept links = (i j : ℕ) (k : KeptStage) → slice_get kept i ≡ Some
 abbrev pub AreBound : List KeptStage → List (List ℕ) → Type 0
 AreBound kept links = All (λ stages. All (λ i. is_bound ((kept_at kept i).stage) ≡ true) stages) links
 
+-- the stages that stand in a list are above the stage whose list it is
+abbrev pub AreAbove : List (List ℕ) → Type 0
+AreAbove links = (j i : ℕ) → Contains (list_at links j) i → j < i
+
 -- how many steps a stage can still make: to link it, and to settle it
 abbrev pub steps_of : Stage → ℕ
 steps_of (Settled o) = 0
@@ -103,6 +107,7 @@ pub record IsSound (plan : List PlannedStage) (kept : List KeptStage) (marks rea
   pub waits : Waits plan kept marks
   pub listed : AreListed kept links
   pub bound : AreBound kept links
+  pub above : AreAbove links
   pub kept_steps : StepsUpTo steps kept
   pub steps_left : steps + sum_by (λ k. steps_of k.stage) kept ≤ 3 * length plan
   pub turns_left : turns_in_all plan kept marks links turns ≤ edges_of plan + length plan

@@ -5,8 +5,8 @@ ghost use Rattle.cf_plan.specs.Forms.{landing};
 ghost use Rattle.cf_plan.specs.Plans.{form_at, sources_at};
 ghost use Rattle.cf_core.specs.States.{outcome_in};
 ghost use Rattle.cf_core.specs.Events.{claiming, finishing};
-ghost use Rattle.cf_core.specs.Keeping.Sound.{AreTreated};
-ghost use Rattle.cf_core.specs.Keeping.SoundStages.{AreSound, outlook_of};
+ghost use Rattle.cf_core.specs.Keeping.SoundStages.{outlook_of};
+ghost use Rattle.cf_core.specs.Keeping.Sweeps.{AreSwept};
 ghost use Rattle.cf_core.specs.Graphs.{most_turns};
 
 use crate::graph::Graph;
@@ -76,10 +76,10 @@ fn has_claim(claims: &[Option<u8>], who: u8, i: u16) -> bool
 }
 
 /// Where a stage lands with an answer. Of all forms `WhenComplete` alone looks at its source.
+#[inline(always)]
 pub(super) fn landing_of(stages: &Stages, plan: &GrowingPlan, i: u16, answer: Answer) -> Landing
-    requires sound { AreSound plan.now.stages stages.now }
+    requires treated { AreSwept plan.now.stages (i + 1) 0 stages.now }
     requires stage { i < length plan.now.stages }
-    requires treated { AreTreated (i + 1) stages.now.marks }
     ensures { result ≡ landing (form_at plan.now.stages i) i (option_and_then (outcome_in (outlook_of plan.now.stages stages.now)) (slice_get (sources_at plan.now.stages i) 0)) answer }
 {
     match plan.form(i) {

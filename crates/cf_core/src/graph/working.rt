@@ -1,5 +1,5 @@
 //! Work: the functions of ready stages are called.
-ghost use Rattle.std.specs.Prelude.{◌≡◌, ℕ, ◌+◌, ◌<◌, ◌≤◌, length, slice_set, true};
+ghost use Rattle.std.specs.Prelude.{◌≡◌, ℕ, ◌+◌, ◌<◌, ◌≤◌, None, length, slice_set, true};
 ghost use Rattle.std.specs.Option.{option_map_or};
 ghost use Rattle.cf_plan.specs.declared.forms.Landing.TheVariants.{Links as LinksTo};
 ghost use Rattle.cf_plan.specs.Forms.{composes};
@@ -9,7 +9,7 @@ ghost use Rattle.cf_core.specs.declared.stage.Stage.TheVariants.{Claimed as IsCl
 ghost use Rattle.cf_core.specs.States.{is_ready, lowest_ready_of};
 ghost use Rattle.cf_core.specs.Working.{worked, worked_once};
 ghost use Rattle.cf_core.specs.Keeping.Landings.{landed_stages};
-ghost use Rattle.cf_core.specs.Keeping.Serving.{served};
+ghost use Rattle.cf_core.specs.Keeping.Serving.{Works, served};
 ghost use Rattle.cf_core.specs.Keeping.Sound.{AreTreated, StayTakenBut, kept_at};
 ghost use Rattle.cf_core.specs.Keeping.SoundStages.{AreSound, SameRoom, outlook_of};
 ghost use Rattle.cf_core.specs.Graphs.{most_turns};
@@ -32,12 +32,35 @@ impl Graph {
         ensures counted { self.old.turns ≤ self.new.turns }
         ensures few { self.new.turns ≤ most_turns self.new.state.plan.stages }
     {
-        let stages = u32::from(self.stages());
+        // The first few are found by the marks. Where there is more to do, a look at every stage costs less.
+        let few = u32::from(self.stages()) / 64 + 1;
         let mut calls = 0;
-        'ready: while self.work_once(who, functions).is_some() {
-            calls += 1;
-            prove!(calls <= stages);
+        if self.nudge(few) < few {
+            calls = self.work_few(who, functions, few);
+            if calls < few {
+                return calls;
+            }
         }
+        calls + self.sweep(who, functions)
+    }
+
+    /// Works on at most `few` stages. Where it says fewer, no stage is ready.
+    fn work_few<F: StageFn>(&mut self, who: u8, functions: &[F], few: u32) -> u32
+        ensures within { result ≤ few }
+        ensures worked { Works who (meanings_of F.meaning functions.now) self.old.state result self.new.state }
+        ensures none { result < few → lowest_ready_of self.new.state ≡ None }
+        ensures counted { self.old.turns ≤ self.new.turns }
+        ensures few { self.new.turns ≤ most_turns self.new.state.plan.stages }
+    {
+        let mut calls = 0;
+        while calls < few {
+            if self.work_once(who, functions).is_none() {
+                return calls;
+            }
+            calls += 1;
+        }
+        // The turns of a graph are within their bound.
+        let _turns = self.turns();
         calls
     }
 
@@ -86,7 +109,12 @@ fn serve<F: StageFn>(stages: &mut Stages, plan: &GrowingPlan, functions: &[F], i
 
 /// What the function of a stage answers to these arguments.
 #[inline(always)]
-fn answer_of<F: StageFn>(plan: &GrowingPlan, functions: &[F], i: u16, args: &Args) -> Answer
+pub(super) fn answer_of<F: StageFn>(
+    plan: &GrowingPlan,
+    functions: &[F],
+    i: u16,
+    args: &Args,
+) -> Answer
     requires { i < length plan.now.stages }
     ensures { result ≡ stage_answer (meanings_of F.meaning functions.now) plan.now.stages i args.now }
 {

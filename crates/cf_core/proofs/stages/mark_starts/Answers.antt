@@ -1,4 +1,4 @@
-use Rattle.std.proofs.Common.{◌≡◌, ◌≤◌, ◌∙◌, ap, arith, drop, length}
+use Rattle.std.proofs.Common.{◌∙◌, ap, arith, drop}
 use Rattle.cf_plan.specs.Plans.{Planned, starts_of}
 use Rattle.cf_core.specs.Keeping.Starts.{mark_starts, mark_those}
 use Rattle.cf_core.proofs.Keeping.StartSound.{mark_starts-opened, opened_within}

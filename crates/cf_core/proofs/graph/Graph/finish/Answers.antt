@@ -1,9 +1,10 @@
-use Rattle.std.proofs.Common.{◌≡◌, ◌∙◌, ◌==◌, None, Some, ap, false, length-set, refl, sym, true}
+use Rattle.std.proofs.Common.{◌≡◌, ◌+◌, ◌∙◌, ◌==◌, None, Some, ap, false, length-set, refl, sym, true}
 use Rattle.std.specs.Prelude.{slice_get, unwrap_or}
 use Rattle.std.specs.Option.{option_map_or}
 use Rattle.cf_core.specs.States.{outcome_in}
 use Rattle.cf_core.specs.Keeping.SoundStages.{outlook_of}
 use Rattle.cf_core.proofs.Keeping.GraphLemmas.{AreClaimed-closed, AreClaimed-stay, claim_there, finishes_late, finishes_now, open_claimed, room_stays, told_outcome}
+use Rattle.cf_core.proofs.Keeping.Sweeping.{treated_swept}
 use Rattle.cf_core.proofs.graph.Graph.finish.Goals as goal
 
 pub invariant_of-self-in-Some : goal.invariant_of-self-in-Some
@@ -22,6 +23,10 @@ invariant_of-self-in-Some c =
       claims_room = h.claims_room;
       few_used = h.few_used;
     }
+
+pub landing_of-at-requires-clause-treated : goal.landing_of-at-requires-clause-treated
+landing_of-at-requires-clause-treated c =
+    treated_swept c.self.inside.plan.stages (c.args.i + 1) c.treat_up_to.new.self c.treat_up_to.ensures.sound c.treat_up_to.ensures.treated
 
 pub land-requires-clause-claimed : goal.land-requires-clause-claimed
 land-requires-clause-claimed c =

@@ -1,11 +1,16 @@
-use Rattle.std.proofs.Common.{◌≡◌, ◌∙◌, arith, Some, ap, sym}
+use Rattle.std.proofs.Common.{◌≡◌, ◌+◌, ◌∙◌, arith, Some, ap, sym}
 use Rattle.std.specs.Prelude.{slice_get}
 use Rattle.cf_plan.specs.Meanings.{meanings_of}
 use Rattle.cf_core.specs.declared.stage.Stage.TheVariants.{Ready}
 use Rattle.cf_core.specs.Keeping.SoundStages.{outlook_of}
 use Rattle.cf_core.proofs.Keeping.GraphLemmas.{told_stage}
 use Rattle.cf_core.proofs.Keeping.Serving.{served_not, served_ready}
+use Rattle.cf_core.proofs.Keeping.Sweeping.{treated_swept}
 use Rattle.cf_core.proofs.graph.working.serve.Goals as goal
+
+pub landing_of-at-requires-clause-treated : goal.landing_of-at-requires-clause-treated
+landing_of-at-requires-clause-treated g c =
+    treated_swept c.args.plan.now.stages (c.args.i + 1) c.treat_up_to.new.self c.treat_up_to.ensures.sound c.treat_up_to.ensures.treated
 
 pub returns-in-Ready-clause-served : goal.returns-in-Ready-clause-served
 returns-in-Ready-clause-served g c =

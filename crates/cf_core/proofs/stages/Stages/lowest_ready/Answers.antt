@@ -1,4 +1,4 @@
-use Rattle.std.proofs.Common.{◌<◌, ◌≡◌, ◌∙◌, Some, ap, arith, length, refl, subst, sym}
+use Rattle.std.proofs.Common.{◌<◌, ◌∙◌, Some, ap, arith, length, refl, subst, sym}
 use Rattle.std.specs.Prelude.{position}
 use Rattle.cf_core.specs.States.{is_ready}
 use Rattle.std.proofs.lemmas.List.{length-map}

@@ -1,4 +1,4 @@
-use Rattle.std.proofs.Common.{rules, ◌≡◌, ◌∙◌, ap, set, sym}
+use Rattle.std.proofs.Common.{rules, ◌≡◌, ◌∙◌, ap, sym}
 use Rattle.cf_plan.specs.Plans.{dependents_of, opening_of}
 use Rattle.cf_core.specs.Keeping.Links.{list_at}
 use Rattle.cf_core.specs.Keeping.Sound.{mark_all, marks_after}

@@ -5,7 +5,7 @@ use Rattle.cf_core.specs.States.{is_ready}
 use Rattle.cf_core.specs.Keeping.Cells.{KeptStages}
 use Rattle.cf_core.specs.Keeping.Late.{treated}
 use Rattle.cf_core.specs.Keeping.Turns.{planned_at}
-use Rattle.cf_core.specs.Keeping.Sound.{StayTaken, is_waiting, kept_at, links_after, marks_after, outlook}
+use Rattle.cf_core.specs.Keeping.Sound.{StayTaken, is_waiting, kept_at, links_after, outlook}
 use Rattle.cf_core.proofs.Keeping.Moves.{links_within}
 use Rattle.cf_core.proofs.Keeping.Places.{IsSound-same, kept_put, lowest_within, ready_marks, turn_idle, turn_idly, turn_kept, turn_outlook, turn_taken}
 use Rattle.cf_core.proofs.stages.Stages.turn.Goals as goal

@@ -1,0 +1,121 @@
+//! A sweep: all stages are treated and served in rising number, without a look at the marks.
+//!
+//! A stage takes from lower stages alone, and marks higher ones alone. So whoever goes up through all stages, and treats each
+//! that waits, meets no stage that was or will be marked below; and a stage that is ready then is the lowest. In a sweep
+//! neither the marks nor the ready stages are written: at its end there are none.
+ghost use Rattle.std.specs.Prelude.{◌≡◌, ◌+◌, ◌<◌, ◌≤◌, [], None, length, position, slice_set, true};
+ghost use Rattle.cf_plan.specs.Forms.{composes};
+ghost use Rattle.cf_plan.specs.Plans.{form_at};
+ghost use Rattle.cf_core.specs.declared.stage.Stage.TheVariants.{Linked, Settled};
+ghost use Rattle.cf_core.specs.States.{is_ready, new_states, outcome_of};
+ghost use Rattle.cf_core.specs.Keeping.Sound.{StayTaken, StayTakenBut, kept_at, links_after};
+ghost use Rattle.cf_core.specs.Keeping.SoundStages.{AreSound, SameRoom, outlook_of};
+ghost use Rattle.cf_core.specs.Keeping.Sweeps.{AreSwept, turns_after};
+
+use crate::kept::KeptStage;
+use crate::stage::Stage;
+use crate::stages::Stages;
+use crate::treat::treat;
+use cf_outcome::Outcome;
+use cf_plan::GrowingPlan;
+
+impl Stages {
+    /// Treats the next stage of a sweep, if it waits. Where it takes something, this is a turn.
+    #[inline(always)]
+    pub fn treat_swept(&mut self, plan: &GrowingPlan, m: u16)
+        requires swept { AreSwept plan.now.stages m m self.old }
+        requires stage { m < length plan.now.stages }
+        ensures same { outlook_of plan.now.stages self.new ≡ outlook_of plan.now.stages self.old }
+        ensures taken { StayTaken self.old.kept.items self.new.kept.items }
+        ensures counted { self.old.turns ≤ self.new.turns }
+        ensures room { SameRoom self.old self.new }
+        ensures swept { AreSwept plan.now.stages (m + 1) m self.new }
+    {
+        if self.kept.is_waiting(m) {
+            treat(&mut self.kept, plan.form(m), plan.sources(m), m);
+            self.note_swept(m);
+        }
+    }
+
+    /// Notes in a sweep what has become of a stage that waited: one that takes something is a turn, and one that settled
+    /// has no stages linked to it any more.
+    #[inline(always)]
+    fn note_swept(&mut self, m: u16)
+        requires stage { m < length self.old.kept.items }
+        requires lists { m < length self.old.links }
+        requires few { self.old.turns < 20481 }
+        ensures kept { self.new.kept ≡ self.old.kept }
+        ensures links { self.new.links ≡ links_after self.old.links m ((kept_at self.old.kept.items m).stage) }
+        ensures steps { self.new.steps ≡ self.old.steps }
+        ensures turns { self.new.turns ≡ turns_after self.old.turns ((kept_at self.old.kept.items m).stage) }
+        ensures room { SameRoom self.old self.new }
+    {
+        match self.kept.stage(m) {
+            Stage::Settled(_) => {
+                self.turns += 1;
+                self.links.clear(m);
+            }
+            Stage::Ready(_) | Stage::Claimed => self.turns += 1,
+            Stage::Pending | Stage::Linked(_) => {}
+        }
+    }
+
+    /// Settles the next stage of a sweep, which is ready, in a step of its own.
+    #[inline(always)]
+    pub fn settle_swept(&mut self, plan: &GrowingPlan, m: u16, o: Outcome)
+        requires swept { AreSwept plan.now.stages (m + 1) m self.old }
+        requires stage { m < length plan.now.stages }
+        requires unsettled { outcome_of ((kept_at self.old.kept.items m).stage) ≡ None }
+        ensures after { outlook_of plan.now.stages self.new ≡ new_states [] plan.now.stages (slice_set (outlook_of plan.now.stages self.old) m (Settled o)) }
+        ensures taken { StayTaken self.old.kept.items self.new.kept.items }
+        ensures turns { self.new.turns ≡ self.old.turns }
+        ensures room { SameRoom self.old self.new }
+        ensures swept { AreSwept plan.now.stages (m + 1) (m + 1) self.new }
+    {
+        let _plan = plan;
+        self.steps += 1;
+        self.kept.settle(m, o, self.steps);
+        self.links.clear(m);
+    }
+
+    /// Links the next stage of a sweep, which is ready, to a lower stage that isn't settled, in a step of its own.
+    pub fn link_swept(&mut self, plan: &GrowingPlan, m: u16, j: u16)
+        requires swept { AreSwept plan.now.stages (m + 1) m self.old }
+        requires stage { m < length plan.now.stages }
+        requires target { j < m }
+        requires ready { is_ready ((kept_at self.old.kept.items m).stage) ≡ true }
+        requires composes { composes (form_at plan.now.stages m) ≡ true }
+        requires unsettled { outcome_of ((kept_at self.old.kept.items j).stage) ≡ None }
+        ensures linked { outlook_of plan.now.stages self.new ≡ slice_set (outlook_of plan.now.stages self.old) m (Linked j) }
+        ensures taken { StayTakenBut m self.old.kept.items self.new.kept.items }
+        ensures turns { self.new.turns ≡ self.old.turns }
+        ensures room { SameRoom self.old self.new }
+        ensures swept { AreSwept plan.now.stages (m + 1) (m + 1) self.new }
+    {
+        let _plan = plan;
+        self.steps += 1;
+        let step = self.steps;
+        self.links.push(j, m);
+        self.kept.put(
+            m,
+            KeptStage {
+                stage: Stage::Linked(j),
+                step,
+            },
+        );
+    }
+
+    /// Ends a sweep: no stage is marked, and none is ready.
+    pub fn end_sweep(&mut self, plan: &GrowingPlan)
+        requires swept { AreSwept plan.now.stages (length plan.now.stages) (length plan.now.stages) self.old }
+        ensures kept { self.new.kept ≡ self.old.kept }
+        ensures turns { self.new.turns ≡ self.old.turns }
+        ensures none { position is_ready (outlook_of plan.now.stages self.new) ≡ None }
+        ensures room { SameRoom self.old self.new }
+        ensures sound { AreSound plan.now.stages self.new }
+    {
+        let count = plan.stages();
+        self.marks.reset(count);
+        self.ready.reset(count);
+    }
+}
