@@ -1,294 +1,192 @@
 //! Stages that are attached: what they take at once, and what they wait for.
-ghost use Rattle.std.specs.Prelude.{◌<◌, All, length};
-ghost use Rattle.std.specs.Bool.{OnTrue};
-ghost use Rattle.cf_plan.specs.Plans.{sources_of};
-
-use crate::graphs::{claim, complete, fault, finish, outcome};
+use crate::plans::{Row, SOURCE, plan_of};
+use crate::steps::{Step, fault, gives, granted, play_growing, take, with_room};
 use cf_core::{Attached, Claimed, Event, Finished, Graph, GraphFault, Reply};
 use cf_outcome::{Cause, Outcome, Value};
-use cf_plan::{Answer, Args, Form, Of, Plan, PlanBuilder, fits_form};
+use cf_plan::{Answer, Args, Form, Of, Plan};
 use std::alloc::Global;
 use std::process::Abort;
 use std::test::Fail;
 
-/// The graph of a plan, with room for so many stages.
-pub(crate) fn with_room(
-    rt: &impl Abort,
-    alloc: Global,
-    plan: Plan,
-    room: u16,
-) -> Result<Graph, Fail> {
-    assert!(rt; room <= 16 && plan.stages() <= 4080 && plan.edges() <= 16352);
-    Ok(Graph::new_growing(alloc, plan, room)?)
-}
+const TWO_SOURCES: [Row<'static>; 2] = [SOURCE, SOURCE];
 
-/// Two sources.
-fn two_sources(alloc: Global) -> Result<Plan, Fail> {
-    let mut builder = PlanBuilder::new(alloc);
-    builder.stage(Form::Source, &[], None)?;
-    builder.stage(Form::Source, &[], None)?;
-    Ok(builder.build()?)
-}
+/// An anyOf of stages 1 and 0 is attached as stage 2.
+const ATTACHES_ANY_OF: Step = Step::Attach(Form::AnyOf, Of::Two(1, 0), None, Attached::At(2));
 
-/// Whether these stages are there by now.
-fn are_there(graph: &Graph, of: Of) -> bool
-    ensures { OnTrue result (All (λ j. j < length graph.now.state.plan.stages) (sources_of of)) }
-{
-    match of {
-        Of::None => true,
-        Of::One(a) => graph.has(a),
-        Of::Two(a, b) => graph.has(a) && graph.has(b),
-    }
-}
+/// An applyToEither of stages 0 and 1 is attached as stage 2.
+const ATTACHES_EITHER: Step = Step::Attach(
+    Form::ApplyEither,
+    Of::Two(0, 1),
+    Some(0),
+    Attached::At(2),
+);
 
-pub(crate) fn attach(
-    rt: &impl Abort,
-    graph: &mut Graph,
-    form: Form,
-    of: Of,
-    function: Option<u16>,
-) -> Attached {
-    assert!(rt; fits_form(form, of.count(), function.is_some()) && are_there(graph, of));
-    graph.attach(form, of, function)
-}
-
-/// Completes the stage, or fails it where there is no value.
-fn settle(rt: &impl Abort, graph: &mut Graph, (i, v): (u16, Option<i32>)) {
-    assert!(rt; graph.has(i));
-    match v {
-        Some(v) => assert!(rt; graph.complete(i, Value::Int(v))),
-        None => assert!(rt; graph.fail(i, 7)),
-    }
-}
-
-/// A stage that is attached to two sources, of which some settle before and some after.
-#[derive(Clone, Copy)]
-struct Row<'a> {
-    before: &'a [(u16, Option<i32>)],
-    form: Form,
-    of: Of,
-    function: Option<u16>,
-    after: &'a [(u16, Option<i32>)],
-}
-
-/// How many turns its attaching took, what a claim of it is answered in the end, and what it holds.
-fn shown(
-    rt: &impl Abort,
-    alloc: Global,
-    row: Row<'_>,
-) -> Result<(u64, Claimed, Option<Outcome>), Fail> {
-    let mut graph = with_room(rt, alloc, two_sources(alloc)?, 1)?;
-    for step in row.before {
-        settle(rt, &mut graph, *step);
-    }
-    let at = attach(rt, &mut graph, row.form, row.of, row.function);
-    assert_eq!(rt; at, Attached::At(2));
-    let turns = graph.turns();
-    for step in row.after {
-        settle(rt, &mut graph, *step);
-    }
-    let claimed = claim(rt, &mut graph, 2);
-    Ok((turns, claimed, outcome(rt, &mut graph, 2)))
-}
+/// A thenCombine of stages 0 and 1 is attached as stage 2.
+const ATTACHES_COMBINE: Step = Step::Attach(Form::Combine, Of::Two(0, 1), Some(0), Attached::At(2));
 
 #[test]
 fn the_first_argument_that_is_there_decides(rt: HostRuntime) -> Result<(), Fail> {
-    let row = Row {
-        before: &[(0, Some(1)), (1, Some(2))],
-        form: Form::AnyOf,
-        of: Of::Two(1, 0),
-        function: None,
-        after: &[],
-    };
-    let two = Some(Outcome::Value(Value::Int(2)));
-    assert_eq!(rt; shown(&rt, rt.alloc(), row)?, (1, Claimed::Settled, two));
-    let row = Row {
-        before: &[(1, Some(5))],
-        form: Form::ApplyEither,
-        of: Of::Two(0, 1),
-        function: Some(0),
-        after: &[(0, Some(4))],
-    };
-    let five = Claimed::Granted(Args::One(Value::Int(5)));
-    assert_eq!(rt; shown(&rt, rt.alloc(), row)?, (1, five, None));
-    let row = Row {
-        before: &[(1, Some(5)), (0, None)],
-        form: Form::ApplyEither,
-        of: Of::Two(0, 1),
-        function: Some(0),
-        after: &[],
-    };
-    let thrown = Some(fault(Cause::Thrown(7), true));
-    assert_eq!(rt; shown(&rt, rt.alloc(), row)?, (1, Claimed::Settled, thrown));
-    Ok(())
+    let any_of = [
+        Step::Complete(0, 1, true),
+        Step::Complete(1, 2, true),
+        ATTACHES_ANY_OF,
+        Step::Turns(1),
+        Step::Claim(2, Claimed::Settled),
+        Step::Outcome(2, gives(2)),
+    ];
+    play_growing(&rt, rt.alloc(), &TWO_SOURCES, 1, &any_of)?;
+    let either = [
+        Step::Complete(1, 5, true),
+        ATTACHES_EITHER,
+        Step::Turns(1),
+        Step::Complete(0, 4, true),
+        Step::Claim(2, granted(5)),
+        Step::Outcome(2, None),
+    ];
+    play_growing(&rt, rt.alloc(), &TWO_SOURCES, 1, &either)?;
+    let fails = [
+        Step::Complete(1, 5, true),
+        Step::Fail(0, 7, true),
+        ATTACHES_EITHER,
+        Step::Turns(1),
+        Step::Claim(2, Claimed::Settled),
+        Step::Outcome(2, fault(Cause::Thrown(7), true)),
+    ];
+    play_growing(&rt, rt.alloc(), &TWO_SOURCES, 1, &fails)
 }
 
 #[test]
 fn the_first_that_settles_later_decides(rt: HostRuntime) -> Result<(), Fail> {
-    let row = Row {
-        before: &[],
-        form: Form::ApplyEither,
-        of: Of::Two(0, 1),
-        function: Some(0),
-        after: &[(1, Some(6)), (0, Some(4))],
-    };
-    let six = Claimed::Granted(Args::One(Value::Int(6)));
-    assert_eq!(rt; shown(&rt, rt.alloc(), row)?, (0, six, None));
-    Ok(())
+    let steps = [
+        ATTACHES_EITHER,
+        Step::Turns(0),
+        Step::Complete(1, 6, true),
+        Step::Complete(0, 4, true),
+        Step::Claim(2, granted(6)),
+        Step::Outcome(2, None),
+    ];
+    play_growing(&rt, rt.alloc(), &TWO_SOURCES, 1, &steps)
 }
 
 #[test]
 fn both_sources_are_waited_for(rt: HostRuntime) -> Result<(), Fail> {
-    let row = Row {
-        before: &[(1, Some(2))],
-        form: Form::Combine,
-        of: Of::Two(0, 1),
-        function: Some(0),
-        after: &[],
-    };
-    assert_eq!(rt; shown(&rt, rt.alloc(), row)?, (1, Claimed::NotReady, None));
-    let row = Row {
-        before: &[(1, Some(2))],
-        form: Form::Combine,
-        of: Of::Two(0, 1),
-        function: Some(0),
-        after: &[(0, Some(1))],
-    };
+    let waits = [
+        Step::Complete(1, 2, true),
+        ATTACHES_COMBINE,
+        Step::Turns(1),
+        Step::Claim(2, Claimed::NotReady),
+        Step::Outcome(2, None),
+    ];
+    play_growing(&rt, rt.alloc(), &TWO_SOURCES, 1, &waits)?;
     let both = Claimed::Granted(Args::Two(Value::Int(1), Value::Int(2)));
-    assert_eq!(rt; shown(&rt, rt.alloc(), row)?, (1, both, None));
-    let row = Row {
-        before: &[(0, Some(3))],
-        form: Form::Combine,
-        of: Of::Two(0, 0),
-        function: Some(0),
-        after: &[],
-    };
+    let is_ready = [
+        Step::Complete(1, 2, true),
+        ATTACHES_COMBINE,
+        Step::Turns(1),
+        Step::Complete(0, 1, true),
+        Step::Claim(2, both),
+        Step::Outcome(2, None),
+    ];
+    play_growing(&rt, rt.alloc(), &TWO_SOURCES, 1, &is_ready)
+}
+
+#[test]
+fn one_source_is_taken_twice(rt: HostRuntime) -> Result<(), Fail> {
     let twice = Claimed::Granted(Args::Two(Value::Int(3), Value::Int(3)));
-    assert_eq!(rt; shown(&rt, rt.alloc(), row)?, (1, twice, None));
-    Ok(())
+    let steps = [
+        Step::Complete(0, 3, true),
+        Step::Attach(Form::Combine, Of::Two(0, 0), Some(0), Attached::At(2)),
+        Step::Turns(1),
+        Step::Claim(2, twice),
+        Step::Outcome(2, None),
+    ];
+    play_growing(&rt, rt.alloc(), &TWO_SOURCES, 1, &steps)
 }
 
 #[test]
 fn stages_of_no_source_start(rt: HostRuntime) -> Result<(), Fail> {
+    let called = Claimed::Granted(Args::None);
     let nil = Some(Outcome::Value(Value::Nil));
     for (form, function, turns, claimed, holds) in [
         (Form::Source, None, 0, Claimed::NotReady, None),
-        (Form::Supply, Some(0), 1, Claimed::Granted(Args::None), None),
-        (
-            Form::RunAsync,
-            Some(0),
-            1,
-            Claimed::Granted(Args::None),
-            None,
-        ),
+        (Form::Supply, Some(0), 1, called, None),
+        (Form::RunAsync, Some(0), 1, called, None),
         (Form::AllOf, None, 1, Claimed::Settled, nil),
         (Form::AnyOf, None, 0, Claimed::NotReady, None),
     ] {
-        let row = Row {
-            before: &[],
-            form,
-            of: Of::None,
-            function,
-            after: &[],
-        };
-        assert_eq!(rt;
-            shown(&rt, rt.alloc(), row)?,
-            (turns, claimed, holds),
-            "{form:?}"
-        );
+        let steps = [
+            Step::Attach(form, Of::None, function, Attached::At(2)),
+            Step::Turns(turns),
+            Step::Claim(2, claimed),
+            Step::Outcome(2, holds),
+        ];
+        play_growing(&rt, rt.alloc(), &TWO_SOURCES, 1, &steps)?;
     }
     Ok(())
 }
 
 #[test]
 fn a_full_graph_attaches_no_more(rt: HostRuntime) -> Result<(), Fail> {
-    let mut graph = with_room(&rt, rt.alloc(), two_sources(rt.alloc())?, 2)?;
-    settle(&rt, &mut graph, (0, Some(1)));
-    settle(&rt, &mut graph, (1, Some(2)));
-    let any = attach(&rt, &mut graph, Form::AnyOf, Of::Two(1, 0), None);
-    assert_eq!(rt; any, Attached::At(2));
-    assert_eq!(rt;
-        outcome(&rt, &mut graph, 2),
-        Some(Outcome::Value(Value::Int(2)))
-    );
-    let apply = attach(&rt, &mut graph, Form::Apply, Of::One(2), Some(9));
-    assert_eq!(rt; apply, Attached::At(3));
-    assert!(rt; graph.has(3));
-    assert_eq!(rt;
-        graph.claim(5, 3),
-        Claimed::Granted(Args::One(Value::Int(2)))
-    );
-    assert!(rt; graph.has(3));
-    assert_eq!(rt; graph.function(3), Some(9));
-    let turns = graph.turns();
-    let full = attach(&rt, &mut graph, Form::AllOf, Of::None, None);
-    assert_eq!(rt; full, Attached::StagesFull);
-    assert_eq!(rt; graph.turns(), turns);
-    assert_eq!(rt; graph.stages(), 4);
-    assert!(rt; !graph.has(4));
-    assert_eq!(rt; graph.plan().stages(), 2);
-    Ok(())
+    let steps = [
+        Step::Complete(0, 1, true),
+        Step::Complete(1, 2, true),
+        ATTACHES_ANY_OF,
+        Step::Outcome(2, gives(2)),
+        Step::Attach(Form::Apply, Of::One(2), Some(9), Attached::At(3)),
+        Step::Has(3, true),
+        Step::ClaimBy(5, 3, granted(2)),
+        Step::Function(3, Some(9)),
+        Step::Turns(2),
+        Step::Attach(Form::AllOf, Of::None, None, Attached::StagesFull),
+        Step::Turns(2),
+        Step::Stages(4),
+        Step::Has(4, false),
+        Step::PlanStages(2),
+    ];
+    play_growing(&rt, rt.alloc(), &TWO_SOURCES, 2, &steps)
 }
 
 /// What waits is treated first: the source has failed, and the apply of it was not asked for yet.
 #[test]
 fn what_waits_is_treated_first(rt: HostRuntime) -> Result<(), Fail> {
-    let mut builder = PlanBuilder::new(rt.alloc());
-    builder.stage(Form::Source, &[], None)?;
-    builder.stage(Form::Apply, &[0], Some(0))?;
-    let mut graph = with_room(&rt, rt.alloc(), builder.build()?, 1)?;
-    settle(&rt, &mut graph, (0, None));
-    let apply = attach(&rt, &mut graph, Form::Apply, Of::One(1), Some(0));
-    assert_eq!(rt; apply, Attached::At(2));
-    assert_eq!(rt; graph.turns(), 2);
-    assert_eq!(rt; graph.nudge(3), 0);
-    assert_eq!(rt;
-        outcome(&rt, &mut graph, 2),
-        Some(fault(Cause::Thrown(7), true))
-    );
-    Ok(())
+    let rows = [SOURCE, (Form::Apply, &[0], Some(0))];
+    let steps = [
+        Step::Fail(0, 7, true),
+        Step::Attach(Form::Apply, Of::One(1), Some(0), Attached::At(2)),
+        Step::Turns(2),
+        Step::Nudge(3, 0),
+        Step::Outcome(2, fault(Cause::Thrown(7), true)),
+    ];
+    play_growing(&rt, rt.alloc(), &rows, 1, &steps)
+}
+
+/// Attaches a source as stage 2 and a compose of stage 0 as stage 3, which then answers this link.
+fn linked_to(stage: u16) -> [Step; 5] {
+    [
+        Step::Complete(0, 1, true),
+        Step::Attach(Form::Source, Of::None, None, Attached::At(2)),
+        Step::Attach(Form::Compose, Of::One(0), Some(0), Attached::At(3)),
+        Step::Claim(3, granted(1)),
+        Step::Finish(3, Answer::Link(stage), Finished::Won),
+    ]
 }
 
 #[test]
 fn an_attached_compose_links_lower(rt: HostRuntime) -> Result<(), Fail> {
-    for (link, lands) in [(1, None), (3, Some(fault(Cause::BadAnswer, true)))] {
-        let mut graph = with_room(&rt, rt.alloc(), two_sources(rt.alloc())?, 2)?;
-        settle(&rt, &mut graph, (0, Some(1)));
-        let source = attach(&rt, &mut graph, Form::Source, Of::None, None);
-        assert_eq!(rt; source, Attached::At(2));
-        let compose = attach(&rt, &mut graph, Form::Compose, Of::One(0), Some(0));
-        assert_eq!(rt; compose, Attached::At(3));
-        assert_eq!(rt;
-            claim(&rt, &mut graph, 3),
-            Claimed::Granted(Args::One(Value::Int(1)))
-        );
-        assert_eq!(rt;
-            finish(&rt, &mut graph, 3, Answer::Link(link)),
-            Finished::Won
-        );
-        assert_eq!(rt; outcome(&rt, &mut graph, 3), lands);
+    for (link, lands) in [(1, None), (3, fault(Cause::BadAnswer, true))] {
+        let mut graph = with_room(&rt, rt.alloc(), plan_of(rt.alloc(), &TWO_SOURCES)?, 2)?;
+        take(&rt, &mut graph, &linked_to(link));
+        take(&rt, &mut graph, &[Step::Outcome(3, lands)]);
     }
     Ok(())
 }
 
 #[test]
 fn a_link_to_an_attached_stage_is_followed(rt: HostRuntime) -> Result<(), Fail> {
-    let mut graph = with_room(&rt, rt.alloc(), two_sources(rt.alloc())?, 2)?;
-    settle(&rt, &mut graph, (0, Some(1)));
-    let source = attach(&rt, &mut graph, Form::Source, Of::None, None);
-    assert_eq!(rt; source, Attached::At(2));
-    let compose = attach(&rt, &mut graph, Form::Compose, Of::One(0), Some(0));
-    assert_eq!(rt; compose, Attached::At(3));
-    assert_eq!(rt;
-        claim(&rt, &mut graph, 3),
-        Claimed::Granted(Args::One(Value::Int(1)))
-    );
-    assert_eq!(rt; finish(&rt, &mut graph, 3, Answer::Link(2)), Finished::Won);
-    assert!(rt; complete(&rt, &mut graph, 2, 8));
-    assert_eq!(rt;
-        outcome(&rt, &mut graph, 3),
-        Some(Outcome::Value(Value::Int(8)))
-    );
+    let mut graph = with_room(&rt, rt.alloc(), plan_of(rt.alloc(), &TWO_SOURCES)?, 2)?;
+    take(&rt, &mut graph, &linked_to(2));
+    let steps = [Step::Complete(2, 8, true), Step::Outcome(3, gives(8))];
+    take(&rt, &mut graph, &steps);
     Ok(())
 }
 
@@ -299,44 +197,45 @@ fn growing_again(rt: &impl Abort, alloc: Global, plan: Plan) -> Result<Graph, Fa
         Ok(graph) => Ok(graph),
         Err(fault) => {
             assert_eq!(rt; fault, GraphFault::NoMemory);
-            with_room(rt, alloc, two_sources(alloc)?, 2)
+            with_room(rt, alloc, plan_of(alloc, &TWO_SOURCES)?, 2)
         }
     }
 }
 
 #[test]
 fn a_refused_growing_graph_can_be_made_again(rt: HostRuntime) -> Result<(), Fail> {
-    let mut graph = growing_again(&rt, rt.alloc(), two_sources(rt.alloc())?)?;
-    let either = attach(&rt, &mut graph, Form::ApplyEither, Of::Two(0, 1), Some(0));
-    assert_eq!(rt; either, Attached::At(2));
-    assert!(rt; complete(&rt, &mut graph, 1, 3));
-    assert_eq!(rt;
-        claim(&rt, &mut graph, 2),
-        Claimed::Granted(Args::One(Value::Int(3)))
-    );
+    let plan = plan_of(rt.alloc(), &TWO_SOURCES)?;
+    let mut graph = growing_again(&rt, rt.alloc(), plan)?;
+    let steps = [
+        ATTACHES_EITHER,
+        Step::Complete(1, 3, true),
+        Step::Claim(2, granted(3)),
+    ];
+    take(&rt, &mut graph, &steps);
     Ok(())
+}
+
+/// What the graph answers to an event that attaches an apply of stage 1.
+fn event_answer(rt: &impl Abort, graph: &mut Graph) -> Reply {
+    assert!(rt; graph.has(1));
+    graph.answer(&Event::Attach {
+        who: 3,
+        form: Form::Apply,
+        of: Of::One(1),
+        function: Some(8),
+    })
 }
 
 /// What callers do as events has the same answers.
 #[test]
 fn an_event_attaches(rt: HostRuntime) -> Result<(), Fail> {
-    let mut graph = with_room(&rt, rt.alloc(), two_sources(rt.alloc())?, 1)?;
-    settle(&rt, &mut graph, (1, Some(6)));
-    let event = Event::Attach {
-        who: 3,
-        form: Form::Apply,
-        of: Of::One(1),
-        function: Some(8),
-    };
-    assert!(rt; graph.has(1));
-    assert_eq!(rt; graph.answer(&event), Reply::Attach(Attached::At(2)));
-    assert!(rt; graph.has(2));
-    assert_eq!(rt; graph.function(2), Some(8));
-    assert_eq!(rt;
-        claim(&rt, &mut graph, 2),
-        Claimed::Granted(Args::One(Value::Int(6)))
-    );
-    assert!(rt; graph.has(1));
-    assert_eq!(rt; graph.answer(&event), Reply::Attach(Attached::StagesFull));
+    let mut graph = with_room(&rt, rt.alloc(), plan_of(rt.alloc(), &TWO_SOURCES)?, 1)?;
+    take(&rt, &mut graph, &[Step::Complete(1, 6, true)]);
+    let attached = event_answer(&rt, &mut graph);
+    assert_eq!(rt; attached, Reply::Attach(Attached::At(2)));
+    let steps = [Step::Function(2, Some(8)), Step::Claim(2, granted(6))];
+    take(&rt, &mut graph, &steps);
+    let full = event_answer(&rt, &mut graph);
+    assert_eq!(rt; full, Reply::Attach(Attached::StagesFull));
     Ok(())
 }

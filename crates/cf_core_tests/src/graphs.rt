@@ -1,227 +1,168 @@
 //! Worked examples, each call once, graphs of each size, and a graph whose memory is refused.
+use crate::plans::{Row, SOURCE, limited, longest_chain, plan_of, supplies};
+use crate::steps::{Step, fault, give, gives, granted, play, take};
 use cf_core::{Claimed, Finished, Graph, GraphFault, Ticked};
 use cf_outcome::{Cause, Now, Outcome, Value};
-use cf_plan::{Answer, Args, Form, LimitKind, Plan, PlanBuilder, PlanFault};
+use cf_plan::{Answer, Args, Form, Limit, LimitKind, Plan, PlanBuilder, PlanFault};
 use std::alloc::Global;
 use std::process::Abort;
 use std::test::Fail;
 
-const GIVES_3: Outcome = Outcome::Value(Value::Int(3));
-
-pub(crate) fn fault(cause: Cause, wrapped: bool) -> Outcome {
-    Outcome::Fault { cause, wrapped }
-}
-
-/// What the graph answers to caller 0.
-pub(crate) fn complete(rt: &impl Abort, graph: &mut Graph, i: u16, v: i32) -> bool {
-    assert!(rt; graph.has(i));
-    graph.complete(i, Value::Int(v))
-}
-
-pub(crate) fn claim(rt: &impl Abort, graph: &mut Graph, i: u16) -> Claimed {
-    assert!(rt; graph.has(i));
-    graph.claim(0, i)
-}
-
-pub(crate) fn finish(rt: &impl Abort, graph: &mut Graph, i: u16, answer: Answer) -> Finished {
-    assert!(rt; graph.has(i));
-    graph.finish(0, i, answer)
-}
-
-fn cancel(rt: &impl Abort, graph: &mut Graph, i: u16) -> bool {
-    assert!(rt; graph.has(i));
-    graph.cancel(i)
-}
-
-pub(crate) fn outcome(rt: &impl Abort, graph: &mut Graph, i: u16) -> Option<Outcome> {
-    assert!(rt; graph.has(i));
-    graph.outcome(i)
-}
-
-fn now(rt: &impl Abort, graph: &mut Graph, i: u16) -> Now {
-    assert!(rt; graph.has(i));
-    graph.now(i, Value::Int(-1))
-}
+const SOURCE_AND_APPLY: [Row<'static>; 2] = [SOURCE, (Form::Apply, &[0], Some(0))];
 
 #[test]
 fn applies_over_a_source(rt: HostRuntime) -> Result<(), Fail> {
-    let mut builder = PlanBuilder::new(rt.alloc());
-    builder.stage(Form::Source, &[], None)?;
-    builder.stage(Form::Apply, &[0], Some(0))?;
-    let mut graph = Graph::new(rt.alloc(), builder.build()?)?;
-    assert_eq!(rt; graph.plan().stages(), 2);
-    assert_eq!(rt; graph.lowest_ready(), None);
-    assert_eq!(rt; claim(&rt, &mut graph, 1), Claimed::NotReady);
-    assert!(rt; complete(&rt, &mut graph, 0, 3));
-    assert!(rt; !complete(&rt, &mut graph, 0, 4), "it is settled");
-    assert_eq!(rt; graph.lowest_ready(), Some(1));
-    assert_eq!(rt;
-        now(&rt, &mut graph, 1),
-        Now::Absent(Value::Int(-1)),
-        "ready is not settled"
-    );
-    assert_eq!(rt;
-        claim(&rt, &mut graph, 1),
-        Claimed::Granted(Args::One(Value::Int(3)))
-    );
-    assert_eq!(rt; claim(&rt, &mut graph, 1), Claimed::Taken);
-    assert_eq!(rt;
-        finish(&rt, &mut graph, 1, Answer::Give(Value::Int(8))),
-        Finished::Won
-    );
-    assert_eq!(rt;
-        finish(&rt, &mut graph, 1, Answer::Throw(2)),
-        Finished::NotYours
-    );
-    assert_eq!(rt; outcome(&rt, &mut graph, 0), Some(GIVES_3));
-    assert_eq!(rt; now(&rt, &mut graph, 1), Now::Got(Value::Int(8)));
-    assert_eq!(rt; claim(&rt, &mut graph, 1), Claimed::Settled);
-    assert_eq!(rt; graph.nudge(4), 0);
-    assert_eq!(rt; graph.turns(), 1);
-    Ok(())
+    let steps = [
+        Step::PlanStages(2),
+        Step::LowestReady(None),
+        Step::Claim(1, Claimed::NotReady),
+        Step::Complete(0, 3, true),
+        // It is settled.
+        Step::Complete(0, 4, false),
+        Step::LowestReady(Some(1)),
+        // Ready is not settled.
+        Step::Now(1, Now::Absent(Value::Int(-1))),
+        Step::Claim(1, granted(3)),
+        Step::Claim(1, Claimed::Taken),
+        Step::Finish(1, give(8), Finished::Won),
+        Step::Finish(1, Answer::Throw(2), Finished::NotYours),
+        Step::Outcome(0, gives(3)),
+        Step::Now(1, Now::Got(Value::Int(8))),
+        Step::Claim(1, Claimed::Settled),
+        Step::Nudge(4, 0),
+        Step::Turns(1),
+    ];
+    play(&rt, rt.alloc(), &SOURCE_AND_APPLY, &steps)
 }
 
 #[test]
 fn cancels_through_a_link(rt: HostRuntime) -> Result<(), Fail> {
-    let mut builder = PlanBuilder::new(rt.alloc());
-    builder.stage(Form::Source, &[], None)?;
-    builder.stage(Form::Source, &[], None)?;
-    builder.stage(Form::Compose, &[0], Some(0))?;
-    let mut graph = Graph::new(rt.alloc(), builder.build()?)?;
-    assert!(rt; complete(&rt, &mut graph, 0, 1));
-    assert_eq!(rt;
-        claim(&rt, &mut graph, 2),
-        Claimed::Granted(Args::One(Value::Int(1)))
-    );
-    assert_eq!(rt; finish(&rt, &mut graph, 2, Answer::Link(1)), Finished::Won);
-    assert_eq!(rt; outcome(&rt, &mut graph, 2), None);
-    assert!(rt; cancel(&rt, &mut graph, 1));
-    assert!(rt; cancel(&rt, &mut graph, 1), "it is cancelled still");
-    assert_eq!(rt;
-        outcome(&rt, &mut graph, 1),
-        Some(fault(Cause::Cancelled, false))
-    );
-    assert_eq!(rt;
-        outcome(&rt, &mut graph, 2),
-        Some(fault(Cause::Cancelled, true))
-    );
-    assert!(rt;
-        !cancel(&rt, &mut graph, 2),
-        "it took the cancellation over"
-    );
-    Ok(())
+    let rows = [SOURCE, SOURCE, (Form::Compose, &[0], Some(0))];
+    let steps = [
+        Step::Complete(0, 1, true),
+        Step::Claim(2, granted(1)),
+        Step::Finish(2, Answer::Link(1), Finished::Won),
+        Step::Outcome(2, None),
+        Step::Cancel(1, true),
+        // It is cancelled still.
+        Step::Cancel(1, true),
+        Step::Outcome(1, fault(Cause::Cancelled, false)),
+        Step::Outcome(2, fault(Cause::Cancelled, true)),
+        // It took the cancellation over.
+        Step::Cancel(2, false),
+    ];
+    play(&rt, rt.alloc(), &rows, &steps)
 }
 
 /// Two sources, and an exceptionallyCompose of the first.
-fn recovering(alloc: Global) -> Result<Graph, Fail> {
-    let mut builder = PlanBuilder::new(alloc);
-    builder.stage(Form::Source, &[], None)?;
-    builder.stage(Form::Source, &[], None)?;
-    builder.stage(Form::ExceptionallyCompose, &[0], Some(0))?;
-    Ok(Graph::new(alloc, builder.build()?)?)
+const RECOVERING: [Row<'static>; 3] = [SOURCE, SOURCE, (Form::ExceptionallyCompose, &[0], Some(0))];
+
+/// A claim is granted, with this fault for its function.
+fn told(cause: Cause) -> Claimed {
+    Claimed::Granted(Args::Got(Outcome::Fault {
+        cause,
+        wrapped: false,
+    }))
 }
 
 #[test]
 fn a_value_needs_no_recovery(rt: HostRuntime) -> Result<(), Fail> {
-    let mut graph = recovering(rt.alloc())?;
-    assert!(rt; complete(&rt, &mut graph, 0, 3));
-    assert_eq!(rt; graph.lowest_ready(), None);
-    assert_eq!(rt; claim(&rt, &mut graph, 2), Claimed::Settled);
-    assert_eq!(rt; outcome(&rt, &mut graph, 2), Some(GIVES_3));
-    Ok(())
+    let steps = [
+        Step::Complete(0, 3, true),
+        Step::LowestReady(None),
+        Step::Claim(2, Claimed::Settled),
+        Step::Outcome(2, gives(3)),
+    ];
+    play(&rt, rt.alloc(), &RECOVERING, &steps)
 }
 
 #[test]
 fn a_fault_is_recovered_through_a_link(rt: HostRuntime) -> Result<(), Fail> {
-    let mut graph = recovering(rt.alloc())?;
-    assert!(rt; graph.has(0));
-    assert!(rt; graph.fail(0, 7));
-    assert_eq!(rt;
-        claim(&rt, &mut graph, 2),
-        Claimed::Granted(Args::Got(fault(Cause::Thrown(7), false)))
-    );
-    assert_eq!(rt; finish(&rt, &mut graph, 2, Answer::Link(1)), Finished::Won);
-    assert_eq!(rt; outcome(&rt, &mut graph, 2), None);
-    assert!(rt; complete(&rt, &mut graph, 1, 3));
-    assert_eq!(rt; outcome(&rt, &mut graph, 2), Some(GIVES_3));
-    Ok(())
+    let steps = [
+        Step::Fail(0, 7, true),
+        Step::Claim(2, told(Cause::Thrown(7))),
+        Step::Finish(2, Answer::Link(1), Finished::Won),
+        Step::Outcome(2, None),
+        Step::Complete(1, 3, true),
+        Step::Outcome(2, gives(3)),
+    ];
+    play(&rt, rt.alloc(), &RECOVERING, &steps)
 }
 
 #[test]
 fn a_recovery_has_to_link_lower(rt: HostRuntime) -> Result<(), Fail> {
     for answer in [Answer::Give(Value::Nil), Answer::Link(2), Answer::Link(3)] {
-        let mut graph = recovering(rt.alloc())?;
-        assert!(rt; cancel(&rt, &mut graph, 0));
-        assert_eq!(rt;
-            claim(&rt, &mut graph, 2),
-            Claimed::Granted(Args::Got(fault(Cause::Cancelled, false)))
-        );
-        assert_eq!(rt; finish(&rt, &mut graph, 2, answer), Finished::Won);
-        assert_eq!(rt;
-            outcome(&rt, &mut graph, 2),
-            Some(fault(Cause::BadAnswer, true))
-        );
+        let steps = [
+            Step::Cancel(0, true),
+            Step::Claim(2, told(Cause::Cancelled)),
+            Step::Finish(2, answer, Finished::Won),
+            Step::Outcome(2, fault(Cause::BadAnswer, true)),
+        ];
+        play(&rt, rt.alloc(), &RECOVERING, &steps)?;
     }
     Ok(())
 }
 
 #[test]
 fn finishes_late(rt: HostRuntime) -> Result<(), Fail> {
-    let mut builder = PlanBuilder::new(rt.alloc());
-    builder.stage(Form::Supply, &[], Some(0))?;
-    let mut graph = Graph::new(rt.alloc(), builder.build()?)?;
-    assert_eq!(rt; claim(&rt, &mut graph, 0), Claimed::Granted(Args::None));
-    assert!(rt; graph.has(0));
-    assert!(rt; graph.fail(0, 7));
-    assert_eq!(rt;
-        finish(&rt, &mut graph, 0, Answer::Give(Value::Nil)),
-        Finished::Late
-    );
-    assert_eq!(rt;
-        outcome(&rt, &mut graph, 0),
-        Some(fault(Cause::Thrown(7), false))
-    );
-    Ok(())
+    let steps = [
+        Step::Claim(0, Claimed::Granted(Args::None)),
+        Step::Fail(0, 7, true),
+        Step::Finish(0, Answer::Give(Value::Nil), Finished::Late),
+        Step::Outcome(0, fault(Cause::Thrown(7), false)),
+    ];
+    play(&rt, rt.alloc(), &[(Form::Supply, &[], Some(0))], &steps)
 }
 
 #[test]
 fn fires_limits_in_order(rt: HostRuntime) -> Result<(), Fail> {
-    let mut builder = PlanBuilder::new(rt.alloc());
-    builder.stage(Form::Source, &[], None)?;
-    builder.limit(0, 5, LimitKind::Give(Value::Int(1)))?;
-    builder.limit(0, 5, LimitKind::Timeout)?;
-    let mut graph = Graph::new(rt.alloc(), builder.build()?)?;
-    assert_eq!(rt; graph.tick(4), Ticked::Fired(0));
-    assert_eq!(rt; graph.tick(5), Ticked::Fired(1));
-    assert_eq!(rt; graph.tick(5), Ticked::Fired(0));
-    assert_eq!(rt; graph.tick(4), Ticked::Past);
-    assert_eq!(rt;
-        outcome(&rt, &mut graph, 0),
-        Some(Outcome::Value(Value::Int(1)))
-    );
+    let limits = [
+        Limit {
+            stage: 0,
+            at: 5,
+            kind: LimitKind::Give(Value::Int(1)),
+        },
+        Limit {
+            stage: 0,
+            at: 5,
+            kind: LimitKind::Timeout,
+        },
+    ];
+    let mut graph = Graph::new(rt.alloc(), limited(rt.alloc(), &[SOURCE], &limits)?)?;
+    let steps = [
+        Step::Tick(4, Ticked::Fired(0)),
+        Step::Tick(5, Ticked::Fired(1)),
+        Step::Tick(5, Ticked::Fired(0)),
+        Step::Tick(4, Ticked::Past),
+        Step::Outcome(0, gives(1)),
+    ];
+    take(&rt, &mut graph, &steps);
     Ok(())
 }
 
 #[test]
 fn serves_the_greatest_graph(rt: HostRuntime) -> Result<(), Fail> {
-    let mut builder = PlanBuilder::new(rt.alloc());
-    for _ in 0..4096 {
-        builder.stage(Form::Supply, &[], Some(0))?;
-    }
-    let mut graph = Graph::new(rt.alloc(), builder.build()?)?;
+    let mut graph = Graph::new(rt.alloc(), supplies(rt.alloc(), 4096)?)?;
     for i in 0..4096 {
-        assert_eq!(rt; graph.lowest_ready(), Some(i));
-        assert_eq!(rt; claim(&rt, &mut graph, i), Claimed::Granted(Args::None));
+        let steps = [
+            Step::LowestReady(Some(i)),
+            Step::Claim(i, Claimed::Granted(Args::None)),
+        ];
+        take(&rt, &mut graph, &steps);
     }
-    assert_eq!(rt; graph.lowest_ready(), None);
+    take(&rt, &mut graph, &[Step::LowestReady(None)]);
     Ok(())
 }
 
-fn source_and_apply(alloc: Global) -> Result<Plan, PlanFault> {
-    let mut builder = PlanBuilder::new(alloc);
-    builder.stage(Form::Source, &[], None)?;
-    builder.stage(Form::Apply, &[0], Some(0))?;
-    builder.build()
+/// The plan of a source and an apply. Where its memory is refused, it is built again.
+fn plan_again(rt: &impl Abort, alloc: Global) -> Result<Plan, PlanFault> {
+    match plan_of(alloc, &SOURCE_AND_APPLY) {
+        Ok(plan) => Ok(plan),
+        Err(fault) => {
+            assert_eq!(rt; fault, PlanFault::NoMemory);
+            plan_of(alloc, &SOURCE_AND_APPLY)
+        }
+    }
 }
 
 /// The graph of a source and an apply. Where its memory is refused, one of another plan succeeds.
@@ -230,60 +171,42 @@ fn graph_again(rt: &impl Abort, alloc: Global, plan: Plan) -> Result<Graph, Fail
         Ok(graph) => Ok(graph),
         Err(fault) => {
             assert_eq!(rt; fault, GraphFault::NoMemory);
-            let plan = source_and_apply(alloc)?;
-            Ok(Graph::new(alloc, plan)?)
+            Ok(Graph::new(alloc, plan_of(alloc, &SOURCE_AND_APPLY)?)?)
         }
     }
 }
 
 #[test]
 fn a_refused_graph_can_be_made_again(rt: HostRuntime) -> Result<(), Fail> {
-    let plan = match source_and_apply(rt.alloc()) {
-        Ok(plan) => plan,
-        Err(fault) => {
-            assert_eq!(rt; fault, PlanFault::NoMemory);
-            source_and_apply(rt.alloc())?
-        }
-    };
+    let plan = plan_again(&rt, rt.alloc())?;
     let mut graph = graph_again(&rt, rt.alloc(), plan)?;
-    assert!(rt; complete(&rt, &mut graph, 0, 3));
-    assert_eq!(rt;
-        claim(&rt, &mut graph, 1),
-        Claimed::Granted(Args::One(Value::Int(3)))
-    );
-    assert_eq!(rt;
-        finish(&rt, &mut graph, 1, Answer::Give(Value::Int(8))),
-        Finished::Won
-    );
-    assert_eq!(rt; now(&rt, &mut graph, 1), Now::Got(Value::Int(8)));
+    let steps = [
+        Step::Complete(0, 3, true),
+        Step::Claim(1, granted(3)),
+        Step::Finish(1, give(8), Finished::Won),
+        Step::Now(1, Now::Got(Value::Int(8))),
+    ];
+    take(&rt, &mut graph, &steps);
     Ok(())
 }
 
 #[test]
 fn chain_is_settled_when_it_is_asked_for(rt: HostRuntime) -> Result<(), Fail> {
-    let mut builder = PlanBuilder::new(rt.alloc());
-    builder.stage(Form::Source, &[], None)?;
-    for i in 0..4095 {
-        builder.stage(Form::Apply, &[i], Some(0))?;
-    }
-    let mut graph = Graph::new(rt.alloc(), builder.build()?)?;
-    assert!(rt; graph.has(0) && graph.has(4095));
-    assert!(rt; graph.fail(0, 7));
-    assert_eq!(rt; graph.turns(), 0);
-    assert_eq!(rt; graph.nudge(10), 10);
-    let thrown = Outcome::Fault {
-        cause: Cause::Thrown(7),
-        wrapped: true,
-    };
-    assert!(rt; graph.has(4095));
-    assert_eq!(rt; graph.outcome(4095), Some(thrown));
-    assert_eq!(rt; graph.turns(), 4095);
-    assert_eq!(rt; graph.nudge(5), 0);
+    let mut graph = Graph::new(rt.alloc(), longest_chain(rt.alloc())?)?;
+    let steps = [
+        Step::Fail(0, 7, true),
+        Step::Turns(0),
+        Step::Nudge(10, 10),
+        Step::Outcome(4095, fault(Cause::Thrown(7), true)),
+        Step::Turns(4095),
+        Step::Nudge(5, 0),
+    ];
+    take(&rt, &mut graph, &steps);
     Ok(())
 }
 
-/// A graph of so many sources and one allOf over all of them, each of which is completed.
-fn all_of(rt: &impl Abort, alloc: Global, sources: u16) -> Result<(), Fail> {
+/// The plan of so many sources and one allOf over all of them.
+fn all_of(alloc: Global, sources: u16) -> Result<Plan, Fail> {
     let mut builder = PlanBuilder::new(alloc);
     let mut of = Vec::new(alloc);
     for i in 0..sources {
@@ -291,33 +214,35 @@ fn all_of(rt: &impl Abort, alloc: Global, sources: u16) -> Result<(), Fail> {
         of.push(i)?;
     }
     builder.stage(Form::AllOf, of.as_slice(), None)?;
-    let mut graph = Graph::new(alloc, builder.build()?)?;
+    Ok(builder.build()?)
+}
+
+/// An allOf waits until the last of so many sources is completed.
+fn waits_for_all(rt: &impl Abort, alloc: Global, sources: u16) -> Result<(), Fail> {
+    let mut graph = Graph::new(alloc, all_of(alloc, sources)?)?;
     for i in 0..sources {
-        assert_eq!(rt; outcome(rt, &mut graph, sources), None);
-        assert!(rt; complete(rt, &mut graph, i, 1));
+        let steps = [Step::Outcome(sources, None), Step::Complete(i, 1, true)];
+        take(rt, &mut graph, &steps);
     }
-    assert_eq!(rt;
-        outcome(rt, &mut graph, sources),
-        Some(Outcome::Value(Value::Nil))
-    );
+    let nil = Some(Outcome::Value(Value::Nil));
+    take(rt, &mut graph, &[Step::Outcome(sources, nil)]);
     Ok(())
 }
 
 #[test]
 fn serves_graphs_of_each_size(rt: HostRuntime) -> Result<(), Fail> {
     for sources in 0..130 {
-        all_of(&rt, rt.alloc(), sources)?;
+        waits_for_all(&rt, rt.alloc(), sources)?;
     }
     for sources in [255, 256, 257, 1023, 1024, 1025] {
-        all_of(&rt, rt.alloc(), sources)?;
+        waits_for_all(&rt, rt.alloc(), sources)?;
     }
     Ok(())
 }
 
 /// One source, 4,095 stages that name it four times, and 4,096 limits on it: the greatest plan but for four edges.
-#[test]
-fn serves_the_greatest_plan(rt: HostRuntime) -> Result<(), Fail> {
-    let mut builder = PlanBuilder::new(rt.alloc());
+fn greatest_plan(alloc: Global) -> Result<Plan, PlanFault> {
+    let mut builder = PlanBuilder::new(alloc);
     builder.stage(Form::Source, &[], None)?;
     for _ in 0..4095 {
         builder.stage(Form::AnyOf, &[0, 0, 0, 0], None)?;
@@ -325,12 +250,17 @@ fn serves_the_greatest_plan(rt: HostRuntime) -> Result<(), Fail> {
     for at in 0..4096 {
         builder.limit(0, at, LimitKind::Give(Value::Int(1)))?;
     }
-    let mut graph = Graph::new(rt.alloc(), builder.build()?)?;
-    assert_eq!(rt; graph.tick(4294967295), Ticked::Fired(1));
-    assert_eq!(rt;
-        outcome(&rt, &mut graph, 4095),
-        Some(Outcome::Value(Value::Int(1)))
-    );
-    assert_eq!(rt; graph.turns(), 4095);
+    builder.build()
+}
+
+#[test]
+fn serves_the_greatest_plan(rt: HostRuntime) -> Result<(), Fail> {
+    let mut graph = Graph::new(rt.alloc(), greatest_plan(rt.alloc())?)?;
+    let steps = [
+        Step::Tick(4294967295, Ticked::Fired(1)),
+        Step::Outcome(4095, gives(1)),
+        Step::Turns(4095),
+    ];
+    take(&rt, &mut graph, &steps);
     Ok(())
 }

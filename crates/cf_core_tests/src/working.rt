@@ -3,10 +3,13 @@ ghost use Rattle.std.specs.Prelude.{◌≡◌};
 ghost use Rattle.cf_plan.specs.declared.forms.Answer.TheVariants.{Give};
 ghost use Rattle.cf_outcome.specs.declared.outcome.Value.TheVariants.{Int};
 
-use crate::graphs::{claim, complete, fault, finish, outcome};
+use crate::plans::{Row, SOURCE, longest_chain, plan_of};
+use crate::steps::{Step, fault, give, gives, granted, take};
 use cf_core::{Claimed, Finished, Graph};
 use cf_outcome::{Cause, Outcome, Value};
-use cf_plan::{Answer, Args, Form, PlanBuilder, StageFn};
+use cf_plan::{Answer, Args, Form, StageFn};
+use std::alloc::Global;
+use std::process::Abort;
 use std::test::Fail;
 
 /// Answers the same, whatever it is called with.
@@ -23,8 +26,8 @@ impl StageFn for Fixed {
     }
 }
 
-/// Gives this number.
-fn gives(n: i32) -> Fixed
+/// A function that gives this number.
+fn giving(n: i32) -> Fixed
     ensures { result.answer ≡ Give (Int n) }
 {
     Fixed {
@@ -32,96 +35,160 @@ fn gives(n: i32) -> Fixed
     }
 }
 
-const GIVES_4: Outcome = Outcome::Value(Value::Int(4));
+/// What is done to a graph in turn.
+#[derive(Clone, Copy)]
+enum Turn {
+    Takes(Step),
+    /// Work for a caller calls so many functions.
+    Works(u8, u32),
+}
 
-const GIVES_6: Outcome = Outcome::Value(Value::Int(6));
+/// The graph takes these turns, with these functions.
+fn take_turns(rt: &impl Abort, graph: &mut Graph, functions: &[Fixed], turns: &[Turn]) {
+    for turn in turns {
+        match *turn {
+            Turn::Takes(step) => take(rt, graph, &[step]),
+            Turn::Works(who, calls) => assert_eq!(rt; graph.work(who, functions), calls),
+        }
+    }
+}
+
+/// The graph of these stages takes these turns, with these functions.
+fn works(
+    rt: &impl Abort,
+    alloc: Global,
+    rows: &[Row<'_>],
+    functions: &[Fixed],
+    turns: &[Turn],
+) -> Result<(), Fail> {
+    let mut graph = Graph::new(alloc, plan_of(alloc, rows)?)?;
+    take_turns(rt, &mut graph, functions, turns);
+    Ok(())
+}
 
 #[test]
 fn works_down_a_chain(rt: HostRuntime) -> Result<(), Fail> {
-    let mut builder = PlanBuilder::new(rt.alloc());
-    builder.stage(Form::Source, &[], None)?;
-    builder.stage(Form::Apply, &[0], Some(0))?;
-    builder.stage(Form::Apply, &[1], Some(1))?;
-    builder.stage(Form::Apply, &[2], Some(2))?;
-    let mut graph = Graph::new(rt.alloc(), builder.build()?)?;
-    let functions = [gives(4), gives(5), gives(6)];
-    assert_eq!(rt; graph.work(63, &functions), 0, "nothing is ready");
-    assert!(rt; complete(&rt, &mut graph, 0, 3));
-    assert_eq!(rt; graph.work(63, &functions), 3);
-    assert_eq!(rt; outcome(&rt, &mut graph, 1), Some(GIVES_4));
-    assert_eq!(rt; outcome(&rt, &mut graph, 3), Some(GIVES_6));
-    assert_eq!(rt; graph.turns(), 3);
-    assert_eq!(rt; graph.work(63, &functions), 0, "each was called once");
-    assert_eq!(rt; claim(&rt, &mut graph, 3), Claimed::Settled);
-    Ok(())
+    let rows = [
+        SOURCE,
+        (Form::Apply, &[0], Some(0)),
+        (Form::Apply, &[1], Some(1)),
+        (Form::Apply, &[2], Some(2)),
+    ];
+    let turns = [
+        // Nothing is ready.
+        Turn::Works(63, 0),
+        Turn::Takes(Step::Complete(0, 3, true)),
+        Turn::Works(63, 3),
+        Turn::Takes(Step::Outcome(1, gives(4))),
+        Turn::Takes(Step::Outcome(3, gives(6))),
+        Turn::Takes(Step::Turns(3)),
+        // Each was called once.
+        Turn::Works(63, 0),
+        Turn::Takes(Step::Claim(3, Claimed::Settled)),
+    ];
+    let functions = [giving(4), giving(5), giving(6)];
+    works(&rt, rt.alloc(), &rows, &functions, &turns)
 }
 
 #[test]
 fn works_through_links(rt: HostRuntime) -> Result<(), Fail> {
-    let mut builder = PlanBuilder::new(rt.alloc());
-    builder.stage(Form::Source, &[], None)?;
-    builder.stage(Form::Source, &[], None)?;
-    builder.stage(Form::Compose, &[0], Some(0))?;
-    builder.stage(Form::Compose, &[2], Some(0))?;
-    let mut graph = Graph::new(rt.alloc(), builder.build()?)?;
-    let functions = [Fixed {
+    let rows = [
+        SOURCE,
+        SOURCE,
+        (Form::Compose, &[0], Some(0)),
+        (Form::Compose, &[2], Some(0)),
+    ];
+    let nil = Answer::Give(Value::Nil);
+    let turns = [
+        Turn::Takes(Step::Complete(0, 3, true)),
+        Turn::Works(0, 1),
+        // It is linked.
+        Turn::Takes(Step::Outcome(2, None)),
+        Turn::Takes(Step::Claim(2, Claimed::Taken)),
+        // No claim is left open.
+        Turn::Takes(Step::Finish(2, nil, Finished::NotYours)),
+        Turn::Takes(Step::Complete(1, 4, true)),
+        Turn::Takes(Step::Outcome(2, gives(4))),
+        Turn::Works(0, 1),
+        // Its target is settled.
+        Turn::Takes(Step::Outcome(3, gives(4))),
+    ];
+    let links = Fixed {
         answer: Answer::Link(1),
-    }];
-    assert!(rt; complete(&rt, &mut graph, 0, 3));
-    assert_eq!(rt; graph.work(0, &functions), 1);
-    assert_eq!(rt; outcome(&rt, &mut graph, 2), None, "it is linked");
-    assert_eq!(rt; claim(&rt, &mut graph, 2), Claimed::Taken);
-    assert_eq!(rt;
-        finish(&rt, &mut graph, 2, Answer::Give(Value::Nil)),
-        Finished::NotYours,
-        "no claim is left open"
-    );
-    assert!(rt; complete(&rt, &mut graph, 1, 4));
-    assert_eq!(rt; outcome(&rt, &mut graph, 2), Some(GIVES_4));
-    assert_eq!(rt; graph.work(0, &functions), 1);
-    assert_eq!(rt;
-        outcome(&rt, &mut graph, 3),
-        Some(GIVES_4),
-        "its target is settled"
-    );
-    Ok(())
+    };
+    works(&rt, rt.alloc(), &rows, &[links], &turns)
 }
 
 #[test]
 fn works_on_what_fails(rt: HostRuntime) -> Result<(), Fail> {
-    let mut builder = PlanBuilder::new(rt.alloc());
-    builder.stage(Form::Supply, &[], Some(0))?;
-    builder.stage(Form::Apply, &[0], Some(1))?;
-    builder.stage(Form::Supply, &[], Some(2))?;
-    let mut graph = Graph::new(rt.alloc(), builder.build()?)?;
-    let functions = [
-        Fixed {
-            answer: Answer::Throw(7),
-        },
-        gives(4),
+    let rows = [
+        (Form::Supply, &[][..], Some(0)),
+        (Form::Apply, &[0], Some(1)),
+        (Form::Supply, &[], Some(2)),
     ];
-    assert_eq!(rt; graph.work(1, &functions), 2, "no function after a fault");
     let thrown = fault(Cause::Thrown(7), true);
-    assert_eq!(rt; outcome(&rt, &mut graph, 0), Some(thrown));
-    assert_eq!(rt; outcome(&rt, &mut graph, 1), Some(thrown));
-    assert_eq!(rt;
-        outcome(&rt, &mut graph, 2),
-        Some(Outcome::Value(Value::Nil)),
-        "there is no function 2"
-    );
-    Ok(())
+    let nil = Some(Outcome::Value(Value::Nil));
+    let turns = [
+        // No function after a fault.
+        Turn::Works(1, 2),
+        Turn::Takes(Step::Outcome(0, thrown)),
+        Turn::Takes(Step::Outcome(1, thrown)),
+        // There is no function 2.
+        Turn::Takes(Step::Outcome(2, nil)),
+    ];
+    let throws = Fixed {
+        answer: Answer::Throw(7),
+    };
+    works(&rt, rt.alloc(), &rows, &[throws, giving(4)], &turns)
 }
 
 #[test]
 fn works_on_the_most_stages(rt: HostRuntime) -> Result<(), Fail> {
-    let mut builder = PlanBuilder::new(rt.alloc());
-    builder.stage(Form::Source, &[], None)?;
-    for i in 0..4095 {
-        builder.stage(Form::Apply, &[i], Some(0))?;
-    }
-    let mut graph = Graph::new(rt.alloc(), builder.build()?)?;
-    assert!(rt; complete(&rt, &mut graph, 0, 3));
-    assert_eq!(rt; graph.work(63, &[gives(4)]), 4095);
-    assert_eq!(rt; outcome(&rt, &mut graph, 4095), Some(GIVES_4));
+    let mut graph = Graph::new(rt.alloc(), longest_chain(rt.alloc())?)?;
+    let turns = [
+        Turn::Takes(Step::Complete(0, 3, true)),
+        Turn::Works(63, 4095),
+        Turn::Takes(Step::Outcome(4095, gives(4))),
+    ];
+    take_turns(&rt, &mut graph, &[giving(4)], &turns);
     Ok(())
+}
+
+#[test]
+fn works_past_what_others_claimed(rt: HostRuntime) -> Result<(), Fail> {
+    let rows = [
+        SOURCE,
+        (Form::Apply, &[0], Some(0)),
+        (Form::Apply, &[0], Some(0)),
+        (Form::Apply, &[1], Some(0)),
+    ];
+    let turns = [
+        Turn::Takes(Step::Complete(0, 3, true)),
+        Turn::Takes(Step::Claim(1, granted(3))),
+        Turn::Works(1, 1),
+        Turn::Takes(Step::Outcome(1, None)),
+        Turn::Takes(Step::Outcome(2, gives(4))),
+        Turn::Takes(Step::Finish(1, give(9), Finished::Won)),
+        Turn::Works(1, 1),
+        Turn::Takes(Step::Outcome(3, gives(4))),
+    ];
+    works(&rt, rt.alloc(), &rows, &[giving(4)], &turns)
+}
+
+#[test]
+fn works_on_a_few_of_many(rt: HostRuntime) -> Result<(), Fail> {
+    let mut rows = [SOURCE; 256];
+    rows[1] = (Form::Apply, &[0], Some(0));
+    rows[200] = (Form::Apply, &[199], Some(0));
+    rows[201] = (Form::Apply, &[200], Some(0));
+    let turns = [
+        Turn::Takes(Step::Complete(199, 3, true)),
+        Turn::Works(0, 2),
+        Turn::Takes(Step::Outcome(201, gives(4))),
+        Turn::Takes(Step::Complete(0, 3, true)),
+        Turn::Works(0, 1),
+        Turn::Takes(Step::Outcome(1, gives(4))),
+        Turn::Takes(Step::Outcome(2, None)),
+    ];
+    works(&rt, rt.alloc(), &rows, &[giving(4)], &turns)
 }

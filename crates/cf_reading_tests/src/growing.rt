@@ -5,16 +5,17 @@ use cf_plan::{Form, Of, PlanFault};
 use cf_reading::{Func, Part, ReadingFault, Step, read_race, read_script};
 use std::alloc::{AllocError, Global};
 use std::fmt::Write;
+use std::process::Abort;
 use std::test::Fail;
 
-/// What is read of a text in which one piece stands so often, with commas between.
-fn reads(
+/// Why a text in which one piece stands so often, with commas between, is refused, if it is.
+fn refused(
     alloc: Global,
     before: &str,
     piece: &str,
     count: u32,
     after: &str,
-) -> Result<Result<(), ReadingFault>, AllocError> {
+) -> Result<Option<ReadingFault>, AllocError> {
     let mut text = String::new(alloc);
     write!(text, "{before}")?;
     for i in 0..count {
@@ -22,13 +23,60 @@ fn reads(
         write!(text, "{comma}{piece}")?;
     }
     write!(text, "{after}")?;
-    Ok(read_script(alloc, text.as_str().as_bytes()).map(|_| ()))
+    Ok(read_script(alloc, text.as_str().as_bytes()).err())
 }
 
-/// What is read of a script of two sources and room for two stages, with one step.
-fn reads_step(alloc: Global, step: &str) -> Result<Result<(), ReadingFault>, AllocError> {
+/// A text in which one piece stands so often, with commas between, and why it is refused, if it is.
+type Row<'a> = (&'a str, &'a str, u32, &'a str, Option<ReadingFault>);
+
+/// These texts are read, or refused so.
+fn assert_texts(rt: &impl Abort, alloc: Global, rows: &[Row<'_>]) -> Result<(), Fail> {
+    for (before, piece, count, after, fault) in rows {
+        let refused = refused(alloc, before, piece, *count, after)?;
+        assert_eq!(rt;
+            refused,
+            *fault,
+            "{before}, {count} of {piece}, and {after}"
+        );
+    }
+    Ok(())
+}
+
+/// Each of these pieces, alone in its text, is read, or refused so.
+fn assert_pieces(
+    rt: &impl Abort,
+    alloc: Global,
+    before: &str,
+    pieces: &[&str],
+    after: &str,
+    fault: Option<ReadingFault>,
+) -> Result<(), Fail> {
+    for piece in pieces {
+        assert_eq!(rt; refused(alloc, before, piece, 1, after)?, fault, "{piece}");
+    }
+    Ok(())
+}
+
+/// Each of these steps of a script of two sources and room for two stages is read, or refused so.
+fn assert_steps(
+    rt: &impl Abort,
+    alloc: Global,
+    steps: &[&str],
+    fault: Option<ReadingFault>,
+) -> Result<(), Fail> {
     let before = r#"{"cf":2,"room":2,"stages":[{"form":"source"},{"form":"source"}],"steps":["#;
-    reads(alloc, before, step, 1, "]}")
+    assert_pieces(rt, alloc, before, steps, "]}", fault)
+}
+
+/// These texts are refused so.
+fn assert_refused(rt: &impl Abort, alloc: Global, rows: &[(&str, ReadingFault)]) {
+    for (text, fault) in rows {
+        assert_eq!(rt;
+            read_script(alloc, text.as_bytes()).err(),
+            Some(*fault),
+            "{text}"
+        );
+    }
 }
 
 /// An attach by caller 0.
@@ -85,17 +133,21 @@ fn room_is_a_whole_number_up_to_4096(rt: HostRuntime) -> Result<(), Fail> {
         "65536",
         "4294967296",
     ];
-    for room in wrong {
-        let refused = reads(rt.alloc(), r#"{"cf":2,"stages":0,"room":"#, room, 1, "}")?;
-        assert_eq!(rt; refused, Err(ReadingFault::Shape(Part::Room)), "{room}");
-    }
-    for room in ["0", "1", "4096"] {
-        let refused = reads(rt.alloc(), r#"{"cf":2,"stages":0,"room":"#, room, 1, "}")?;
-        assert_eq!(rt; refused, Err(ReadingFault::Shape(Part::Stages)), "{room}");
-        let taken = reads(rt.alloc(), r#"{"cf":2,"stages":[],"room":"#, room, 1, "}")?;
-        assert_eq!(rt; taken, Ok(()), "{room}");
-    }
-    Ok(())
+    let before = r#"{"cf":2,"stages":0,"room":"#;
+    let fault = Some(ReadingFault::Shape(Part::Room));
+    assert_pieces(&rt, rt.alloc(), before, &wrong, "}", fault)
+}
+
+#[test]
+fn fitting_room_is_taken(rt: HostRuntime) -> Result<(), Fail> {
+    let rooms = ["0", "1", "4096"];
+    let (wrong, right) = (
+        r#"{"cf":2,"stages":0,"room":"#,
+        r#"{"cf":2,"stages":[],"room":"#,
+    );
+    let stages = Some(ReadingFault::Shape(Part::Stages));
+    assert_pieces(&rt, rt.alloc(), wrong, &rooms, "}", stages)?;
+    assert_pieces(&rt, rt.alloc(), right, &rooms, "}", None)
 }
 
 #[test]
@@ -132,30 +184,29 @@ fn room_is_checked_in_its_place(rt: HostRuntime) {
         ),
         (r#"{"cf":2,"room":4096,"stages":[{"form":"source"}]}"#, room),
     ];
-    for (text, fault) in rows {
-        let refused = read_script(rt.alloc(), text.as_bytes()).map(|_| ());
-        assert_eq!(rt; refused, Err(fault), "{text}");
-    }
+    assert_refused(&rt, rt.alloc(), &rows);
 }
 
 /// Stages and room together are at most 4,096, edges and twice the room at most 16,384.
 #[test]
 fn room_has_its_place_beside_the_plan(rt: HostRuntime) -> Result<(), Fail> {
-    let room = Err(ReadingFault::Shape(Part::Room));
+    let room = Some(ReadingFault::Shape(Part::Room));
     let source = r#"{"form":"source"}"#;
     let sources = r#"{"cf":2,"room":96,"stages":["#;
-    assert_eq!(rt; reads(rt.alloc(), sources, source, 4_000, "]}")?, Ok(()));
-    assert_eq!(rt; reads(rt.alloc(), sources, source, 4_001, "]}")?, room);
     let edges = r#"{"cf":2,"room":1,"stages":[{"form":"source"},{"form":"allOf","of":["#;
-    assert_eq!(rt; reads(rt.alloc(), edges, "0", 16_382, "]}]}")?, Ok(()));
-    assert_eq!(rt; reads(rt.alloc(), edges, "0", 16_383, "]}]}")?, room);
-    assert_eq!(rt; reads(rt.alloc(), edges, "0", 16_384, "]}]}")?, room);
-    Ok(())
+    let rows = [
+        (sources, source, 4_000, "]}", None),
+        (sources, source, 4_001, "]}", room),
+        (edges, "0", 16_382, "]}]}", None),
+        (edges, "0", 16_383, "]}]}", room),
+        (edges, "0", 16_384, "]}]}", room),
+    ];
+    assert_texts(&rt, rt.alloc(), &rows)
 }
 
 /// Version 1 is read as if there were no other.
 #[test]
-fn version_one_knows_neither_room_nor_attach(rt: HostRuntime) -> Result<(), Fail> {
+fn version_one_knows_neither_room_nor_attach(rt: HostRuntime) {
     let rows = [
         (
             r#"{"cf":1,"stages":[{"form":"source"}],"steps":[["attach",{"form":"source"}]]}"#,
@@ -171,14 +222,15 @@ fn version_one_knows_neither_room_nor_attach(rt: HostRuntime) -> Result<(), Fail
         ),
         (r#"{"cf":1,"room":-1}"#, ReadingFault::Shape(Part::Stages)),
     ];
-    for (text, fault) in rows {
-        let refused = read_script(rt.alloc(), text.as_bytes()).map(|_| ());
-        assert_eq!(rt; refused, Err(fault), "{text}");
-    }
-    for room in ["\"x\"", "1", "4096", "4097", "-1", "null", "[]"] {
-        let text = r#"{"cf":1,"stages":[{"form":"source"}],"room":"#;
-        assert_eq!(rt; reads(rt.alloc(), text, room, 1, "}")?, Ok(()), "{room}");
-    }
+    assert_refused(&rt, rt.alloc(), &rows);
+}
+
+/// In version 1 room is a word like any other.
+#[test]
+fn version_one_leaves_room_unread(rt: HostRuntime) -> Result<(), Fail> {
+    let rooms = ["\"x\"", "1", "4096", "4097", "-1", "null", "[]"];
+    let before = r#"{"cf":1,"stages":[{"form":"source"}],"room":"#;
+    assert_pieces(&rt, rt.alloc(), before, &rooms, "}", None)?;
     let text = r#"{"cf":1,"room":7,"stages":[{"form":"source"}]}"#;
     let (_, room, _, _) = read_script(rt.alloc(), text.as_bytes())?.into_parts();
     assert_eq!(rt; room, 0);
@@ -187,7 +239,7 @@ fn version_one_knows_neither_room_nor_attach(rt: HostRuntime) -> Result<(), Fail
 
 #[test]
 fn attaches_of_a_wrong_shape_are_no_steps(rt: HostRuntime) -> Result<(), Fail> {
-    let rows = [
+    let steps = [
         r#"["attach"]"#,
         r#"["attach",{"form":"source"},0]"#,
         r#"["attached",{"form":"source"}]"#,
@@ -201,19 +253,12 @@ fn attaches_of_a_wrong_shape_are_no_steps(rt: HostRuntime) -> Result<(), Fail> {
         r#"["attach",{"form":"allOf","of":[0,"1"]}]"#,
         r#"["attach",{"form":"apply","of":[0],"fn":null}]"#,
     ];
-    for step in rows {
-        assert_eq!(rt;
-            reads_step(rt.alloc(), step)?,
-            Err(ReadingFault::Step(0)),
-            "{step}"
-        );
-    }
-    Ok(())
+    assert_steps(&rt, rt.alloc(), &steps, Some(ReadingFault::Step(0)))
 }
 
 #[test]
 fn attaches_that_fit_no_form_are_no_steps(rt: HostRuntime) -> Result<(), Fail> {
-    let rows = [
+    let steps = [
         r#"["attach",{"form":"allOf","of":[0,1,0]}]"#,
         r#"["attach",{"form":"allOf","of":[2]}]"#,
         r#"["attach",{"form":"allOf","of":[0,2]}]"#,
@@ -227,19 +272,12 @@ fn attaches_that_fit_no_form_are_no_steps(rt: HostRuntime) -> Result<(), Fail> {
         r#"["attach",{"form":"source","fn":"neg"}]"#,
         r#"["attach",{"form":"supply","fn":{"add":1,"mul":2}}]"#,
     ];
-    for step in rows {
-        assert_eq!(rt;
-            reads_step(rt.alloc(), step)?,
-            Err(ReadingFault::Step(0)),
-            "{step}"
-        );
-    }
-    Ok(())
+    assert_steps(&rt, rt.alloc(), &steps, Some(ReadingFault::Step(0)))
 }
 
 #[test]
 fn attaches_that_fit_are_steps(rt: HostRuntime) -> Result<(), Fail> {
-    let rows = [
+    let steps = [
         r#"["attach",{"form":"source"}]"#,
         r#"["attach",{"form":"source","of":[],"who":7}]"#,
         r#"["attach",{"form":"allOf"}]"#,
@@ -251,53 +289,41 @@ fn attaches_that_fit_are_steps(rt: HostRuntime) -> Result<(), Fail> {
         r#"["attach",{"form":"exceptionallyCompose","of":[0],"fn":{"goto":1}}]"#,
         r#"["attach",{"form":"runEither","of":[1,0],"fn":{"rescue":null}}]"#,
     ];
-    for step in rows {
-        assert_eq!(rt; reads_step(rt.alloc(), step)?, Ok(()), "{step}");
-    }
-    Ok(())
+    assert_steps(&rt, rt.alloc(), &steps, None)
 }
 
 /// A step names a stage that was attached before it, as far as there was room.
 #[test]
 fn stages_are_there_once_they_are_attached(rt: HostRuntime) -> Result<(), Fail> {
     let source = r#"["attach",{"form":"source"}]"#;
-    let before = r#"{"cf":2,"room":1,"stages":[{"form":"source"}],"steps":["#;
+    let room = r#"{"cf":2,"room":1,"stages":[{"form":"source"}],"steps":["#;
+    let (first, second) = (Some(ReadingFault::Step(0)), Some(ReadingFault::Step(1)));
+    let third = Some(ReadingFault::Step(2));
+    let of_both = r#",["attach",{"form":"allOf","of":[0,1]}]]}"#;
+    let of_second = r#",["attach",{"form":"allOf","of":[1]}]]}"#;
+    let of_third = r#",["attach",{"form":"allOf","of":[2]}]]}"#;
+    let first_of_second = r#"["attach",{"form":"allOf","of":[1]}]]}"#;
     let rows = [
-        (0, r#"["outcome",1]]}"#, Err(ReadingFault::Step(0))),
-        (1, r#",["outcome",1]]}"#, Ok(())),
-        (1, r#",["outcome",2]]}"#, Err(ReadingFault::Step(1))),
-        (2, r#",["claim",0,1],["now",1]]}"#, Ok(())),
-        (2, r#",["complete",2,1]]}"#, Err(ReadingFault::Step(2))),
-        (1, r#",["attach",{"form":"allOf","of":[0,1]}]]}"#, Ok(())),
-        (2, r#",["attach",{"form":"allOf","of":[1]}]]}"#, Ok(())),
-        (
-            2,
-            r#",["attach",{"form":"allOf","of":[2]}]]}"#,
-            Err(ReadingFault::Step(2)),
-        ),
-        (
-            0,
-            r#"["attach",{"form":"allOf","of":[1]}]]}"#,
-            Err(ReadingFault::Step(0)),
-        ),
+        (room, source, 0, r#"["outcome",1]]}"#, first),
+        (room, source, 1, r#",["outcome",1]]}"#, None),
+        (room, source, 1, r#",["outcome",2]]}"#, second),
+        (room, source, 2, r#",["claim",0,1],["now",1]]}"#, None),
+        (room, source, 2, r#",["complete",2,1]]}"#, third),
+        (room, source, 1, of_both, None),
+        (room, source, 2, of_second, None),
+        (room, source, 2, of_third, third),
+        (room, source, 0, first_of_second, first),
     ];
-    for (count, after, answer) in rows {
-        assert_eq!(rt;
-            reads(rt.alloc(), before, source, count, after)?,
-            answer,
-            "{count} and {after}"
-        );
-    }
-    let after = r#"],"steps":[["attach",{"form":"source"}],["outcome",1]]}"#;
-    let alone = reads(
-        rt.alloc(),
-        r#"{"cf":2,"stages":["#,
-        r#"{"form":"source"}"#,
-        1,
-        after,
-    )?;
-    assert_eq!(rt; alone, Err(ReadingFault::Step(1)), "no room");
-    Ok(())
+    assert_texts(&rt, rt.alloc(), &rows)
+}
+
+/// A stage for which there is no room is there for no later step.
+#[test]
+fn without_room_no_stage_is_attached(rt: HostRuntime) -> Result<(), Fail> {
+    let steps = [r#"["attach",{"form":"source"}],["outcome",1]"#];
+    let before = r#"{"cf":2,"stages":[{"form":"source"}],"steps":["#;
+    let refused = Some(ReadingFault::Step(1));
+    assert_pieces(&rt, rt.alloc(), before, &steps, "]}", refused)
 }
 
 /// Functions are numbered on through the steps, up to 4,095, also of stages for which there is no room.
@@ -310,46 +336,38 @@ fn functions_number_on_up_to_4095(rt: HostRuntime) -> Result<(), Fail> {
         r#"],"steps":[["attach",{"form":"supply","fn":"neg"}],["attach",{"form":"supply","fn":"neg"}]]}"#;
     let without =
         r#"],"steps":[["attach",{"form":"source"}],["attach",{"form":"supply","fn":"neg"}]]}"#;
-    assert_eq!(rt; reads(rt.alloc(), stages, supply, 4_095, once)?, Ok(()));
-    assert_eq!(rt;
-        reads(rt.alloc(), stages, supply, 4_095, twice)?,
-        Err(ReadingFault::Step(1))
-    );
-    assert_eq!(rt; reads(rt.alloc(), stages, supply, 4_095, without)?, Ok(()));
-    assert_eq!(rt;
-        reads(rt.alloc(), stages, supply, 4_096, once)?,
-        Err(ReadingFault::Step(0))
-    );
-    assert_eq!(rt;
-        reads(rt.alloc(), stages, supply, 4_096, without)?,
-        Err(ReadingFault::Step(1))
-    );
     let attach = r#"["attach",{"form":"supply","fn":"neg"}]"#;
     let steps = r#"{"cf":2,"room":7,"stages":[],"steps":["#;
-    assert_eq!(rt; reads(rt.alloc(), steps, attach, 4_096, "]}")?, Ok(()));
-    assert_eq!(rt;
-        reads(rt.alloc(), steps, attach, 4_097, "]}")?,
-        Err(ReadingFault::Step(4_096))
-    );
-    Ok(())
+    let rows = [
+        (stages, supply, 4_095, once, None),
+        (stages, supply, 4_095, twice, Some(ReadingFault::Step(1))),
+        (stages, supply, 4_095, without, None),
+        (stages, supply, 4_096, once, Some(ReadingFault::Step(0))),
+        (stages, supply, 4_096, without, Some(ReadingFault::Step(1))),
+        (steps, attach, 4_096, "]}", None),
+        (steps, attach, 4_097, "]}", Some(ReadingFault::Step(4_096))),
+    ];
+    assert_texts(&rt, rt.alloc(), &rows)
 }
 
 #[test]
 fn attaches_count_as_steps(rt: HostRuntime) -> Result<(), Fail> {
     let source = r#"["attach",{"form":"source"}]"#;
     let steps = r#"{"cf":2,"room":4096,"stages":[],"steps":["#;
-    assert_eq!(rt; reads(rt.alloc(), steps, source, 20_000, "]}")?, Ok(()));
-    assert_eq!(rt;
-        reads(rt.alloc(), steps, source, 20_001, "]}")?,
-        Err(ReadingFault::Step(20_000))
-    );
     let last = r#",["outcome",4095]]}"#;
-    assert_eq!(rt; reads(rt.alloc(), steps, source, 4_096, last)?, Ok(()));
-    assert_eq!(rt;
-        reads(rt.alloc(), steps, source, 4_095, last)?,
-        Err(ReadingFault::Step(4_095))
-    );
-    Ok(())
+    let rows = [
+        (steps, source, 20_000, "]}", None),
+        (
+            steps,
+            source,
+            20_001,
+            "]}",
+            Some(ReadingFault::Step(20_000)),
+        ),
+        (steps, source, 4_096, last, None),
+        (steps, source, 4_095, last, Some(ReadingFault::Step(4_095))),
+    ];
+    assert_texts(&rt, rt.alloc(), &rows)
 }
 
 #[test]
@@ -360,8 +378,8 @@ fn races_attach(rt: HostRuntime) -> Result<(), Fail> {
     assert_eq!(rt; (room, steps.len()), (1, 2));
     let worked =
         r#"{"cf":2,"room":1,"stages":[],"steps":[["attach",{"form":"source"}],["work"],["complete",1,3]]}"#;
-    let refused = read_race(rt.alloc(), worked.as_bytes()).map(|_| ());
-    assert_eq!(rt; refused, Err(ReadingFault::Step(1)));
+    let refused = read_race(rt.alloc(), worked.as_bytes()).err();
+    assert_eq!(rt; refused, Some(ReadingFault::Step(1)));
     Ok(())
 }
 
@@ -370,6 +388,6 @@ fn races_attach(rt: HostRuntime) -> Result<(), Fail> {
 fn attached_stages_have_no_limits(rt: HostRuntime) {
     let text =
         r#"{"cf":2,"room":1,"stages":[{"form":"source"}],"limits":[{"stage":1,"at":1,"kind":"timeout"}],"steps":[["attach",{"form":"source"}]]}"#;
-    let refused = read_script(rt.alloc(), text.as_bytes()).map(|_| ());
-    assert_eq!(rt; refused, Err(ReadingFault::Plan(PlanFault::NoSuchStage, 0)));
+    let fault = ReadingFault::Plan(PlanFault::NoSuchStage, 0);
+    assert_refused(&rt, rt.alloc(), &[(text, fault)]);
 }
