@@ -322,25 +322,30 @@ def event_of(step, functions):
     return (step[0], 0) + tuple(step[1:])
 
 
+def do(state, step, functions):
+    """The line of a step of a script, and the state that it leaves."""
+    kind = step[0]
+    if kind == "work":
+        events, state = work(functions, state)
+        return f"worked {len(events) // 2}", state
+    if kind == "nudge":
+        return "nudged", state
+    if kind == "now":
+        return now_text(now_of(outcome(state, step[1]), step[2] if len(step) > 2 else None)), state
+    if kind == "outcome":
+        return settled_text(outcome(state, step[1])), state
+    reply, state = answered(state, event_of(step, functions))
+    return reply_text(reply), state
+
+
 def run(script):
     """The report of a script that is right, line by line."""
     plan, functions = plan_of(script)
     state = start(plan, room_of(script))
     lines = []
     for step in script.get("steps", []):
-        kind = step[0]
-        if kind == "work":
-            events, state = work(functions, state)
-            lines.append(f"worked {len(events) // 2}")
-        elif kind == "nudge":
-            lines.append("nudged")
-        elif kind == "now":
-            lines.append(now_text(now_of(outcome(state, step[1]), step[2] if len(step) > 2 else None)))
-        elif kind == "outcome":
-            lines.append(settled_text(outcome(state, step[1])))
-        else:
-            reply, state = answered(state, event_of(step, functions))
-            lines.append(reply_text(reply))
+        line, state = do(state, step, functions)
+        lines.append(line)
     return lines + stage_lines(state)
 
 
