@@ -190,18 +190,18 @@ longest_short n (k ∷ ks) h = longer_le (leb (length k.seen) (length (longest k
     longer_le true le = le
     longer_le false le = h.0
 
-one_begins : (t : Setting) (log history : List Event) (plan : Planned) (seen : List Event) (v : List Known) → AllStand t log v → AllCatch history v → IsOneOf t.plan plan seen v → (plan ≡ t.plan) × ((rest : List Event) × (history ≡ seen ++ rest))
-one_begins t log history plan seen [] s h o = (o.0, (history, ap (λ l. l ++ history) (sym o.1)))
+one_begins : (t : Setting) (log history : List Event) (plan : Planned) (seen : List Event) (v : List Known) → AllStand t log v → AllCatch history v → IsOneOf plan seen v → (plan ≡ t.plan) × ((rest : List Event) × (history ≡ seen ++ rest))
+one_begins t log history plan seen [] s h o = absurd o
 one_begins t log history plan seen (k ∷ ks) s h o = ⊎_elim
     (λ (p : (plan ≡ k.setting.plan) × (seen ≡ k.seen)). (p.0 ∙ ap (λ (x : Setting). x.plan) s.0.terms, (h.0.others, h.0.joined ∙ ap (λ l. l ++ h.0.others) (sym p.1))))
-    (λ (r : IsOneOf t.plan plan seen ks). one_begins t log history plan seen ks s.1 h.1 r)
+    (λ (r : IsOneOf plan seen ks). one_begins t log history plan seen ks s.1 h.1 r)
     o
 
 no_rest : (seen rest : List Event) → length (seen ++ rest) ≤ length seen → rest ≡ []
 no_rest seen [] le = refl
 no_rest seen (x ∷ xs) le = absurd (omega (arith, length-append seen (x ∷ xs)))
 
-latest_whole : (t : Setting) (log : List Event) (most : ℕ) (s : Copy) (v : List Known) → AllStand t log v → AllCatch (longest v) v → IsLatest t.plan most s v → s ≡ state_from t.plan (longest v)
+latest_whole : (t : Setting) (log : List Event) (most : ℕ) (s : Copy) (v : List Known) → AllStand t log v → AllCatch (longest v) v → IsLatest most s v → s ≡ state_from t.plan (longest v)
 latest_whole t log most s v stand catch l =
     let b = one_begins t log (longest v) l.plan l.seen v stand catch l.one in
     let none : b.1.0 ≡ [] = no_rest l.seen b.1.0 (let e = ap length b.1.1 in let m = longest_short most v l.short in let n = l.count in omega arith) in
@@ -221,7 +221,7 @@ row_room t log words r = let l = r.room in let w = ap length r.words_are in omeg
 abbrev pub desk_of : TableId → Terms → Desk
 desk_of z t = record { table = z; setting = t.setting; words = t.words }
 
-pub shows : {S : Type 0} (z : TableId) (t : Terms) (words : List ℕ) (slots : List S) (id : ℕ) (ps : List Pass) (most : ℕ) (copy : Copy) → length ps ≡ t.setting.callers → All IsFit ps → IsLatest t.setting.plan most copy (knowns ps)
+pub shows : {S : Type 0} (z : TableId) (t : Terms) (words : List ℕ) (slots : List S) (id : ℕ) (ps : List Pass) (most : ℕ) (copy : Copy) → length ps ≡ t.setting.callers → All IsFit ps → IsLatest most copy (knowns ps)
     → Final (Seen (holds {S = S} t) id (knowns ps)) words slots → Shown (desk_of z t) ps most copy (decoded words)
 shows z t words slots id ps most copy all fit latest f =
     let s = f.0 in
@@ -239,12 +239,12 @@ shows z t words slots id ps most copy all fit latest f =
       latest = latest_whole t.setting h.log most copy v stand w.1 latest;
     })
 
-pub shown_as : (z : TableId) (t : Terms) (words : List ℕ) (slots : List ℕ) (id : ℕ) (v : List Known) (ps : List Pass) (d : Desk) (first : Planned) (most : ℕ) (copy : Copy) (history : List Event) → desk_of z t ≡ d → first ≡ d.setting.plan → v ≡ knowns ps → length ps ≡ d.setting.callers → All IsFit ps
-    → IsLatest first most copy (knowns ps) → history ≡ decoded words → Final (Seen (holds {S = ℕ} t) id v) words slots → Shown d ps most copy history
-shown_as z t words slots id v ps d first most copy history desk plan is all fit latest read f =
+pub shown_as : (z : TableId) (t : Terms) (words : List ℕ) (slots : List ℕ) (id : ℕ) (v : List Known) (ps : List Pass) (d : Desk) (most : ℕ) (copy : Copy) (history : List Event) → desk_of z t ≡ d → v ≡ knowns ps → length ps ≡ d.setting.callers → All IsFit ps
+    → IsLatest most copy (knowns ps) → history ≡ decoded words → Final (Seen (holds {S = ℕ} t) id v) words slots → Shown d ps most copy history
+shown_as z t words slots id v ps d most copy history desk is all fit latest read f =
     subst (Shown d ps most copy) (sym read) (subst (λ (x : Desk). Shown x ps most copy (decoded words)) desk
     (shows {S = ℕ} z t words slots id ps most copy (all ∙ ap (λ (x : Desk). x.setting.callers) (sym desk)) fit
-    (subst (λ (x : Planned). IsLatest x most copy (knowns ps)) (plan ∙ ap (λ (x : Desk). x.setting.plan) (sym desk)) latest)
+    latest
     (subst (λ (u : List Known). Final (Seen (holds {S = ℕ} t) id u) words slots) is f)))
 
 pub new_one : (n : Setting) (c : ℕ) (seat mine : Me ℕ (List Known)) → c < n.callers → seat ≡ (fresh n c (n.callers - c), []) → mine ≡ (head_of seat.0, []) → mine ≡ (blank n c ∷ [], [])

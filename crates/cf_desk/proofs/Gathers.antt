@@ -1,13 +1,15 @@
 -- Passes that are taken one after another.
 use Rattle.cf_plan.specs.Plans.{Planned}
-use Rattle.std.proofs.Common.{◌≡◌, ℕ, Bool, true, false, leb, leb-true, leb-false, max, ◌<◌, ◌≤◌, inl, inr, ⊎_elim, length, arith, List, [], ◌∷◌, ◌++◌, map, All, sym, refl, ap, ◌∙◌, subst}
+use Rattle.std.proofs.Common.{◌≡◌, ℕ, Bool, true, false, leb, leb-true, leb-false, max, ◌<◌, ◌≤◌, inl, inr, ⊎_elim, length, arith, List, [], ◌∷◌, ◌++◌, map, All, sym, refl, ap, ◌∙◌, subst, Option, Some, None}
+use Rattle.std.specs.Prelude.{MatchOption, unwrap_or}
 use mathlib.Core.List.{map-append}
 use Rattle.std.proofs.lemmas.List.Elements.{All-head, All-tail}
 use Rattle.atomic_table.specs.Table.{Me}
 use Rattle.cf_core.specs.declared.events.Event.{Event}
 use Rattle.cf_desk.specs.declared.row.Known.{Known}
 use Rattle.cf_desk.specs.declared.calls.Kept.{Kept}
-use Rattle.cf_core.specs.States.{State, start}
+use Rattle.cf_core.specs.Graphs.{Graph}
+use Rattle.cf_core.specs.States.{State}
 use Rattle.cf_desk.specs.Rule.{AllShort}
 use Rattle.cf_desk.specs.Views.{Pass, knowns, state_of, IsOneOf, IsLatest}
 use Rattle.cf_desk.proofs.Meets.{short_more}
@@ -26,13 +28,13 @@ kept_one kept now done k p h n e =
     ap (map pass_kept) n ∙ map-append pass_kept kept (k ∷ []) ∙ (λ i. h i ++ e i ∷ []) ∙ sym (map-append pass_did done (p ∷ []))
 
 -- the copy that has seen most, with one pass more
-one_before : (first plan : Planned) (seen : List Event) (ks : List Known) (k : Known) → (plan ≡ k.setting.plan) × (seen ≡ k.seen) → IsOneOf first plan seen (ks ++ k ∷ [])
-one_before first plan seen [] k h = inl h
-one_before first plan seen (l ∷ ks) k h = inr (one_before first plan seen ks k h)
+one_before : (plan : Planned) (seen : List Event) (ks : List Known) (k : Known) → (plan ≡ k.setting.plan) × (seen ≡ k.seen) → IsOneOf plan seen (ks ++ k ∷ [])
+one_before plan seen [] k h = inl h
+one_before plan seen (l ∷ ks) k h = inr (one_before plan seen ks k h)
 
-one_still : (first plan : Planned) (seen : List Event) (ks : List Known) (k : Known) → IsOneOf first plan seen ks → IsOneOf first plan seen (ks ++ k ∷ [])
-one_still first plan seen [] k h = inr h
-one_still first plan seen (l ∷ ks) k h = ⊎_elim inl (λ r. inr (one_still first plan seen ks k r)) h
+one_still : (plan : Planned) (seen : List Event) (ks : List Known) (k : Known) → IsOneOf plan seen ks → IsOneOf plan seen (ks ++ k ∷ [])
+one_still plan seen [] k h = absurd h
+one_still plan seen (l ∷ ks) k h = ⊎_elim inl (λ r. inr (one_still plan seen ks k r)) h
 
 pub short_push : (n : ℕ) (ks : List Known) (k : Known) → AllShort n ks → length k.seen ≤ n → AllShort n (ks ++ k ∷ [])
 short_push n [] k h le = (le, tt)
@@ -41,33 +43,57 @@ short_push n (l ∷ ks) k h le = (h.0, short_push n ks k h.1 le)
 knowns_push : (ps : List Pass) (p : Pass) → knowns (ps ++ p ∷ []) ≡ knowns ps ++ p.known ∷ []
 knowns_push ps p = map-append (λ (h : Pass). h.known) ps (p ∷ [])
 
-pub latest_new : (first : Planned) (most : ℕ) (s : State) (ps : List Pass) (p : Pass) (count : ℕ) (copy : State) → most < count → count ≡ length p.known.seen → copy ≡ state_of p.known → IsLatest first most s (knowns ps) → IsLatest first count copy (knowns (ps ++ p ∷ []))
-latest_new first most s ps p count copy more is state h = subst (IsLatest first count copy) (sym (knowns_push ps p)) (record {
+latest_new : (most : ℕ) (s : State) (ps : List Pass) (p : Pass) (count : ℕ) (copy : State) → most < count → count ≡ length p.known.seen → copy ≡ state_of p.known → IsLatest most s (knowns ps) → IsLatest count copy (knowns (ps ++ p ∷ []))
+latest_new most s ps p count copy more is state h = subst (IsLatest count copy) (sym (knowns_push ps p)) (record {
   plan = p.known.setting.plan;
   seen = p.known.seen;
   state = state;
   count = is;
-  one = one_before first p.known.setting.plan p.known.seen (knowns ps) p.known (refl, refl);
+  one = one_before p.known.setting.plan p.known.seen (knowns ps) p.known (refl, refl);
   short = short_push count (knowns ps) p.known (short_more most count (omega arith) (knowns ps) h.short) (omega arith);
 })
 
-pub latest_still : (first : Planned) (most now : ℕ) (s copy : State) (ps : List Pass) (p : Pass) (count : ℕ) → now ≡ most → copy ≡ s → count ≤ most → count ≡ length p.known.seen → IsLatest first most s (knowns ps) → IsLatest first now copy (knowns (ps ++ p ∷ []))
-latest_still first most now s copy ps p count same kept less is h = subst (IsLatest first now copy) (sym (knowns_push ps p)) (record {
+latest_still : (most now : ℕ) (s copy : State) (ps : List Pass) (p : Pass) (count : ℕ) → now ≡ most → copy ≡ s → count ≤ most → count ≡ length p.known.seen → IsLatest most s (knowns ps) → IsLatest now copy (knowns (ps ++ p ∷ []))
+latest_still most now s copy ps p count same kept less is h = subst (IsLatest now copy) (sym (knowns_push ps p)) (record {
   plan = h.plan;
   seen = h.seen;
   state = kept ∙ h.state;
   count = same ∙ h.count;
-  one = one_still first h.plan h.seen (knowns ps) p.known h.one;
+  one = one_still h.plan h.seen (knowns ps) p.known h.one;
   short = short_push now (knowns ps) p.known (subst (λ (n : ℕ). AllShort n (knowns ps)) (sym same) h.short) (omega arith);
 })
 
-pub latest_none : (first : Planned) (s : State) → s ≡ start first → IsLatest first 0 s (knowns [])
-latest_none first s is = record { plan = first; seen = []; state = is; count = refl; one = (refl, refl); short = tt }
+-- the copy of the first pass
+latest_first : (now : ℕ) (copy : State) (p : Pass) (count : ℕ) → now ≡ count → count ≡ length p.known.seen → copy ≡ state_of p.known → IsLatest now copy (knowns (p ∷ []))
+latest_first now copy p count same is state = record {
+  plan = p.known.setting.plan;
+  seen = p.known.seen;
+  state = state;
+  count = same ∙ is;
+  one = inl (refl, refl);
+  short = (omega arith, tt);
+}
 
-pub latest_next : (first : Planned) (most now : ℕ) (s mine copy : State) (ps : List Pass) (p : Pass) (count : ℕ) → now ≡ max most count → (most < count → copy ≡ mine) → (count ≤ most → copy ≡ s) → count ≡ length p.known.seen → mine ≡ state_of p.known
-    → IsLatest first most s (knowns ps) → IsLatest first now copy (knowns (ps ++ p ∷ []))
-latest_next first most now s mine copy ps p count n newer older is state h = go (leb count most) refl
+-- the copy so far is of the passes so far that has seen most, if there are passes
+abbrev pub LatestSoFar : Option Graph → ℕ → List Pass → Type 0
+LatestSoFar copy most done = MatchOption copy ((done ≡ []) × (most ≡ 0)) (λ g. IsLatest most g.state (knowns done))
+
+pub latest_next : (most now : ℕ) (old : Option Graph) (mine copy : Graph) (ps : List Pass) (p : Pass) (count : ℕ) → now ≡ max most count → (most < count → copy ≡ mine) → (count ≤ most → copy ≡ unwrap_or old mine) → count ≡ length p.known.seen → mine.state ≡ state_of p.known
+    → LatestSoFar old most ps → IsLatest now copy.state (knowns (ps ++ p ∷ []))
+latest_next most now None mine copy ps p count n newer older is state h =
+    subst (λ (l : List Pass). IsLatest now copy.state (knowns (l ++ p ∷ []))) (sym h.0)
+    (latest_first now copy.state p count (let none = h.1 in omega arith) is (ap (λ (g : Graph). g.state) (go (leb count most) refl) ∙ state))
   where
-    go : (b : Bool) → leb count most ≡ b → IsLatest first now copy (knowns (ps ++ p ∷ []))
-    go true e = let le : count ≤ most = leb-true count most e in latest_still first most now s copy ps p count (omega arith) (older le) le is h
-    go false e = let lt : most < count = leb-false count most e in latest_new first most s ps p now copy (omega arith) (let m : now ≡ count = omega arith in m ∙ is) (newer lt ∙ state) h
+    go : (b : Bool) → leb count most ≡ b → copy ≡ mine
+    go true e = older (leb-true count most e)
+    go false e = newer (leb-false count most e)
+latest_next most now (Some g) mine copy ps p count n newer older is state h = go (leb count most) refl
+  where
+    go : (b : Bool) → leb count most ≡ b → IsLatest now copy.state (knowns (ps ++ p ∷ []))
+    go true e = let le : count ≤ most = leb-true count most e in latest_still most now g.state copy.state ps p count (omega arith) (ap (λ (x : Graph). x.state) (older le)) le is h
+    go false e = let lt : most < count = leb-false count most e in latest_new most g.state ps p now copy.state (omega arith) (let m : now ≡ count = omega arith in m ∙ is) (ap (λ (x : Graph). x.state) (newer lt) ∙ state) h
+
+-- of all passes
+pub latest_of_all : (copy : Option Graph) (most : ℕ) (done all : List Pass) → done ≡ all → LatestSoFar copy most done → MatchOption copy (all ≡ []) (λ g. (m : ℕ) × IsLatest m g.state (knowns all))
+latest_of_all None most done all is h = sym is ∙ h.0
+latest_of_all (Some g) most done all is h = (most, subst (λ (l : List Pass). IsLatest most g.state (knowns l)) is h)

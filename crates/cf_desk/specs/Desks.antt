@@ -5,7 +5,7 @@ use Rattle.cf_desk.specs.declared.pass.Pass.TheInside.{Inside as InPass}
 use Rattle.cf_desk.specs.declared.desk.Desk.TheInside.{Inside as InDesk}
 use Rattle.cf_desk.specs.declared.calls.Rec.{Rec}
 use Rattle.cf_desk.specs.declared.row.Known.{Known}
-use Rattle.cf_core.specs.States.{State, start}
+use Rattle.cf_core.specs.States.{State}
 use Rattle.cf_desk.specs.Log.{AreLogged}
 use Rattle.cf_desk.specs.Records.{Fits}
 use Rattle.cf_desk.specs.Views.{known_of, state_of}
@@ -29,13 +29,13 @@ pub record PassKept (p : InPass) : Type 0 where
   pub short : p.count ≤ p.seat.table_id.words
 
 pub record DeskKept (d : InDesk) : Type 0 where
-  pub key : d.table.shared.key ≡ record { setting = record { plan = d.opening.state.plan; callers = d.callers; functions = d.functions }; words = d.words }
-  pub words : d.words ≡ d.table.shared.table_id.words
-  pub some : 0 < d.words
-  pub few : d.words < 65536
-  pub opening : d.opening.state ≡ start d.opening.state.plan
+  pub key : d.table.shared.key ≡ d.terms
+  pub words : d.terms.words ≡ d.table.shared.table_id.words
+  pub some : 0 < d.terms.words
+  pub few : d.terms.words < 65536
+  pub callers : 0 < d.terms.setting.callers
   pub history : d.history.items ≡ []
-  pub history_room : d.words ≤ vec_capacity d.history
+  pub history_room : d.terms.words ≤ vec_capacity d.history
   pub kept : d.kept.items ≡ []
-  pub kept_room : d.callers ≤ vec_capacity d.kept
+  pub kept_room : d.terms.setting.callers ≤ vec_capacity d.kept
   pub slots : d.table.shared.table_id.slots ≡ 0

@@ -152,18 +152,18 @@ pub record Closes (d : Desk) (passes : List Pass) (history : List Event) : Type 
 abbrev pub IsSamePass : Pass → Pass → Type 0
 IsSamePass p q = (q.table ≡ p.table) × (q.known.setting ≡ p.known.setting) × (q.known.caller ≡ p.known.caller) × (q.calls ≡ p.calls)
 
--- a plan and a list are the first ones, or those of one of these
-abbrev pub IsOneOf : Planned → Planned → List Event → List Known → Type 0
-IsOneOf first plan seen [] = (plan ≡ first) × (seen ≡ [])
-IsOneOf first plan seen (k ∷ ks) = ((plan ≡ k.setting.plan) × (seen ≡ k.seen)) ⊎ IsOneOf first plan seen ks
+-- a plan and a list are those of one of these
+abbrev pub IsOneOf : Planned → List Event → List Known → Type 0
+IsOneOf plan seen [] = ⊥
+IsOneOf plan seen (k ∷ ks) = ((plan ≡ k.setting.plan) × (seen ≡ k.seen)) ⊎ IsOneOf plan seen ks
 
 -- the state after the longest list that one of these has seen
-pub record IsLatest (first : Planned) (most : ℕ) (s : State) (ks : List Known) : Type 0 where
+pub record IsLatest (most : ℕ) (s : State) (ks : List Known) : Type 0 where
   pub plan : Planned
   pub seen : List Event
   pub state : s ≡ state_from plan seen
   pub count : most ≡ length seen
-  pub one : IsOneOf first plan seen ks
+  pub one : IsOneOf plan seen ks
   pub short : AllShort most ks
 
 -- what the pass has seen fills the log

@@ -29,10 +29,7 @@ type Row = Table<u8, View, Terms, RowRule, Global>;
 #[derive(Drop)]
 pub struct Desk {
     table: Row,
-    callers: u8,
-    functions: u32,
-    opening: Graph,
-    words: u16,
+    terms: Terms,
     history: Vec<Event>,
     kept: Vec<Kept>,
 }
@@ -42,7 +39,7 @@ impl Model for Desk {
 
     ghost Value = { Desk };
 
-    ghost view = { λ d. record { table = d.table.shared.table_id; setting = record { plan = d.opening.state.plan; callers = d.callers; functions = d.functions }; words = d.words } };
+    ghost view = { λ d. record { table = d.table.shared.table_id; setting = d.terms.setting; words = d.terms.words } };
 
     ghost use Rattle.cf_desk.specs.Desks.{DeskKept};
 
@@ -114,7 +111,7 @@ impl Desk {
     pub fn has(&self, i: u16) -> bool
         ensures { IsTrue result ↔ (i < length self.now.setting.plan.stages) }
     {
-        self.opening.has(i)
+        i < self.terms.setting.plan.stages()
     }
 
     /// The number of a stage's function, if it has one, in the plan that it was opened with.
@@ -122,28 +119,28 @@ impl Desk {
         requires { i < length self.now.setting.plan.stages }
         ensures { result ≡ function_at self.now.setting.plan.stages i }
     {
-        self.opening.function(i)
+        self.terms.setting.plan.function(i)
     }
 
     /// How many words the log has, filled or empty.
     pub fn words(&self) -> u16
         ensures { (result ≡ self.now.words) × (result ≡ self.now.table.words) × (0 < result) }
     {
-        self.words
+        self.terms.words
     }
 
     /// How many functions there are: a stage that is attached has one of a lower number.
     pub fn functions(&self) -> u32
         ensures { result ≡ self.now.setting.functions }
     {
-        self.functions
+        self.terms.setting.functions
     }
 
     /// How many callers there are.
     pub fn callers(&self) -> u8
         ensures { result ≡ self.now.setting.callers }
     {
-        self.callers
+        self.terms.setting.callers
     }
 }
 
@@ -182,24 +179,12 @@ fn graph_of(alloc: Global, plan: Plan, room: u16) -> Result<Graph, AllocError>
     }
 }
 
-/// The graph of a copy of a plan with so much room, at its start.
-fn copy_of(alloc: Global, plan: &Plan, room: u16) -> Result<Graph, AllocError>
-    requires { ¬ IsOverfull plan.now.stages room }
-    ensures { IfOk result (λ g. g.state ≡ start (with_room plan.now room)) }
+/// The same plan once more, over the same memory.
+fn copy_of(plan: &Plan) -> Result<Plan, AllocError>
+    ensures { IfOk result (λ copy. copy ≡ plan.now) }
 {
     match plan.copy() {
-        Ok(plan) => graph_of(alloc, plan, room),
-        Err(_) => Err(AllocError),
-    }
-}
-
-/// A plan with so much room, as the row is told of it.
-fn growing(alloc: Global, plan: &Plan, room: u16) -> Result<GrowingPlan, AllocError>
-    requires { ¬ IsOverfull plan.now.stages room }
-    ensures { IfOk result (λ grown. grown ≡ with_room plan.now room) }
-{
-    match plan.copy() {
-        Ok(plan) => GrowingPlan::new(alloc, plan, room),
+        Ok(copy) => Ok(copy),
         Err(_) => Err(AllocError),
     }
 }
@@ -240,9 +225,10 @@ fn open_with(
     let history = Vec::with_capacity(alloc, log as usize)?;
     let kept = Vec::with_capacity(alloc, callers as usize)?;
     let zeros = vec![in alloc; 0u64; log as usize]?;
+    let shared = copy_of(&plan)?;
     let terms = Terms {
         setting: Setting {
-            plan: growing(alloc, &plan, room)?,
+            plan: GrowingPlan::new(alloc, shared, room)?,
             callers,
             functions,
         },
@@ -252,7 +238,7 @@ fn open_with(
     let mut passes = Vec::with_capacity(alloc, callers as usize)?;
     for caller in 0..callers {
         let records = no_records(alloc, calls)?;
-        let copy = copy_of(alloc, &plan, room)?;
+        let copy = graph_of(alloc, copy_of(&plan)?, room)?;
         let mine = table.shared.split_seat::<GivesFirst>(&mut seat);
         let pass = Pass {
             seat: mine,
@@ -266,13 +252,9 @@ fn open_with(
         };
         passes.push(pass)?;
     }
-    let opening = graph_of(alloc, plan, room)?;
     let desk = Desk {
         table,
-        callers,
-        functions,
-        opening,
-        words: log,
+        terms,
         history,
         kept,
     };

@@ -150,10 +150,10 @@ no_threads n part none =
     }
 
 -- no stage is attached yet
-pub AreGrowing-start : (opening : Planned) (room row_room cell_room : ℕ) → opening ≡ plan_of opening.stages opening.limits → IsBuilt opening →
+pub AreGrowing-start : (opening : Planned) (room lists row_room cell_room : ℕ) → opening ≡ plan_of opening.stages opening.limits → IsBuilt opening →
     length opening.stages + room ≤ 4096 → edges_of opening.stages + 2 * room ≤ 16384 → room ≤ row_room → 2 * room ≤ cell_room →
-    AreGrowing opening [] (replicate (length opening.stages + room) (record { first = 0; count = 0 })) [] room row_room cell_room
-AreGrowing-start opening room row_room cell_room is built stages edges rows cells =
+    (0 < room → lists ≡ length opening.stages + room) → AreGrowing opening [] (replicate lists (record { first = 0; count = 0 })) [] room row_room cell_room
+AreGrowing-start opening room lists row_room cell_room is built stages edges rows cells all =
     let whole : opening.stages ++ [] ≡ opening.stages = append-nil opening.stages in
     let count = ap length whole in
     let sum = ap edges_of whole in
@@ -172,8 +172,8 @@ AreGrowing-start opening room row_room cell_room is built stages edges rows cell
       room_again = (let no_rows : length {A = AttachedRow} [] ≡ 0 = refl in omega (arith, no_rows));
       edges_again = (let no_rows : length {A = AttachedRow} [] ≡ 0 = refl in omega (arith, no_rows));
       all_cells = refl;
-      all_heads = length-replicate (length opening.stages + room) empty ∙ omega arith;
-      threads = no_threads (length opening.stages + room) (later_of opening []) (λ i. refl);
+      all_heads = λ some. (let no_rows : length {A = AttachedRow} [] ≡ 0 = refl in omega (arith, no_rows, length-replicate lists empty, all (omega (arith, no_rows))));
+      threads = no_threads lists (later_of opening []) (λ i. refl);
     }
 
 -- one more stage is attached
@@ -210,7 +210,7 @@ AreGrowing-attach opening rows row heads new_heads cells new_cells room row_room
       room_again = omega (arith, h.room_again, rows_more);
       edges_again = omega (arith, h.edges_again, rows_more);
       all_cells = omega (arith, h.all_cells, all_cells, new_edges);
-      all_heads = omega (arith, h.all_heads, all_heads, rows_more);
+      all_heads = λ again. (let old_heads = h.all_heads (omega arith) in omega (arith, old_heads, all_heads, rows_more));
       threads = threads;
     }
 
@@ -290,9 +290,9 @@ slice_get-behind (x ∷ xs) ys (suc i) past =
 
 -- each stage has a list
 pub listed : (opening : Planned) (rows : List AttachedRow) (heads : List Head) (cells : List Cell) (room row_room cell_room i : ℕ) → AreGrowing opening rows heads cells room row_room cell_room →
-    i < length (opening.stages ++ map attached_of rows) → i < length heads
-listed opening rows heads cells room row_room cell_room i h there =
-    omega (arith, h.all_heads, there, length-append opening.stages (map attached_of rows), length-map rows attached_of)
+    0 < length rows + room → i < length (opening.stages ++ map attached_of rows) → i < length heads
+listed opening rows heads cells room row_room cell_room i h some there =
+    omega (arith, h.all_heads some, there, length-append opening.stages (map attached_of rows), length-map rows attached_of)
 
 pub short_list : (opening : Planned) (rows : List AttachedRow) (heads : List Head) (cells : List Cell) (room row_room cell_room i : ℕ) → AreGrowing opening rows heads cells room row_room cell_room →
     i < length heads → (head_at heads i).count ≤ 16384

@@ -23,7 +23,8 @@ pub(crate) struct AttachedRow {
 /// takes no memory.
 ///
 /// The plan that it was opened with stays as it is, so the dependents of a stage stand in two places: those of the opening
-/// in one slice, in rising order, and those attached since in a list, the newest first.
+/// in one slice, in rising order, and those attached since in a list, the newest first. Where there is no room, there are
+/// no such lists, and it takes no memory but the opening's.
 #[derive(Drop)]
 pub struct GrowingPlan {
     opening: Plan,
@@ -54,9 +55,13 @@ impl GrowingPlan {
         requires edges { edges_of opening.stages + 2 * room ≤ 16384 }
         ensures { IfOk result (λ plan. plan ≡ with_room opening room) }
     {
-        let stages = opening.stages() as usize + room as usize;
+        let stages = opening.stages() as usize;
+        let lists = match room {
+            0 => 0,
+            _ => stages + room as usize,
+        };
         let rows = Vec::with_capacity(alloc, room as usize)?;
-        let threads = Threads::new(alloc, stages, 2 * room as usize)?;
+        let threads = Threads::new(alloc, lists, 2 * room as usize)?;
         Ok(GrowingPlan {
             opening,
             rows,
@@ -164,7 +169,11 @@ impl GrowingPlan {
         ensures above { All (λ k. i < k) result }
         ensures below { All (λ k. k < length self.now.stages) result }
     {
-        self.threads.list(i)
+        if self.rows.is_empty() {
+            self.threads.none()
+        } else {
+            self.threads.list(i)
+        }
     }
 
     /// Attaches a stage, whose number is that of the stages so far.

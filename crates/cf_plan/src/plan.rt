@@ -9,11 +9,13 @@ use crate::forms::Form;
 use crate::limits::Limit;
 use crate::rows::Row;
 use crate::starting::starts_of;
+use std::alloc::Global;
 use std::marker::Model;
+use std::sync::Arc;
 
-/// A plan, which no longer changes: its stages in order, and its limits in firing order.
+/// The blocks of memory that a plan stands in.
 #[derive(Drop)]
-pub struct Plan {
+struct Blocks {
     rows: Vec<Row>,
     sources: Vec<u16>,
     limits: Vec<Limit>,
@@ -21,7 +23,7 @@ pub struct Plan {
     starts: Vec<u16>,
 }
 
-impl Model for Plan {
+impl Model for Blocks {
     ghost use Rattle.cf_plan.specs.Plans.{Planned};
 
     ghost Value = { Planned };
@@ -38,6 +40,21 @@ impl Model for Plan {
         × (p.starts.items ≡ starts_of (stages_of p.sources.items p.rows.items)) };
 }
 
+/// A plan, which no longer changes: its stages in order, and its limits in firing order. Its copies share one memory.
+#[derive(Drop)]
+pub struct Plan {
+    blocks: Arc<Blocks, Global>,
+}
+
+impl Model for Plan {
+    ghost use Rattle.std.specs.Arc.{arc_value};
+    ghost use Rattle.cf_plan.specs.Plans.{Planned};
+
+    ghost Value = { Planned };
+
+    ghost view = { λ p. arc_value p.blocks };
+}
+
 impl Plan {
     /// The plan of these rows, whose dependents and starts are computed.
     pub(crate) fn of_rows(
@@ -52,13 +69,17 @@ impl Plan {
         let alloc = *rows.allocator();
         let dependents = Dependents::new(alloc, &rows, &sources)?;
         let starts = starts_of(alloc, &rows, &sources)?;
-        Ok(Plan {
+        let blocks = Blocks {
             rows,
             sources,
             limits,
             dependents,
             starts,
-        })
+        };
+        match Arc::new(alloc, blocks) {
+            Ok(blocks) => Ok(Plan { blocks }),
+            Err(_) => Err(PlanFault::NoMemory),
+        }
     }
 
     /// How many stages it has, at most `MAX_STAGES`. They are numbered from 0 on.
@@ -68,7 +89,7 @@ impl Plan {
         ensures built { IsBuilt self.now }
         ensures whole { self.now ≡ plan_of self.now.stages self.now.limits }
     {
-        self.rows.len() as u16
+        self.blocks.rows.len() as u16
     }
 
     /// The form of stage i.
@@ -76,7 +97,7 @@ impl Plan {
         requires { i < length self.now.stages }
         ensures { result ≡ form_at self.now.stages i }
     {
-        self.rows[i as usize].form
+        self.blocks.rows[i as usize].form
     }
 
     /// The sources of stage i, in the order of its arguments: each is below it, and one may stand twice.
@@ -85,8 +106,9 @@ impl Plan {
         ensures sources { result.now ≡ sources_at self.now.stages i }
         ensures lower { All (λ j. j < i) result.now }
     {
-        let row = self.rows[i as usize];
-        &self.sources[row.first as usize..row.end as usize]
+        let blocks = &*self.blocks;
+        let row = blocks.rows[i as usize];
+        &blocks.sources[row.first as usize..row.end as usize]
     }
 
     /// The dependents of stage i: in rising order each stage that names it as a source, once for each mention. They are
@@ -99,7 +121,7 @@ impl Plan {
         ensures rising { IsRising result.now }
         ensures converse { (k : ℕ) → mentions k result.now ≡ mentions i (sources_at self.now.stages k) }
     {
-        self.dependents.of(i)
+        self.blocks.dependents.of(i)
     }
 
     /// The stages that have something to take from the start on, when nothing has settled, in rising order: each supply and
@@ -109,7 +131,7 @@ impl Plan {
         ensures below { All (λ k. k < length self.now.stages) result.now }
         ensures rising { IsRising result.now }
     {
-        self.starts.as_slice()
+        self.blocks.starts.as_slice()
     }
 
     /// The number of stage i's function, if its form has one.
@@ -117,14 +139,14 @@ impl Plan {
         requires { i < length self.now.stages }
         ensures { result ≡ function_at self.now.stages i }
     {
-        self.rows[i as usize].function
+        self.blocks.rows[i as usize].function
     }
 
     /// The limits in firing order: by rising moment, and then as they were given. There are at most `MAX_LIMITS`.
     pub fn limits(&self) -> &[Limit]
         ensures { result.now ≡ self.now.limits }
     {
-        self.limits.as_slice()
+        self.blocks.limits.as_slice()
     }
 
     /// How many edges it has, at most `MAX_EDGES`: each mention of a source is one.
@@ -132,21 +154,18 @@ impl Plan {
         ensures count { result ≡ edges_of self.now.stages }
         ensures few { result ≤ 16384 }
     {
-        self.sources.len() as u32
+        self.blocks.sources.len() as u32
     }
 
-    /// The same plan again, in time stages plus edges. Where its memory is refused, this one stays.
+    /// The same plan again, over the same memory: it takes none. It fails only where more copies than a memory holds are
+    /// there at the same time.
     pub fn copy(&self) -> Result<Plan, PlanFault>
         ensures same { IfOk result (λ plan. plan ≡ self.now) }
         ensures refused { IsOkUnless result PlanFault.NoMemory }
     {
-        let alloc = *self.rows.allocator();
-        Ok(Plan {
-            rows: Vec::from_slice(alloc, &self.rows)?,
-            sources: Vec::from_slice(alloc, &self.sources)?,
-            limits: Vec::from_slice(alloc, &self.limits)?,
-            dependents: self.dependents.copy(alloc)?,
-            starts: Vec::from_slice(alloc, &self.starts)?,
-        })
+        match Arc::try_clone(&self.blocks) {
+            Ok(blocks) => Ok(Plan { blocks }),
+            Err(_) => Err(PlanFault::NoMemory),
+        }
     }
 }

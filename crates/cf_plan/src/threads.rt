@@ -78,6 +78,16 @@ impl Threads {
         self.cells.len()
     }
 
+    /// A list of no stages.
+    pub(crate) fn none(&self) -> Later<'_>
+        ensures { result ≡ [] }
+    {
+        Later {
+            cells: &self.cells,
+            head: Head { first: 0, count: 0 },
+        }
+    }
+
     /// The list of a stage.
     pub(crate) fn list(&self, i: u16) -> Later<'_>
         requires stage { i < length self.now.heads.items }

@@ -1,7 +1,6 @@
 //! How a desk is closed.
-ghost use Rattle.std.specs.Prelude.{◌≡◌, ◌<◌, ◌≤◌, ℕ, [], All, IsOkAnd, map, vec_capacity, vec_len};
+ghost use Rattle.std.specs.Prelude.{◌≡◌, ◌<◌, ◌≤◌, ℕ, [], All, IsOkAnd, MatchOption, map, unwrap_or, vec_capacity, vec_len};
 ghost use Rattle.std.specs.Mem.Slots.{IsFull, slots_items, slots_len};
-ghost use Rattle.cf_core.specs.States.{start};
 ghost use Rattle.cf_event.specs.Decoding.{decoded};
 ghost use Rattle.cf_desk.specs.Keepings.{AllFit, AreKept, IsFit, pass_kept};
 ghost use Rattle.cf_desk.specs.Laws.{IsOneHistory};
@@ -33,42 +32,41 @@ impl Desk {
     {
         let Desk {
             table,
-            callers: _,
-            functions: _,
-            opening,
-            words,
+            terms,
             history,
             kept,
         } = self;
-        let (seat, graph, kept) = gather(&table, opening, passes, kept);
+        let (seat, copy, kept) = gather(&table, passes, kept);
         let closed = table.close_with(seat);
-        let history = decode_row(&closed, words, history);
+        let history = decode_row(&closed, terms.words, history);
         closed.free();
-        Ok(Closed {
-            history,
-            passes: kept,
-            graph,
-        })
+        match copy {
+            // There is a pass, since there is a caller.
+            None => unreachable!(),
+            Some(graph) => Ok(Closed {
+                history,
+                passes: kept,
+                graph,
+            }),
+        }
     }
 }
 
 /// Joins the seats of all passes into one, and finds the copy that has seen most.
 fn gather(
     row: &Row,
-    opening: Graph,
     passes: Vec<Pass>,
     mut kept: Vec<Kept>,
-) -> (Seat<u8, View>, Graph, Vec<Kept>)
+) -> (Seat<u8, View>, Option<Graph>, Vec<Kept>)
     requires table { (0 < row.now.shared.table_id.words) × All (λ p. p.table ≡ row.now.shared.table_id) passes.items }
-    requires opening { opening.state ≡ start opening.state.plan }
     requires kept { (kept.items ≡ []) × (vec_len passes ≤ vec_capacity kept) }
     ensures seat { (result.0.table_id ≡ row.now.shared.table_id) × (result.0.me ≡ (knowns passes.items, [])) }
-    ensures copy { (most : ℕ) × IsLatest opening.state.plan most result.1.state (knowns passes.items) }
+    ensures copy { MatchOption result.1 (passes.items ≡ []) (λ copy. (most : ℕ) × IsLatest most copy.state (knowns passes.items)) }
     ensures kept { AreKept result.2.items passes.items }
     ensures fit { All IsFit passes.items }
 {
     let mut seat = row.shared.load_new_seat::<Sits>(0).1;
-    let mut copy = opening;
+    let mut copy = None;
     let mut most = 0;
     let mut rest = passes.into_iter();
     'next: while let Some(pass) = rest.next() {
@@ -83,7 +81,7 @@ fn gather(
             padding: _,
         } = pass;
         row.shared.join_seat::<StandsForBoth>(&mut seat, other);
-        copy = later(copy, most, mine, count);
+        copy = Some(later(copy, most, mine, count));
         most = most.max(count);
         kept.push_reserved(Kept { caller, records });
     }
@@ -91,11 +89,14 @@ fn gather(
 }
 
 /// Of two copies the one that has seen more.
-fn later(copy: Graph, most: u16, mine: Graph, count: u16) -> Graph
+fn later(copy: Option<Graph>, most: u16, mine: Graph, count: u16) -> Graph
     ensures newer { most < count → result ≡ mine }
-    ensures older { count ≤ most → result ≡ copy }
+    ensures older { count ≤ most → result ≡ unwrap_or copy mine }
 {
-    if most < count { mine } else { copy }
+    match copy {
+        Some(copy) if count <= most => copy,
+        _ => mine,
+    }
 }
 
 /// Reads the events of the filled words.

@@ -13,13 +13,11 @@ free-requires c = λ k lt. absurd (let n = c.close_with-closed.ensures.counts.1 
 
 shown : (c : After-free) → Shown c.args.self c.args.passes.items c.gather-seat.ensures.copy.0 c.gather-seat.result.1.state c.decode_row-history.result.items
 shown c =
-    let setting = ap (λ (h : Desk). h.setting) c.self.view_is in
     let len : length c.args.passes.items ≡ c.args.self.setting.callers = (let a = c.requires.all in let o = c.args.passes.ok.0 in omega arith) in
-    let opening = ap (λ (s : State). s.plan) c.self.invariant.opening in
     let key = c.self.invariant.key in
     let is = (λ i. record { table = c.self.inside.table.shared.table_id; setting = (key i).setting; words = (key i).words }) ∙ c.self.view_is in
-    shown_as c.self.inside.table.shared.table_id c.self.inside.table.shared.key _ _ c.gather-seat.result.0.id c.gather-seat.result.0.me.0 c.args.passes.items c.args.self c.self.inside.opening.state.plan _ _ _
-    is (opening ∙ ap (λ (x : Setting). x.plan) setting) (ap (λ m. m.0) c.gather-seat.ensures.seat.1) len c.gather-seat.ensures.fit c.gather-seat.ensures.copy.1 c.decode_row-history.ensures c.close_with-closed.ensures.values.2
+    shown_as c.self.inside.table.shared.table_id c.self.inside.table.shared.key _ _ c.gather-seat.result.0.id c.gather-seat.result.0.me.0 c.args.passes.items c.args.self _ _ _
+    is (ap (λ m. m.0) c.gather-seat.ensures.seat.1) len c.gather-seat.ensures.fit c.gather-seat.ensures.copy.1 c.decode_row-history.ensures c.close_with-closed.ensures.values.2
 
 pub returns-clause-history : goal.returns-clause-history
 returns-clause-history c = (shown (goal.at.returns-clause-history c).After-free).closes

@@ -2,11 +2,10 @@ use Rattle.std.proofs.Common.{List, map, append-nil, ◌≡◌, ◌++◌, ◌∷
 use Rattle.std.proofs.lemmas.List.Elements.{All-nil, All-push}
 use Rattle.std.specs.List.{All}
 use Rattle.std.specs.Vec.Iter.{into_iter_items}
-use Rattle.cf_core.specs.Graphs.{Graph}
-use Rattle.cf_desk.specs.Views.{Pass, known_of, knowns, state_of, IsLatest}
+use Rattle.cf_desk.specs.Views.{Pass, known_of, knowns, state_of}
 use Rattle.cf_desk.specs.Keepings.{IsFit, pass_kept}
 use Rattle.cf_desk.proofs.Meets.{sits_down, joins}
-use Rattle.cf_desk.proofs.Gathers.{all_at, joined_one, kept_one, latest_next, latest_none}
+use Rattle.cf_desk.proofs.Gathers.{all_at, joined_one, kept_one, latest_next, latest_of_all}
 use Rattle.cf_desk.proofs.desk.closing.gather.Goals as goal
 use Rattle.cf_desk.proofs.desk.closing.gather.Goals.{In-Some, After-drop-rest}
 
@@ -37,7 +36,7 @@ next-preserved c =
       table = c.join_seat.ensures.0 ∙ i.table;
       seat = joined_one i.done c.in-Some.pass (known_of c.pass.inside.seat.me.0) _ _ _ i.seat c.pass.invariant.one (ap (λ (h : Pass). h.known) v) c.join_seat.ensures.2;
       kept = kept_one _ _ _ _ _ i.kept items (λ j. ((a.caller ∙ ap (λ (h : Pass). h.known.caller) v) j, ap (λ (h : Pass). h.records) v j));
-      copy = latest_next _ _ _ _ _ _ i.done c.in-Some.pass _ c.max-most.ensures (λ h. ap (λ (g : Graph). g.state) (c.later-copy.ensures.newer h)) (λ h. ap (λ (g : Graph). g.state) (c.later-copy.ensures.older h)) (a.count ∙ ap (λ (h : Pass). length h.known.seen) v) (a.state ∙ ap (λ (h : Pass). state_of h.known) v) i.copy;
+      copy = latest_next _ _ _ _ _ i.done c.in-Some.pass _ c.max-most.ensures c.later.ensures.newer c.later.ensures.older (a.count ∙ ap (λ (h : Pass). length h.known.seen) v) (a.state ∙ ap (λ (h : Pass). state_of h.known) v) i.copy;
       fit = All-push IsFit i.done c.in-Some.pass i.fit (subst IsFit v a.fits);
     }
 
@@ -49,7 +48,7 @@ next-init c = record {
   table = c.load_new_seat.ensures.0;
   seat = c.load_new_seat.ensures.2;
   kept = ap (map pass_kept) c.requires.kept.0;
-  copy = latest_none _ _ c.requires.opening;
+  copy = (refl, refl);
   fit = All-nil IsFit;
 }
 
@@ -67,7 +66,7 @@ all_done c =
     sym (i.parts ∙ ap (λ l. i.done ++ l) empty ∙ append-nil i.done)
 
 pub returns-clause-copy : goal.returns-clause-copy
-returns-clause-copy c = (c.next.most, subst (λ (l : List Pass). IsLatest c.args.opening.state.plan c.next.most c.next.copy.state (knowns l)) (all_done (goal.at.returns-clause-copy c).After-drop-rest) c.next.invariant.copy)
+returns-clause-copy c = latest_of_all _ _ _ _ (all_done (goal.at.returns-clause-copy c).After-drop-rest) c.next.invariant.copy
 
 pub returns-clause-fit : goal.returns-clause-fit
 returns-clause-fit c = subst (All IsFit) (all_done (goal.at.returns-clause-fit c).After-drop-rest) c.next.invariant.fit

@@ -1,7 +1,8 @@
 use Rattle.std.proofs.Common.{◌≡◌, ◌≤◌, ◌+◌, ◌++◌, [], List, All, vec_len, vec_capacity}
 use Rattle.std.specs.Vec.Iter.{into_iter_items, into_iter_len}
-use Rattle.cf_desk.specs.Views.{Pass, knowns, IsLatest}
+use Rattle.cf_desk.specs.Views.{Pass, knowns}
 use Rattle.cf_desk.specs.Keepings.{AreKept, IsFit}
+use Rattle.cf_desk.proofs.Gathers.{LatestSoFar}
 use Rattle.cf_desk.proofs.desk.closing.gather.Given as goal
 
 abbrev pub invariant-next : goal.invariant-next
@@ -12,7 +13,7 @@ invariant-next l = record {
   table : l.seat.table_id ≡ l.row.shared.table_id;
   seat : l.seat.me ≡ (knowns done, []);
   kept : AreKept l.kept.items done;
-  copy : IsLatest l.fn.opening.state.plan l.most l.copy.state (knowns done);
+  copy : LatestSoFar l.copy l.most done;
   fit : All IsFit done;
 }
 

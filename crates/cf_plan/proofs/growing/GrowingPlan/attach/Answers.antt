@@ -1,11 +1,15 @@
-use Rattle.std.proofs.Common.{◌≡◌, ◌+◌, ◌<◌, ◌++◌, ◌∙◌, ◌∷◌, [], ℕ, All, ap, arith, length, map, refl, subst}
+use Rattle.std.proofs.Common.{◌≡◌, ◌+◌, ◌<◌, ◌++◌, ◌∙◌, ◌∷◌, [], ℕ, List, All, ap, arith, length, map, refl, subst}
 use Rattle.std.proofs.lemmas.List.Elements.{All-head, All-tail}
 use Rattle.cf_plan.specs.declared.forms.Of.{Of}
+use Rattle.cf_plan.specs.declared.growing.AttachedRow.{AttachedRow}
 use Rattle.cf_plan.specs.Growing.{attached_of, later_of}
 use Rattle.cf_plan.specs.Plans.{PlannedStage, sources_of}
 use Rattle.cf_plan.proofs.GrowingLemmas.{AreGrowing-attached, later_few, listed, short_list, threads_none, threads_one, threads_two}
 use Rattle.cf_plan.proofs.ThreadLemmas.{count_is, pushed, pushed_cells, pushed_few, pushed_heads}
 use Rattle.cf_plan.proofs.growing.GrowingPlan.attach.Goals as goal
+
+some_room : (rows : List AttachedRow) (room : ℕ) → 0 < room → 0 < length rows + room
+some_room rows room some = omega arith
 
 pub invariant_of-self : goal.invariant_of-self
 invariant_of-self c =
@@ -24,14 +28,14 @@ push-requires-clause-target c =
     let s = c.self.inside in
     let P : ℕ → Type 0 = λ j. j < length (s.opening.stages ++ map attached_of s.rows.items) in
     let lower : All P (c.in-One.a ∷ []) = subst (λ (o : Of). All P (sources_of o)) c.in-One.is (rw (← c.self.view_is) at c.requires.sources) in
-    listed _ _ _ _ _ _ _ c.in-One.a c.self.invariant (All-head P c.in-One.a [] lower)
+    listed _ _ _ _ _ _ _ c.in-One.a c.self.invariant (some_room c.self.inside.rows.items _ (rw (← c.self.view_is) at c.requires.room)) (All-head P c.in-One.a [] lower)
 
 pub push-requires-clause-short : goal.push-requires-clause-short
 push-requires-clause-short c =
     let s = c.self.inside in
     let P : ℕ → Type 0 = λ j. j < length (s.opening.stages ++ map attached_of s.rows.items) in
     let lower : All P (c.in-One.a ∷ []) = subst (λ (o : Of). All P (sources_of o)) c.in-One.is (rw (← c.self.view_is) at c.requires.sources) in
-    let there = listed _ _ _ _ _ _ _ c.in-One.a c.self.invariant (All-head P c.in-One.a [] lower) in
+    let there = listed _ _ _ _ _ _ _ c.in-One.a c.self.invariant (some_room c.self.inside.rows.items _ (rw (← c.self.view_is) at c.requires.room)) (All-head P c.in-One.a [] lower) in
     let few = short_list _ _ _ _ _ _ _ c.in-One.a c.self.invariant there in
     omega (arith, few)
 
@@ -46,7 +50,7 @@ invariant_of-self-in-One c =
     let number : c.stages.result + c.len.result ≡ length s.opening.stages + length rows = omega (arith, c.stages.ensures.count, c.len.ensures, s.rows.ok.0) in
     let P : ℕ → Type 0 = λ j. j < length (s.opening.stages ++ map attached_of rows) in
     let lower : All P (a ∷ []) = subst (λ (o : Of). All P (sources_of o)) c.in-One.is (rw (← c.self.view_is) at c.requires.sources) in
-    let there = listed _ _ _ _ _ _ _ a c.self.invariant (All-head P a [] lower) in
+    let there = listed _ _ _ _ _ _ _ a c.self.invariant (some_room c.self.inside.rows.items _ (rw (← c.self.view_is) at c.requires.room)) (All-head P a [] lower) in
     let one = ap (λ (o : Of). length (sources_of o)) c.in-One.is in
     let named = ap (λ (x : PlannedStage). x.sources) c.row_of.ensures.stage ∙ ap sources_of c.in-One.is in
     let longer = pushed_cells cells t.cells.items _ c.push.ensures.cells in
@@ -62,14 +66,14 @@ push-requires-in-Two-clause-target c =
     let s = c.self.inside in
     let P : ℕ → Type 0 = λ j. j < length (s.opening.stages ++ map attached_of s.rows.items) in
     let lower : All P (c.in-Two.a ∷ c.in-Two.b ∷ []) = subst (λ (o : Of). All P (sources_of o)) c.in-Two.is (rw (← c.self.view_is) at c.requires.sources) in
-    listed _ _ _ _ _ _ _ c.in-Two.a c.self.invariant (All-head P c.in-Two.a (c.in-Two.b ∷ []) lower)
+    listed _ _ _ _ _ _ _ c.in-Two.a c.self.invariant (some_room c.self.inside.rows.items _ (rw (← c.self.view_is) at c.requires.room)) (All-head P c.in-Two.a (c.in-Two.b ∷ []) lower)
 
 pub push-requires-in-Two-clause-short : goal.push-requires-in-Two-clause-short
 push-requires-in-Two-clause-short c =
     let s = c.self.inside in
     let P : ℕ → Type 0 = λ j. j < length (s.opening.stages ++ map attached_of s.rows.items) in
     let lower : All P (c.in-Two.a ∷ c.in-Two.b ∷ []) = subst (λ (o : Of). All P (sources_of o)) c.in-Two.is (rw (← c.self.view_is) at c.requires.sources) in
-    let there = listed _ _ _ _ _ _ _ c.in-Two.a c.self.invariant (All-head P c.in-Two.a (c.in-Two.b ∷ []) lower) in
+    let there = listed _ _ _ _ _ _ _ c.in-Two.a c.self.invariant (some_room c.self.inside.rows.items _ (rw (← c.self.view_is) at c.requires.room)) (All-head P c.in-Two.a (c.in-Two.b ∷ []) lower) in
     let few = short_list _ _ _ _ _ _ _ c.in-Two.a c.self.invariant there in
     omega (arith, few)
 
@@ -80,7 +84,7 @@ push-requires-in-Two-2-clause-target c =
     let b = c.in-Two.b in
     let P : ℕ → Type 0 = λ j. j < length (s.opening.stages ++ map attached_of s.rows.items) in
     let lower : All P (a ∷ b ∷ []) = subst (λ (o : Of). All P (sources_of o)) c.in-Two.is (rw (← c.self.view_is) at c.requires.sources) in
-    let there = listed _ _ _ _ _ _ _ b c.self.invariant (All-head P b [] (All-tail P a (b ∷ []) lower)) in
+    let there = listed _ _ _ _ _ _ _ b c.self.invariant (some_room c.self.inside.rows.items _ (rw (← c.self.view_is) at c.requires.room)) (All-head P b [] (All-tail P a (b ∷ []) lower)) in
     let same = pushed_heads s.threads.heads.items c.push-in-Two.new.self.heads.items a _ c.push-in-Two.ensures.heads in
     omega (arith, there, same)
 
@@ -96,8 +100,8 @@ push-requires-in-Two-2-clause-short c =
     let number : c.stages.result + c.len.result ≡ length s.opening.stages + length rows = omega (arith, c.stages.ensures.count, c.len.ensures, s.rows.ok.0) in
     let P : ℕ → Type 0 = λ j. j < length (s.opening.stages ++ map attached_of rows) in
     let lower : All P (a ∷ b ∷ []) = subst (λ (o : Of). All P (sources_of o)) c.in-Two.is (rw (← c.self.view_is) at c.requires.sources) in
-    let there = listed _ _ _ _ _ _ _ a c.self.invariant (All-head P a (b ∷ []) lower) in
-    let other = listed _ _ _ _ _ _ _ b c.self.invariant (All-head P b [] (All-tail P a (b ∷ []) lower)) in
+    let there = listed _ _ _ _ _ _ _ a c.self.invariant (some_room c.self.inside.rows.items _ (rw (← c.self.view_is) at c.requires.room)) (All-head P a (b ∷ []) lower) in
+    let other = listed _ _ _ _ _ _ _ b c.self.invariant (some_room c.self.inside.rows.items _ (rw (← c.self.view_is) at c.requires.room)) (All-head P b [] (All-tail P a (b ∷ []) lower)) in
     let same = pushed_heads heads t.heads.items a _ c.push-in-Two.ensures.heads in
     let first = pushed heads t.heads.items cells t.cells.items (later_of s.opening rows) a _ _ there c.self.invariant.threads number c.push-in-Two.ensures.heads c.push-in-Two.ensures.cells in
     let count = count_is t.heads.items t.cells.items _ b first (omega (arith, other, same)) in
@@ -117,8 +121,8 @@ invariant_of-self-in-Two c =
     let number : c.stages.result + c.len.result ≡ length s.opening.stages + length rows = omega (arith, c.stages.ensures.count, c.len.ensures, s.rows.ok.0) in
     let P : ℕ → Type 0 = λ j. j < length (s.opening.stages ++ map attached_of rows) in
     let lower : All P (a ∷ b ∷ []) = subst (λ (o : Of). All P (sources_of o)) c.in-Two.is (rw (← c.self.view_is) at c.requires.sources) in
-    let there = listed _ _ _ _ _ _ _ a c.self.invariant (All-head P a (b ∷ []) lower) in
-    let other = listed _ _ _ _ _ _ _ b c.self.invariant (All-head P b [] (All-tail P a (b ∷ []) lower)) in
+    let there = listed _ _ _ _ _ _ _ a c.self.invariant (some_room c.self.inside.rows.items _ (rw (← c.self.view_is) at c.requires.room)) (All-head P a (b ∷ []) lower) in
+    let other = listed _ _ _ _ _ _ _ b c.self.invariant (some_room c.self.inside.rows.items _ (rw (← c.self.view_is) at c.requires.room)) (All-head P b [] (All-tail P a (b ∷ []) lower)) in
     let same = pushed_heads heads t.heads.items a _ c.push-in-Two.ensures.heads in
     let again = pushed_heads t.heads.items u.heads.items b _ c.push-in-Two-2.ensures.heads in
     let longer = pushed_cells cells t.cells.items _ c.push-in-Two.ensures.cells in

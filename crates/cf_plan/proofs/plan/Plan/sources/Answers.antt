@@ -10,12 +10,12 @@ use Rattle.cf_plan.proofs.plan.Plan.sources.Goals as goal
 
 pub returns-clause-lower : goal.returns-clause-lower
 returns-clause-lower c =
-    let rows = c.self.inside.rows.items in
-    let sources = c.self.inside.sources.items in
+    let rows = c.blocks-2.inside.rows.items in
+    let sources = c.blocks-2.inside.sources.items in
     let row = c.index-row.result.now in
-    let count = ap (λ (p : Planned). length p.stages) c.self.view_is in
+    let count = ap (λ (p : Planned). length p.stages) (c.blocks-2.view_is ∙ c.deref-blocks.ensures ∙ c.self.view_is) in
     let in_range : c.args.i < length rows = omega (arith, count, length-map rows (stage_of sources), c.requires) in
     let at : slice_get (stages_of sources rows) c.args.i ≡ Some (stage_of sources row) =
     slice_get-map (stage_of sources) rows c.args.i
     ∙ ap (option_map (stage_of sources)) (slice_get_read rows (length rows) c.args.i row refl in_range c.index-row.ensures) in
-    rw (c.deref.ensures.value, ← zero-add c.args.i) (lower_at 0 (stages_of sources rows) c.args.i (stage_of sources row) c.self.invariant.0.built.lower at)
+    rw (c.deref.ensures.value, ← zero-add c.args.i) (lower_at 0 (stages_of sources rows) c.args.i (stage_of sources row) c.blocks-2.invariant.0.built.lower at)
