@@ -1,7 +1,7 @@
 -- Seats that are joined, levelled and split keep the rule.
-use Rattle.std.proofs.Common.{◌≡◌, ℕ, zero, suc, ◌+◌, ◌<◌, ◌≤◌, ◌≢◌, Bool, true, false, eqb, leb, leb-true, leb-false, Some, List, [], ◌∷◌, ◌++◌, map, length, replicate, get_or, set, slice_get, slice_index, All, sym, refl, ap, ◌∙◌, subst, ⊎_elim, arith}
+use Rattle.std.proofs.Common.{◌≡◌, ℕ, zero, suc, ◌+◌, ◌<◌, ◌≤◌, ◌≢◌, Bool, true, false, eqb, leb, leb-true, leb-false, Some, List, [], ◌∷◌, ◌++◌, map, length, replicate, get_or, set, slice_get, slice_index, sym, refl, ap, ◌∙◌, subst, ⊎_elim, arith}
 use Rattle.std.proofs.lemmas.List.{set-get_or}
-use Rattle.std.proofs.lemmas.List.Elements.{All-head, All-tail, filter-append}
+use Rattle.std.proofs.lemmas.List.Elements.{filter-append}
 use Rattle.std.proofs.lemmas.Option.{none-some}
 use mathlib.Core.Option.{some, none}
 use lib.ListN.{get_elem?}

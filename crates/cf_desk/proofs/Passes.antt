@@ -1,11 +1,10 @@
 -- What a step does to a pass.
 use Rattle.cf_plan.specs.Plans.{Planned}
-use Rattle.std.proofs.Common.{◌≡◌, ℕ, zero, suc, ◌+◌, ◌<◌, ◌≤◌, ◌⊎◌, inl, inr, ⊎_elim, eqb, leb, leb-true, leb-false, max, Bool, true, false, Option, Some, None, List, [], ◌∷◌, ◌++◌, length, sym, refl, ap, ◌∙◌, subst, append-nil, append_assoc, length-append, replicate, take, slice_get, arith}
+use Rattle.std.proofs.Common.{◌≡◌, ℕ, zero, suc, ◌+◌, ◌<◌, ◌≤◌, ◌⊎◌, inl, inr, ⊎_elim, eqb, leb, leb-true, leb-false, max, Bool, true, false, Option, Some, None, List, [], ◌∷◌, ◌++◌, length, sym, refl, ap, ◌∙◌, subst, append-nil, append_assoc, length-append, take, slice_get, arith}
 use Rattle.std.proofs.lemmas.Option.{none-some}
 use Rattle.std.specs.Prelude.{IfSome}
 use Rattle.std.specs.List.{All}
-use Rattle.std.proofs.lemmas.List.{length-replicate}
-use Rattle.std.proofs.lemmas.List.Elements.{All-nil, All-push, All-append, All-take, All-weaker, filter-append}
+use Rattle.std.proofs.lemmas.List.Elements.{All-nil, All-push, All-append, All-weaker, filter-append}
 use mathlib.Core.Option.{none}
 use prog.Atomic.{either}
 use Rattle.atomic_table.specs.Table.{Me, step, Allows}
@@ -23,12 +22,10 @@ use Rattle.cf_desk.specs.declared.calls.Call.{Call}
 use Rattle.cf_desk.specs.declared.calls.Joined.{Joined}
 use Rattle.cf_desk.specs.declared.calls.Rec.{Rec}
 use Rattle.cf_desk.specs.declared.calls.Rec.TheVariants.{Did, Saw}
-use Rattle.cf_core.specs.declared.stage.Stage.TheVariants.{Pending}
 use Rattle.cf_core.specs.States.{State, lowest_ready_of, outcome_at, start}
 use Rattle.cf_core.specs.Events.{answered, told}
 use Rattle.cf_core.specs.Ranges.{AskFits, EventFits}
 use Rattle.cf_core.proofs.LowestReady.{lowest_ready-within}
-use Rattle.cf_core.proofs.Shape.{length-new_states, state_after-shape}
 use Rattle.cf_event.specs.Words.{who_of, word_of}
 use Rattle.cf_desk.specs.Log.{own, IsEventOf, AreLogged, state_from, Catches}
 use Rattle.cf_desk.specs.Faults.{AsksStage, AttachFits, IsFitting, IsOnStage}

@@ -4,8 +4,7 @@ use Rattle.std.proofs.Common.{◌≡◌, ℕ, suc, ◌+◌, ◌-◌, ◌<◌, �
 use Rattle.std.proofs.lemmas.List.{take-append-le}
 use Rattle.std.proofs.Math.Seq.{take-append_seam}
 use Rattle.std.specs.List.{filter}
-use Rattle.std.proofs.lemmas.List.Elements.{All-nil, All-cons, All-head, All-tail, All-push, All-weaker, filter-append}
-use Rattle.cf_core.proofs.Shape.{state_after-shape}
+use Rattle.std.proofs.lemmas.List.Elements.{All-nil, All-cons, All-head, All-tail, All-push, filter-append}
 use Rattle.cf_core.specs.declared.asks.Ask.{Ask}
 use Rattle.cf_core.specs.declared.asks.Told.{Told}
 use Rattle.cf_core.specs.declared.events.Event.{Event}
@@ -14,14 +13,11 @@ use Rattle.cf_desk.specs.declared.calls.Call.{Call}
 use Rattle.cf_desk.specs.declared.calls.Call.TheVariants.{Complete, Fail, Cancel, Claim, Finish, Tick, Attach}
 use Rattle.cf_desk.specs.declared.calls.Rec.{Rec}
 use Rattle.cf_desk.specs.declared.calls.Rec.TheVariants.{Did, Saw}
-use Rattle.cf_core.specs.Calls.{is_attach}
 use Rattle.cf_core.specs.States.{State}
 use Rattle.cf_core.specs.Events.{answered, told}
 use Rattle.cf_event.specs.Words.{who_of}
 use Rattle.cf_core.specs.Events.{state_after, state_at}
-use Rattle.cf_desk.specs.declared.row.Setting.{Setting}
-use Rattle.cf_desk.specs.Log.{own, AreEventsOf, state_from, placed, events_of, Catches}
-use Rattle.cf_desk.proofs.Events.{events_each}
+use Rattle.cf_desk.specs.Log.{own, state_from, placed, events_of, Catches}
 use Rattle.cf_desk.specs.Calls.{event_by}
 use Rattle.cf_desk.specs.Records.{dids, IsAnswered, InOrder, Fits}
 

@@ -1,19 +1,15 @@
 -- What calls do, once their pass has caught up.
-use Rattle.std.proofs.Common.{◌≡◌, ◌⊎◌, ℕ, ◌<◌, inl, inr, Bool, true, false, rules, List, length, refl, sym, ap, ◌∙◌, subst}
+use Rattle.std.proofs.Common.{◌≡◌, ◌⊎◌, ◌<◌, inl, inr, Bool, true, false, rules, List, length, sym, ap, subst}
 use Rattle.std.specs.Bool.{IsTrue}
-use Rattle.cf_core.specs.declared.asks.Ask.{Ask}
-use Rattle.cf_core.specs.declared.asks.Ask.TheVariants.{Outcome as AsksOutcome}
-use Rattle.cf_core.specs.declared.asks.Told.{Told}
 use Rattle.cf_core.specs.declared.events.Reply.{Reply}
 use Rattle.cf_desk.specs.declared.calls.Call.{Call}
-use Rattle.cf_desk.specs.declared.calls.Joined.{Joined}
 use Rattle.cf_desk.specs.declared.calls.Rec.{Rec}
 use Rattle.cf_desk.specs.declared.faults.DeskFault.{DeskFault}
 use Rattle.cf_desk.specs.declared.faults.DeskFault.TheVariants.{LogFull}
 use Rattle.cf_desk.specs.Calls.{event_by}
-use Rattle.cf_desk.specs.Faults.{AsksStage, HasRoom, IsDue, IsFitting, IsOnStage}
-use Rattle.cf_desk.specs.Results.{Answers, CaughtUp, Refuses, Tells, TellsJoined}
-use Rattle.cf_desk.specs.Views.{Acts, Desk, Follows, IsSamePass, Joins, LooksFor, LooksOnce, Pass, Reads, SeesFull}
+use Rattle.cf_desk.specs.Faults.{HasRoom, IsDue, IsFitting, IsOnStage}
+use Rattle.cf_desk.specs.Results.{Answers, CaughtUp, Refuses}
+use Rattle.cf_desk.specs.Views.{Acts, Desk, Follows, IsSamePass, Pass, SeesFull}
 use Rattle.cf_desk.proofs.Passes.{caught_as, still_fitting, still_on_stage}
 
 pub is_true : IsTrue true

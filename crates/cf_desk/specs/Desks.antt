@@ -1,6 +1,5 @@
 -- What every pass and every desk keeps.
 use Rattle.std.specs.Prelude.{◌≡◌, ℕ, ◌<◌, ◌≤◌, List, [], ◌∷◌, length, vec_capacity}
-use Rattle.std.specs.List.{All}
 use Rattle.cf_desk.specs.declared.pass.Pass.TheInside.{Inside as InPass}
 use Rattle.cf_desk.specs.declared.desk.Desk.TheInside.{Inside as InDesk}
 use Rattle.cf_desk.specs.declared.calls.Rec.{Rec}

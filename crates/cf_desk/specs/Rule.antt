@@ -1,6 +1,5 @@
 -- The rule of the row.
 use Rattle.std.specs.Prelude.{◌≡◌, ℕ, zero, suc, ◌+◌, ◌<◌, ◌≤◌, eqb, leb, Some, None, List, [], ◌∷◌, ◌++◌, map, length, replicate, slice_get, Bool, true, false}
-use Rattle.std.specs.List.{All}
 use mathlib.Core.Option.{some}
 use lib.ListN.{get_elem?}
 use Rattle.atomic_table.specs.Table.{State, Step, Me}

@@ -179,12 +179,24 @@ fn graph_of(alloc: Global, plan: Plan, room: u16) -> Result<Graph, AllocError>
     }
 }
 
-/// The same plan once more, over the same memory.
-fn copy_of(plan: &Plan) -> Result<Plan, AllocError>
-    ensures { IfOk result (λ copy. copy ≡ plan.now) }
+/// The graph of a plan that stays, with so much room, at its start.
+fn copy_of(alloc: Global, plan: &Plan, room: u16) -> Result<Graph, AllocError>
+    requires { ¬ IsOverfull plan.now.stages room }
+    ensures { IfOk result (λ g. g.state ≡ start (with_room plan.now room)) }
 {
     match plan.copy() {
-        Ok(copy) => Ok(copy),
+        Ok(plan) => graph_of(alloc, plan, room),
+        Err(_) => Err(AllocError),
+    }
+}
+
+/// A plan with so much room, as the row is told of it.
+fn growing(alloc: Global, plan: &Plan, room: u16) -> Result<GrowingPlan, AllocError>
+    requires { ¬ IsOverfull plan.now.stages room }
+    ensures { IfOk result (λ grown. grown ≡ with_room plan.now room) }
+{
+    match plan.copy() {
+        Ok(plan) => GrowingPlan::new(alloc, plan, room),
         Err(_) => Err(AllocError),
     }
 }
@@ -225,10 +237,9 @@ fn open_with(
     let history = Vec::with_capacity(alloc, log as usize)?;
     let kept = Vec::with_capacity(alloc, callers as usize)?;
     let zeros = vec![in alloc; 0u64; log as usize]?;
-    let shared = copy_of(&plan)?;
     let terms = Terms {
         setting: Setting {
-            plan: GrowingPlan::new(alloc, shared, room)?,
+            plan: growing(alloc, &plan, room)?,
             callers,
             functions,
         },
@@ -238,7 +249,7 @@ fn open_with(
     let mut passes = Vec::with_capacity(alloc, callers as usize)?;
     for caller in 0..callers {
         let records = no_records(alloc, calls)?;
-        let copy = graph_of(alloc, copy_of(&plan)?, room)?;
+        let copy = copy_of(alloc, &plan, room)?;
         let mine = table.shared.split_seat::<GivesFirst>(&mut seat);
         let pass = Pass {
             seat: mine,

@@ -1,4 +1,4 @@
-use Rattle.std.proofs.Common.{◌<◌, ◌+◌, max, drop, length, arith, ap, ◌∙◌, subst}
+use Rattle.std.proofs.Common.{◌<◌, ◌+◌, max, drop, length, arith, ap, ◌∙◌}
 use Rattle.cf_desk.specs.Functions.{function_above, function_bound}
 use Rattle.cf_desk.proofs.FunctionLemmas.{next_bound}
 use Rattle.cf_desk.proofs.functions.function_bound.Goals as goal

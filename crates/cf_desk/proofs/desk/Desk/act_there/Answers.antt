@@ -1,4 +1,4 @@
-use Rattle.std.proofs.Common.{Option, Some, None, ◌≢◌, MatchOption, refl, ◌∙◌, rules}
+use Rattle.std.proofs.Common.{Option, Some, None, ◌≢◌, MatchOption, refl, ◌∙◌}
 use Rattle.cf_core.specs.declared.events.Reply.{Reply}
 use Rattle.cf_desk.specs.declared.calls.Call.{Call}
 use Rattle.cf_desk.specs.Views.{Pass, AddedByOther, AddedOwn}

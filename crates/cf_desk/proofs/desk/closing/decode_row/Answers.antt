@@ -1,4 +1,4 @@
-use Rattle.std.proofs.Common.{◌≡◌, ◌+◌, ◌++◌, ◌∷◌, [], drop, sym, ap, ◌∙◌, append-nil, append_assoc, arith}
+use Rattle.std.proofs.Common.{◌+◌, ◌++◌, ◌∷◌, [], drop, sym, ap, ◌∙◌, append-nil, append_assoc, arith}
 use Rattle.cf_event.specs.Decoding.{decoded}
 use Rattle.cf_desk.proofs.Closing.{decoded_stop, decoded_more}
 use Rattle.cf_desk.proofs.desk.closing.decode_row.Goals as goal

@@ -2,7 +2,7 @@ use Rattle.std.proofs.Common.{List, map, append-nil, ◌≡◌, ◌++◌, ◌∷
 use Rattle.std.proofs.lemmas.List.Elements.{All-nil, All-push}
 use Rattle.std.specs.List.{All}
 use Rattle.std.specs.Vec.Iter.{into_iter_items}
-use Rattle.cf_desk.specs.Views.{Pass, known_of, knowns, state_of}
+use Rattle.cf_desk.specs.Views.{Pass, known_of, state_of}
 use Rattle.cf_desk.specs.Keepings.{IsFit, pass_kept}
 use Rattle.cf_desk.proofs.Meets.{sits_down, joins}
 use Rattle.cf_desk.proofs.Gathers.{all_at, joined_one, kept_one, latest_next, latest_of_all}
