@@ -208,12 +208,19 @@ const NO_RECORD: Rec = Rec::Saw {
     told: Told::Outcome(None),
 };
 
-/// An empty list with room for so many records. Each place was written once, since the first write to each page of new
-/// memory goes through the system, and would else be made in the middle of a call, by all threads at the same time.
+/// How many records a page of memory holds at most.
+const PAGE: u16 = 85;
+
+/// An empty list with room for so many records. Where that is more than a page, each place was written once, since the
+/// first write to each page of new memory goes through the system, and would else be made in the middle of a call, by all
+/// threads at the same time.
 fn no_records(alloc: Global, calls: u16) -> Result<Vec<Rec>, AllocError>
     ensures items { IfOk result (λ records. records.items ≡ []) }
     ensures capacity { IfOk result (λ records. calls ≤ vec_capacity records) }
 {
+    if calls <= PAGE {
+        return Vec::with_capacity(alloc, calls as usize);
+    }
     let mut records = vec![in alloc; NO_RECORD; calls as usize]?;
     records.clear();
     Ok(records)
