@@ -1,9 +1,10 @@
 //! One stage in 16 bytes.
-ghost use Rattle.std.specs.Prelude.{◌≡◌, true};
+ghost use Rattle.std.specs.Prelude.{◌≡◌, IfSome, Some, is_some, true};
+ghost use Rattle.cf_outcome.specs.declared.outcome.Outcome.TheVariants.{Value as Gives};
 ghost use Rattle.cf_outcome.specs.Outcomes.{is_exceptional};
 ghost use Rattle.cf_plan.specs.declared.forms.Args.TheVariants.{Got, None as NoArgs, One};
 ghost use Rattle.cf_plan.specs.Forms.{due_one};
-ghost use Rattle.cf_core.specs.declared.stage.Stage.TheVariants.{Claimed, Linked, Ready, Settled};
+ghost use Rattle.cf_core.specs.declared.stage.Stage.TheVariants.{Claimed, Linked, Pending, Ready, Settled};
 ghost use Rattle.cf_core.specs.States.{is_ready, outcome_of};
 ghost use Rattle.cf_core.specs.Keeping.Cells.{kept_of, outcome_in, value_in};
 ghost use Rattle.cf_core.specs.Keeping.Late.{due_kept};
@@ -138,6 +139,37 @@ impl Cell {
         ensures { result ≡ is_ready ((kept_of self.now).stage) }
     {
         matches!(self.kind, Kind::None | Kind::One | Kind::Two | Kind::Got)
+    }
+
+    /// Whether it is settled.
+    #[inline(always)]
+    pub fn is_settled(&self) -> bool
+        ensures { result ≡ is_some (outcome_of ((kept_of self.now).stage)) }
+    {
+        matches!(self.kind, Kind::Settled)
+    }
+
+    /// Whether it waits for its sources.
+    #[inline(always)]
+    pub fn is_pending(&self) -> bool
+        ensures { result ≡ true → (kept_of self.now).stage ≡ Pending }
+    {
+        matches!(self.kind, Kind::Pending)
+    }
+
+    /// The value that it has settled with, if it has.
+    #[inline(always)]
+    pub fn value(&self) -> Option<Value>
+        ensures { IfSome result (λ v. outcome_of ((kept_of self.now).stage) ≡ Some (Gives v)) }
+    {
+        match self.kind {
+            Kind::Settled => match self.detail {
+                Detail::Nil => Some(Value::Nil),
+                Detail::Int => Some(Value::Int(self.number)),
+                _ => None,
+            },
+            _ => None,
+        }
     }
 
     /// The outcome, if it is settled.

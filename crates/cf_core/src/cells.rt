@@ -1,17 +1,19 @@
 //! What is kept of the stages of a graph.
-ghost use Rattle.std.specs.Prelude.{◌≡◌, ℕ, ◌+◌, ◌<◌, ◌≤◌, ◌∷◌, ◌++◌, [], IfOk, length, replicate, slice_set};
+ghost use Rattle.std.specs.Prelude.{◌≡◌, ℕ, ◌+◌, ◌<◌, ◌≤◌, ◌∷◌, ◌++◌, [], IfOk, IfSome, Some, is_some, length, replicate, slice_set, true};
+ghost use Rattle.cf_outcome.specs.declared.outcome.Outcome.TheVariants.{Value as Gives};
 ghost use Rattle.cf_plan.specs.Forms.{due_of_first};
 ghost use Rattle.cf_core.specs.declared.stage.Stage.TheVariants.{Pending, Ready, Settled};
 ghost use Rattle.cf_core.specs.States.{is_ready, outcome_of};
 ghost use Rattle.cf_core.specs.Keeping.Cells.{blank};
 ghost use Rattle.cf_core.specs.Keeping.Late.{dated_in, due_kept, outcome_part, step_part};
 ghost use Rattle.cf_core.specs.Keeping.Sound.{is_waiting, kept_at};
+ghost use Rattle.cf_core.specs.Keeping.Offers.{args_of};
 ghost use Rattle.cf_core.specs.Keeping.Starts.{untreated};
 
 use crate::cell::{Cell, Detail, Kind};
 use crate::kept::KeptStage;
 use crate::stage::Stage;
-use cf_outcome::Outcome;
+use cf_outcome::{Outcome, Value};
 use cf_plan::{Args, Form};
 use std::alloc::{AllocError, Global};
 use std::marker::Model;
@@ -91,6 +93,45 @@ impl Cells {
         ensures { result ≡ outcome_of ((kept_at self.now.items i).stage) }
     {
         self.cells[i as usize].outcome()
+    }
+
+    /// Whether a stage is settled.
+    #[inline(always)]
+    pub fn is_settled(&self, i: u16) -> bool
+        requires { i < length self.now.items }
+        ensures { result ≡ is_some (outcome_of ((kept_at self.now.items i).stage)) }
+    {
+        self.cells[i as usize].is_settled()
+    }
+
+    /// Whether a stage waits for its sources.
+    #[inline(always)]
+    pub fn is_pending(&self, i: u16) -> bool
+        requires { i < length self.now.items }
+        ensures { result ≡ true → (kept_at self.now.items i).stage ≡ Pending }
+    {
+        self.cells[i as usize].is_pending()
+    }
+
+    /// The value that a stage has settled with, if it has.
+    #[inline(always)]
+    pub fn value(&self, i: u16) -> Option<Value>
+        requires { i < length self.now.items }
+        ensures { IfSome result (λ v. outcome_of ((kept_at self.now.items i).stage) ≡ Some (Gives v)) }
+    {
+        self.cells[i as usize].value()
+    }
+
+    /// What the function of a ready stage is to be called with.
+    #[inline(always)]
+    pub fn args(&self, i: u16) -> Option<Args>
+        requires { i < length self.now.items }
+        ensures { result ≡ args_of ((kept_at self.now.items i).stage) }
+    {
+        match self.stage(i) {
+            Stage::Ready(args) => Some(args),
+            _ => None,
+        }
     }
 
     /// Whether a stage waits, for its sources or for the stage that it is linked to.

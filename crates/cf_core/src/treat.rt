@@ -1,11 +1,14 @@
 //! The treatment of one stage: it takes what the stages below it have, and keeps at which step.
-ghost use Rattle.std.specs.Prelude.{◌≡◌, ℕ, ◌<◌, ◌∷◌, [], All, Option, is_some, length, map, slice_set};
+ghost use Rattle.std.specs.Prelude.{◌≡◌, ℕ, ◌<◌, ◌∷◌, [], All, IfSome, Option, Some, is_some, length, map, slice_set};
 ghost use Rattle.std.specs.List.{list_all};
+ghost use Rattle.cf_outcome.specs.declared.outcome.Outcome.TheVariants.{Value as Gives};
+ghost use Rattle.cf_plan.specs.declared.forms.Due.TheVariants.{Needs};
 ghost use Rattle.cf_plan.specs.Forms.{first_fault, due_of_both};
 ghost use Rattle.cf_core.specs.declared.stage.Stage.TheVariants.{Linked, Pending};
 ghost use Rattle.cf_core.specs.Laws.{is_decided_by_first};
 ghost use Rattle.cf_core.specs.Keeping.Sound.{kept_at};
 ghost use Rattle.cf_core.specs.Keeping.Late.{dated_in, due_kept, earlier, earliest, late_due, latest, linked_kept, outcome_part, treated};
+ghost use Rattle.cf_core.specs.Keeping.Offers.{one_value, takes_value, takes_values, two_values};
 
 use crate::cells::Cells;
 use crate::kept::KeptStage;
@@ -26,6 +29,78 @@ pub fn treat(kept: &mut Cells, form: Form, sources: &[u16], m: u16)
         Stage::Linked(j) => take_linked(kept, j, m),
         _ => {}
     }
+}
+
+/// What the function of a pending stage is to be called with, where its form is one of the most common ones and its
+/// sources all gave values. Of the others it says nothing.
+#[inline(always)]
+#[tactic(auto, using(crate::proofs::Keeping::Offering::one_due, crate::proofs::Keeping::Offering::two_due))]
+pub fn offered(kept: &Cells, form: Form, sources: &[u16]) -> Option<Args>
+    requires sources { All (λ j. j < length kept.now.items) sources.now }
+    ensures { IfSome result (λ args. (late_due form (map (dated_in kept.now.items) sources.now)).0 ≡ Needs args) }
+{
+    if takes_value(form) {
+        offered_one(kept, sources)
+    } else if takes_values(form) {
+        offered_two(kept, sources)
+    } else {
+        None
+    }
+}
+
+/// Whether the function of a form is called with the value of its one source.
+#[inline(always)]
+fn takes_value(form: Form) -> bool
+    ensures { result ≡ takes_value form }
+{
+    matches!(form, Form::Apply | Form::Accept | Form::Compose)
+}
+
+/// Whether the function of a form is called with the values of both of its sources.
+#[inline(always)]
+fn takes_values(form: Form) -> bool
+    ensures { result ≡ takes_values form }
+{
+    matches!(form, Form::Combine | Form::AcceptBoth)
+}
+
+/// The value that the one source gave, as an argument.
+#[inline(always)]
+fn offered_one(kept: &Cells, sources: &[u16]) -> Option<Args>
+    requires sources { All (λ j. j < length kept.now.items) sources.now }
+    ensures { IfSome result (λ args. one_value (map outcome_part (map (dated_in kept.now.items) sources.now)) ≡ Some args) }
+{
+    if let [j] = sources {
+        if let Some(v) = value_below(kept, *j) {
+            return Some(Args::One(v));
+        }
+    }
+    None
+}
+
+/// The values that the two sources gave, as arguments.
+#[inline(always)]
+fn offered_two(kept: &Cells, sources: &[u16]) -> Option<Args>
+    requires sources { All (λ j. j < length kept.now.items) sources.now }
+    ensures { IfSome result (λ args. two_values (map outcome_part (map (dated_in kept.now.items) sources.now)) ≡ Some args) }
+{
+    if let [a, b] = sources {
+        if let Some(v) = value_below(kept, *a) {
+            if let Some(w) = value_below(kept, *b) {
+                return Some(Args::Two(v, w));
+            }
+        }
+    }
+    None
+}
+
+/// The value that a source gave.
+#[inline(always)]
+fn value_below(kept: &Cells, j: u16) -> Option<Value>
+    requires { j < length kept.now.items }
+    ensures { IfSome result (λ v. outcome_part (dated_in kept.now.items j) ≡ Some (Gives v)) }
+{
+    kept.value(j)
 }
 
 /// The outcome of a settled stage, with the step at which it settled.
