@@ -1,6 +1,7 @@
 //! What is kept of the stages of a graph.
-ghost use Rattle.std.specs.Prelude.{◌≡◌, ℕ, ◌+◌, ◌<◌, ◌≤◌, ◌∷◌, ◌++◌, [], IfOk, IfSome, Some, is_some, length, replicate, slice_set, true};
+ghost use Rattle.std.specs.Prelude.{◌≡◌, ℕ, ◌+◌, ◌<◌, ◌≤◌, ◌∷◌, ◌++◌, [], IfNone, IfOk, IfSome, Some, is_some, length, replicate, slice_set, true};
 ghost use Rattle.cf_outcome.specs.declared.outcome.Outcome.TheVariants.{Value as Gives};
+ghost use Rattle.cf_plan.specs.declared.forms.Due.TheVariants.{Needs};
 ghost use Rattle.cf_plan.specs.Forms.{due_of_first};
 ghost use Rattle.cf_core.specs.declared.stage.Stage.TheVariants.{Pending, Ready, Settled};
 ghost use Rattle.cf_core.specs.States.{is_ready, outcome_of};
@@ -194,6 +195,25 @@ impl Cells {
         let from = self.cells[j as usize];
         if let Kind::Settled = from.kind {
             self.cells[m as usize].take_one(form, from);
+        }
+    }
+
+    /// Lets a pending stage take what its one source has, if that has settled. With what its function is to be called is
+    /// told, and not written.
+    #[inline(always)]
+    pub fn offer_one(&mut self, form: Form, j: u16, m: u16) -> Option<Args>
+        requires stage { m < length self.old.items }
+        requires source { j < length self.old.items }
+        requires pending { (kept_at self.old.items m).stage ≡ Pending }
+        ensures told { IfSome result (λ args. due_of_first form (outcome_part (dated_in self.old.items j)) ≡ Needs args) }
+        ensures unwritten { IfSome result (λ args. self.new ≡ self.old) }
+        ensures kept { let x = dated_in self.old.items j in IfNone result (self.new.items ≡ slice_set self.old.items m (due_kept (due_of_first form (outcome_part x)) (step_part x) (kept_at self.old.items m).step)) }
+        ensures room { self.new.capacity ≡ self.old.capacity }
+    {
+        let from = self.cells[j as usize];
+        match from.kind {
+            Kind::Settled => self.cells[m as usize].offer_one(form, from),
+            _ => None,
         }
     }
 

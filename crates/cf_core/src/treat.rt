@@ -1,14 +1,14 @@
 //! The treatment of one stage: it takes what the stages below it have, and keeps at which step.
-ghost use Rattle.std.specs.Prelude.{◌≡◌, ℕ, ◌<◌, ◌∷◌, [], All, IfSome, Option, Some, is_some, length, map, slice_set};
+ghost use Rattle.std.specs.Prelude.{◌≡◌, ℕ, ◌<◌, ◌∷◌, [], All, IfNone, IfSome, Option, Some, is_some, length, map, slice_set};
 ghost use Rattle.std.specs.List.{list_all};
 ghost use Rattle.cf_outcome.specs.declared.outcome.Outcome.TheVariants.{Value as Gives};
 ghost use Rattle.cf_plan.specs.declared.forms.Due.TheVariants.{Needs};
 ghost use Rattle.cf_plan.specs.Forms.{first_fault, due_of_both};
-ghost use Rattle.cf_core.specs.declared.stage.Stage.TheVariants.{Linked, Pending};
+ghost use Rattle.cf_core.specs.declared.stage.Stage.TheVariants.{Linked, Pending, Ready};
 ghost use Rattle.cf_core.specs.Laws.{is_decided_by_first};
 ghost use Rattle.cf_core.specs.Keeping.Sound.{kept_at};
 ghost use Rattle.cf_core.specs.Keeping.Late.{dated_in, due_kept, earlier, earliest, late_due, latest, linked_kept, outcome_part, treated};
-ghost use Rattle.cf_core.specs.Keeping.Offers.{one_value, takes_value, takes_values, two_values};
+ghost use Rattle.cf_core.specs.Keeping.Offers.{takes_values, two_values};
 
 use crate::cells::Cells;
 use crate::kept::KeptStage;
@@ -31,29 +31,62 @@ pub fn treat(kept: &mut Cells, form: Form, sources: &[u16], m: u16)
     }
 }
 
-/// What the function of a pending stage is to be called with, where its form is one of the most common ones and its
-/// sources all gave values. Of the others it says nothing.
+/// Treats stage `m`, which waits, as `treat` does. But where a look tells with what its function is to be called, that is
+/// told, and nothing is written.
 #[inline(always)]
-#[tactic(auto, using(crate::proofs::Keeping::Offering::one_due, crate::proofs::Keeping::Offering::two_due))]
-pub fn offered(kept: &Cells, form: Form, sources: &[u16]) -> Option<Args>
-    requires sources { All (λ j. j < length kept.now.items) sources.now }
-    ensures { IfSome result (λ args. (late_due form (map (dated_in kept.now.items) sources.now)).0 ≡ Needs args) }
+pub fn offer(kept: &mut Cells, form: Form, sources: &[u16], m: u16) -> Option<Args>
+    requires stage { m < length kept.old.items }
+    requires sources { All (λ j. j < length kept.old.items) sources.now }
+    ensures told { IfSome result (λ args. (function : Option ℕ) → treated kept.old.items (record { form = form; sources = sources.now; function = function }) (kept_at kept.old.items m) ≡ record { stage = Ready args; step = (kept_at kept.old.items m).step }) }
+    ensures unwritten { IfSome result (λ args. kept.new ≡ kept.old) }
+    ensures kept { IfNone result ((function : Option ℕ) → kept.new.items ≡ slice_set kept.old.items m (treated kept.old.items (record { form = form; sources = sources.now; function = function }) (kept_at kept.old.items m))) }
+    ensures room { kept.new.capacity ≡ kept.old.capacity }
 {
-    if takes_value(form) {
-        offered_one(kept, sources)
-    } else if takes_values(form) {
-        offered_two(kept, sources)
+    if kept.is_pending(m) {
+        offer_due(kept, form, sources, m)
     } else {
+        treat(kept, form, sources, m);
         None
     }
 }
 
-/// Whether the function of a form is called with the value of its one source.
+/// Lets a pending stage take what its sources have, in the same way.
 #[inline(always)]
-fn takes_value(form: Form) -> bool
-    ensures { result ≡ takes_value form }
+fn offer_due(kept: &mut Cells, form: Form, sources: &[u16], m: u16) -> Option<Args>
+    requires stage { m < length kept.old.items }
+    requires sources { All (λ j. j < length kept.old.items) sources.now }
+    requires pending { (kept_at kept.old.items m).stage ≡ Pending }
+    ensures told { IfSome result (λ args. (late_due form (map (dated_in kept.old.items) sources.now)).0 ≡ Needs args) }
+    ensures unwritten { IfSome result (λ args. kept.new ≡ kept.old) }
+    ensures kept { let due = late_due form (map (dated_in kept.old.items) sources.now) in IfNone result (kept.new.items ≡ slice_set kept.old.items m (due_kept due.0 due.1 (kept_at kept.old.items m).step)) }
+    ensures room { kept.new.capacity ≡ kept.old.capacity }
 {
-    matches!(form, Form::Apply | Form::Accept | Form::Compose)
+    if let [j] = sources {
+        if waits_for_one(form) {
+            return kept.offer_one(form, *j, m);
+        }
+    }
+    match offered(kept, form, sources) {
+        Some(args) => Some(args),
+        None => {
+            take_due(kept, form, sources, m);
+            None
+        }
+    }
+}
+
+/// The values that both sources of a pending stage gave, where its function is to be called with them.
+#[inline(always)]
+#[tactic(auto, using(crate::proofs::Keeping::Offering::two_due))]
+fn offered(kept: &Cells, form: Form, sources: &[u16]) -> Option<Args>
+    requires sources { All (λ j. j < length kept.now.items) sources.now }
+    ensures { IfSome result (λ args. (late_due form (map (dated_in kept.now.items) sources.now)).0 ≡ Needs args) }
+{
+    if takes_values(form) {
+        offered_two(kept, sources)
+    } else {
+        None
+    }
 }
 
 /// Whether the function of a form is called with the values of both of its sources.
@@ -62,20 +95,6 @@ fn takes_values(form: Form) -> bool
     ensures { result ≡ takes_values form }
 {
     matches!(form, Form::Combine | Form::AcceptBoth)
-}
-
-/// The value that the one source gave, as an argument.
-#[inline(always)]
-fn offered_one(kept: &Cells, sources: &[u16]) -> Option<Args>
-    requires sources { All (λ j. j < length kept.now.items) sources.now }
-    ensures { IfSome result (λ args. one_value (map outcome_part (map (dated_in kept.now.items) sources.now)) ≡ Some args) }
-{
-    if let [j] = sources {
-        if let Some(v) = value_below(kept, *j) {
-            return Some(Args::One(v));
-        }
-    }
-    None
 }
 
 /// The values that the two sources gave, as arguments.

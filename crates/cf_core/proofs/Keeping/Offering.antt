@@ -6,34 +6,13 @@ use Rattle.cf_outcome.specs.declared.outcome.Value.{Value}
 use Rattle.cf_plan.specs.declared.forms.Form.{Form}
 use Rattle.cf_plan.specs.declared.forms.Form.TheVariants as forms
 use Rattle.cf_plan.specs.declared.forms.Args.{Args}
-use Rattle.cf_plan.specs.declared.forms.Args.TheVariants.{One, Two}
+use Rattle.cf_plan.specs.declared.forms.Args.TheVariants.{Two}
 use Rattle.cf_plan.specs.declared.forms.Answer.TheVariants.{Give}
 use Rattle.cf_plan.specs.declared.forms.Due.TheVariants.{Needs}
 use Rattle.cf_plan.specs.declared.forms.Landing.TheVariants.{Settles as Lands}
 use Rattle.cf_plan.specs.Forms.{landing}
 use Rattle.cf_core.specs.Keeping.Late.{late_due, outcome_part}
-use Rattle.cf_core.specs.Keeping.Offers.{keeps_value, one_value, takes_value, takes_values, two_values}
-
-first_value : (form : Form) (v : Value) (step : ℕ) → takes_value form ≡ true → (late_due form (Some (Gives v, step) ∷ [])).0 ≡ Needs (One v)
-first_value forms.Source v step t = cc
-first_value forms.Supply v step t = cc
-first_value forms.RunAsync v step t = cc
-first_value forms.Apply v step t = refl
-first_value forms.Accept v step t = refl
-first_value forms.ThenRun v step t = cc
-first_value forms.Combine v step t = cc
-first_value forms.AcceptBoth v step t = cc
-first_value forms.RunBoth v step t = cc
-first_value forms.ApplyEither v step t = cc
-first_value forms.AcceptEither v step t = cc
-first_value forms.RunEither v step t = cc
-first_value forms.Compose v step t = refl
-first_value forms.Handle v step t = cc
-first_value forms.WhenComplete v step t = cc
-first_value forms.Exceptionally v step t = cc
-first_value forms.AllOf v step t = cc
-first_value forms.AnyOf v step t = cc
-first_value forms.ExceptionallyCompose v step t = cc
+use Rattle.cf_core.specs.Keeping.Offers.{keeps_value, takes_values, two_values}
 
 both_values : (form : Form) (v w : Value) (step last : ℕ) → takes_values form ≡ true → (late_due form (Some (Gives v, step) ∷ Some (Gives w, last) ∷ [])).0 ≡ Needs (Two v w)
 both_values forms.Source v w step last t = cc
@@ -55,13 +34,6 @@ both_values forms.Exceptionally v w step last t = cc
 both_values forms.AllOf v w step last t = cc
 both_values forms.AnyOf v w step last t = cc
 both_values forms.ExceptionallyCompose v w step last t = cc
-
-pub one_due : (form : Form) (q : List (Option (Outcome × ℕ))) (args : Args) → takes_value form ≡ true → one_value (map outcome_part q) ≡ Some args → (late_due form q).0 ≡ Needs args
-one_due form [] args t e = cc
-one_due form (None ∷ q) args t e = cc
-one_due form (Some (Fault cause wrapped, step) ∷ q) args t e = cc
-one_due form (Some (Gives v, step) ∷ x ∷ q) args t e = cc
-one_due form (Some (Gives v, step) ∷ []) args t e = let is : One v ≡ args = cc in first_value form v step t ∙ ap (λ y. Needs y) is
 
 pub two_due : (form : Form) (q : List (Option (Outcome × ℕ))) (args : Args) → takes_values form ≡ true → two_values (map outcome_part q) ≡ Some args → (late_due form q).0 ≡ Needs args
 two_due form [] args t e = cc

@@ -3,9 +3,9 @@ use Rattle.std.specs.Prelude.{Bool, true, false, Option, Some, None, List, [], �
 use Rattle.cf_outcome.specs.declared.outcome.Outcome.{Outcome}
 use Rattle.cf_outcome.specs.declared.outcome.Outcome.TheVariants.{Value as Gives}
 use Rattle.cf_plan.specs.declared.forms.Form.{Form}
-use Rattle.cf_plan.specs.declared.forms.Form.TheVariants.{Supply, Apply, Accept, Combine, AcceptBoth, ApplyEither, Compose, Handle, Exceptionally}
+use Rattle.cf_plan.specs.declared.forms.Form.TheVariants.{Supply, Apply, Combine, AcceptBoth, ApplyEither, Handle, Exceptionally}
 use Rattle.cf_plan.specs.declared.forms.Args.{Args}
-use Rattle.cf_plan.specs.declared.forms.Args.TheVariants.{One, Two}
+use Rattle.cf_plan.specs.declared.forms.Args.TheVariants.{Two}
 use Rattle.cf_core.specs.declared.stage.Stage.{Stage}
 use Rattle.cf_core.specs.declared.stage.Stage.TheVariants.{Ready}
 
@@ -14,18 +14,7 @@ abbrev pub args_of : Stage → Option Args
 args_of (Ready args) = Some args
 args_of stage = None
 
--- the forms whose function is called with the value of their one source
-abbrev pub takes_value : Form → Bool
-takes_value Apply = true
-takes_value Accept = true
-takes_value Compose = true
-takes_value form = false
-
-abbrev pub one_value : List (Option Outcome) → Option Args
-one_value (Some (Gives v) ∷ []) = Some (One v)
-one_value q = None
-
--- and those whose function is called with the values of both
+-- the forms whose function is called with the values of both sources
 abbrev pub takes_values : Form → Bool
 takes_values Combine = true
 takes_values AcceptBoth = true

@@ -9,16 +9,14 @@ ghost use Rattle.cf_plan.specs.Forms.{composes};
 ghost use Rattle.cf_plan.specs.Plans.{form_at};
 ghost use Rattle.cf_core.specs.declared.stage.Stage.TheVariants.{Linked, Ready, Settled};
 ghost use Rattle.cf_core.specs.States.{is_ready, new_states, outcome_of};
-ghost use Rattle.cf_core.specs.Keeping.Late.{treated};
 ghost use Rattle.cf_core.specs.Keeping.Sound.{StayTaken, StayTakenBut, is_waiting, kept_at, links_after};
 ghost use Rattle.cf_core.specs.Keeping.SoundStages.{AreSound, SameRoom, outlook_of};
 ghost use Rattle.cf_core.specs.Keeping.Sweeps.{AreSwept, IsReadyWith, turns_after};
-ghost use Rattle.cf_core.specs.Keeping.Turns.{planned_at};
 
 use crate::kept::KeptStage;
 use crate::stage::Stage;
 use crate::stages::Stages;
-use crate::treat::{offered, treat};
+use crate::treat::offer;
 use cf_outcome::{Outcome, Value};
 use cf_plan::{Args, GrowingPlan};
 
@@ -36,43 +34,38 @@ impl Stages {
         ensures counted { self.old.turns ≤ self.new.turns }
         ensures room { SameRoom self.old self.new }
     {
-        if let Some(args) = self.offered(plan, m) {
-            self.turns += 1;
-            return Some(args);
+        if !self.kept.is_waiting(m) {
+            return self.kept.args(m);
         }
-        self.treat_swept(plan, m);
-        self.kept.args(m)
-    }
-
-    /// With what the function of the next stage of a sweep is to be called, where it waits and a look tells it.
-    #[inline(always)]
-    fn offered(&self, plan: &GrowingPlan, m: u16) -> Option<Args>
-        requires swept { AreSwept plan.now.stages m m self.now }
-        requires stage { m < length plan.now.stages }
-        ensures waiting { IfSome result (λ args. is_waiting ((kept_at self.now.kept.items m).stage) ≡ true) }
-        ensures ready { IfSome result (λ args. treated self.now.kept.items (planned_at plan.now.stages m) (kept_at self.now.kept.items m) ≡ record { stage = Ready args; step = (kept_at self.now.kept.items m).step }) }
-    {
-        if self.kept.is_pending(m) {
-            offered(&self.kept, plan.form(m), plan.sources(m))
-        } else {
-            None
+        match self.treat_swept(plan, m) {
+            Some(args) => Some(args),
+            None => self.kept.args(m),
         }
     }
 
-    /// Treats the next stage of a sweep, if it waits. Where it takes something, this is a turn.
+    /// Treats the next stage of a sweep, which waits. Where it takes something, this is a turn. It says with what its
+    /// function is to be called where a look tells that, and then doesn't write it.
     #[inline(always)]
-    fn treat_swept(&mut self, plan: &GrowingPlan, m: u16)
+    fn treat_swept(&mut self, plan: &GrowingPlan, m: u16) -> Option<Args>
         requires swept { AreSwept plan.now.stages m m self.old }
         requires stage { m < length plan.now.stages }
+        requires waiting { is_waiting ((kept_at self.old.kept.items m).stage) ≡ true }
+        ensures ready { IfSome result (λ args. IsReadyWith plan.now.stages m args self.new) }
+        ensures swept { IfNone result (AreSwept plan.now.stages (m + 1) m self.new) }
         ensures same { outlook_of plan.now.stages self.new ≡ outlook_of plan.now.stages self.old }
         ensures taken { StayTaken self.old.kept.items self.new.kept.items }
         ensures counted { self.old.turns ≤ self.new.turns }
         ensures room { SameRoom self.old self.new }
-        ensures swept { AreSwept plan.now.stages (m + 1) m self.new }
     {
-        if self.kept.is_waiting(m) {
-            treat(&mut self.kept, plan.form(m), plan.sources(m), m);
-            self.note_swept(m);
+        match offer(&mut self.kept, plan.form(m), plan.sources(m), m) {
+            Some(args) => {
+                self.turns += 1;
+                Some(args)
+            }
+            None => {
+                self.note_swept(m);
+                None
+            }
         }
     }
 
