@@ -125,10 +125,15 @@ impl Cells {
 
     /// What the function of a ready stage is to be called with.
     #[inline(always)]
+    #[tactic(auto, using(crate::proofs::Keeping::Offering::unready_args))]
     pub fn args(&self, i: u16) -> Option<Args>
         requires { i < length self.now.items }
         ensures { result ≡ args_of ((kept_at self.now.items i).stage) }
     {
+        // Most are settled by then, and needn't be looked at by kind.
+        if !self.is_ready(i) {
+            return None;
+        }
         match self.stage(i) {
             Stage::Ready(args) => Some(args),
             _ => None,

@@ -1,5 +1,5 @@
 -- What is offered is what is due, and what a form keeps of its function's answer.
-use Rattle.std.proofs.Common.{◌≡◌, ◌∙◌, ℕ, List, [], ◌∷◌, true, Option, Some, None, ap, refl, map}
+use Rattle.std.proofs.Common.{◌≡◌, ◌∙◌, ℕ, List, [], ◌∷◌, true, false, Option, Some, None, ap, refl, map}
 use Rattle.cf_outcome.specs.declared.outcome.Outcome.{Outcome}
 use Rattle.cf_outcome.specs.declared.outcome.Outcome.TheVariants.{Value as Gives, Fault}
 use Rattle.cf_outcome.specs.declared.outcome.Value.{Value}
@@ -11,8 +11,11 @@ use Rattle.cf_plan.specs.declared.forms.Answer.TheVariants.{Give}
 use Rattle.cf_plan.specs.declared.forms.Due.TheVariants.{Needs}
 use Rattle.cf_plan.specs.declared.forms.Landing.TheVariants.{Settles as Lands}
 use Rattle.cf_plan.specs.Forms.{landing}
+use Rattle.cf_core.specs.declared.stage.Stage.{Stage}
+use Rattle.cf_core.specs.declared.stage.Stage.TheVariants.{Pending, Ready, Claimed, Linked, Settled}
+use Rattle.cf_core.specs.States.{is_ready}
 use Rattle.cf_core.specs.Keeping.Late.{late_due, outcome_part}
-use Rattle.cf_core.specs.Keeping.Offers.{keeps_value, takes_values, two_values}
+use Rattle.cf_core.specs.Keeping.Offers.{args_of, keeps_value, takes_values, two_values}
 
 both_values : (form : Form) (v w : Value) (step last : ℕ) → takes_values form ≡ true → (late_due form (Some (Gives v, step) ∷ Some (Gives w, last) ∷ [])).0 ≡ Needs (Two v w)
 both_values forms.Source v w step last t = cc
@@ -65,3 +68,10 @@ kept_lands forms.WhenComplete i source v e = cc
 kept_lands forms.AllOf i source v e = cc
 kept_lands forms.AnyOf i source v e = cc
 kept_lands forms.ExceptionallyCompose i source v e = cc
+
+pub unready_args : (stage : Stage) → is_ready stage ≡ false → None ≡ args_of stage
+unready_args (Ready args) e = cc
+unready_args Pending e = refl
+unready_args Claimed e = refl
+unready_args (Linked j) e = refl
+unready_args (Settled o) e = refl
