@@ -141,6 +141,16 @@ AreBits-empty n len e few = record {
   above = λ i from to. ap (λ w. bit_at w (i % 64)) (get_or-zeros n (i / 64)) ∙ bit_at-zero (i % 64);
 }
 
+-- where the upper word is 0, all words are
+pub words_zero : (len : ℕ) (words : List ℕ) → AreBits len 0 words → words ≡ replicate 64 0
+words_zero len words h =
+    let n = length-replicate {A = ℕ} 64 0 in
+    ext_get_or 0 words (replicate 64 0) (h.count ∙ sym n)
+    (λ j l. let t = h.tops j (let c = h.count in omega (arith, c, l)) in
+    let z = bit_at-zero j in
+    let none : get_or words j 0 ≡ 0 = omega (arith, t, z) in
+    none ∙ sym (get_or-zeros 64 j))
+
 -- where the first flag is set
 -- a bit of a word that is 0
 bit_in-zero : (words : List ℕ) (j : ℕ) → get_or words (j / 64) 0 ≡ 0 → bit_in words j ≡ 0

@@ -62,8 +62,11 @@ impl BitSet {
     {
         let len = &mut self.len;
         *len = bound;
-        self.top = 0;
-        self.words.fill(0);
+        // Where the set is empty, all its words are 0.
+        if self.top != 0 {
+            self.top = 0;
+            self.words.fill(0);
+        }
     }
 
     /// Puts a number in. One that is in stays in.

@@ -7,6 +7,7 @@ pub mod Marks
 pub mod LinkLemmas
 pub mod Marking
 pub mod Sums
+pub mod Offering
 pub mod Sweeping
 pub mod Waiting
 pub mod StartLemmas

@@ -1,6 +1,7 @@
 pub mod Cells
 pub mod Late
 pub mod Starts
+pub mod Offers
 pub mod Sweeps
 pub mod Writes
 pub mod Marks

@@ -1,9 +1,11 @@
 //! One stage in 16 bytes.
-ghost use Rattle.std.specs.Prelude.{◌≡◌, true};
+ghost use Rattle.std.specs.Prelude.{◌≡◌, IfNone, IfSome, Some, is_some, true};
+ghost use Rattle.cf_outcome.specs.declared.outcome.Outcome.TheVariants.{Value as Gives};
 ghost use Rattle.cf_outcome.specs.Outcomes.{is_exceptional};
 ghost use Rattle.cf_plan.specs.declared.forms.Args.TheVariants.{Got, None as NoArgs, One};
+ghost use Rattle.cf_plan.specs.declared.forms.Due.TheVariants.{Needs};
 ghost use Rattle.cf_plan.specs.Forms.{due_one};
-ghost use Rattle.cf_core.specs.declared.stage.Stage.TheVariants.{Claimed, Linked, Ready, Settled};
+ghost use Rattle.cf_core.specs.declared.stage.Stage.TheVariants.{Claimed, Linked, Pending, Ready, Settled};
 ghost use Rattle.cf_core.specs.States.{is_ready, outcome_of};
 ghost use Rattle.cf_core.specs.Keeping.Cells.{kept_of, outcome_in, value_in};
 ghost use Rattle.cf_core.specs.Keeping.Late.{due_kept};
@@ -138,6 +140,37 @@ impl Cell {
         ensures { result ≡ is_ready ((kept_of self.now).stage) }
     {
         matches!(self.kind, Kind::None | Kind::One | Kind::Two | Kind::Got)
+    }
+
+    /// Whether it is settled.
+    #[inline(always)]
+    pub fn is_settled(&self) -> bool
+        ensures { result ≡ is_some (outcome_of ((kept_of self.now).stage)) }
+    {
+        matches!(self.kind, Kind::Settled)
+    }
+
+    /// Whether it waits for its sources.
+    #[inline(always)]
+    pub fn is_pending(&self) -> bool
+        ensures { result ≡ true → (kept_of self.now).stage ≡ Pending }
+    {
+        matches!(self.kind, Kind::Pending)
+    }
+
+    /// The value that it has settled with, if it has.
+    #[inline(always)]
+    pub fn value(&self) -> Option<Value>
+        ensures { IfSome result (λ v. outcome_of ((kept_of self.now).stage) ≡ Some (Gives v)) }
+    {
+        match self.kind {
+            Kind::Settled => match self.detail {
+                Detail::Nil => Some(Value::Nil),
+                Detail::Int => Some(Value::Int(self.number)),
+                _ => None,
+            },
+            _ => None,
+        }
     }
 
     /// The outcome, if it is settled.
@@ -360,6 +393,47 @@ impl Cell {
                     self.pass(from, from.step);
                 } else {
                     self.get_value(from);
+                }
+            }
+        }
+    }
+
+    /// Lets a pending stage take what its one source has, which has settled. With what its function is to be called is
+    /// told, and not written.
+    #[inline(always)]
+    pub fn offer_one(&mut self, form: Form, from: Cell) -> Option<Args>
+        ensures told { IfSome result (λ args. due_one form (outcome_in from.detail from.flag from.number from.word) ≡ Needs args) }
+        ensures unwritten { IfSome result (λ args. self.new ≡ self.old) }
+        ensures kept { IfNone result (kept_of self.new ≡ due_kept (due_one form (outcome_in from.detail from.flag from.number from.word)) from.step self.old.step) }
+    {
+        match form {
+            Form::Handle | Form::WhenComplete => Some(Args::Got(outcome_in(&from))),
+            Form::AnyOf => {
+                self.pass(from, from.step);
+                None
+            }
+            Form::Exceptionally | Form::ExceptionallyCompose => {
+                if from.is_fault() {
+                    Some(Args::Got(outcome_in(&from)))
+                } else {
+                    self.pass(from, from.step);
+                    None
+                }
+            }
+            Form::ThenRun | Form::RunEither => {
+                if from.is_fault() {
+                    self.pass(from, from.step);
+                    None
+                } else {
+                    Some(Args::None)
+                }
+            }
+            _ => {
+                if from.is_fault() {
+                    self.pass(from, from.step);
+                    None
+                } else {
+                    Some(Args::One(value_in(from.detail, from.number)))
                 }
             }
         }

@@ -1,17 +1,20 @@
 //! What is kept of the stages of a graph.
-ghost use Rattle.std.specs.Prelude.{◌≡◌, ℕ, ◌+◌, ◌<◌, ◌≤◌, ◌∷◌, ◌++◌, [], IfOk, length, replicate, slice_set};
+ghost use Rattle.std.specs.Prelude.{◌≡◌, ℕ, ◌+◌, ◌<◌, ◌≤◌, ◌∷◌, ◌++◌, [], IfNone, IfOk, IfSome, Some, is_some, length, replicate, slice_set, true};
+ghost use Rattle.cf_outcome.specs.declared.outcome.Outcome.TheVariants.{Value as Gives};
+ghost use Rattle.cf_plan.specs.declared.forms.Due.TheVariants.{Needs};
 ghost use Rattle.cf_plan.specs.Forms.{due_of_first};
 ghost use Rattle.cf_core.specs.declared.stage.Stage.TheVariants.{Pending, Ready, Settled};
 ghost use Rattle.cf_core.specs.States.{is_ready, outcome_of};
 ghost use Rattle.cf_core.specs.Keeping.Cells.{blank};
 ghost use Rattle.cf_core.specs.Keeping.Late.{dated_in, due_kept, outcome_part, step_part};
 ghost use Rattle.cf_core.specs.Keeping.Sound.{is_waiting, kept_at};
+ghost use Rattle.cf_core.specs.Keeping.Offers.{args_of};
 ghost use Rattle.cf_core.specs.Keeping.Starts.{untreated};
 
 use crate::cell::{Cell, Detail, Kind};
 use crate::kept::KeptStage;
 use crate::stage::Stage;
-use cf_outcome::Outcome;
+use cf_outcome::{Outcome, Value};
 use cf_plan::{Args, Form};
 use std::alloc::{AllocError, Global};
 use std::marker::Model;
@@ -93,6 +96,50 @@ impl Cells {
         self.cells[i as usize].outcome()
     }
 
+    /// Whether a stage is settled.
+    #[inline(always)]
+    pub fn is_settled(&self, i: u16) -> bool
+        requires { i < length self.now.items }
+        ensures { result ≡ is_some (outcome_of ((kept_at self.now.items i).stage)) }
+    {
+        self.cells[i as usize].is_settled()
+    }
+
+    /// Whether a stage waits for its sources.
+    #[inline(always)]
+    pub fn is_pending(&self, i: u16) -> bool
+        requires { i < length self.now.items }
+        ensures { result ≡ true → (kept_at self.now.items i).stage ≡ Pending }
+    {
+        self.cells[i as usize].is_pending()
+    }
+
+    /// The value that a stage has settled with, if it has.
+    #[inline(always)]
+    pub fn value(&self, i: u16) -> Option<Value>
+        requires { i < length self.now.items }
+        ensures { IfSome result (λ v. outcome_of ((kept_at self.now.items i).stage) ≡ Some (Gives v)) }
+    {
+        self.cells[i as usize].value()
+    }
+
+    /// What the function of a ready stage is to be called with.
+    #[inline(always)]
+    #[tactic(auto, using(crate::proofs::Keeping::Offering::unready_args))]
+    pub fn args(&self, i: u16) -> Option<Args>
+        requires { i < length self.now.items }
+        ensures { result ≡ args_of ((kept_at self.now.items i).stage) }
+    {
+        // Most are settled by then, and needn't be looked at by kind.
+        if !self.is_ready(i) {
+            return None;
+        }
+        match self.stage(i) {
+            Stage::Ready(args) => Some(args),
+            _ => None,
+        }
+    }
+
     /// Whether a stage waits, for its sources or for the stage that it is linked to.
     #[inline(always)]
     pub fn is_waiting(&self, i: u16) -> bool
@@ -153,6 +200,25 @@ impl Cells {
         let from = self.cells[j as usize];
         if let Kind::Settled = from.kind {
             self.cells[m as usize].take_one(form, from);
+        }
+    }
+
+    /// Lets a pending stage take what its one source has, if that has settled. With what its function is to be called is
+    /// told, and not written.
+    #[inline(always)]
+    pub fn offer_one(&mut self, form: Form, j: u16, m: u16) -> Option<Args>
+        requires stage { m < length self.old.items }
+        requires source { j < length self.old.items }
+        requires pending { (kept_at self.old.items m).stage ≡ Pending }
+        ensures told { IfSome result (λ args. due_of_first form (outcome_part (dated_in self.old.items j)) ≡ Needs args) }
+        ensures unwritten { IfSome result (λ args. self.new ≡ self.old) }
+        ensures kept { let x = dated_in self.old.items j in IfNone result (self.new.items ≡ slice_set self.old.items m (due_kept (due_of_first form (outcome_part x)) (step_part x) (kept_at self.old.items m).step)) }
+        ensures room { self.new.capacity ≡ self.old.capacity }
+    {
+        let from = self.cells[j as usize];
+        match from.kind {
+            Kind::Settled => self.cells[m as usize].offer_one(form, from),
+            _ => None,
         }
     }
 

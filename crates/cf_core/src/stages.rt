@@ -6,12 +6,12 @@ mod sweeping;
 ghost use Rattle.std.specs.Prelude.{◌≡◌, ℕ, ◌+◌, ◌<◌, ◌≤◌, [], All, IfNone, IfOk, IfSome, None, Some, drop, false, length, option_and_then, position, replicate, slice_get, slice_set, true, vec_capacity, if◌then◌else◌};
 ghost use Rattle.cf_plan.specs.declared.forms.Landing.TheVariants.{Links as LinksTo};
 ghost use Rattle.cf_plan.specs.Forms.{composes, starts};
-ghost use Rattle.cf_plan.specs.Plans.{form_at, sources_at};
+ghost use Rattle.cf_plan.specs.Plans.{dependents_of, form_at, sources_at};
 ghost use Rattle.cf_core.specs.declared.stage.Stage.TheVariants.{Claimed, Linked, Pending, Settled};
 ghost use Rattle.cf_core.specs.States.{is_ready, new_states, outcome_in, outcome_of};
 ghost use Rattle.cf_core.specs.Keeping.Landings.{landed_stages};
 ghost use Rattle.cf_core.specs.Keeping.Links.{list_at};
-ghost use Rattle.cf_core.specs.Keeping.Sound.{AreTreated, ReadyIsTreated, StayTaken, StayTakenBut, is_taken, kept_at, links_after, marks_after};
+ghost use Rattle.cf_core.specs.Keeping.Sound.{AreTreated, ReadyIsTreated, StayTaken, StayTakenBut, is_taken, kept_at, links_after, mark_all, marks_after};
 ghost use Rattle.cf_core.specs.Keeping.SoundStages.{AreSound, HasRoom, SameRoom, outlook_of};
 ghost use Rattle.cf_core.specs.Keeping.Sweeps.{AreSwept};
 ghost use Rattle.cf_core.specs.Keeping.Turns.{TurnsBelowReady, TurnsUpTo, turned};
@@ -110,13 +110,31 @@ impl Stages {
         match self.kept.stage(d) {
             Stage::Settled(_) => {
                 self.ready.remove(d);
-                mark_each(&self.kept, &mut self.marks, plan.dependents(d));
-                mark_later(&self.kept, &mut self.marks, plan.later(d));
-                mark_linked(&self.kept, &mut self.marks, &mut self.links, d);
+                self.mark_after(plan, d);
             }
             Stage::Ready(_) => self.ready.insert(d),
             _ => self.ready.remove(d),
         }
+    }
+
+    /// Marks the dependents of a stage that settled, and the stages linked to it, of which there are none then.
+    #[inline(always)]
+    fn mark_after(&mut self, plan: &GrowingPlan, d: u16)
+        requires stage { d < length plan.now.stages }
+        requires all_kept { length self.old.kept.items ≡ length plan.now.stages }
+        requires all_marks { length self.old.marks ≡ length plan.now.stages }
+        requires all_links { length plan.now.stages ≤ length self.old.links }
+        requires linked { All (λ i. i < length plan.now.stages) (list_at self.old.links d) }
+        ensures marks { self.new.marks ≡ mark_all self.old.kept.items (list_at self.old.links d) (mark_all self.old.kept.items (dependents_of plan.now.stages d) self.old.marks) }
+        ensures links { self.new.links ≡ slice_set self.old.links d [] }
+        ensures kept { self.new.kept ≡ self.old.kept }
+        ensures ready { self.new.ready ≡ self.old.ready }
+        ensures steps { self.new.steps ≡ self.old.steps }
+        ensures turns { self.new.turns ≡ self.old.turns }
+    {
+        mark_each(&self.kept, &mut self.marks, plan.dependents(d));
+        mark_later(&self.kept, &mut self.marks, plan.later(d));
+        mark_linked(&self.kept, &mut self.marks, &mut self.links, d);
     }
 
     /// Treats the lowest marked stage: this is a turn. Nothing else is called a turn. It says whether the stage is ready
@@ -276,16 +294,28 @@ impl Stages {
         ensures room { SameRoom self.old self.new }
         ensures sound { AreSound plan.now.stages self.new }
     {
+        self.unready(plan, d);
         self.steps += 1;
-        let settled = self.steps;
-        self.put(
-            plan,
-            d,
-            KeptStage {
-                stage: Stage::Settled(o),
-                step: settled,
-            },
-        );
+        self.kept.settle(d, o, self.steps);
+        self.mark_after(plan, d);
+    }
+
+    /// Takes a stage out of the ready ones. Most of those that are settled are pending, and never were among them.
+    #[inline(always)]
+    fn unready(&mut self, plan: &GrowingPlan, d: u16)
+        requires sound { AreSound plan.now.stages self.old }
+        requires stage { d < length plan.now.stages }
+        ensures ready { self.new.ready ≡ slice_set self.old.ready d false }
+        ensures kept { self.new.kept ≡ self.old.kept }
+        ensures marks { self.new.marks ≡ self.old.marks }
+        ensures links { self.new.links ≡ self.old.links }
+        ensures steps { self.new.steps ≡ self.old.steps }
+        ensures turns { self.new.turns ≡ self.old.turns }
+    {
+        let _plan = plan;
+        if self.kept.is_ready(d) {
+            self.ready.remove(d);
+        }
     }
 
     /// Claims a ready stage. No stage up to it waits for treatment.

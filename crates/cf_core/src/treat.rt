@@ -1,11 +1,14 @@
 //! The treatment of one stage: it takes what the stages below it have, and keeps at which step.
-ghost use Rattle.std.specs.Prelude.{◌≡◌, ℕ, ◌<◌, ◌∷◌, [], All, Option, is_some, length, map, slice_set};
+ghost use Rattle.std.specs.Prelude.{◌≡◌, ℕ, ◌<◌, ◌∷◌, [], All, IfNone, IfSome, Option, Some, is_some, length, map, slice_set};
 ghost use Rattle.std.specs.List.{list_all};
+ghost use Rattle.cf_outcome.specs.declared.outcome.Outcome.TheVariants.{Value as Gives};
+ghost use Rattle.cf_plan.specs.declared.forms.Due.TheVariants.{Needs};
 ghost use Rattle.cf_plan.specs.Forms.{first_fault, due_of_both};
-ghost use Rattle.cf_core.specs.declared.stage.Stage.TheVariants.{Linked, Pending};
+ghost use Rattle.cf_core.specs.declared.stage.Stage.TheVariants.{Linked, Pending, Ready};
 ghost use Rattle.cf_core.specs.Laws.{is_decided_by_first};
 ghost use Rattle.cf_core.specs.Keeping.Sound.{kept_at};
 ghost use Rattle.cf_core.specs.Keeping.Late.{dated_in, due_kept, earlier, earliest, late_due, latest, linked_kept, outcome_part, treated};
+ghost use Rattle.cf_core.specs.Keeping.Offers.{takes_values, two_values};
 
 use crate::cells::Cells;
 use crate::kept::KeptStage;
@@ -26,6 +29,97 @@ pub fn treat(kept: &mut Cells, form: Form, sources: &[u16], m: u16)
         Stage::Linked(j) => take_linked(kept, j, m),
         _ => {}
     }
+}
+
+/// Treats stage `m`, which waits, as `treat` does. But where a look tells with what its function is to be called, that is
+/// told, and nothing is written.
+#[inline(always)]
+pub fn offer(kept: &mut Cells, form: Form, sources: &[u16], m: u16) -> Option<Args>
+    requires stage { m < length kept.old.items }
+    requires sources { All (λ j. j < length kept.old.items) sources.now }
+    ensures told { IfSome result (λ args. (function : Option ℕ) → treated kept.old.items (record { form = form; sources = sources.now; function = function }) (kept_at kept.old.items m) ≡ record { stage = Ready args; step = (kept_at kept.old.items m).step }) }
+    ensures unwritten { IfSome result (λ args. kept.new ≡ kept.old) }
+    ensures kept { IfNone result ((function : Option ℕ) → kept.new.items ≡ slice_set kept.old.items m (treated kept.old.items (record { form = form; sources = sources.now; function = function }) (kept_at kept.old.items m))) }
+    ensures room { kept.new.capacity ≡ kept.old.capacity }
+{
+    if kept.is_pending(m) {
+        offer_due(kept, form, sources, m)
+    } else {
+        treat(kept, form, sources, m);
+        None
+    }
+}
+
+/// Lets a pending stage take what its sources have, in the same way.
+#[inline(always)]
+fn offer_due(kept: &mut Cells, form: Form, sources: &[u16], m: u16) -> Option<Args>
+    requires stage { m < length kept.old.items }
+    requires sources { All (λ j. j < length kept.old.items) sources.now }
+    requires pending { (kept_at kept.old.items m).stage ≡ Pending }
+    ensures told { IfSome result (λ args. (late_due form (map (dated_in kept.old.items) sources.now)).0 ≡ Needs args) }
+    ensures unwritten { IfSome result (λ args. kept.new ≡ kept.old) }
+    ensures kept { let due = late_due form (map (dated_in kept.old.items) sources.now) in IfNone result (kept.new.items ≡ slice_set kept.old.items m (due_kept due.0 due.1 (kept_at kept.old.items m).step)) }
+    ensures room { kept.new.capacity ≡ kept.old.capacity }
+{
+    if let [j] = sources {
+        if waits_for_one(form) {
+            return kept.offer_one(form, *j, m);
+        }
+    }
+    match offered(kept, form, sources) {
+        Some(args) => Some(args),
+        None => {
+            take_due(kept, form, sources, m);
+            None
+        }
+    }
+}
+
+/// The values that both sources of a pending stage gave, where its function is to be called with them.
+#[inline(always)]
+#[tactic(auto, using(crate::proofs::Keeping::Offering::two_due))]
+fn offered(kept: &Cells, form: Form, sources: &[u16]) -> Option<Args>
+    requires sources { All (λ j. j < length kept.now.items) sources.now }
+    ensures { IfSome result (λ args. (late_due form (map (dated_in kept.now.items) sources.now)).0 ≡ Needs args) }
+{
+    if takes_values(form) {
+        offered_two(kept, sources)
+    } else {
+        None
+    }
+}
+
+/// Whether the function of a form is called with the values of both of its sources.
+#[inline(always)]
+fn takes_values(form: Form) -> bool
+    ensures { result ≡ takes_values form }
+{
+    matches!(form, Form::Combine | Form::AcceptBoth)
+}
+
+/// The values that the two sources gave, as arguments.
+#[inline(always)]
+fn offered_two(kept: &Cells, sources: &[u16]) -> Option<Args>
+    requires sources { All (λ j. j < length kept.now.items) sources.now }
+    ensures { IfSome result (λ args. two_values (map outcome_part (map (dated_in kept.now.items) sources.now)) ≡ Some args) }
+{
+    if let [a, b] = sources {
+        if let Some(v) = value_below(kept, *a) {
+            if let Some(w) = value_below(kept, *b) {
+                return Some(Args::Two(v, w));
+            }
+        }
+    }
+    None
+}
+
+/// The value that a source gave.
+#[inline(always)]
+fn value_below(kept: &Cells, j: u16) -> Option<Value>
+    requires { j < length kept.now.items }
+    ensures { IfSome result (λ v. outcome_part (dated_in kept.now.items j) ≡ Some (Gives v)) }
+{
+    kept.value(j)
 }
 
 /// The outcome of a settled stage, with the step at which it settled.

@@ -1,6 +1,6 @@
 -- A list of cells, as a list of what is kept.
-use Rattle.std.proofs.Common.{◌≡◌, ◌<◌, ◌∙◌, ℕ, ℤ, Bool, Some, None, zero, suc, List, [], ◌∷◌, ◌++◌, map, length, set, get_or, replicate, refl, ap, sym, arith}
-use Rattle.std.specs.Prelude.{option_and_then, slice_get}
+use Rattle.std.proofs.Common.{◌≡◌, ◌<◌, ◌∙◌, ℕ, ℤ, Bool, Option, Some, None, zero, suc, List, [], ◌∷◌, ◌++◌, map, length, set, get_or, replicate, refl, ap, sym, arith}
+use Rattle.std.specs.Prelude.{IfNone, option_and_then, slice_get}
 use Rattle.std.specs.Option.{option_map}
 use Rattle.std.proofs.lemmas.List.{length-map, map-set}
 use Rattle.cf_core.specs.declared.stage.Stage.TheVariants.{Pending}
@@ -61,3 +61,8 @@ pub undated_there : (cells : List Cell) (i : ℕ) (c : Cell) → i < length (map
 undated_there cells i c l e not =
     ap (option_and_then dated_of) (get_there cells i c l e)
     ∙ ap (option_map (λ o. (o, c.step))) (unsettled c.kind c.detail c.flag c.number c.word not)
+
+-- what follows from what holds where there is no value
+pub none_then : {X : Type 0} {P Q : Type 0} (x : Option X) → (P → Q) → IfNone x P → IfNone x Q
+none_then None f p = f p
+none_then (Some y) f p = tt

@@ -1,11 +1,11 @@
 -- The lowest mark, and the lowest ready stage.
-use Rattle.std.proofs.Common.{◌≡◌, ℕ, ◌+◌, ◌<◌, ◌≤◌, ◌∷◌, ◌++◌, [], List, Bool, true, false, cond, Option, Some, None, length, suc, zero, arith, ap, sym, ◌∙◌, subst, refl, get_or, take, inl, inr}
+use Rattle.std.proofs.Common.{◌≡◌, ℕ, ◌+◌, ◌<◌, ◌≤◌, ◌∷◌, ◌++◌, [], List, Bool, true, false, cond, Option, Some, None, length, suc, zero, arith, ap, sym, ◌∙◌, subst, refl, get_or, set, take, inl, inr}
 use Rattle.std.specs.Prelude.{slice_get, position, nat_lt, MatchOption}
 use Rattle.std.specs.List.{position_or_len}
 use Rattle.std.specs.Option.{option_map}
 use Rattle.std.proofs.lemmas.Bool.Decides.{eqb_tells, nat_tests}
 use Rattle.std.proofs.Math.Seq.{take-length}
-use Rattle.std.proofs.lemmas.List.{length-map}
+use Rattle.std.proofs.lemmas.List.{length-map, set-get_or}
 use Rattle.std.proofs.lemmas.List.Quantifiers.{position-Some}
 use Rattle.cf_bits.proofs.Positions.{position_is, position_is_none}
 use Rattle.cf_plan.specs.Plans.{PlannedStage}
@@ -99,6 +99,13 @@ module _ (plan : List PlannedStage) (kept : List KeptStage) (marks ready : List 
 
   pub all_flags : length ready ≡ length kept
   all_flags = ap length h.ready_are ∙ length-map kept (λ (k : KeptStage). is_ready k.stage)
+
+  -- to take out one that isn't ready changes nothing
+  pub unready_out : (d : ℕ) → d < length plan → is_ready ((kept_at kept d).stage) ≡ false → ready ≡ set ready d false
+  unready_out d l e =
+      let in_kept : d < length kept = omega (arith, h.all_kept, l) in
+      let out = get_is ready d false false (flag_at d in_kept ∙ ap (λ b. Some b) e) in
+      sym (ap (set ready d) (sym out) ∙ set-get_or ready d false)
 
   pub ready_first : (r : ℕ) → position (λ b. b) ready ≡ Some r → AreTreated r marks → position is_ready (outlook plan kept) ≡ Some r
   ready_first r lowest treated =

@@ -1,6 +1,6 @@
 -- A sweep keeps what is true of the stages, and leads to what serving the lowest ready stage, time after time, leads to.
 use Rattle.std.proofs.Common.{◌≡◌, ◌≢◌, ℕ, ◌+◌, ◌<◌, ◌≤◌, ◌∷◌, ◌++◌, [], List, All, Bool, true, false, cond, Option, Some, None, Contains, length, suc, zero, arith, ap, sym, ◌∙◌, subst, refl, set, set-set, length-set, length-append, inl, inr, get_or, replicate}
-use Rattle.std.specs.Prelude.{option_and_then, slice_get, position}
+use Rattle.std.specs.Prelude.{IfNone, IfSome, option_and_then, slice_get, position}
 use Rattle.std.proofs.lemmas.Bool.Decides.{eqb_tells}
 use Rattle.std.proofs.lemmas.List.Elements.{All-head, All-tail, All-cons, All-nil}
 use Rattle.std.proofs.lemmas.List.Quantifiers.{position-Some}
@@ -15,7 +15,7 @@ use Rattle.cf_plan.proofs.DependentLemmas.{dependents_above}
 use Rattle.cf_core.specs.declared.stage.Stage.{Stage}
 use Rattle.cf_core.specs.declared.stage.Stage.TheVariants.{Pending, Ready, Claimed, Linked, Settled}
 use Rattle.cf_core.specs.declared.kept.KeptStage.{KeptStage}
-use Rattle.cf_core.specs.States.{State, is_ready, outcome_in, outcome_of}
+use Rattle.cf_core.specs.States.{State, is_ready, new_states, outcome_in, outcome_of}
 use Rattle.cf_core.specs.declared.stages.Stages.{Stages}
 use Rattle.cf_core.specs.Keeping.SoundStages.{AreSound}
 use Rattle.cf_core.specs.Keeping.Late.{IsSteady, dated_in, treated}
@@ -23,14 +23,15 @@ use Rattle.cf_core.specs.Keeping.Links.{IsFree, list_at}
 use Rattle.cf_core.specs.Growth.{SameShape}
 use Rattle.cf_core.specs.Working.{worked_once}
 use Rattle.cf_core.specs.Keeping.Serving.{AreWorkedOn, Works, served}
-use Rattle.cf_core.specs.Keeping.Sound.{AreTreated, IsSound, is_bound, is_waiting, kept_at, links_after, mark_all, mark_one, marks_after, outlook}
-use Rattle.cf_core.specs.Keeping.Sweeps.{AreServed, AreSwept, IsSwept, Serves, turns_after}
+use Rattle.cf_core.specs.Keeping.Sound.{AreTreated, IsSound, StayTaken, is_bound, is_waiting, kept_at, links_after, mark_all, mark_one, marks_after, outlook}
+use Rattle.cf_core.specs.Keeping.Sweeps.{AreServed, AreSwept, IsReadyWith, IsSwept, Serves, ready_with, turns_after}
+use Rattle.cf_core.specs.Keeping.Offers.{args_of}
 use Rattle.cf_core.specs.Keeping.Turns.{planned_at}
 use Rattle.cf_core.proofs.Keeping.Lowest.{all_flags, flag_at, get_is, ready_first, ready_none}
 use Rattle.cf_core.proofs.Keeping.Marking.{get-set_other, get-set_same}
 use Rattle.cf_core.proofs.Keeping.Marks.{dated_in-set}
-use Rattle.cf_core.proofs.Keeping.Moves.{claim_sound, is_steady, link_room, link_sound, outcome_there, outlook_at, settle_sound, turn_same}
-use Rattle.cf_core.proofs.Keeping.Places.{kept_put, planned_there, ready_args, same_put, undated}
+use Rattle.cf_core.proofs.Keeping.Moves.{claim_sound, is_steady, link_room, link_sound, outcome_there, outlook_at, settle_same, settle_sound, turn_same}
+use Rattle.cf_core.proofs.Keeping.Places.{StayTaken-set, kept_put, planned_there, ready_args, same_put, undated}
 use Rattle.cf_core.proofs.Working.{worked_once-shape}
 use Rattle.cf_core.proofs.Keeping.Serving.{works}
 use Rattle.cf_core.proofs.Keeping.Soundness.{bound_free, idle_sound, turn_sound}
@@ -313,6 +314,76 @@ module _ (plan : List PlannedStage) (kept : List KeptStage) (links : List (List 
       let args = ready_args ((kept_at kept m).stage) e in
       linking_is_alone plan kept m j step lower (outcome_there plan kept h.marks h.ready links steps turns h.sound m (m + 1) l steady (omega arith) ∙ ap outcome_of args.1)
       (outcome_there plan kept h.marks h.ready links steps turns h.sound j (m + 1) (omega arith) steady (omega arith) ∙ open_target)
+
+-- ---- a stage that is ready, whether it is written as that or not
+
+module _ (plan : List PlannedStage) (kept : List KeptStage) (links : List (List ℕ)) (steps turns : ℕ) (m : ℕ) (args : Args) (l : m < length plan) where
+  -- a stage that waits and has its arguments is ready with them
+  pub offered_ready : treated kept (planned_at plan m) (kept_at kept m) ≡ record { stage = Ready args; step = (kept_at kept m).step } → is_waiting ((kept_at kept m).stage) ≡ true → IsSwept plan m m kept links steps turns →
+      IsSwept plan (m + 1) m (ready_with kept m args) links steps (turns + 1)
+  offered_ready is waiting h = swept_treated plan kept links steps turns m l (record { stage = Ready args; step = (kept_at kept m).step }) (sym is) waiting h
+
+  pub offered_same : treated kept (planned_at plan m) (kept_at kept m) ≡ record { stage = Ready args; step = (kept_at kept m).step } → IsSwept plan m m kept links steps turns → outlook plan (ready_with kept m args) ≡ outlook plan kept
+  offered_same is h = swept_same plan kept links steps turns m (record { stage = Ready args; step = (kept_at kept m).step }) h l (sym is)
+
+  there : IsSwept plan (m + 1) m (ready_with kept m args) links steps turns → m < length kept
+  there h =
+      let all = swept_within plan (ready_with kept m args) links steps turns (m + 1) m h in
+      let same = length-set kept m (record { stage = Ready args; step = (kept_at kept m).step }) in
+      omega (arith, all, same, l)
+
+  seen : IsSwept plan (m + 1) m (ready_with kept m args) links steps turns → (kept_at (ready_with kept m args) m).stage ≡ Ready args
+  seen h = ap (λ (k : KeptStage). k.stage) (kept_put kept m (record { stage = Ready args; step = (kept_at kept m).step }) (there h))
+
+  pub with_stage : IsSwept plan (m + 1) m (ready_with kept m args) links steps turns → slice_get (outlook plan (ready_with kept m args)) m ≡ Some (Ready args)
+  with_stage h = swept_stage plan (ready_with kept m args) links steps turns (m + 1) m m h l (omega arith) ∙ ap (λ x. Some x) (seen h)
+
+  pub with_lowest : IsSwept plan (m + 1) m (ready_with kept m args) links steps turns → position is_ready (outlook plan (ready_with kept m args)) ≡ Some m
+  with_lowest h = swept_lowest plan (ready_with kept m args) links steps turns m h l (ap is_ready (seen h))
+
+  -- it settles in a step of its own
+  pub with_settled : (o : Outcome) → IsSwept plan (m + 1) m (ready_with kept m args) links steps turns →
+      IsSwept plan (m + 1) (m + 1) (set kept m (record { stage = Settled o; step = steps + 1 })) (set links m []) (steps + 1) turns
+  with_settled o h =
+      subst (λ after. IsSwept plan (m + 1) (m + 1) after (set links m []) (steps + 1) turns) (set-set kept m (record { stage = Ready args; step = (kept_at kept m).step }) (record { stage = Settled o; step = steps + 1 }))
+      (swept_settled plan (ready_with kept m args) links steps turns m l o (ap outcome_of (seen h)) h)
+
+  pub with_settle_same : (o : Outcome) → outlook plan (ready_with kept m args) ≡ outlook plan kept → IsSwept plan (m + 1) m (ready_with kept m args) links steps turns →
+      outlook plan (set kept m (record { stage = Settled o; step = steps + 1 })) ≡ new_states [] plan (set (outlook plan kept) m (Settled o))
+  with_settle_same o same h =
+      ap (outlook plan) (sym (set-set kept m (record { stage = Ready args; step = (kept_at kept m).step }) (record { stage = Settled o; step = steps + 1 })))
+      ∙ settle_same plan (ready_with kept m args) h.marks h.ready links steps turns h.sound m (m + 1) o l (swept_steady plan (ready_with kept m args) links steps turns (m + 1) m h) (omega arith) (ap outcome_of (seen h))
+      ∙ ap (λ xs. new_states [] plan (set xs m (Settled o))) same
+
+  pub with_taken : (o : Outcome) → IsSwept plan (m + 1) m (ready_with kept m args) links steps turns → StayTaken kept (set kept m (record { stage = Settled o; step = steps + 1 }))
+  with_taken o h = StayTaken-set kept m (record { stage = Settled o; step = steps + 1 }) (there h) (λ _. refl)
+
+args_told : (stage : Stage) (args : Args) → Some args ≡ args_of stage → stage ≡ Ready args
+args_told (Ready x) args e = cc
+args_told Pending args e = cc
+args_told Claimed args e = cc
+args_told (Linked j) args e = cc
+args_told (Settled o) args e = cc
+
+no_args : (stage : Stage) → None ≡ args_of stage → is_ready stage ≡ false
+no_args (Ready x) e = cc
+no_args Pending e = refl
+no_args Claimed e = refl
+no_args (Linked j) e = refl
+no_args (Settled o) e = refl
+
+-- what a stage that is treated tells of itself
+pub told_ready : (plan : List PlannedStage) (m : ℕ) (s : Stages) (x : Option Args) → x ≡ args_of ((kept_at s.kept.items m).stage) → m < length plan → AreSwept plan (m + 1) m s → IfSome x (λ args. IsReadyWith plan m args s)
+told_ready plan m s None e l h = tt
+told_ready plan m s (Some args) e l h =
+    let all = swept_within plan s.kept.items s.links s.steps s.turns (m + 1) m h in
+    let is = args_told ((kept_at s.kept.items m).stage) args e in
+    let same : ready_with s.kept.items m args ≡ s.kept.items = same_put s.kept.items m (record { stage = Ready args; step = (kept_at s.kept.items m).step }) (omega (arith, all, l)) (ap (λ stage. record { stage = stage; step = (kept_at s.kept.items m).step }) is) in
+    record { swept = subst (λ after. IsSwept plan (m + 1) m after s.links s.steps s.turns) (sym same) h; same = ap (outlook plan) same }
+
+pub told_unready : (plan : List PlannedStage) (m : ℕ) (s : Stages) (x : Option Args) → x ≡ args_of ((kept_at s.kept.items m).stage) → m < length plan → AreSwept plan (m + 1) m s → IfNone x (AreSwept plan (m + 1) (m + 1) s)
+told_unready plan m s (Some args) e l h = tt
+told_unready plan m s None e l h = swept_unready plan s.kept.items s.links s.steps s.turns m h l (no_args ((kept_at s.kept.items m).stage) e)
 
 -- under other names
 pub IsSwept-same : (plan : List PlannedStage) (n m : ℕ) (k1 k2 : List KeptStage) (l1 l2 : List (List ℕ)) (s1 s2 t1 t2 : ℕ) → k1 ≡ k2 → l1 ≡ l2 → s1 ≡ s2 → t1 ≡ t2 → IsSwept plan n m k2 l2 s2 t2 → IsSwept plan n m k1 l1 s1 t1

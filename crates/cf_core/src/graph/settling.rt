@@ -11,6 +11,9 @@ use cf_outcome::{Cause, Outcome, Value, is_cancelled};
 impl Graph {
     /// Settles a stage of any form with a value, unless it is settled, and says whether it did
     /// (`CompletableFuture.complete`).
+    ///
+    /// It stands in its callers' own code, since whoever starts a graph completes many sources in a row.
+    #[inline(always)]
     pub fn complete(&mut self, i: u16, v: Value) -> bool
         requires { i < length self.old.state.plan.stages }
         ensures told { (result, self.new.state) ≡ settling self.old.state i (Gives v) }
@@ -59,6 +62,7 @@ impl Graph {
 
     /// Settles a stage, unless it is settled, and says whether it did. One that is kept as settled is so whatever waits for
     /// treatment, so nothing is treated for it.
+    #[inline(always)]
     pub(super) fn settle(&mut self, i: u16, o: Outcome) -> bool
         requires { i < length self.old.state.plan.stages }
         ensures told { (result, self.new.state) ≡ settling self.old.state i o }

@@ -1,26 +1,27 @@
 //! Work on all stages in one sweep.
-ghost use Rattle.std.specs.Prelude.{◌≡◌, ℕ, ◌+◌, ◌<◌, ◌≤◌, None, Some, if◌then◌else◌, length, position, slice_set, true, vec_capacity};
-ghost use Rattle.cf_plan.specs.declared.forms.Landing.TheVariants.{Links as LinksTo};
-ghost use Rattle.cf_plan.specs.Forms.{composes};
+ghost use Rattle.std.specs.Prelude.{◌≡◌, ℕ, ◌+◌, ◌<◌, ◌≤◌, IfSome, None, Option, Some, if◌then◌else◌, length, option_and_then, position, slice_get, slice_set, true, vec_capacity};
+ghost use Rattle.cf_outcome.specs.declared.outcome.Outcome.TheVariants.{Value as Gives};
+ghost use Rattle.cf_plan.specs.declared.forms.Landing.TheVariants.{Links as LinksTo, Settles};
+ghost use Rattle.cf_plan.specs.Forms.{composes, landing};
 ghost use Rattle.cf_plan.specs.Meanings.{meanings_of};
-ghost use Rattle.cf_plan.specs.Plans.{form_at};
+ghost use Rattle.cf_plan.specs.Plans.{form_at, sources_at};
 ghost use Rattle.cf_core.specs.declared.stage.Stage.TheVariants.{Claimed as IsClaimed};
-ghost use Rattle.cf_core.specs.States.{is_ready, lowest_ready_of};
+ghost use Rattle.cf_core.specs.States.{is_ready, lowest_ready_of, outcome_in};
 ghost use Rattle.cf_core.specs.Graphs.{most_turns};
 ghost use Rattle.cf_core.specs.Keeping.Graphs.{AreClaimed};
 ghost use Rattle.cf_core.specs.Keeping.Landings.{landed_stages};
 ghost use Rattle.cf_core.specs.Keeping.Serving.{Works, served};
 ghost use Rattle.cf_core.specs.Keeping.Sound.{StayTakenBut, kept_at};
 ghost use Rattle.cf_core.specs.Keeping.SoundStages.{AreSound, SameRoom, outlook_of};
-ghost use Rattle.cf_core.specs.Keeping.Sweeps.{AreSwept, Serves};
+ghost use Rattle.cf_core.specs.Keeping.Sweeps.{AreSwept, IsReadyWith, Serves};
+ghost use Rattle.cf_core.specs.Keeping.Offers.{keeps_value};
 
 use crate::graph::Graph;
 use crate::graph::claims::landing_of;
 use crate::graph::working::answer_of;
-use crate::stage::Stage;
 use crate::stages::Stages;
-use cf_outcome::wrap;
-use cf_plan::{GrowingPlan, Landing, StageFn};
+use cf_outcome::{Outcome, Value, wrap};
+use cf_plan::{Answer, Args, Form, GrowingPlan, Landing, StageFn};
 
 impl Graph {
     /// Works for a caller until no stage is ready, in one sweep over all stages.
@@ -86,17 +87,66 @@ fn visit<F: StageFn>(
     ensures room { SameRoom stages.old stages.new }
     ensures swept { AreSwept plan.now.stages (m + 1) (m + 1) stages.new }
 {
-    stages.treat_swept(plan, m);
-    match stages.stage(m) {
-        Stage::Ready(args) => {
+    match stages.next_swept(plan, m) {
+        Some(args) => {
             let answer = answer_of(plan, functions, m, &args);
-            let at = landing_of(stages, plan, m, answer);
             claims[m as usize] = None;
-            land_swept(stages, plan, m, at);
+            land_next(stages, plan, m, args, answer);
             true
         }
-        _ => false,
+        None => false,
     }
+}
+
+/// The next stage of a sweep, which is ready with these arguments, lands with its function's answer.
+///
+/// Most settle with the value that it is, and are written once. The others are written as ready first.
+#[inline(always)]
+fn land_next(stages: &mut Stages, plan: &GrowingPlan, m: u16, args: Args, answer: Answer)
+    requires ready { IsReadyWith plan.now.stages m args stages.old }
+    requires stage { m < length plan.now.stages }
+    ensures landed { outlook_of plan.now.stages stages.new ≡ landed_stages plan.now.stages (slice_set (outlook_of plan.now.stages stages.old) m IsClaimed) m (landing (form_at plan.now.stages m) m (option_and_then (outcome_in (outlook_of plan.now.stages stages.old)) (slice_get (sources_at plan.now.stages m) 0)) answer) }
+    ensures taken { StayTakenBut m stages.old.kept.items stages.new.kept.items }
+    ensures turns { stages.new.turns ≡ stages.old.turns }
+    ensures room { SameRoom stages.old stages.new }
+    ensures swept { AreSwept plan.now.stages (m + 1) (m + 1) stages.new }
+{
+    match value_kept(plan.form(m), answer) {
+        Some(v) => stages.settle_ready(plan, m, args, v),
+        None => {
+            stages.write_ready(plan, m, args);
+            let at = landing_of(stages, plan, m, answer);
+            land_swept(stages, plan, m, at);
+        }
+    }
+}
+
+/// The value that a stage settles with, where its function gave it and its form keeps that.
+#[inline(always)]
+#[tactic(auto, using(crate::proofs::Keeping::Offering::kept_lands))]
+fn value_kept(form: Form, answer: Answer) -> Option<Value>
+    ensures { IfSome result (λ v. (i : ℕ) (source : Option Outcome) → landing form i source answer ≡ Settles (Gives v)) }
+{
+    match answer {
+        Answer::Give(v) if keeps_value(form) => Some(v),
+        _ => None,
+    }
+}
+
+/// Whether a stage of a form settles with the value that its function gives.
+#[inline(always)]
+fn keeps_value(form: Form) -> bool
+    ensures { result ≡ keeps_value form }
+{
+    matches!(
+        form,
+        Form::Supply
+            | Form::Apply
+            | Form::Combine
+            | Form::ApplyEither
+            | Form::Handle
+            | Form::Exceptionally
+    )
 }
 
 /// The next stage of a sweep, which is ready, lands as if it had been claimed before.

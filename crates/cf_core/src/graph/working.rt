@@ -33,7 +33,7 @@ impl Graph {
         ensures few { self.new.turns ≤ most_turns self.new.state.plan.stages }
     {
         // The first few are found by the marks. Where there is more to do, a look at every stage costs less.
-        let few = u32::from(self.stages()) / 64 + 1;
+        let few = u32::from(self.stages()) / 128 + 1;
         let mut calls = 0;
         if self.nudge(few) < few {
             calls = self.work_few(who, functions, few);

@@ -3,37 +3,69 @@
 //! A stage takes from lower stages alone, and marks higher ones alone. So whoever goes up through all stages, and treats each
 //! that waits, meets no stage that was or will be marked below; and a stage that is ready then is the lowest. In a sweep
 //! neither the marks nor the ready stages are written: at its end there are none.
-ghost use Rattle.std.specs.Prelude.{◌≡◌, ◌+◌, ◌<◌, ◌≤◌, [], None, length, position, slice_set, true};
+ghost use Rattle.std.specs.Prelude.{◌≡◌, ◌+◌, ◌<◌, ◌≤◌, [], IfNone, IfSome, None, length, position, slice_set, true};
+ghost use Rattle.cf_outcome.specs.declared.outcome.Outcome.TheVariants.{Value as Gives};
 ghost use Rattle.cf_plan.specs.Forms.{composes};
 ghost use Rattle.cf_plan.specs.Plans.{form_at};
-ghost use Rattle.cf_core.specs.declared.stage.Stage.TheVariants.{Linked, Settled};
+ghost use Rattle.cf_core.specs.declared.stage.Stage.TheVariants.{Linked, Ready, Settled};
 ghost use Rattle.cf_core.specs.States.{is_ready, new_states, outcome_of};
-ghost use Rattle.cf_core.specs.Keeping.Sound.{StayTaken, StayTakenBut, kept_at, links_after};
+ghost use Rattle.cf_core.specs.Keeping.Sound.{StayTaken, StayTakenBut, is_waiting, kept_at, links_after};
 ghost use Rattle.cf_core.specs.Keeping.SoundStages.{AreSound, SameRoom, outlook_of};
-ghost use Rattle.cf_core.specs.Keeping.Sweeps.{AreSwept, turns_after};
+ghost use Rattle.cf_core.specs.Keeping.Sweeps.{AreSwept, IsReadyWith, turns_after};
 
 use crate::kept::KeptStage;
 use crate::stage::Stage;
 use crate::stages::Stages;
-use crate::treat::treat;
-use cf_outcome::Outcome;
-use cf_plan::GrowingPlan;
+use crate::treat::offer;
+use cf_outcome::{Outcome, Value};
+use cf_plan::{Args, GrowingPlan};
 
 impl Stages {
-    /// Treats the next stage of a sweep, if it waits. Where it takes something, this is a turn.
+    /// Treats the next stage of a sweep, and says with what its function is to be called, if it is ready then. It is
+    /// written as ready only where it was before, or where finding out took more than a look.
     #[inline(always)]
-    pub fn treat_swept(&mut self, plan: &GrowingPlan, m: u16)
+    pub fn next_swept(&mut self, plan: &GrowingPlan, m: u16) -> Option<Args>
         requires swept { AreSwept plan.now.stages m m self.old }
         requires stage { m < length plan.now.stages }
+        ensures ready { IfSome result (λ args. IsReadyWith plan.now.stages m args self.new) }
+        ensures swept { IfNone result (AreSwept plan.now.stages (m + 1) (m + 1) self.new) }
         ensures same { outlook_of plan.now.stages self.new ≡ outlook_of plan.now.stages self.old }
         ensures taken { StayTaken self.old.kept.items self.new.kept.items }
         ensures counted { self.old.turns ≤ self.new.turns }
         ensures room { SameRoom self.old self.new }
-        ensures swept { AreSwept plan.now.stages (m + 1) m self.new }
     {
-        if self.kept.is_waiting(m) {
-            treat(&mut self.kept, plan.form(m), plan.sources(m), m);
-            self.note_swept(m);
+        if !self.kept.is_waiting(m) {
+            return self.kept.args(m);
+        }
+        match self.treat_swept(plan, m) {
+            Some(args) => Some(args),
+            None => self.kept.args(m),
+        }
+    }
+
+    /// Treats the next stage of a sweep, which waits. Where it takes something, this is a turn. It says with what its
+    /// function is to be called where a look tells that, and then doesn't write it.
+    #[inline(always)]
+    fn treat_swept(&mut self, plan: &GrowingPlan, m: u16) -> Option<Args>
+        requires swept { AreSwept plan.now.stages m m self.old }
+        requires stage { m < length plan.now.stages }
+        requires waiting { is_waiting ((kept_at self.old.kept.items m).stage) ≡ true }
+        ensures ready { IfSome result (λ args. IsReadyWith plan.now.stages m args self.new) }
+        ensures swept { IfNone result (AreSwept plan.now.stages (m + 1) m self.new) }
+        ensures same { outlook_of plan.now.stages self.new ≡ outlook_of plan.now.stages self.old }
+        ensures taken { StayTaken self.old.kept.items self.new.kept.items }
+        ensures counted { self.old.turns ≤ self.new.turns }
+        ensures room { SameRoom self.old self.new }
+    {
+        match offer(&mut self.kept, plan.form(m), plan.sources(m), m) {
+            Some(args) => {
+                self.turns += 1;
+                Some(args)
+            }
+            None => {
+                self.note_swept(m);
+                None
+            }
         }
     }
 
@@ -50,14 +82,46 @@ impl Stages {
         ensures turns { self.new.turns ≡ turns_after self.old.turns ((kept_at self.old.kept.items m).stage) }
         ensures room { SameRoom self.old self.new }
     {
-        match self.kept.stage(m) {
-            Stage::Settled(_) => {
-                self.turns += 1;
-                self.links.clear(m);
-            }
-            Stage::Ready(_) | Stage::Claimed => self.turns += 1,
-            Stage::Pending | Stage::Linked(_) => {}
+        if self.kept.is_settled(m) {
+            self.turns += 1;
+            self.links.clear(m);
+        } else if !self.kept.is_waiting(m) {
+            self.turns += 1;
         }
+    }
+
+    /// Settles the next stage of a sweep, which is ready with these arguments, with the value that its function gave.
+    #[inline(always)]
+    pub fn settle_ready(&mut self, plan: &GrowingPlan, m: u16, args: Args, v: Value)
+        requires ready { IsReadyWith plan.now.stages m args self.old }
+        requires stage { m < length plan.now.stages }
+        ensures after { outlook_of plan.now.stages self.new ≡ new_states [] plan.now.stages (slice_set (outlook_of plan.now.stages self.old) m (Settled (Gives v))) }
+        ensures taken { StayTaken self.old.kept.items self.new.kept.items }
+        ensures turns { self.new.turns ≡ self.old.turns }
+        ensures room { SameRoom self.old self.new }
+        ensures swept { AreSwept plan.now.stages (m + 1) (m + 1) self.new }
+    {
+        let _plan = plan;
+        let _args = args;
+        self.steps += 1;
+        self.kept.settle(m, Outcome::Value(v), self.steps);
+        self.links.clear(m);
+    }
+
+    /// Writes the next stage of a sweep, which is ready with these arguments, as that.
+    #[inline(always)]
+    pub fn write_ready(&mut self, plan: &GrowingPlan, m: u16, args: Args)
+        requires ready { IsReadyWith plan.now.stages m args self.old }
+        requires stage { m < length plan.now.stages }
+        ensures ready { (kept_at self.new.kept.items m).stage ≡ Ready args }
+        ensures same { outlook_of plan.now.stages self.new ≡ outlook_of plan.now.stages self.old }
+        ensures taken { StayTakenBut m self.old.kept.items self.new.kept.items }
+        ensures turns { self.new.turns ≡ self.old.turns }
+        ensures room { SameRoom self.old self.new }
+        ensures swept { AreSwept plan.now.stages (m + 1) m self.new }
+    {
+        let _plan = plan;
+        self.kept.make_ready(m, args);
     }
 
     /// Settles the next stage of a sweep, which is ready, in a step of its own.

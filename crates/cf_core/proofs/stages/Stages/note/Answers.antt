@@ -1,20 +1,9 @@
-use Rattle.std.proofs.Common.{rules, ◌≡◌, ◌∙◌, ap, sym}
-use Rattle.cf_plan.specs.Plans.{dependents_of, opening_of}
-use Rattle.cf_core.specs.Keeping.Links.{list_at}
-use Rattle.cf_core.specs.Keeping.Sound.{mark_all, marks_after}
-use Rattle.cf_core.proofs.Keeping.MarkLemmas.{mark_all-both}
+use Rattle.std.proofs.Common.{◌∙◌, ap, sym}
+use Rattle.cf_core.specs.Keeping.Sound.{marks_after}
 use Rattle.cf_core.proofs.stages.Stages.note.Goals as goal
 
 pub returns-in-Settled-clause-marks : goal.returns-in-Settled-clause-marks
 returns-in-Settled-clause-marks c =
-    let plan = c.args.plan.now in
-    let kept = c.args.self.now.kept.items in
-    let marks = c.args.self.now.marks in
-    let first : c.mark_each.new.marks ≡ mark_all kept (dependents_of (opening_of plan).stages c.args.d) marks = search rules in
-    let later : c.mark_later.new.marks ≡ mark_all kept c.later.result c.mark_each.new.marks = search rules in
-    let linked : c.mark_linked.new.marks ≡ mark_all kept (list_at c.args.self.now.links c.args.d) c.mark_later.new.marks = search rules in
-    linked
-    ∙ ap (mark_all kept (list_at c.args.self.now.links c.args.d))
-    (later ∙ ap (mark_all kept c.later.result) first
-    ∙ mark_all-both kept (dependents_of (opening_of plan).stages c.args.d) c.later.result (dependents_of plan.stages c.args.d) marks c.later.ensures.rest)
-    ∙ ap (marks_after plan.stages kept c.args.self.now.links marks c.args.d) (sym c.in-Settled.is ∙ c.stage.ensures)
+    let s = c.args.self.now in
+    c.mark_after.ensures.marks
+    ∙ ap (marks_after c.args.plan.now.stages s.kept.items s.links s.marks c.args.d) (sym c.in-Settled.is ∙ c.stage.ensures)
