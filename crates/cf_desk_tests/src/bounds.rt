@@ -1,7 +1,8 @@
 //! Desks of each size up to the greatest, and those that are refused.
 ghost use Rattle.std.specs.Prelude.{◌≡◌, All, OnOk, vec_len};
 
-use crate::desks::{last_of, source_and_supply};
+use crate::desks::last_of;
+use crate::plans::{SOURCE_AND_SUPPLY, plan_of};
 use cf_core::Event;
 use cf_desk::{Call, Closed, Desk, DeskFault, OpenFault, Pass};
 use cf_outcome::Value;
@@ -11,7 +12,7 @@ use std::test::Fail;
 
 /// A plan of so many stages. Each but the first has four sources, and the last of 4,096 has eight, so that there are
 /// 16,384 edges.
-fn plan_of(alloc: Global, stages: u16) -> Result<Plan, PlanFault> {
+fn plan_of_stages(alloc: Global, stages: u16) -> Result<Plan, PlanFault> {
     let mut builder = PlanBuilder::new(alloc);
     builder.stage(Form::Source, &[], None)?;
     for i in 1..stages {
@@ -57,7 +58,7 @@ fn filled(
     log: u16,
     calls: u16,
 ) -> Result<(Option<DeskFault>, Closed), Fail> {
-    let plan = plan_of(alloc, stages)?;
+    let plan = plan_of_stages(alloc, stages)?;
     let (desk, mut passes) = Desk::open(alloc, plan, callers, log, calls)?;
     let fault = fill_by_last(&desk, &mut passes, stages.wrapping_sub(1))?;
     Ok((fault, desk.close(passes)?))
@@ -134,7 +135,7 @@ fn refused(
     log: u16,
     calls: u16,
 ) -> Result<Option<OpenFault>, PlanFault> {
-    let plan = source_and_supply(alloc)?;
+    let plan = plan_of(alloc, &SOURCE_AND_SUPPLY)?;
     Ok(Desk::open(alloc, plan, callers, log, calls).err())
 }
 

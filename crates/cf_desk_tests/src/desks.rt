@@ -1,19 +1,47 @@
-//! Desks over small plans, with their passes, and calls of two passes.
+//! Desks for two callers, with their passes, and calls of these.
 ghost use Rattle.std.specs.Prelude.{◌≡◌, ◌+◌, All, IfOk, OnOk, vec_len};
 
-use cf_desk::{Call, Closed, Desk, Pass, Rec};
-use cf_plan::{Form, Plan, PlanBuilder, PlanFault};
+use crate::plans::{Row, SOURCE, SOURCE_AND_SUPPLY, plan_of};
+use cf_desk::{Call, Closed, Desk, Pass};
 use std::alloc::Global;
 use std::test::Fail;
 use std::thread;
 use std::thread::Threads;
 
-/// A plan of a source, and of a stage that is ready with function 3.
-pub(crate) fn source_and_supply(alloc: Global) -> Result<Plan, PlanFault> {
-    let mut builder = PlanBuilder::new(alloc);
-    builder.stage(Form::Source, &[], None)?;
-    builder.stage(Form::Supply, &[], Some(3))?;
-    builder.build()
+/// How a desk for two callers is opened and closed.
+#[derive(Clone, Copy)]
+pub(crate) struct Opening<'a> {
+    /// The stages of its plan.
+    pub(crate) rows: &'a [Row<'a>],
+    pub(crate) log: u16,
+    /// How many records each pass has room for.
+    pub(crate) calls: u16,
+    /// The room for stages that are attached, with the number of functions. Where none is given, the desk doesn't grow.
+    pub(crate) room: Option<(u16, u32)>,
+    /// Whether the second caller's pass is handed in before the first's.
+    pub(crate) second_first: bool,
+}
+
+/// A desk over a source and a supply, with no room for more stages.
+pub(crate) fn small(log: u16, calls: u16) -> Opening<'static> {
+    Opening {
+        rows: &SOURCE_AND_SUPPLY,
+        log,
+        calls,
+        room: None,
+        second_first: false,
+    }
+}
+
+/// A desk over a source with so much room and so many functions, and a log of eight words.
+pub(crate) fn with_room(calls: u16, room: u16, functions: u32) -> Opening<'static> {
+    Opening {
+        rows: &SOURCE,
+        log: 8,
+        calls,
+        room: Some((room, functions)),
+        second_first: false,
+    }
 }
 
 /// The last of these passes, which are all of one desk.
@@ -30,7 +58,7 @@ pub(crate) fn last_of(desk: &Desk, passes: &mut Vec<Pass>) -> Result<Pass, Fail>
 }
 
 /// The first and the second of two passes, which are both of one desk.
-pub(crate) fn both_of(desk: &Desk, mut passes: Vec<Pass>) -> Result<(Pass, Pass), Fail>
+fn both_of(desk: &Desk, mut passes: Vec<Pass>) -> Result<(Pass, Pass), Fail>
     requires { All (λ p. p.table ≡ desk.now.table) passes.items }
     ensures first { IfOk result (λ r. r.0.table ≡ desk.now.table) }
     ensures second { IfOk result (λ r. r.1.table ≡ desk.now.table) }
@@ -40,13 +68,28 @@ pub(crate) fn both_of(desk: &Desk, mut passes: Vec<Pass>) -> Result<(Pass, Pass)
     Ok((first, second))
 }
 
-/// A desk for two callers, and its two passes.
-pub(crate) fn open_two(alloc: Global, log: u16, calls: u16) -> Result<(Desk, Pass, Pass), Fail>
+/// The desk that is opened so, and its passes.
+fn opened(alloc: Global, opening: Opening<'_>) -> Result<(Desk, Vec<Pass>), Fail>
+    ensures table { IfOk result (λ r. All (λ p. p.table ≡ r.0.table) r.1.items) }
+    ensures callers { IfOk result (λ r. r.0.setting.callers ≡ 2) }
+{
+    let Opening { log, calls, .. } = opening;
+    let plan = plan_of(alloc, opening.rows)?;
+    match opening.room {
+        None => Ok(Desk::open(alloc, plan, 2, log, calls)?),
+        Some((room, functions)) => {
+            Ok(Desk::open_growing(alloc, plan, 2, log, calls, room, functions)?)
+        }
+    }
+}
+
+/// The desk that is opened so, and its two passes.
+pub(crate) fn open_two(alloc: Global, opening: Opening<'_>) -> Result<(Desk, Pass, Pass), Fail>
     ensures first { IfOk result (λ r. r.1.table ≡ r.0.table) }
     ensures second { IfOk result (λ r. r.2.table ≡ r.0.table) }
     ensures callers { IfOk result (λ r. r.0.setting.callers ≡ 2) }
 {
-    let (desk, passes) = Desk::open(alloc, source_and_supply(alloc)?, 2, log, calls)?;
+    let (desk, passes) = opened(alloc, opening)?;
     let (first, second) = both_of(&desk, passes)?;
     Ok((desk, first, second))
 }
@@ -87,12 +130,4 @@ pub(crate) fn act_on_threads<R: Threads + Sync>(
         &mut || act_all(desk, a, firsts),
         &mut || act_all(desk, b, seconds),
     );
-}
-
-/// The records of the pass that was handed in at this place.
-pub(crate) fn records_at(closed: &Closed, place: usize) -> &[Rec] {
-    match closed.passes.get(place) {
-        Some(kept) => kept.records.as_slice(),
-        None => &[],
-    }
 }

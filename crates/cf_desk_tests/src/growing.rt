@@ -1,57 +1,13 @@
 //! Stages that callers attach: who sees them, and which are refused.
-ghost use Rattle.std.specs.Prelude.{◌≡◌, IfOk};
-
-use crate::desks::{act_all, act_on_threads, both_of, close_two, open_two, records_at};
-use crate::steps::{Step, Turn, turns_taken};
-use crate::threads::{calls_in_order, replied_to_all};
+use crate::beside::Work;
+use crate::desks::{small, with_room};
+use crate::ends::End;
+use crate::steps::{Step, Turn, play};
 use cf_core::{Attached, Claimed, Event, Finished, Reply, Ticked};
-use cf_desk::{Ask, Call, Closed, Desk, DeskFault, Joined, Pass, Rec, Told};
+use cf_desk::{Ask, Call, DeskFault, Joined, Rec, Told};
 use cf_outcome::{Now, Outcome, Value};
-use cf_plan::{Answer, Args, Form, Of, Plan, PlanBuilder, PlanFault};
-use std::alloc::Global;
-use std::sync::atomic::{AtomicBool, Ordering};
+use cf_plan::{Answer, Args, Form, Of};
 use std::test::Fail;
-use std::thread;
-use std::thread::Threads;
-
-/// A plan of one source.
-pub(crate) fn source(alloc: Global) -> Result<Plan, PlanFault> {
-    let mut builder = PlanBuilder::new(alloc);
-    builder.stage(Form::Source, &[], None)?;
-    builder.build()
-}
-
-/// A desk over that plan for two callers, with a log of eight words, so many records for each, so much room and so many
-/// functions, and its two passes.
-fn open_source(
-    alloc: Global,
-    calls: u16,
-    room: u16,
-    functions: u32,
-) -> Result<(Desk, Pass, Pass), Fail>
-    ensures first { IfOk result (λ r. r.1.table ≡ r.0.table) }
-    ensures second { IfOk result (λ r. r.2.table ≡ r.0.table) }
-    ensures callers { IfOk result (λ r. r.0.setting.callers ≡ 2) }
-{
-    let plan = source(alloc)?;
-    let (desk, passes) = Desk::open_growing(alloc, plan, 2, 8, calls, room, functions)?;
-    let (first, second) = both_of(&desk, passes)?;
-    Ok((desk, first, second))
-}
-
-/// Opens that desk, lets its callers take these turns, and closes it.
-fn played<R: Threads + Sync>(
-    rt: &R,
-    alloc: Global,
-    calls: u16,
-    room: u16,
-    functions: u32,
-    turns: &[Turn],
-) -> Result<(usize, Closed), Fail> {
-    let (desk, mut a, mut b) = open_source(alloc, calls, room, functions)?;
-    let taken = turns_taken(rt, &desk, &mut a, &mut b, turns);
-    Ok((taken, close_two(alloc, desk, a, b)?))
-}
 
 /// The call that attaches a source.
 pub(crate) const ATTACHES: Call = Call::Attach(Form::Source, Of::None, None);
@@ -65,13 +21,13 @@ const FULL: Reply = Reply::Attach(Attached::StagesFull);
 
 #[test]
 fn attach_seen(rt: HostRuntime) -> Result<(), Fail> {
-    let (desk, mut a, mut b) = open_source(rt.alloc(), 8, 1, 0)?;
     let completes = Call::Complete(1, Value::Int(4));
-    act_on_threads(&rt, &desk, &mut a, &mut b, &[ATTACHES, completes], &[]);
-    let told = desk.read(&mut b, Ask::Now(1, Value::Nil));
-    assert_eq!(rt; told, Ok(Told::Now(Now::Got(Value::Int(4)))));
-    assert_eq!(rt; b.seen(), 2);
-    let closed = close_two(rt.alloc(), desk, a, b)?;
+    let told = Told::Now(Now::Got(Value::Int(4)));
+    let turns = [
+        Turn::Together(&[ATTACHES, completes], &[]),
+        Turn::Second(Step::Reads(Ask::Now(1, Value::Nil), Ok(told))),
+        Turn::Second(Step::Has(2, 7)),
+    ];
     let did = [
         Rec::Did {
             place: 1,
@@ -84,8 +40,13 @@ fn attach_seen(rt: HostRuntime) -> Result<(), Fail> {
             reply: Reply::Flag(true),
         },
     ];
-    assert_eq!(rt; records_at(&closed, 0), &did[..]);
-    Ok(())
+    play(
+        &rt,
+        rt.alloc(),
+        with_room(8, 1, 0),
+        &turns,
+        &[End::Records(0, &did)],
+    )
 }
 
 #[test]
@@ -108,9 +69,13 @@ fn what_does_not_fit_is_refused(rt: HostRuntime) -> Result<(), Fail> {
         Turn::First(Step::Acts(applies(1, 1), bad)),
         Turn::First(Step::Acts(applies(1, 0), Err(DeskFault::PassFull))),
     ];
-    let (taken, closed) = played(&rt, rt.alloc(), 1, 1, 1, &turns)?;
-    assert_eq!(rt; (taken, closed.history.len()), (12, 1));
-    Ok(())
+    play(
+        &rt,
+        rt.alloc(),
+        with_room(1, 1, 1),
+        &turns,
+        &[End::Events(1)],
+    )
 }
 
 #[test]
@@ -126,17 +91,15 @@ fn functions_are_below_their_number_and_have_a_word(rt: HostRuntime) -> Result<(
         (u32::MAX, 0, Ok(FULL)),
     ] {
         let turns = [Turn::First(Step::Acts(applies(0, function), reply))];
-        let (taken, _) = played(&rt, rt.alloc(), 1, 0, functions, &turns)?;
-        assert_eq!(rt; taken, 1);
+        play(&rt, rt.alloc(), with_room(1, 0, functions), &turns, &[])?;
     }
     Ok(())
 }
 
 #[test]
 fn a_desk_without_room_attaches_nothing(rt: HostRuntime) -> Result<(), Fail> {
-    let (desk, mut a, mut b) = open_two(rt.alloc(), 4, 4)?;
-    assert_eq!(rt; desk.functions(), 4);
     let turns = [
+        Turn::DeskIsFor(4, 2, 4),
         Turn::First(Step::Acts(ATTACHES, Ok(FULL))),
         Turn::First(Step::Has(1, 3)),
         Turn::First(Step::Acts(applies(0, 4), Err(DeskFault::BadAttach))),
@@ -144,9 +107,6 @@ fn a_desk_without_room_attaches_nothing(rt: HostRuntime) -> Result<(), Fail> {
         Turn::Second(Step::Acts(applies(0, 3), Ok(FULL))),
         Turn::Second(Step::Knows(2, false)),
     ];
-    let taken = turns_taken(&rt, &desk, &mut a, &mut b, &turns);
-    let closed = close_two(rt.alloc(), desk, a, b)?;
-    assert_eq!(rt; (taken, closed.graph.stages()), (6, 2));
     let history = [
         Event::Attach {
             who: 0,
@@ -161,25 +121,28 @@ fn a_desk_without_room_attaches_nothing(rt: HostRuntime) -> Result<(), Fail> {
             function: Some(3),
         },
     ];
-    assert_eq!(rt; closed.history.as_slice(), &history[..]);
-    Ok(())
+    let ends = [End::Stages(2), End::History(&history)];
+    play(&rt, rt.alloc(), small(4, 4), &turns, &ends)
 }
 
 #[test]
 fn one_of_two_gets_the_last_room(rt: HostRuntime) -> Result<(), Fail> {
+    let before = [ATTACHES; 2];
+    let each = [ATTACHES; 3];
     for room in 1..=3u16 {
-        let (desk, mut a, mut b) = open_source(rt.alloc(), 3, room, 0)?;
-        let before = [ATTACHES; 2];
-        act_all(&desk, &mut a, &before[..usize::from(room - 1)]);
-        act_on_threads(&rt, &desk, &mut a, &mut b, &[ATTACHES], &[ATTACHES]);
-        let closed = close_two(rt.alloc(), desk, a, b)?;
-        let each = [ATTACHES; 3];
-        let in_order = calls_in_order(&closed, &[&each, &each]);
-        let last = replied_to_all(&closed, Reply::Attach(Attached::At(room)));
-        let full = replied_to_all(&closed, FULL);
-        assert_eq!(rt; (last, full, closed.graph.stages()), (1, 1, room + 1));
         let all = usize::from(room) + 1;
-        assert_eq!(rt; (in_order, closed.history.len()), (all, all));
+        let turns = [
+            Turn::First(Step::ActsAll(&before[..usize::from(room - 1)])),
+            Turn::Together(&[ATTACHES], &[ATTACHES]),
+        ];
+        let ends = [
+            End::InOrder(&each, &each, all),
+            End::Events(all),
+            End::Replied(Reply::Attach(Attached::At(room)), 1),
+            End::Replied(FULL, 1),
+            End::Stages(room + 1),
+        ];
+        play(&rt, rt.alloc(), with_room(3, room, 0), &turns, &ends)?;
     }
     Ok(())
 }
@@ -203,9 +166,13 @@ fn a_full_pass_looks_for_a_stage_that_it_does_not_know(rt: HostRuntime) -> Resul
         Turn::Second(Step::Reads(now, Err(full))),
         Turn::Second(Step::Joins(1, 2, Err(full))),
     ];
-    let (taken, closed) = played(&rt, rt.alloc(), 1, 1, 0, &turns)?;
-    assert_eq!(rt; (taken, closed.history.len()), (13, 2));
-    Ok(())
+    play(
+        &rt,
+        rt.alloc(),
+        with_room(1, 1, 0),
+        &turns,
+        &[End::Events(2)],
+    )
 }
 
 #[test]
@@ -223,64 +190,34 @@ fn a_look_finds_an_attached_stage(rt: HostRuntime) -> Result<(), Fail> {
             Turn::Second(asks),
             Turn::Second(Step::Knows(1, true)),
         ];
-        let (taken, _) = played(&rt, rt.alloc(), 8, 1, 0, &turns)?;
-        assert_eq!(rt; taken, 4);
+        play(&rt, rt.alloc(), with_room(8, 1, 0), &turns, &[])?;
     }
     Ok(())
 }
 
-/// Attaches a supply, tells the other thread, and does the supply's work a while later.
-fn attach_and_finish(desk: &Desk, p: &mut Pass, flag: &AtomicBool)
-    requires { p.old.table ≡ desk.now.table }
-    ensures { p.new.table ≡ p.old.table }
-{
-    let attaches = Call::Attach(Form::Supply, Of::None, Some(5));
-    act_all(desk, p, &[attaches]);
-    flag.store(true, Ordering::SeqCst);
-    for _ in 0..10_000_000u32 {
-        if !flag.load(Ordering::SeqCst) {
-            return;
-        }
-    }
-    let finishes = Call::Finish(1, Answer::Give(Value::Int(6)));
-    act_all(desk, p, &[Call::Claim(1), finishes]);
-}
-
-/// Waits for the other thread, and joins the stage that it attached.
-fn wait_and_join(desk: &Desk, p: &mut Pass, flag: &AtomicBool)
-    requires { p.old.table ≡ desk.now.table }
-    ensures { p.new.table ≡ p.old.table }
-{
-    for _ in 0..1_000_000_000u32 {
-        if flag.load(Ordering::SeqCst) {
-            break;
-        }
-    }
-    let _ = desk.join(p, 1, 1_000_000_000);
-}
-
 #[test]
 fn join_sees_an_attached_stage(rt: HostRuntime) -> Result<(), Fail> {
-    let (desk, mut a, mut b) = open_source(rt.alloc(), 3, 1, 6)?;
-    assert!(rt; b.has(0) && !b.has(1));
-    let flag = AtomicBool::new(false);
-    thread::join_mut(
-        &rt,
-        &mut || attach_and_finish(&desk, &mut a, &flag),
-        &mut || wait_and_join(&desk, &mut b, &flag),
-    );
-    assert!(rt; b.has(1) && !b.has(2));
-    assert_eq!(rt; b.function(1), Some(5));
-    let closed = close_two(rt.alloc(), desk, a, b)?;
-    let granted = Reply::Claim(Claimed::Granted(Args::None));
-    let finished = Reply::Finish(Finished::Won);
-    assert_eq!(rt; replied_to_all(&closed, granted), 1);
-    assert_eq!(rt; replied_to_all(&closed, finished), 1);
+    let work = Work {
+        before: &[Call::Attach(Form::Supply, Of::None, Some(5))],
+        after: &[Call::Claim(1), Call::Finish(1, Answer::Give(Value::Int(6)))],
+        stage: 1,
+    };
+    let turns = [
+        Turn::Second(Step::Knows(0, true)),
+        Turn::Second(Step::Knows(1, false)),
+        Turn::SecondJoins(work),
+        Turn::Second(Step::KnowsFunction(1, Some(5))),
+        Turn::Second(Step::Knows(2, false)),
+    ];
     let saw = [Rec::Saw {
         place: 3,
         ask: Ask::Outcome(1),
         told: Told::Outcome(Some(Outcome::Value(Value::Int(6)))),
     }];
-    assert_eq!(rt; records_at(&closed, 1), &saw[..]);
-    Ok(())
+    let ends = [
+        End::Replied(Reply::Claim(Claimed::Granted(Args::None)), 1),
+        End::Replied(Reply::Finish(Finished::Won), 1),
+        End::Records(1, &saw),
+    ];
+    play(&rt, rt.alloc(), with_room(3, 1, 6), &turns, &ends)
 }

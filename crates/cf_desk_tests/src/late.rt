@@ -1,57 +1,42 @@
 //! A desk leaves all work that nobody's question needs; and the texts of its faults.
-ghost use Rattle.std.specs.Prelude.{◌≡◌, IfOk};
-
-use crate::desks::{act_all, both_of, close_two};
+use crate::desks::Opening;
+use crate::ends::End;
+use crate::plans::Row;
+use crate::steps::{Step, Turn, play};
 use cf_core::Reply;
-use cf_desk::{Ask, Call, CloseFault, Desk, DeskFault, OpenFault, Pass, Told};
+use cf_desk::{Ask, Call, CloseFault, DeskFault, OpenFault, Told};
 use cf_outcome::{Outcome, Value};
-use cf_plan::{Form, Plan, PlanBuilder};
-use std::alloc::Global;
+use cf_plan::Form;
 use std::test::Fail;
 
-/// A plan of a source and three stages, each of which follows the one before.
-fn chain(alloc: Global) -> Result<Plan, Fail> {
-    let mut builder = PlanBuilder::new(alloc);
-    builder
-        .stage(Form::Source, &[], None)
-        .map_err(|_| "a stage was refused")?;
-    for before in 0..3u16 {
-        builder
-            .stage(Form::AnyOf, &[before], None)
-            .map_err(|_| "a stage was refused")?;
-    }
-    Ok(builder.build().map_err(|_| "the plan was refused")?)
-}
-
-/// A desk over that plan, and its two passes.
-fn open_chain(alloc: Global) -> Result<(Desk, Pass, Pass), Fail>
-    ensures first { IfOk result (λ r. r.1.table ≡ r.0.table) }
-    ensures second { IfOk result (λ r. r.2.table ≡ r.0.table) }
-    ensures callers { IfOk result (λ r. r.0.setting.callers ≡ 2) }
-{
-    let plan = chain(alloc)?;
-    let (desk, passes) = Desk::open(alloc, plan, 2, 4, 4).map_err(|_| "the desk was refused")?;
-    let (first, second) = both_of(&desk, passes)?;
-    Ok((desk, first, second))
-}
+/// A source and three stages, each of which follows the one before.
+const CHAIN: [Row<'static>; 4] = [
+    (Form::Source, &[], None),
+    (Form::AnyOf, &[0], None),
+    (Form::AnyOf, &[1], None),
+    (Form::AnyOf, &[2], None),
+];
 
 #[test]
 fn leaves_what_nobody_asks_for(rt: HostRuntime) -> Result<(), Fail> {
-    for (ticks, second_first) in [(false, false), (false, true), (true, false)] {
-        let (desk, mut a, mut b) = open_chain(rt.alloc())?;
-        let call = Call::Complete(0, Value::Int(1));
-        assert_eq!(rt; desk.act(&mut a, call), Ok(Reply::Flag(true)));
-        if ticks {
-            act_all(&desk, &mut b, &[Call::Tick(1)]);
-        }
-        let settled = Told::Outcome(Some(Outcome::Value(Value::Int(1))));
-        assert_eq!(rt; desk.read(&mut b, Ask::Outcome(0)), Ok(settled));
-        let mut closed = if second_first {
-            close_two(rt.alloc(), desk, b, a)?
-        } else {
-            close_two(rt.alloc(), desk, a, b)?
+    let tick = [Call::Tick(1)];
+    let completes = Call::Complete(0, Value::Int(1));
+    let settled = Told::Outcome(Some(Outcome::Value(Value::Int(1))));
+    for (ticks, second_first) in [(&[][..], false), (&[], true), (&tick, false)] {
+        let opening = Opening {
+            rows: &CHAIN,
+            log: 4,
+            calls: 4,
+            room: None,
+            second_first,
         };
-        assert_eq!(rt; (closed.graph.turns(), closed.graph.nudge(9)), (0, 3));
+        let turns = [
+            Turn::First(Step::Acts(completes, Ok(Reply::Flag(true)))),
+            Turn::Second(Step::ActsAll(ticks)),
+            Turn::Second(Step::Reads(Ask::Outcome(0), Ok(settled))),
+        ];
+        let ends = [End::Turns(0), End::Nudge(9, 3)];
+        play(&rt, rt.alloc(), opening, &turns, &ends)?;
     }
     Ok(())
 }

@@ -3,15 +3,21 @@
 #![tactic(auto)]
 
 #[cfg(test)]
+mod beside;
+#[cfg(test)]
 mod bounds;
 #[cfg(test)]
 mod desks;
+#[cfg(test)]
+mod ends;
 #[cfg(test)]
 mod growing;
 #[cfg(test)]
 mod late;
 #[cfg(test)]
 mod listing;
+#[cfg(test)]
+mod plans;
 #[cfg(test)]
 mod room;
 #[cfg(test)]

@@ -2,7 +2,8 @@
 ghost use Rattle.std.specs.Prelude.{◌≡◌};
 
 use crate::desks::last_of;
-use crate::growing::{ATTACHES, source};
+use crate::growing::ATTACHES;
+use crate::plans::{SOURCE, plan_of};
 use cf_core::{Attached, Reply};
 use cf_desk::{Desk, OpenFault, Pass};
 use cf_plan::{Form, Plan, PlanBuilder, PlanFault};
@@ -24,7 +25,7 @@ fn fills_room(desk: &Desk, p: &mut Pass, room: u16) -> bool
 
 /// Whether a desk of one source with so much room can be opened and filled, and how many stages and events it has then.
 fn filled(alloc: Global, room: u16, functions: u32) -> Result<(bool, u16, usize), Fail> {
-    let plan = source(alloc)?;
+    let plan = plan_of(alloc, &SOURCE)?;
     let (desk, mut passes) = Desk::open_growing(alloc, plan, 1, 4_096, 4_096, room, functions)?;
     let mut pass = last_of(&desk, &mut passes)?;
     let fills = fills_room(&desk, &mut pass, room);
@@ -69,7 +70,7 @@ fn supplies(alloc: Global, functions: &[u16]) -> Result<Plan, PlanFault> {
 
 #[test]
 fn refuses_too_much_room(rt: HostRuntime) -> Result<(), Fail> {
-    let plan = source(rt.alloc())?;
+    let plan = plan_of(rt.alloc(), &SOURCE)?;
     let fault = Desk::open_growing(rt.alloc(), plan, 1, 1, 1, 4_096, 0).err();
     assert_eq!(rt; fault, Some(OpenFault::Room));
     let full = Some(OpenFault::Room);

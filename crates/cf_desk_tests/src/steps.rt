@@ -1,15 +1,22 @@
-//! What two callers do in turn, and what they are answered.
+//! What two callers do in turn, and what they are answered, as rows.
 ghost use Rattle.std.specs.Prelude.{◌≡◌};
 
-use crate::desks::act_on_threads;
+use crate::beside::{Work, join_beside};
+use crate::desks::{Opening, act_all, act_on_threads, close_two, open_two};
+use crate::ends::{End, check_ends};
 use cf_core::Reply;
 use cf_desk::{Ask, Call, Desk, DeskFault, Joined, Pass, Told};
+use std::alloc::Global;
+use std::process::Abort;
+use std::test::Fail;
 use std::thread::Threads;
 
 /// What a caller does, and what it is answered.
 #[derive(Clone, Copy)]
-pub(crate) enum Step {
+pub(crate) enum Step<'a> {
     Acts(Call, Result<Reply, DeskFault>),
+    /// Calls one after another, whatever they are answered.
+    ActsAll(&'a [Call]),
     Reads(Ask, Result<Told, DeskFault>),
     /// A join of a stage, with so many looks and one more.
     Joins(u16, u16, Result<Joined, DeskFault>),
@@ -20,70 +27,122 @@ pub(crate) enum Step {
     Knows(u16, bool),
     /// It knows a stage with this function, or with none.
     KnowsFunction(u16, Option<u16>),
+    /// It is this caller.
+    Is(u8),
 }
 
 /// Whose turn it is.
 #[derive(Clone, Copy)]
-pub(crate) enum Turn {
-    First(Step),
-    Second(Step),
-    /// The first caller makes its call on another thread.
-    Aside(Call),
+pub(crate) enum Turn<'a> {
+    First(Step<'a>),
+    Second(Step<'a>),
+    /// The first caller makes its calls on one thread, and the second one makes these on another.
+    Together(&'a [Call], &'a [Call]),
+    /// The first caller works on one thread, while the second one joins a stage on another.
+    SecondJoins(Work<'a>),
+    /// The second caller works, while the first one joins.
+    FirstJoins(Work<'a>),
     Meet,
+    /// The desk is for so many words, callers and functions.
+    DeskIsFor(u16, u8, u32),
+    /// The desk was opened with a stage, or wasn't.
+    DeskHas(u16, bool),
+    /// The desk was opened with a stage with this function, or with none.
+    DeskFunction(u16, Option<u16>),
 }
 
 /// Whether a step is answered so.
-fn is_answered(desk: &Desk, p: &mut Pass, step: Step) -> bool
+fn is_answered(desk: &Desk, p: &mut Pass, step: Step<'_>) -> bool
     requires { p.old.table ≡ desk.now.table }
     ensures { p.new.table ≡ p.old.table }
 {
     match step {
         Step::Acts(call, answer) => desk.act(p, call) == answer,
+        Step::ActsAll(calls) => {
+            act_all(desk, p, calls);
+            true
+        }
         Step::Reads(ask, answer) => desk.read(p, ask) == answer,
         Step::Joins(stage, more, answer) => desk.join(p, stage, more as u32 + 1) == answer,
         Step::FindsReady(stage) => desk.ready(p) == stage,
         Step::Has(seen, left) => p.seen() == seen && p.left() == left,
         Step::Knows(stage, known) => p.has(stage) == known,
         Step::KnowsFunction(stage, function) => p.has(stage) && p.function(stage) == function,
+        Step::Is(caller) => p.caller() == caller,
     }
 }
 
 /// Whether a turn is answered so.
-fn is_taken<R: Threads + Sync>(rt: &R, desk: &Desk, a: &mut Pass, b: &mut Pass, turn: Turn) -> bool
+fn is_taken<R: Threads + Sync>(
+    rt: &R,
+    desk: &Desk,
+    a: &mut Pass,
+    b: &mut Pass,
+    turn: Turn<'_>,
+) -> bool
     requires { (a.old.table ≡ desk.now.table) × (b.old.table ≡ desk.now.table) }
     ensures { (a.new.table ≡ a.old.table) × (b.new.table ≡ b.old.table) }
 {
     match turn {
         Turn::First(step) => is_answered(desk, a, step),
         Turn::Second(step) => is_answered(desk, b, step),
-        Turn::Aside(call) => {
-            act_on_threads(rt, desk, a, b, &[call], &[]);
+        Turn::Together(firsts, seconds) => {
+            act_on_threads(rt, desk, a, b, firsts, seconds);
+            true
+        }
+        Turn::SecondJoins(work) => {
+            join_beside(rt, desk, a, b, work);
+            true
+        }
+        Turn::FirstJoins(work) => {
+            join_beside(rt, desk, b, a, work);
             true
         }
         Turn::Meet => {
             desk.meet(a, b);
             true
         }
+        Turn::DeskIsFor(words, callers, functions) => {
+            desk.words() == words && desk.callers() == callers && desk.functions() == functions
+        }
+        Turn::DeskHas(stage, is_there) => desk.has(stage) == is_there,
+        Turn::DeskFunction(stage, function) => {
+            desk.has(stage) && desk.function(stage) == function
+        }
     }
 }
 
-/// How many turns are answered so, up to the first that isn't.
-pub(crate) fn turns_taken<R: Threads + Sync>(
+/// The callers take these turns, and each is answered as it says.
+fn take<R: Threads + Sync + Abort>(
     rt: &R,
     desk: &Desk,
     a: &mut Pass,
     b: &mut Pass,
-    turns: &[Turn],
-) -> usize
+    turns: &[Turn<'_>],
+)
     requires { (a.old.table ≡ desk.now.table) × (b.old.table ≡ desk.now.table) }
     ensures { (a.new.table ≡ a.old.table) × (b.new.table ≡ b.old.table) }
 {
-    let mut taken = 0usize;
-    'turns: for turn in turns {
-        if !is_taken(rt, desk, a, b, *turn) {
-            return taken;
-        }
-        taken = taken.wrapping_add(1);
+    'turns: for (at, turn) in turns.iter().enumerate() {
+        assert!(rt; is_taken(rt, desk, a, b, *turn), "turn {at}");
     }
-    taken
+}
+
+/// Opens a desk, lets its callers take these turns, and closes it. Then it has what `ends` says.
+pub(crate) fn play<R: Threads + Sync + Abort>(
+    rt: &R,
+    alloc: Global,
+    opening: Opening<'_>,
+    turns: &[Turn<'_>],
+    ends: &[End<'_>],
+) -> Result<(), Fail> {
+    let (desk, mut a, mut b) = open_two(alloc, opening)?;
+    take(rt, &desk, &mut a, &mut b, turns);
+    let mut closed = if opening.second_first {
+        close_two(alloc, desk, b, a)?
+    } else {
+        close_two(alloc, desk, a, b)?
+    };
+    check_ends(rt, &mut closed, ends);
+    Ok(())
 }

@@ -1,26 +1,12 @@
 //! Two callers that take turns.
-use crate::desks::{close_two, open_two, records_at};
-use crate::steps::{Step, Turn, turns_taken};
+use crate::desks::small;
+use crate::ends::End;
+use crate::steps::{Step, Turn, play};
 use cf_core::{Claimed, Event, Finished, Reply, Ticked};
-use cf_desk::{Ask, Call, Closed, DeskFault, Joined, Rec, Told};
+use cf_desk::{Ask, Call, DeskFault, Joined, Rec, Told};
 use cf_outcome::{Now, Outcome, Value};
 use cf_plan::{Answer, Args};
-use std::alloc::Global;
 use std::test::Fail;
-use std::thread::Threads;
-
-/// Opens a desk for two callers, lets them take these turns, and closes it.
-fn played<R: Threads + Sync>(
-    rt: &R,
-    alloc: Global,
-    log: u16,
-    calls: u16,
-    turns: &[Turn],
-) -> Result<(usize, Closed), Fail> {
-    let (desk, mut a, mut b) = open_two(alloc, log, calls)?;
-    let taken = turns_taken(rt, &desk, &mut a, &mut b, turns);
-    Ok((taken, close_two(alloc, desk, a, b)?))
-}
 
 const SETTLED: Outcome = Outcome::Value(Value::Int(5));
 
@@ -37,15 +23,13 @@ const TOLD: Told = Told::Outcome(Some(SETTLED));
 #[test]
 fn reads_what_a_joined_thread_did(rt: HostRuntime) -> Result<(), Fail> {
     let turns = [
-        Turn::Aside(COMPLETES),
+        Turn::Together(&[COMPLETES], &[]),
         Turn::Second(Step::Reads(NOW, Ok(GOT))),
         Turn::Second(Step::Has(1, 3)),
-        Turn::Aside(Call::Tick(0)),
+        Turn::Together(&[Call::Tick(0)], &[]),
         Turn::Second(Step::Reads(OUTCOME, Ok(TOLD))),
         Turn::Second(Step::Has(2, 2)),
     ];
-    let (taken, closed) = played(&rt, rt.alloc(), 4, 4, &turns)?;
-    assert_eq!(rt; taken, 6);
     let saw = [
         Rec::Saw {
             place: 1,
@@ -58,8 +42,13 @@ fn reads_what_a_joined_thread_did(rt: HostRuntime) -> Result<(), Fail> {
             told: TOLD,
         },
     ];
-    assert_eq!(rt; records_at(&closed, 1), &saw[..]);
-    Ok(())
+    play(
+        &rt,
+        rt.alloc(),
+        small(4, 4),
+        &turns,
+        &[End::Records(1, &saw)],
+    )
 }
 
 #[test]
@@ -71,18 +60,14 @@ fn a_full_log_refuses_calls_and_answers_reads(rt: HostRuntime) -> Result<(), Fai
         Turn::First(Step::Acts(Call::Claim(2), Err(DeskFault::NoStage))),
         Turn::First(Step::Reads(OUTCOME, Ok(TOLD))),
     ];
-    let (taken, closed) = played(&rt, rt.alloc(), 2, 4, &turns)?;
-    assert_eq!(rt; (taken, records_at(&closed, 0).len()), (5, 3));
     let first = Event::Complete {
         who: 0,
         stage: 0,
         value: Value::Int(5),
     };
-    assert_eq!(rt;
-        closed.history.as_slice(),
-        &[first, Event::Cancel { who: 0, stage: 0 }][..]
-    );
-    Ok(())
+    let history = [first, Event::Cancel { who: 0, stage: 0 }];
+    let ends = [End::Keeps(0, 3), End::History(&history)];
+    play(&rt, rt.alloc(), small(2, 4), &turns, &ends)
 }
 
 #[test]
@@ -94,8 +79,6 @@ fn a_full_pass_is_told_before_a_full_log(rt: HostRuntime) -> Result<(), Fail> {
         Turn::First(Step::Reads(NOW, Err(DeskFault::PassFull))),
         Turn::First(Step::Acts(Call::Tick(1), Err(DeskFault::PassFull))),
     ];
-    let (taken, closed) = played(&rt, rt.alloc(), 2, 2, &turns)?;
-    assert_eq!(rt; taken, 5);
     let kept = [
         Rec::Saw {
             place: 0,
@@ -108,8 +91,13 @@ fn a_full_pass_is_told_before_a_full_log(rt: HostRuntime) -> Result<(), Fail> {
             reply: Reply::Flag(true),
         },
     ];
-    assert_eq!(rt; records_at(&closed, 0), &kept[..]);
-    Ok(())
+    play(
+        &rt,
+        rt.alloc(),
+        small(2, 2),
+        &turns,
+        &[End::Records(0, &kept)],
+    )
 }
 
 #[test]
@@ -128,9 +116,7 @@ fn meet_levels(rt: HostRuntime) -> Result<(), Fail> {
         Turn::First(Step::Has(2, 3)),
         Turn::Second(Step::Has(2, 3)),
     ];
-    let (taken, closed) = played(&rt, rt.alloc(), 4, 4, &turns)?;
-    assert_eq!(rt; (taken, closed.history.len()), (12, 2));
-    Ok(())
+    play(&rt, rt.alloc(), small(4, 4), &turns, &[End::Events(2)])
 }
 
 #[test]
@@ -144,19 +130,18 @@ fn a_caller_does_the_ready_work(rt: HostRuntime) -> Result<(), Fail> {
         Turn::First(Step::FindsReady(None)),
         Turn::First(Step::Joins(1, 0, Ok(Joined::Value(Value::Int(4))))),
     ];
-    let (taken, closed) = played(&rt, rt.alloc(), 4, 4, &turns)?;
-    assert_eq!(rt; (taken, closed.history.len()), (5, 2));
-    Ok(())
+    play(&rt, rt.alloc(), small(4, 4), &turns, &[End::Events(2)])
 }
 
 #[test]
 fn a_desk_and_its_passes_tell_what_they_are(rt: HostRuntime) -> Result<(), Fail> {
-    let (desk, a, b) = open_two(rt.alloc(), 4, 7)?;
-    assert_eq!(rt;
-        (desk.words(), desk.callers(), a.caller(), b.caller()),
-        (4, 2, 0, 1)
-    );
-    assert!(rt; desk.has(1) && !desk.has(2));
-    assert_eq!(rt; desk.function(1), Some(3));
-    Ok(())
+    let turns = [
+        Turn::DeskIsFor(4, 2, 4),
+        Turn::First(Step::Is(0)),
+        Turn::Second(Step::Is(1)),
+        Turn::DeskHas(1, true),
+        Turn::DeskHas(2, false),
+        Turn::DeskFunction(1, Some(3)),
+    ];
+    play(&rt, rt.alloc(), small(4, 7), &turns, &[])
 }

@@ -13,8 +13,6 @@ mod forms;
 mod graph;
 mod plan;
 mod stages;
-#[cfg(test)]
-mod tests;
 
 pub use forms::follows;
 pub use graph::Plain;

@@ -2,12 +2,14 @@
 ghost use Rattle.std.specs.Prelude.{◌≡◌, ◌+◌, ◌≤◌, All, IfOk, length, vec_len};
 ghost use Rattle.cf_desk.specs.Views.{IsOf};
 
-use crate::workers::{FUNCTIONS, outcome_of, supplies};
+use crate::ends::{End, check_ends, gives};
+use crate::plans::supplies;
+use crate::pools::{FUNCTIONS, last_of, ran};
 use cf_core::Event;
 use cf_desk::{Call, Closed, Desk, Pass};
-use cf_outcome::{Outcome, Value};
+use cf_outcome::Value;
 use cf_plan::{Answer, Form, Of};
-use cf_pool::{Done, Gate, NoGate, run, work};
+use cf_pool::{Done, Gate, NoGate, work};
 use std::alloc::Global;
 use std::sync::atomic::{AtomicBool, Ordering};
 use std::test::Fail;
@@ -84,12 +86,8 @@ fn two_passes(desk: &Desk, mut passes: Vec<Pass>) -> Result<(Pass, Pass), Fail>
     requires { All (IsOf desk.now) passes.items }
     ensures { IfOk result (λ r. IsOf desk.now r.0 × IsOf desk.now r.1) }
 {
-    let Some(theirs) = passes.pop() else {
-        return Err(Fail::from("a pass is missing"));
-    };
-    let Some(mine) = passes.pop() else {
-        return Err(Fail::from("a pass is missing"));
-    };
+    let theirs = last_of(desk, &mut passes)?;
+    let mine = last_of(desk, &mut passes)?;
     Ok((mine, theirs))
 }
 
@@ -117,26 +115,43 @@ fn attach(form: Form, of: Of, function: u16) -> Event {
     }
 }
 
-#[test]
-fn a_worker_does_what_is_attached_after_it_started(rt: HostRuntime) -> Result<(), Fail> {
-    let (desk, passes) = open_growing(rt.alloc(), 1)?;
-    let (mut mine, mut theirs) = two_passes(&desk, passes)?;
+/// The worker works on one thread, and its caller attaches two stages on another, while the worker has stage 0.
+fn work_beside<R: Threads + Sync>(
+    rt: &R,
+    desk: &Desk,
+    mine: &mut Pass,
+    theirs: &mut Pass,
+) -> Option<Done>
+    requires { IsOf desk.now mine.old × IsOf desk.now theirs.old }
+    ensures { IsOf desk.now mine.new × IsOf desk.now theirs.new }
+{
     let gate = Handover {
         claimed: AtomicBool::new(false),
         attached: AtomicBool::new(false),
     };
     let (_, done) = thread::join_mut(
-        &rt,
-        &mut || attach_two(&desk, &mut mine, &gate),
-        &mut || work_on(&desk, &mut theirs, &gate),
+        rt,
+        &mut || attach_two(desk, mine, &gate),
+        &mut || work_on(desk, theirs, &gate),
     );
+    done
+}
+
+/// What the worker did, and the closed desk.
+fn worked_beside<R: Threads + Sync>(rt: &R, alloc: Global) -> Result<(Option<Done>, Closed), Fail> {
+    let (desk, passes) = open_growing(alloc, 1)?;
+    let (mut mine, mut theirs) = two_passes(&desk, passes)?;
+    let done = work_beside(rt, &desk, &mut mine, &mut theirs);
+    Ok((done, close_two(alloc, desk, mine, theirs)?))
+}
+
+#[test]
+fn a_worker_does_what_is_attached_after_it_started(rt: HostRuntime) -> Result<(), Fail> {
     let all_won = Done {
         run: 3,
         won: 3,
         late: 0,
     };
-    assert_eq!(rt; done, Some(all_won));
-    let closed = close_two(rt.alloc(), desk, mine, theirs)?;
     let history = [
         claim(0),
         attach(Form::Apply, Of::One(0), 3),
@@ -147,7 +162,9 @@ fn a_worker_does_what_is_attached_after_it_started(rt: HostRuntime) -> Result<()
         claim(2),
         finish(2, 6),
     ];
-    assert_eq!(rt; closed.history.as_slice(), &history[..]);
+    let (done, mut closed) = worked_beside(&rt, rt.alloc())?;
+    assert_eq!(rt; done, Some(all_won));
+    check_ends(&rt, &mut closed, &[End::History(&history)]);
     Ok(())
 }
 
@@ -171,13 +188,13 @@ fn attach_by_each<R: Threads + Sync>(rt: &R, desk: &Desk, passes: &mut [Pass])
 fn a_run_does_what_its_callers_attached(rt: HostRuntime) -> Result<(), Fail> {
     let (desk, mut passes) = open_growing(rt.alloc(), 2)?;
     attach_by_each(&rt, &desk, passes.as_mut_slice());
-    let Ok(mut closed) = run(&rt, desk, passes, &FUNCTIONS, &NoGate, 2) else {
-        return Err(Fail::from("the run was refused"));
-    };
-    for stage in 0..4 {
-        let number = if stage == 0 { 4 } else { 7 };
-        let gives = Some(Outcome::Value(Value::Int(number)));
-        assert_eq!(rt; outcome_of(&mut closed, stage), gives, "stage {stage}");
-    }
+    let mut closed = ran(&rt, desk, passes, &FUNCTIONS, &NoGate, 2)?;
+    let ends = [
+        End::Has(0, gives(4)),
+        End::Has(1, gives(7)),
+        End::Has(2, gives(7)),
+        End::Has(3, gives(7)),
+    ];
+    check_ends(&rt, &mut closed, &ends);
     Ok(())
 }

@@ -5,6 +5,12 @@
 #[cfg(test)]
 mod attached;
 #[cfg(test)]
+mod ends;
+#[cfg(test)]
+mod plans;
+#[cfg(test)]
+mod pools;
+#[cfg(test)]
 mod races;
 #[cfg(test)]
 mod watched;

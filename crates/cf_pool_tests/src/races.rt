@@ -1,9 +1,12 @@
 //! Races of few workers and of many, and how large a race may be.
 ghost use Rattle.std.specs.Prelude.{◌≡◌, ◌<◌, ◌≤◌, IfOk, replicate};
 
+use crate::ends::{check_outcomes, gives};
+use crate::plans::{Row, plan_of, sources};
+use crate::pools::raced;
 use cf_core::{Event, Graph};
-use cf_outcome::{Outcome, Value};
-use cf_plan::{Answer, Args, Form, Of, Plan, PlanBuilder, StageFn};
+use cf_outcome::Value;
+use cf_plan::{Answer, Args, Form, Of, Plan, StageFn};
 use cf_pool::{NoGate, RaceFault, race};
 use std::alloc::{AllocError, Global};
 use std::sync::Wait;
@@ -43,55 +46,39 @@ const FUNCTIONS: [Sample; 3] = [
     Sample { gives: None },
 ];
 
-/// Two stages of this form, and the sum of both.
-fn sum_of_two(alloc: Global, form: Form, functions: [Option<u16>; 2]) -> Result<Plan, Fail> {
-    let mut builder = PlanBuilder::new(alloc);
-    builder
-        .stage(form, &[], functions[0])
-        .map_err(|_| "a stage was refused")?;
-    builder
-        .stage(form, &[], functions[1])
-        .map_err(|_| "a stage was refused")?;
-    builder
-        .stage(Form::Combine, &[0, 1], Some(2))
-        .map_err(|_| "a stage was refused")?;
-    Ok(builder.build().map_err(|_| "the plan was refused")?)
-}
+/// Two supplies, and the sum of both.
+const SUPPLIES: [Row<'static>; 3] = [
+    (Form::Supply, &[], Some(0)),
+    (Form::Supply, &[], Some(1)),
+    (Form::Combine, &[0, 1], Some(2)),
+];
 
-/// So many sources.
-fn sources(alloc: Global, count: u16) -> Result<Plan, Fail> {
-    let mut builder = PlanBuilder::new(alloc);
-    for _ in 0..count {
-        builder
-            .stage(Form::Source, &[], None)
-            .map_err(|_| "a stage was refused")?;
-    }
-    Ok(builder.build().map_err(|_| "the plan was refused")?)
-}
+/// Two sources, and the sum of both.
+const SOURCES: [Row<'static>; 3] = [
+    (Form::Source, &[], None),
+    (Form::Source, &[], None),
+    (Form::Combine, &[0, 1], Some(2)),
+];
 
-/// What a stage has ended as.
-fn outcome(graph: &mut Graph, stage: u16) -> Option<Outcome> {
-    if graph.has(stage) {
-        graph.outcome(stage)
-    } else {
-        None
-    }
-}
-
-fn number(n: i32) -> Option<Outcome> {
-    Some(Outcome::Value(Value::Int(n)))
+/// Races with so many workers.
+fn race_alone<R: Threads + Wait + Sync>(
+    rt: &R,
+    alloc: Global,
+    plan: Plan,
+    workers: u8,
+) -> Result<Graph, Fail>
+    requires { (0 < workers) × (workers ≤ 32) }
+{
+    raced(rt, alloc, plan, 0, &[], &FUNCTIONS, &NoGate, workers)
 }
 
 #[test]
 fn any_number_of_workers_ends_as_one(rt: HostRuntime) -> Result<(), Fail> {
+    let outcomes = [gives(4), gives(5), gives(9)];
     for workers in 1..33u8 {
-        let plan = sum_of_two(rt.alloc(), Form::Supply, [Some(0), Some(1)])?;
-        let mut graph = race(&rt, rt.alloc(), plan, 0, &[], &FUNCTIONS, &NoGate, workers).map_err(
-            |_| "there was no race",
-        )?;
-        assert_eq!(rt; outcome(&mut graph, 0), number(4), "{workers} workers");
-        assert_eq!(rt; outcome(&mut graph, 1), number(5), "{workers} workers");
-        assert_eq!(rt; outcome(&mut graph, 2), number(9), "{workers} workers");
+        let plan = plan_of(rt.alloc(), &SUPPLIES)?;
+        let mut graph = race_alone(&rt, rt.alloc(), plan, workers)?;
+        check_outcomes(&rt, &mut graph, &outcomes, workers);
     }
     Ok(())
 }
@@ -113,18 +100,13 @@ fn race_on<R: Threads + Wait + Sync>(rt: &R, alloc: Global, plan: Plan) -> Resul
         return Err(Fail::from("stages are missing"));
     }
     let steps = [complete(0, 3), complete(0, 4), complete(1, 6)];
-    race(rt, alloc, plan, 0, &steps, &FUNCTIONS, &NoGate, 2).map_err(|_| Fail::from(
-        "there was no race",
-    ))
+    raced(rt, alloc, plan, 0, &steps, &FUNCTIONS, &NoGate, 2)
 }
 
 #[test]
 fn the_first_of_two_steps_counts(rt: HostRuntime) -> Result<(), Fail> {
-    let plan = sum_of_two(rt.alloc(), Form::Source, [None, None])?;
-    let mut graph = race_on(&rt, rt.alloc(), plan)?;
-    assert_eq!(rt; outcome(&mut graph, 0), number(3));
-    assert_eq!(rt; outcome(&mut graph, 1), number(6));
-    assert_eq!(rt; outcome(&mut graph, 2), number(9));
+    let mut graph = race_on(&rt, rt.alloc(), plan_of(rt.alloc(), &SOURCES)?)?;
+    check_outcomes(&rt, &mut graph, &[gives(3), gives(6), gives(9)], 2);
     Ok(())
 }
 
@@ -156,18 +138,16 @@ fn race_growing<R: Threads + Wait + Sync>(
         complete(0, 3),
         complete(1, 6),
     ];
-    race(rt, alloc, plan, 1, &steps, &FUNCTIONS, &NoGate, workers).map_err(|_| Fail::from(
-        "there was no race",
-    ))
+    raced(rt, alloc, plan, 1, &steps, &FUNCTIONS, &NoGate, workers)
 }
 
 #[test]
 fn a_race_does_what_its_steps_attach(rt: HostRuntime) -> Result<(), Fail> {
+    let outcomes = [gives(3), gives(6), gives(9)];
     for workers in 1..33u8 {
         let plan = sources(rt.alloc(), 2)?;
         let mut graph = race_growing(&rt, rt.alloc(), plan, workers)?;
-        assert_eq!(rt; graph.stages(), 3, "{workers} workers");
-        assert_eq!(rt; outcome(&mut graph, 2), number(9), "{workers} workers");
+        check_outcomes(&rt, &mut graph, &outcomes, workers);
     }
     Ok(())
 }
@@ -192,18 +172,14 @@ fn race_behind<R: Threads + Wait + Sync>(
 
 #[test]
 fn the_log_has_at_most_65_535_words(rt: HostRuntime) -> Result<(), Fail> {
-    assert_eq!(rt;
-        race_behind(&rt, rt.alloc(), sources(rt.alloc(), 1_927)?, 16)?,
-        None
-    );
-    assert_eq!(rt;
-        race_behind(&rt, rt.alloc(), sources(rt.alloc(), 1_927)?, 17)?,
-        Some(RaceFault::Size)
-    );
-    assert_eq!(rt;
-        race_behind(&rt, rt.alloc(), sources(rt.alloc(), 1_928)?, 0)?,
-        Some(RaceFault::Size)
-    );
+    for (stages, steps, fault) in [
+        (1_927, 16, None),
+        (1_927, 17, Some(RaceFault::Size)),
+        (1_928, 0, Some(RaceFault::Size)),
+    ] {
+        let plan = sources(rt.alloc(), stages)?;
+        assert_eq!(rt; race_behind(&rt, rt.alloc(), plan, steps)?, fault);
+    }
     Ok(())
 }
 

@@ -1,12 +1,13 @@
 //! Workers whose gate and functions keep what happens to them: which function ran how often, and what the gate was told.
 ghost use Rattle.std.specs.Prelude.{◌<◌, ◌≤◌};
 
-use crate::workers::{open, supplies};
+use crate::plans::supplies;
+use crate::pools::{last_of, open, raced, ran};
 use cf_core::{Claimed, Reply};
 use cf_desk::{Call, DeskFault, Kept, Rec};
 use cf_outcome::Value;
 use cf_plan::{Answer, Args, StageFn};
-use cf_pool::{Gate, PoolFault, race, run, work};
+use cf_pool::{Gate, PoolFault, run, work};
 use std::alloc::{AllocError, Global};
 use std::sync::Wait;
 use std::sync::atomic::{AtomicBool, AtomicU32, Ordering};
@@ -175,9 +176,7 @@ fn watch_work(alloc: Global, stages: u16) -> Result<bool, Fail> {
     let (desk, mut passes) = open(alloc, supplies(alloc, stages)?, 1, 99, 99)?;
     let watch = Watch::new(alloc, stages, 1)?;
     let fns = functions(alloc, &watch, stages)?;
-    let Some(mut pass) = passes.pop() else {
-        return Err(Fail::from("a pass is missing"));
-    };
+    let mut pass = last_of(&desk, &mut passes)?;
     let Ok(done) = work(&desk, &mut pass, &fns, &watch, 1) else {
         return Err(Fail::from("the worker was stopped"));
     };
@@ -196,9 +195,7 @@ fn watch_run<R: Threads + Wait + Sync>(rt: &R, alloc: Global, workers: u8) -> Re
     let (desk, passes) = open(alloc, supplies(alloc, stages)?, workers, 2000, 99)?;
     let watch = Watch::new(alloc, stages, workers)?;
     let fns = functions(alloc, &watch, stages)?;
-    let Ok(closed) = run(rt, desk, passes, &fns, &watch, workers) else {
-        return Err(Fail::from("the run was refused"));
-    };
+    let closed = ran(rt, desk, passes, &fns, &watch, workers)?;
     let mut saw = watch.saw_each_once() && watch.saw_workers(workers);
     for kept in &closed.passes {
         saw = saw && watch.saw_claims_of(kept);
@@ -213,20 +210,8 @@ fn watch_race<R: Threads + Wait + Sync>(rt: &R, alloc: Global, workers: u8) -> R
     let stages = u16::from(workers);
     let watch = Watch::new(alloc, stages, workers)?;
     let fns = functions(alloc, &watch, stages)?;
-    if race(
-        rt,
-        alloc,
-        supplies(alloc, stages)?,
-        0,
-        &[],
-        &fns,
-        &watch,
-        workers,
-    )
-    .is_err()
-    {
-        return Err(Fail::from("there was no race"));
-    }
+    let plan = supplies(alloc, stages)?;
+    let _ = raced(rt, alloc, plan, 0, &[], &fns, &watch, workers)?;
     Ok(watch.saw_each_once() && watch.saw_workers(workers))
 }
 

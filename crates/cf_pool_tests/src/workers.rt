@@ -1,77 +1,20 @@
-ghost use Rattle.std.specs.Prelude.{◌≡◌, ◌+◌, ◌≤◌, All, IfOk, vec_len};
+//! Runs of workers over small desks.
+ghost use Rattle.std.specs.Prelude.{◌<◌, ◌≤◌};
 ghost use Rattle.cf_desk.specs.Views.{IsOf};
 
+use crate::ends::{End, check_ends, gives};
+use crate::plans::{Row, plan_of, supplies};
+use crate::pools::{FUNCTIONS, last_of, open, ran};
 use cf_core::Event;
 use cf_desk::{Closed, Desk, DeskFault, Joined, Pass};
-use cf_outcome::{Outcome, Value};
-use cf_plan::{Answer, Args, Form, Plan, PlanBuilder, StageFn};
+use cf_outcome::Value;
+use cf_plan::{Form, Plan};
 use cf_pool::{Done, Gate, NoGate, PoolFault, run, work};
 use std::alloc::Global;
 use std::sync::Wait;
 use std::sync::atomic::{AtomicBool, Ordering};
 use std::test::Fail;
 use std::thread::Threads;
-
-/// Gives its value, whatever it is called with.
-#[derive(Clone, Copy, Drop)]
-pub(crate) struct Fixed {
-    value: Value,
-}
-
-impl StageFn for Fixed {
-    ghost use Rattle.cf_plan.specs.declared.forms.Answer.TheVariants.{Give};
-
-    ghost meaning = { λ f args. Give f.value };
-
-    fn call(&self, _args: &Args) -> Answer {
-        Answer::Give(self.value)
-    }
-}
-
-/// Four functions, which give 4, 5, 6 and 7.
-pub(crate) const FUNCTIONS: [Fixed; 4] = [
-    Fixed {
-        value: Value::Int(4),
-    },
-    Fixed {
-        value: Value::Int(5),
-    },
-    Fixed {
-        value: Value::Int(6),
-    },
-    Fixed {
-        value: Value::Int(7),
-    },
-];
-
-/// A plan of so many supplies, each with the function of its number.
-pub(crate) fn supplies(alloc: Global, count: u16) -> Result<Plan, Fail> {
-    let mut builder = PlanBuilder::new(alloc);
-    for i in 0..count {
-        builder
-            .stage(Form::Supply, &[], Some(i))
-            .map_err(|_| "a stage was refused")?;
-    }
-    Ok(builder.build().map_err(|_| "the plan was refused")?)
-}
-
-/// A desk over a plan for so many workers and their caller.
-pub(crate) fn open(
-    alloc: Global,
-    plan: Plan,
-    workers: u8,
-    log: u16,
-    calls: u16,
-) -> Result<(Desk, Vec<Pass>), Fail>
-    requires { workers ≤ 32 }
-    ensures passes { IfOk result (λ r. All (IsOf r.0) r.1.items × (vec_len r.1 ≡ workers + 1)) }
-    ensures callers { IfOk result (λ r. r.0.setting.callers ≡ workers + 1) }
-{
-    match Desk::open(alloc, plan, workers + 1, log, calls) {
-        Ok(opened) => Ok(opened),
-        Err(_) => Err(Fail::from("the desk was refused")),
-    }
-}
 
 /// Each stage waits until all of them came, at most 1,000,000,000 looks, and tells whether they did.
 #[derive(Drop)]
@@ -138,44 +81,42 @@ impl Gate for Together {
     }
 }
 
-/// The outcome of a stage of a closed desk.
-pub(crate) fn outcome_of(closed: &mut Closed, stage: u16) -> Option<Outcome> {
-    if closed.graph.has(stage) {
-        closed.graph.outcome(stage)
-    } else {
-        None
-    }
+/// The desk that a run of so many workers over a plan leaves, where it tells no fault. Its log has so many words, and each
+/// pass room for so many records.
+fn run_over<R: Threads + Wait + Sync, G: Gate + Sync>(
+    rt: &R,
+    alloc: Global,
+    plan: Plan,
+    sizes: (u16, u16),
+    gate: &G,
+    workers: u8,
+) -> Result<Closed, Fail>
+    requires { (0 < workers) × (workers ≤ 32) }
+{
+    let (desk, passes) = open(alloc, plan, workers, sizes.0, sizes.1)?;
+    ran(rt, desk, passes, &FUNCTIONS, gate, workers)
 }
 
 #[test]
 fn two_functions_at_once(rt: HostRuntime) -> Result<(), Fail> {
-    let (desk, passes) = open(rt.alloc(), supplies(rt.alloc(), 2)?, 2, 9, 5)?;
     let gate = Together::new(2);
-    let Ok(mut closed) = run(&rt, desk, passes, &FUNCTIONS, &gate, 2) else {
-        return Err(Fail::from("the run was refused"));
-    };
+    let mut closed = run_over(&rt, rt.alloc(), supplies(rt.alloc(), 2)?, (9, 5), &gate, 2)?;
     assert!(rt; gate.have_met());
-    assert_eq!(rt;
-        outcome_of(&mut closed, 0),
-        Some(Outcome::Value(Value::Int(4)))
-    );
-    assert_eq!(rt;
-        outcome_of(&mut closed, 1),
-        Some(Outcome::Value(Value::Int(5)))
-    );
-    assert!(rt; closed.history.len() >= 4);
+    let ends = [
+        End::Has(0, gives(4)),
+        End::Has(1, gives(5)),
+        End::AtLeast(4),
+    ];
+    check_ends(&rt, &mut closed, &ends);
     Ok(())
 }
 
 #[test]
 fn four_functions_at_once(rt: HostRuntime) -> Result<(), Fail> {
-    let (desk, passes) = open(rt.alloc(), supplies(rt.alloc(), 4)?, 4, 25, 9)?;
     let gate = Together::new(4);
-    let Ok(closed) = run(&rt, desk, passes, &FUNCTIONS, &gate, 4) else {
-        return Err(Fail::from("the run was refused"));
-    };
+    let mut closed = run_over(&rt, rt.alloc(), supplies(rt.alloc(), 4)?, (25, 9), &gate, 4)?;
     assert!(rt; gate.have_met());
-    assert!(rt; closed.history.len() >= 8);
+    check_ends(&rt, &mut closed, &[End::AtLeast(8)]);
     Ok(())
 }
 
@@ -195,72 +136,46 @@ fn run_one<R: Threads + Wait + Sync>(
 
 #[test]
 fn a_stopped_worker_leaves_its_claim_open(rt: HostRuntime) -> Result<(), Fail> {
+    let claim = [Event::Claim { who: 1, stage: 0 }];
+    let ends = [End::History(&claim), End::Has(0, None)];
     for (log, calls, told) in [(1, 4, DeskFault::LogFull), (4, 1, DeskFault::PassFull)] {
         let (fault, mut closed) = run_one(&rt, rt.alloc(), log, calls)?;
         assert_eq!(rt; fault, told);
-        assert_eq!(rt;
-            closed.history.as_slice(),
-            &[Event::Claim { who: 1, stage: 0 }][..]
-        );
-        assert_eq!(rt; outcome_of(&mut closed, 0), None);
+        check_ends(&rt, &mut closed, &ends);
     }
     Ok(())
 }
 
 /// A supply, and a function of it.
-fn chain(alloc: Global) -> Result<Plan, Fail> {
-    let mut builder = PlanBuilder::new(alloc);
-    builder
-        .stage(Form::Supply, &[], Some(0))
-        .map_err(|_| "a stage was refused")?;
-    builder
-        .stage(Form::Apply, &[0], Some(3))
-        .map_err(|_| "a stage was refused")?;
-    Ok(builder.build().map_err(|_| "the plan was refused")?)
-}
+const CHAIN: [Row<'static>; 2] = [(Form::Supply, &[], Some(0)), (Form::Apply, &[0], Some(3))];
 
-/// Works with a pass of the desk alone.
-fn work_alone(desk: &Desk, pass: &mut Pass) -> Result<Done, DeskFault>
+/// Whether one worker does both stages of a chain, and has seen its four events and what the second gives.
+fn does_chain(desk: &Desk, pass: &mut Pass) -> bool
     requires { IsOf desk.now pass.old }
-    ensures { IsOf desk.now pass.new }
 {
-    work(desk, pass, &FUNCTIONS, &NoGate, 2)
-}
-
-#[test]
-fn one_worker_does_all_that_is_ready(rt: HostRuntime) -> Result<(), Fail> {
-    let (desk, mut passes) = open(rt.alloc(), chain(rt.alloc())?, 0, 9, 9)?;
-    let Some(mut pass) = passes.pop() else {
-        return Err(Fail::from("a pass is missing"));
-    };
     let done = Done {
         run: 2,
         won: 2,
         late: 0,
     };
-    assert_eq!(rt; work_alone(&desk, &mut pass), Ok(done));
-    assert_eq!(rt; pass.seen(), 4);
-    assert_eq!(rt;
-        desk.join(&mut pass, 1, 1),
-        Ok(Joined::Value(Value::Int(7)))
-    );
+    work(desk, pass, &FUNCTIONS, &NoGate, 2) == Ok(done)
+        && pass.seen() == 4
+        && desk.join(pass, 1, 1) == Ok(Joined::Value(Value::Int(7)))
+}
+
+#[test]
+fn one_worker_does_all_that_is_ready(rt: HostRuntime) -> Result<(), Fail> {
+    let (desk, mut passes) = open(rt.alloc(), plan_of(rt.alloc(), &CHAIN)?, 0, 9, 9)?;
+    let mut pass = last_of(&desk, &mut passes)?;
+    assert!(rt; does_chain(&desk, &mut pass));
     Ok(())
 }
 
 #[test]
 fn a_run_ends_with_nothing_ready(rt: HostRuntime) -> Result<(), Fail> {
-    let (desk, passes) = open(rt.alloc(), chain(rt.alloc())?, 3, 20, 9)?;
-    let Ok(mut closed) = run(&rt, desk, passes, &FUNCTIONS, &NoGate, 3) else {
-        return Err(Fail::from("the run was refused"));
-    };
-    assert_eq!(rt;
-        outcome_of(&mut closed, 0),
-        Some(Outcome::Value(Value::Int(4)))
-    );
-    assert_eq!(rt;
-        outcome_of(&mut closed, 1),
-        Some(Outcome::Value(Value::Int(7)))
-    );
-    assert_eq!(rt; closed.passes.len(), 4);
+    let plan = plan_of(rt.alloc(), &CHAIN)?;
+    let mut closed = run_over(&rt, rt.alloc(), plan, (20, 9), &NoGate, 3)?;
+    let ends = [End::Has(0, gives(4)), End::Has(1, gives(7)), End::Passes(4)];
+    check_ends(&rt, &mut closed, &ends);
     Ok(())
 }

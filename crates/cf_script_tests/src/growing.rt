@@ -1,12 +1,12 @@
 //! Scripts of version 2: what they print, what is wrong with them, and races in which stages are attached.
 ghost use Rattle.std.specs.Prelude.{◌<◌, ◌≤◌};
 
-use super::attached::{
-    ATTACHED, BEYOND, COMPOSED, LONG_GROWING, NO_FORMS, NO_FUNCTIONS, NO_ROOMS, NO_SOURCES,
-    NO_STAGES, VERSIONS,
-};
-use super::{check_long_rows, check_rows, lines};
-use crate::{NoGate, ScriptFault, race_script, run_script};
+use crate::attached::{ATTACHED, COMPOSED};
+use crate::checks::{check_long_rows, check_rows, lines};
+use crate::long::LONG_GROWING;
+use crate::versions::{BEYOND, VERSIONS};
+use crate::wrong_steps::{NO_FORMS, NO_FUNCTIONS, NO_ROOMS, NO_SOURCES, NO_STAGES};
+use cf_script::{NoGate, ScriptFault, race_script, run_script};
 use std::alloc::{AllocError, Global};
 use std::process::Abort;
 use std::sync::Wait;

@@ -1,9 +1,9 @@
 //! Races of whole scripts.
 ghost use Rattle.std.specs.Prelude.{◌<◌, ◌≤◌};
 
-use super::devices::{Dripping, Sipping, Then};
-use super::lines;
-use crate::{Gate, NoGate, ScriptFault, race_script, run_script};
+use crate::checks::lines;
+use crate::devices::{Dripping, Sipping, Then};
+use cf_script::{Gate, NoGate, ScriptFault, race_script, run_script};
 use std::alloc::{AllocError, Global};
 use std::io::{ErrorKind, Read, Write};
 use std::process::Abort;

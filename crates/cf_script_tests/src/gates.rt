@@ -1,10 +1,10 @@
 //! What a gate is told in a race, and when functions are called.
 ghost use Rattle.std.specs.Prelude.{◌<◌, ◌≤◌};
 
-use crate::{Gate, race_script};
 use cf_outcome::Value;
 use cf_plan::{Answer, Args, Form, Plan, PlanBuilder, StageFn};
 use cf_pool::race;
+use cf_script::{Gate, race_script};
 use std::alloc::{AllocError, Global};
 use std::process::Abort;
 use std::sync::Wait;

@@ -1,16 +1,13 @@
-//! The graph against the plain graph, where stages are attached between the calls.
-ghost use Rattle.std.specs.Prelude.{◌<◌, All, length};
-ghost use Rattle.std.specs.Bool.{OnTrue};
-ghost use Rattle.cf_plan.specs.Plans.{sources_of};
+//! Graphs to which stages are attached between the calls.
+ghost use Rattle.std.specs.Prelude.{◌<◌};
 
-use crate::graph::Plain;
-use crate::tests::{
-    FORMS, Takes, answers, assert_alike, call_on_both, choice_of, claim_on_both, finish_on_both,
-    larger_plan, next_number, nudge,
-};
+use crate::both::{answer, assert_alike, nudge};
+use crate::calls::{call_of, caller_of, finishing};
+use crate::plans::{FORMS, Takes, choice_of, larger_plan, next_number};
 use cf_core::{Attached, Event, Graph, Reply};
 use cf_outcome::Value;
-use cf_plan::{Form, LimitKind, Of, Plan, PlanBuilder, fits_form};
+use cf_plain::Plain;
+use cf_plan::{Form, LimitKind, Of, Plan, PlanBuilder};
 use std::alloc::Global;
 use std::process::Abort;
 use std::test::Fail;
@@ -41,18 +38,6 @@ fn both_of(rt: &impl Abort, alloc: Global, plan: &Plan, room: u16) -> Result<(Gr
     Ok((graph, plain))
 }
 
-/// Whether both have these stages by now.
-fn are_there(graph: &Graph, plain: &Plain, of: Of) -> bool
-    ensures graph { OnTrue result (All (λ j. j < length graph.now.state.plan.stages) (sources_of of)) }
-    ensures plain { OnTrue result (All (λ j. j < length plain.now.plan.stages) (sources_of of)) }
-{
-    match of {
-        Of::None => true,
-        Of::One(a) => graph.has(a) && plain.has(a),
-        Of::Two(a, b) => graph.has(a) && plain.has(a) && graph.has(b) && plain.has(b),
-    }
-}
-
 /// Attaches a stage to both, and says what was answered.
 fn attach_to_both(
     rt: &impl Abort,
@@ -62,17 +47,17 @@ fn attach_to_both(
     new: New,
 ) -> Result<Attached, Fail> {
     let New { form, of, function } = new;
-    assert!(rt; fits_form(form, of.count(), function.is_some()) && are_there(graph, plain, of));
-    let wanted = plain.attach(alloc, form, of, function)?;
     let event = Event::Attach {
         who: 1,
         form,
         of,
         function,
     };
-    answers(rt, graph, event, Reply::Attach(wanted));
+    let Reply::Attach(told) = answer(rt, alloc, graph, plain, event)? else {
+        return Err(Fail::from("another reply"));
+    };
     assert_eq!(rt; graph.stages(), plain.stages());
-    Ok(wanted)
+    Ok(told)
 }
 
 /// Claims the lowest ready stage of both, if there is one, and finishes it, by the bits of a number.
@@ -84,9 +69,9 @@ fn work_on_both(
     x: u32,
 ) -> Result<(), Fail> {
     if let Some(stage) = plain.lowest_ready() {
-        let who = (x >> 11 & 1) as u8;
-        claim_on_both(rt, graph, plain, who, stage);
-        finish_on_both(rt, alloc, graph, plain, who, stage, x)?;
+        let who = caller_of(x);
+        answer(rt, alloc, graph, plain, Event::Claim { who, stage })?;
+        answer(rt, alloc, graph, plain, finishing(who, stage, x))?;
     }
     Ok(())
 }
@@ -104,7 +89,7 @@ fn nudged_call(
     if x >> 28 < 5 {
         work_on_both(rt, alloc, graph, plain, x)?;
     } else {
-        call_on_both(rt, alloc, graph, plain, stages, x)?;
+        answer(rt, alloc, graph, plain, call_of(stages, x))?;
     }
     if x >> 26 & 3 == 0 {
         assert_alike(rt, graph, plain, stages);
@@ -164,25 +149,48 @@ fn compare_attached(
     Ok(())
 }
 
+/// Compares a pair of attached stages by so many lists, of which so many were done before, if there is such a second one.
+fn compare_pair(
+    rt: &impl Abort,
+    alloc: Global,
+    plan: &Plan,
+    first: New,
+    second: Option<New>,
+    mut pairs: u32,
+) -> Result<u32, Fail> {
+    if let Some(second) = second {
+        for _ in 0..LISTS {
+            pairs = pairs.wrapping_add(1);
+            compare_attached(rt, alloc, plan, [first, second], pairs)?;
+        }
+    }
+    Ok(pairs)
+}
+
+/// Compares this first stage with each second one.
+fn compare_behind(
+    rt: &impl Abort,
+    alloc: Global,
+    plan: &Plan,
+    first: New,
+    mut pairs: u32,
+) -> Result<u32, Fail> {
+    for other in 0..19 {
+        for choice in 0..13 {
+            pairs = compare_pair(rt, alloc, plan, first, new_choice(other, 3, choice), pairs)?;
+        }
+    }
+    Ok(pairs)
+}
+
 #[test]
 fn two_stages_are_attached(rt: HostRuntime) -> Result<(), Fail> {
     let plan = two_sources(rt.alloc())?;
     let mut pairs: u32 = 0;
     for form in 0..19 {
         for choice in 0..7 {
-            let Some(first) = new_choice(form, 2, choice) else {
-                continue;
-            };
-            for other in 0..19 {
-                for choice in 0..13 {
-                    let Some(second) = new_choice(other, 3, choice) else {
-                        continue;
-                    };
-                    for _ in 0..LISTS {
-                        pairs = pairs.wrapping_add(1);
-                        compare_attached(&rt, rt.alloc(), &plan, [first, second], pairs)?;
-                    }
-                }
+            if let Some(first) = new_choice(form, 2, choice) {
+                pairs = compare_behind(&rt, rt.alloc(), &plan, first, pairs)?;
             }
         }
     }

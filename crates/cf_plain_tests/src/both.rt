@@ -1,0 +1,154 @@
+//! What is done to both graphs, which must answer alike.
+ghost use Rattle.std.specs.Prelude.{◌<◌, All, length};
+ghost use Rattle.std.specs.Bool.{OnTrue};
+ghost use Rattle.cf_core.specs.Ranges.{EventFits};
+ghost use Rattle.cf_plan.specs.Plans.{sources_of};
+
+use cf_core::{Attached, Event, Finished, Graph, Reply, Ticked};
+use cf_outcome::{Cause, Outcome};
+use cf_plain::Plain;
+use cf_plan::{Of, fits_form};
+use std::alloc::{AllocError, Global};
+use std::process::Abort;
+use std::test::Fail;
+
+/// Whether the graph has these stages by now.
+fn has_all(graph: &Graph, of: Of) -> bool
+    ensures { OnTrue result (All (λ j. j < length graph.now.state.plan.stages) (sources_of of)) }
+{
+    match of {
+        Of::None => true,
+        Of::One(a) => graph.has(a),
+        Of::Two(a, b) => graph.has(a) && graph.has(b),
+    }
+}
+
+/// Whether the plain graph has these stages by now.
+fn plain_has_all(plain: &Plain, of: Of) -> bool
+    ensures { OnTrue result (All (λ j. j < length plain.now.plan.stages) (sources_of of)) }
+{
+    match of {
+        Of::None => true,
+        Of::One(a) => plain.has(a),
+        Of::Two(a, b) => plain.has(a) && plain.has(b),
+    }
+}
+
+/// Whether an event is one of the graph.
+fn fits(graph: &Graph, event: &Event) -> bool
+    ensures { OnTrue result (EventFits (length graph.now.state.plan.stages) event.now) }
+{
+    match *event {
+        Event::Complete { stage, .. } => graph.has(stage),
+        Event::Fail { stage, .. } => graph.has(stage),
+        Event::Cancel { stage, .. } => graph.has(stage),
+        Event::Claim { stage, .. } => graph.has(stage),
+        Event::Finish { stage, .. } => graph.has(stage),
+        Event::Tick { .. } => true,
+        Event::Attach {
+            form,
+            of,
+            function,
+            ..
+        } => { fits_form(form, of.count(), function.is_some()) && has_all(graph, of) }
+    }
+}
+
+/// Whether an event is one of the plain graph.
+fn fits_plain(plain: &Plain, event: &Event) -> bool
+    ensures { OnTrue result (EventFits (length plain.now.plan.stages) event.now) }
+{
+    match *event {
+        Event::Complete { stage, .. } => plain.has(stage),
+        Event::Fail { stage, .. } => plain.has(stage),
+        Event::Cancel { stage, .. } => plain.has(stage),
+        Event::Claim { stage, .. } => plain.has(stage),
+        Event::Finish { stage, .. } => plain.has(stage),
+        Event::Tick { .. } => true,
+        Event::Attach {
+            form,
+            of,
+            function,
+            ..
+        } => { fits_form(form, of.count(), function.is_some()) && plain_has_all(plain, of) }
+    }
+}
+
+fn flagged(done: Result<bool, AllocError>) -> Result<Reply, AllocError> {
+    Ok(Reply::Flag(done?))
+}
+
+fn finished(done: Result<Finished, AllocError>) -> Result<Reply, AllocError> {
+    Ok(Reply::Finish(done?))
+}
+
+fn ticked(done: Result<Ticked, AllocError>) -> Result<Reply, AllocError> {
+    Ok(Reply::Tick(done?))
+}
+
+fn attached(done: Result<Attached, AllocError>) -> Result<Reply, AllocError> {
+    Ok(Reply::Attach(done?))
+}
+
+/// What the plain graph answers to an event.
+fn plain_reply(alloc: Global, plain: &mut Plain, event: &Event) -> Result<Reply, AllocError>
+    requires { EventFits (length plain.old.plan.stages) event.now }
+{
+    match *event {
+        Event::Complete { stage, value, .. } => {
+            flagged(plain.settle(alloc, stage, Outcome::Value(value)))
+        }
+        Event::Fail { stage, code, .. } => {
+            let thrown = Outcome::Fault {
+                cause: Cause::Thrown(code),
+                wrapped: false,
+            };
+            flagged(plain.settle(alloc, stage, thrown))
+        }
+        Event::Cancel { stage, .. } => flagged(plain.cancel(alloc, stage)),
+        Event::Claim { who, stage } => Ok(Reply::Claim(plain.claim(who, stage))),
+        Event::Finish { who, stage, answer } => finished(plain.finish(alloc, who, stage, answer)),
+        Event::Tick { now, .. } => ticked(plain.tick(alloc, now)),
+        Event::Attach {
+            form,
+            of,
+            function,
+            ..
+        } => { attached(plain.attach(alloc, form, of, function)) }
+    }
+}
+
+/// Both answer an event, and alike.
+pub(crate) fn answer(
+    rt: &impl Abort,
+    alloc: Global,
+    graph: &mut Graph,
+    plain: &mut Plain,
+    event: Event,
+) -> Result<Reply, Fail> {
+    assert!(rt; fits(graph, &event) && fits_plain(plain, &event));
+    let wanted = plain_reply(alloc, plain, &event)?;
+    let reply = graph.answer(&event);
+    assert_eq!(rt; reply, wanted, "{event:?}");
+    Ok(reply)
+}
+
+/// Lets the graph take up to three turns, which it counts.
+pub(crate) fn nudge(rt: &impl Abort, graph: &mut Graph, turns: u32) {
+    let before = graph.turns();
+    let taken = graph.nudge(turns);
+    assert_eq!(rt; graph.turns(), before.wrapping_add(taken as u64));
+}
+
+/// Whether both tell the same of a stage that both have.
+fn is_alike(graph: &mut Graph, plain: &Plain, i: u16) -> bool {
+    graph.has(i) && plain.has(i) && graph.outcome(i) == plain.outcome(i)
+}
+
+/// Both tell the same of each stage, and of which is ready.
+pub(crate) fn assert_alike(rt: &impl Abort, graph: &mut Graph, plain: &Plain, stages: u16) {
+    assert_eq!(rt; graph.lowest_ready(), plain.lowest_ready());
+    for i in 0..stages {
+        assert!(rt; is_alike(graph, plain, i), "stage {i}");
+    }
+}

@@ -1,0 +1,48 @@
+//! Calls that are made by numbers.
+use cf_core::Event;
+use cf_outcome::Value;
+use cf_plan::Answer;
+
+/// Completes, fails or cancels a stage, or lets it be a moment, by the upper bits of a number.
+fn settling(who: u8, stage: u16, x: u32) -> Event {
+    let code = x >> 14 & 3;
+    match x >> 20 & 3 {
+        0 => {
+            let value = Value::Int(code as i32);
+            Event::Complete { who, stage, value }
+        }
+        1 => Event::Fail { who, stage, code },
+        2 => Event::Cancel { who, stage },
+        _ => Event::Tick { who, now: code },
+    }
+}
+
+/// Finishes a stage with an answer by the bits of a number.
+pub(crate) fn finishing(who: u8, stage: u16, x: u32) -> Event {
+    let answer = match x >> 12 & 3 {
+        0 => Answer::Throw(x >> 14 & 3),
+        1 | 2 => Answer::Link((x >> 14 & 3) as u16),
+        _ => Answer::Give(Value::Int((x >> 14 & 3) as i32)),
+    };
+    Event::Finish { who, stage, answer }
+}
+
+/// The caller of the call of a number.
+pub(crate) fn caller_of(x: u32) -> u8 {
+    (x >> 11 & 1) as u8
+}
+
+/// The call of a number on one of so many stages.
+pub(crate) fn call_of(stages: u16, x: u32) -> Event {
+    let who = caller_of(x);
+    let stage = if stages == 0 {
+        0
+    } else {
+        (x >> 24) as u16 % stages
+    };
+    match x >> 16 & 15 {
+        0..=4 => settling(who, stage, x),
+        5..=9 => Event::Claim { who, stage },
+        _ => finishing(who, stage, x),
+    }
+}
