@@ -1,0 +1,4 @@
+pub mod Owns
+pub mod Walks
+pub mod Words
+pub mod Whole

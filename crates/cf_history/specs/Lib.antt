@@ -1,0 +1,5 @@
+pub mod Events
+pub mod Records
+pub mod Histories
+pub mod Verdicts
+pub mod Callers

@@ -1,0 +1,201 @@
+//! The verdict over a whole history.
+ghost use Rattle.std.specs.Prelude.{◌≡◌, ◌+◌, ◌*◌, ◌≤◌, ◌↔◌, IfNone, IfOk, MatchOption, Some, length};
+ghost use Rattle.cf_plan.specs.Plans.{edges_of, with_room};
+ghost use Rattle.cf_core.specs.States.{start};
+ghost use Rattle.cf_core.specs.Events.{state_after};
+ghost use Rattle.cf_core.specs.Ranges.{EventsFit};
+ghost use Rattle.cf_event.specs.Decoding.{decoded};
+ghost use Rattle.cf_history.specs.Callers.{IsJudged};
+ghost use Rattle.cf_history.specs.declared.verdict.Verdict.TheVariants.{Fits};
+ghost use Rattle.cf_history.specs.Histories.{AllRight, AreOutcomesOf, AreWordsOf, IsOneHistory, said};
+ghost use Rattle.cf_history.specs.Verdicts.{IsEnd, IsOfCallers, IsOfOutcomes, IsOfWords, IsVerdict};
+
+use crate::caller::{Judged, judge_caller};
+use crate::events::{find_unfit, read_events};
+use crate::history::History;
+use crate::outcomes::first_other;
+use crate::record::{Caller, Record};
+use crate::verdict::{Unfit, Verdict};
+use cf_core::{Event, Graph};
+use cf_outcome::Outcome;
+use cf_plan::Plan;
+use std::alloc::{AllocError, Global};
+
+/// Whether the records of a history are those of one sequential graph, which begins with this plan and room for so many
+/// stages more. It fails only where there is no memory.
+#[tactic(auto, using(crate::proofs::Whole::both_ways))]
+pub fn check(
+    alloc: Global,
+    plan: &Plan,
+    room: u16,
+    history: &History,
+) -> Result<Verdict, AllocError>
+    requires stages { length plan.now.stages + room ≤ 4096 }
+    requires edges { edges_of plan.now.stages + 2 * room ≤ 16384 }
+    ensures fits { IfOk result (λ verdict. (verdict ≡ Fits) ↔ IsOneHistory (with_room plan.now room) history.now) }
+    ensures tells { IfOk result (λ verdict. IsVerdict (with_room plan.now room) history.now verdict) }
+{
+    verdict(alloc, plan, room, history)
+}
+
+/// The verdict.
+fn verdict(alloc: Global, plan: &Plan, room: u16, history: &History) -> Result<Verdict, AllocError>
+    requires stages { length plan.now.stages + room ≤ 4096 }
+    requires edges { edges_of plan.now.stages + 2 * room ≤ 16384 }
+    ensures { IfOk result (λ verdict. IsVerdict (with_room plan.now room) history.now verdict) }
+{
+    let events = read_events(alloc, &history.words)?;
+    let mut graph = graph_of(alloc, plan, room)?;
+    judge_events(alloc, plan, room, &mut graph, &events, history)
+}
+
+/// The verdict where these are the events of the words, up to the first that is no event's.
+fn judge_events(
+    alloc: Global,
+    plan: &Plan,
+    room: u16,
+    graph: &mut Graph,
+    events: &[Event],
+    history: &History,
+) -> Result<Verdict, AllocError>
+    requires stages { length plan.now.stages + room ≤ 4096 }
+    requires edges { edges_of plan.now.stages + 2 * room ≤ 16384 }
+    requires start { graph.old.state ≡ start (with_room plan.now room) }
+    requires read { events.now ≡ decoded history.now.words.items }
+    ensures { IfOk result (λ verdict. IsVerdict (with_room plan.now room) history.now verdict) }
+{
+    let words = history.words.as_slice();
+    let callers = history.callers.as_slice();
+    match judge_words(graph, events, words, callers.len(), history.functions) {
+        Some(told) => Ok(told),
+        None => {
+            let on_callers = judge_callers(alloc, plan, room, events, callers)?;
+            match on_callers {
+                Some(told) => Ok(told),
+                None => Ok(judge_end(graph, history)),
+            }
+        }
+    }
+}
+
+/// The verdict on the first word that can't stand there, if there is one. Else the graph has done all events.
+fn judge_words(
+    graph: &mut Graph,
+    events: &[Event],
+    words: &[u64],
+    callers: usize,
+    functions: u32,
+) -> Option<Verdict>
+    requires { events.now ≡ decoded words.now }
+    ensures found { MatchOption result (AreWordsOf callers functions graph.old.state words.now events.now) (IsOfWords callers functions graph.old.state words.now) }
+    ensures state { IfNone result (graph.new.state ≡ state_after graph.old.state events.now) }
+{
+    match find_unfit(graph, events, callers, functions) {
+        Some((k, why)) => Some(Verdict::Event { place: k + 1, why }),
+        None => {
+            if events.len() < words.len() {
+                Some(Verdict::Event {
+                    place: events.len() + 1,
+                    why: Unfit::NoEvent,
+                })
+            } else {
+                None
+            }
+        }
+    }
+}
+
+/// A graph of the plan, at its start.
+fn graph_of(alloc: Global, plan: &Plan, room: u16) -> Result<Graph, AllocError>
+    requires stages { length plan.now.stages + room ≤ 4096 }
+    requires edges { edges_of plan.now.stages + 2 * room ≤ 16384 }
+    ensures { IfOk result (λ graph. graph.state ≡ start (with_room plan.now room)) }
+{
+    let Ok(own) = plan.copy() else {
+        return Err(AllocError);
+    };
+    match Graph::new_growing(alloc, own, room) {
+        Ok(graph) => Ok(graph),
+        Err(_) => Err(AllocError),
+    }
+}
+
+/// The verdict on the first caller whose records don't fit these events, if there is one.
+fn judge_callers(
+    alloc: Global,
+    plan: &Plan,
+    room: u16,
+    events: &[Event],
+    callers: &[Caller],
+) -> Result<Option<Verdict>, AllocError>
+    requires stages { length plan.now.stages + room ≤ 4096 }
+    requires edges { edges_of plan.now.stages + 2 * room ≤ 16384 }
+    requires fits { EventsFit (start (with_room plan.now room)) events.now }
+    ensures { IfOk result (λ told. MatchOption told (AllRight (start (with_room plan.now room)) events.now 0 callers.now) (IsOfCallers (start (with_room plan.now room)) events.now callers.now)) }
+{
+    for (caller, own) in callers.iter().enumerate() {
+        let judged = judge_one(alloc, plan, room, events, caller, &own.records)?;
+        match judged {
+            Judged::Fits => {}
+            Judged::Record { record, why } => {
+                return Ok(Some(Verdict::Record {
+                    caller,
+                    record,
+                    why,
+                }));
+            }
+            Judged::Missing { place } => return Ok(Some(Verdict::Missing { caller, place })),
+        }
+    }
+    Ok(None)
+}
+
+/// What is found of one caller, read along these events from the start of the plan.
+fn judge_one(
+    alloc: Global,
+    plan: &Plan,
+    room: u16,
+    events: &[Event],
+    caller: usize,
+    records: &[Record],
+) -> Result<Judged, AllocError>
+    requires stages { length plan.now.stages + room ≤ 4096 }
+    requires edges { edges_of plan.now.stages + 2 * room ≤ 16384 }
+    requires fits { EventsFit (start (with_room plan.now room)) events.now }
+    ensures { IfOk result (IsJudged caller (start (with_room plan.now room)) events.now records.now) }
+{
+    let mut graph = graph_of(alloc, plan, room)?;
+    Ok(judge_caller(&mut graph, events, caller, records))
+}
+
+/// The verdict where all records fit.
+fn judge_end(graph: &mut Graph, history: &History) -> Verdict
+    ensures { IsEnd graph.old.state (said history.now) result }
+{
+    match judge_outcomes(graph, history) {
+        Some(told) => told,
+        None => Verdict::Fits,
+    }
+}
+
+/// The verdict on the outcomes that a history says, where they aren't those of the graph.
+fn judge_outcomes(graph: &mut Graph, history: &History) -> Option<Verdict>
+    ensures { MatchOption result (AreOutcomesOf graph.old.state (said history.now)) (IsOfOutcomes graph.old.state (said history.now)) }
+{
+    match &history.outcomes {
+        None => None,
+        Some(outcomes) => judge_said(graph, outcomes),
+    }
+}
+
+/// The same of outcomes that are said.
+fn judge_said(graph: &mut Graph, outcomes: &[Option<Outcome>]) -> Option<Verdict>
+    ensures { MatchOption result (AreOutcomesOf graph.old.state (Some outcomes.now)) (IsOfOutcomes graph.old.state (Some outcomes.now)) }
+{
+    let count = graph.stages() as usize;
+    if outcomes.len() != count {
+        return Some(Verdict::Stages { count });
+    }
+    let (stage, outcome) = first_other(graph, outcomes)?;
+    Some(Verdict::Outcome { stage, outcome })
+}

@@ -1,0 +1,30 @@
+//! Whether what callers were told is one history.
+//!
+//! A history is a plan, a list of 64-bit words, and for each caller the records of its calls: what it asked or called, at
+//! which place in the history, and what it was answered. `check` reads the words as events, does them one after another to
+//! one graph that nobody else uses, and along the way reads each caller's records: each is to be answered as that graph
+//! answers at its place, each event of the caller is to be one of its records, and no record's place is before that of the
+//! one before it. So the records fit exactly where one sequential graph, asked in the order of the history, would have
+//! answered all callers as they were answered.
+//!
+//! Whoever made the history isn't trusted: not the words, which may be no event's or that of an event which the graph
+//! doesn't take, not the records, and not the outcomes that the history says its stages had in the end. Where it doesn't
+//! fit, `check` names the first event, or else the first record of the first caller, or else the first outcome that
+//! doesn't, and says what the sequential graph answers there.
+//!
+//! `specs/Records` says when a record fits; `specs/Histories` says when all do; `specs/Verdicts` says what each verdict
+//! tells. `check` gives the one verdict `Fits` exactly where they all do.
+#![tactic(auto)]
+
+mod caller;
+mod checking;
+mod events;
+mod history;
+mod outcomes;
+mod record;
+mod verdict;
+
+pub use checking::check;
+pub use history::History;
+pub use record::{Caller, Record};
+pub use verdict::{Misfit, Unfit, Verdict};

@@ -1,0 +1,150 @@
+//! A history as JSON.
+use crate::texts::{now, reply, settled};
+use anyhow::{Result, anyhow};
+use cf_core::{Ask, Told};
+use cf_event::decode;
+use cf_history::{Caller, History, Record, Verdict, check};
+use cf_outcome::{Outcome, Value};
+use cf_plan::Plan;
+use cf_reading::read_script;
+use serde_json::Value as Json;
+use std::alloc::Global;
+
+/// The verdict on a history that is written in JSON.
+pub(crate) fn judge(alloc: Global, bytes: &[u8]) -> Result<Verdict> {
+    let json = Json::from_slice(alloc, bytes).map_err(|_| anyhow!("no JSON"))?;
+    let (plan, room, count) = plan_of(alloc, &json)?;
+    let functions = match json.get("functions") {
+        None => count,
+        Some(said) => number(said).ok_or_else(|| anyhow!("functions"))?,
+    };
+    let history = History {
+        functions,
+        words: words_of(alloc, &json)?,
+        callers: callers_of(alloc, &json)?,
+        outcomes: outcomes_of(alloc, &json)?,
+    };
+    if plan.stages() as u32 + room as u32 > 4_096 || plan.edges() + 2 * room as u32 > 16_384 {
+        return Err(anyhow!("plan: room"));
+    }
+    Ok(check(alloc, &plan, room, &history)?)
+}
+
+/// The plan, for how many stages it has room, and how many functions it brings.
+fn plan_of(alloc: Global, json: &Json) -> Result<(Plan, u16, u32)> {
+    let said = json.get("plan").ok_or_else(|| anyhow!("plan"))?;
+    let text = said.to_string(alloc)?;
+    let script = read_script(alloc, text.as_bytes());
+    let script = script.map_err(|fault| anyhow!("plan: {fault}"))?;
+    let (plan, room, functions, steps) = script.into_parts();
+    if !steps.is_empty() {
+        return Err(anyhow!("plan: steps"));
+    }
+    let count = u32::try_from(functions.len()).map_err(|_| anyhow!("plan: functions"))?;
+    Ok((plan, room, count))
+}
+
+fn words_of(alloc: Global, json: &Json) -> Result<Vec<u64>> {
+    let list = json.get("events").and_then(Json::as_array);
+    let list = list.ok_or_else(|| anyhow!("events"))?;
+    let mut words = Vec::new(alloc);
+    for (k, said) in list.iter().enumerate() {
+        words.push(word(said).ok_or_else(|| anyhow!("events[{k}]"))?)?;
+    }
+    Ok(words)
+}
+
+/// A word of 64 bits: a number, or one in decimal in a string, since not every reader keeps a number above 2^53.
+fn word(json: &Json) -> Option<u64> {
+    match json.as_str() {
+        Some(text) => text.parse().ok(),
+        None => json.as_u64(),
+    }
+}
+
+fn callers_of(alloc: Global, json: &Json) -> Result<Vec<Caller>> {
+    let list = json.get("callers").and_then(Json::as_array);
+    let list = list.ok_or_else(|| anyhow!("callers"))?;
+    let mut callers = Vec::new(alloc);
+    for (c, said) in list.iter().enumerate() {
+        let own = said.as_array().ok_or_else(|| anyhow!("callers[{c}]"))?;
+        callers.push(caller_of(alloc, c, own.as_slice())?)?;
+    }
+    Ok(callers)
+}
+
+fn caller_of(alloc: Global, c: usize, list: &[Json]) -> Result<Caller> {
+    let mut records = Vec::new(alloc);
+    for (k, said) in list.iter().enumerate() {
+        let told = record(alloc, said)?;
+        records.push(told.ok_or_else(|| anyhow!("callers[{c}][{k}]"))?)?;
+    }
+    Ok(Caller { records })
+}
+
+/// `["did",place,word,reply]`, `["now",place,stage,absent,told]` or `["outcome",place,stage,told]`.
+fn record(alloc: Global, json: &Json) -> Result<Option<Record>> {
+    let Some(list) = json.as_array() else {
+        return Ok(None);
+    };
+    let Some(text) = list.as_slice().last().and_then(Json::as_str) else {
+        return Ok(None);
+    };
+    let words: Vec<&str> = text.split_whitespace().collect(alloc)?;
+    Ok(record_with(json, list.len(), words.as_slice()))
+}
+
+/// The record with so many elements, of which the last has these words.
+fn record_with(json: &Json, count: usize, words: &[&str]) -> Option<Record> {
+    let kind = json.get(0usize)?.as_str()?;
+    let place = usize::try_from(json.get(1usize)?.as_u64()?).ok()?;
+    let third = json.get(2usize)?;
+    match kind {
+        "did" if count == 4 => Some(Record::Did {
+            place,
+            event: decode(word(third)?)?,
+            reply: reply(words)?,
+        }),
+        "now" if count == 5 => Some(Record::Saw {
+            place,
+            ask: Ask::Now(small(third)?, value(json.get(3usize)?)?),
+            told: Told::Now(now(words)?),
+        }),
+        "outcome" if count == 4 => Some(Record::Saw {
+            place,
+            ask: Ask::Outcome(small(third)?),
+            told: Told::Outcome(settled(words)?),
+        }),
+        _ => None,
+    }
+}
+
+fn outcomes_of(alloc: Global, json: &Json) -> Result<Option<Vec<Option<Outcome>>>> {
+    let Some(said) = json.get("outcomes") else {
+        return Ok(None);
+    };
+    let list = said.as_array().ok_or_else(|| anyhow!("outcomes"))?;
+    let mut outcomes = Vec::new(alloc);
+    for (i, said) in list.iter().enumerate() {
+        let text = said.as_str().ok_or_else(|| anyhow!("outcomes[{i}]"))?;
+        let words: Vec<&str> = text.split_whitespace().collect(alloc)?;
+        let outcome = settled(words.as_slice());
+        outcomes.push(outcome.ok_or_else(|| anyhow!("outcomes[{i}]"))?)?;
+    }
+    Ok(Some(outcomes))
+}
+
+fn number(json: &Json) -> Option<u32> {
+    u32::try_from(json.as_i64()?).ok()
+}
+
+fn small(json: &Json) -> Option<u16> {
+    u16::try_from(json.as_i64()?).ok()
+}
+
+fn value(json: &Json) -> Option<Value> {
+    if json.is_null() {
+        return Some(Value::Nil);
+    }
+    Some(Value::Int(i32::try_from(json.as_i64()?).ok()?))
+}
