@@ -12,7 +12,8 @@ mod show;
 mod texts;
 mod words;
 
-use anyhow::{Result, anyhow};
+use anyhow::Result;
+use cf_history::Verdict;
 use history::judge;
 use show::line_of;
 use std::io::Read;
@@ -49,10 +50,9 @@ fn check_one<R: Print + AllocGlobal>(rt: &R, text: &str) -> Result<u8> {
         Ok(verdict) => {
             let line = line_of(rt.alloc(), verdict)?;
             println!(rt; "{line}")?;
-            Ok(if line.as_str() == "fits" {
-                FITS
-            } else {
-                FITS_NOT
+            Ok(match verdict {
+                Verdict::Fits => FITS,
+                _ => FITS_NOT,
             })
         }
         Err(why) => {
