@@ -48,11 +48,13 @@ pub struct Plan {
 
 impl Model for Plan {
     ghost use Rattle.std.specs.Arc.{arc_value};
-    ghost use Rattle.cf_plan.specs.Plans.{Planned};
+    ghost use Rattle.cf_plan.specs.Plans.{IsBuilt, Planned};
 
     ghost Value = { Planned };
 
     ghost view = { λ p. arc_value p.blocks };
+
+    ghost invariant = { λ p. IsBuilt (arc_value p.blocks) };
 }
 
 impl Plan {
