@@ -45,20 +45,9 @@ pub fn offer(kept: &mut Cells, form: Form, sources: &[u16], m: u16) -> Option<Ar
     if kept.is_pending(m) {
         offer_due(kept, form, sources, m)
     } else {
-        treat_seldom(kept, form, sources, m);
+        treat(kept, form, sources, m);
         None
     }
-}
-
-/// As `treat`, but never in line: what comes here seldom would else keep its callers from standing in line themselves.
-#[inline(never)]
-fn treat_seldom(kept: &mut Cells, form: Form, sources: &[u16], m: u16)
-    requires stage { m < length kept.old.items }
-    requires sources { All (λ j. j < length kept.old.items) sources.now }
-    ensures kept { (function : Option ℕ) → kept.new.items ≡ slice_set kept.old.items m (treated kept.old.items (record { form = form; sources = sources.now; function = function }) (kept_at kept.old.items m)) }
-    ensures room { kept.new.capacity ≡ kept.old.capacity }
-{
-    treat(kept, form, sources, m);
 }
 
 /// Lets a pending stage take what its sources have, in the same way.
@@ -80,7 +69,7 @@ fn offer_due(kept: &mut Cells, form: Form, sources: &[u16], m: u16) -> Option<Ar
     match offered(kept, form, sources) {
         Some(args) => Some(args),
         None => {
-            take_from_all(kept, form, sources, m);
+            take_due(kept, form, sources, m);
             None
         }
     }
@@ -184,18 +173,6 @@ fn take_due(kept: &mut Cells, form: Form, sources: &[u16], m: u16)
             return;
         }
     }
-    take_from_all(kept, form, sources, m);
-}
-
-/// The same, whatever the form, and however many sources there are. It is never in line, as above.
-#[inline(never)]
-fn take_from_all(kept: &mut Cells, form: Form, sources: &[u16], m: u16)
-    requires stage { m < length kept.old.items }
-    requires sources { All (λ j. j < length kept.old.items) sources.now }
-    requires pending { (kept_at kept.old.items m).stage ≡ Pending }
-    ensures kept { let due = late_due form (map (dated_in kept.old.items) sources.now) in kept.new.items ≡ slice_set kept.old.items m (due_kept due.0 due.1 (kept_at kept.old.items m).step) }
-    ensures room { kept.new.capacity ≡ kept.old.capacity }
-{
     match form {
         Form::Source => take(kept, Due::Waits, 0, m),
         Form::Supply | Form::RunAsync => take(kept, Due::Needs(Args::None), 0, m),
