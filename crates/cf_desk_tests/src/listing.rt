@@ -1,13 +1,36 @@
-//! The listing of README.md, which shows what stands here from `complete_by_each` on: keep both the same text.
+//! The listing of README.md, which shows what stands here from `source_and_apply` on: keep both the same text.
 ghost use Rattle.std.specs.Prelude.{◌≡◌, All, length};
 
 use cf_core::{Claimed, Finished, Graph};
 use cf_desk::{Call, Desk, Pass};
 use cf_outcome::{Outcome, Value};
-use cf_plan::{Answer, Args, Form, PlanBuilder};
+use cf_plan::{Answer, Args, Form, Plan, PlanBuilder, PlanFault};
+use std::alloc::Global;
 use std::test::Fail;
 use std::thread;
 use std::thread::Threads;
+
+/// A source, and a function over it.
+fn source_and_apply(alloc: Global) -> Result<Plan, PlanFault> {
+    let mut builder = PlanBuilder::new(alloc);
+    builder.stage(Form::Source, &[], None)?;
+    builder.stage(Form::Apply, &[0], Some(0))?;
+    builder.build()
+}
+
+#[test]
+fn calls_the_graph(rt: HostRuntime) -> Result<(), Fail> {
+    let mut graph = Graph::new(rt.alloc(), source_and_apply(rt.alloc())?)?;
+    assert!(rt; graph.has(1));
+    assert!(rt; graph.complete(0, Value::Int(3)));
+    let granted = Claimed::Granted(Args::One(Value::Int(3)));
+    assert_eq!(rt; graph.claim(0, 1), granted);
+    let finished = graph.finish(0, 1, Answer::Give(Value::Int(8)));
+    assert_eq!(rt; finished, Finished::Won);
+    assert!(rt; graph.has(1));
+    assert_eq!(rt; graph.outcome(1), Some(Outcome::Value(Value::Int(8))));
+    Ok(())
+}
 
 fn complete_by_each<R: Threads + Sync>(rt: &R, desk: &Desk, passes: &mut [Pass])
     requires { All (λ p. p.table ≡ desk.now.table) passes.old }
@@ -25,21 +48,8 @@ fn complete_by_each<R: Threads + Sync>(rt: &R, desk: &Desk, passes: &mut [Pass])
 }
 
 #[test]
-fn calls_the_graph_and_the_desk(rt: HostRuntime) -> Result<(), Fail> {
-    let mut builder = PlanBuilder::new(rt.alloc());
-    builder.stage(Form::Source, &[], None)?;
-    builder.stage(Form::Apply, &[0], Some(0))?;
-    let plan = builder.build()?;
-
-    let mut graph = Graph::new(rt.alloc(), plan.copy()?)?;
-    assert!(rt; graph.has(1));
-    assert!(rt; graph.complete(0, Value::Int(3)));
-    let granted = Claimed::Granted(Args::One(Value::Int(3)));
-    assert_eq!(rt; graph.claim(0, 1), granted);
-    let finished = graph.finish(0, 1, Answer::Give(Value::Int(8)));
-    assert_eq!(rt; finished, Finished::Won);
-    assert_eq!(rt; graph.outcome(1), Some(Outcome::Value(Value::Int(8))));
-
+fn calls_the_desk(rt: HostRuntime) -> Result<(), Fail> {
+    let plan = source_and_apply(rt.alloc())?;
     let (desk, mut passes) = Desk::open(rt.alloc(), plan, 2, 8, 4)?;
     complete_by_each(&rt, &desk, passes.as_mut_slice());
     let closed = desk.close(passes)?;

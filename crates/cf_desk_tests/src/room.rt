@@ -68,28 +68,67 @@ fn supplies(alloc: Global, functions: &[u16]) -> Result<Plan, PlanFault> {
     builder.build()
 }
 
+/// How a desk is asked for: its callers, its log, its records, its room and its functions.
+#[derive(Clone, Copy)]
+struct Sizes {
+    callers: u8,
+    log: u16,
+    calls: u16,
+    room: u16,
+    functions: u32,
+}
+
+/// The smallest desk with so much room and so many functions.
+fn small(room: u16, functions: u32) -> Sizes {
+    Sizes {
+        callers: 1,
+        log: 1,
+        calls: 1,
+        room,
+        functions,
+    }
+}
+
+/// How many functions a desk of a plan has where it is asked for with these sizes, or why it isn't opened.
+fn opened(alloc: Global, plan: Plan, sizes: Sizes) -> Result<u32, OpenFault> {
+    let Sizes {
+        callers,
+        log,
+        calls,
+        room,
+        functions,
+    } = sizes;
+    let (desk, _) = Desk::open_growing(alloc, plan, callers, log, calls, room, functions)?;
+    Ok(desk.functions())
+}
+
+/// How many functions the smallest desk of a plan without room has.
+fn functions_of(alloc: Global, plan: Plan) -> Result<u32, OpenFault> {
+    let (desk, _) = Desk::open(alloc, plan, 1, 1, 1)?;
+    Ok(desk.functions())
+}
+
 #[test]
 fn refuses_too_much_room(rt: HostRuntime) -> Result<(), Fail> {
-    let plan = plan_of(rt.alloc(), &SOURCE)?;
-    let fault = Desk::open_growing(rt.alloc(), plan, 1, 1, 1, 4_096, 0).err();
-    assert_eq!(rt; fault, Some(OpenFault::Room));
-    let full = Some(OpenFault::Room);
-    for (edges, room, fault) in [
-        (0, 4_094, None),
+    let full = Err(OpenFault::Room);
+    for (edges, room, answer) in [
+        (0, 4_094, Ok(0)),
         (0, 4_095, full),
         (0, 65_535, full),
-        (8_196, 4_094, None),
+        (8_196, 4_094, Ok(0)),
         (8_197, 4_094, full),
-        (16_382, 1, None),
+        (16_382, 1, Ok(0)),
         (16_382, 2, full),
         (16_383, 1, full),
-        (16_384, 0, None),
+        (16_384, 0, Ok(0)),
         (16_384, 1, full),
     ] {
         let plan = with_edges(rt.alloc(), edges)?;
-        let refused = Desk::open_growing(rt.alloc(), plan, 1, 1, 1, room, 0).err();
-        assert_eq!(rt; refused, fault, "{edges} edges and room {room}");
+        let answered = opened(rt.alloc(), plan, small(room, 0));
+        assert_eq!(rt; answered, answer, "{edges} edges and room {room}");
     }
+    let source = plan_of(rt.alloc(), &SOURCE)?;
+    assert_eq!(rt; opened(rt.alloc(), source, small(4_096, 0)), full);
     Ok(())
 }
 
@@ -102,13 +141,12 @@ fn refuses_too_few_functions(rt: HostRuntime) -> Result<(), Fail> {
         (&[65_535, 1], 65_536),
     ] {
         let plan = supplies(rt.alloc(), functions)?;
-        let again = plan.copy()?;
-        let (desk, _) = Desk::open(rt.alloc(), plan.copy()?, 1, 1, 1)?;
-        assert_eq!(rt; desk.functions(), bound);
-        let fault = Desk::open_growing(rt.alloc(), plan, 1, 1, 1, 1, bound - 1).err();
-        assert_eq!(rt; fault, Some(OpenFault::Functions));
-        let (desk, _) = Desk::open_growing(rt.alloc(), again, 1, 1, 1, 1, bound)?;
-        assert_eq!(rt; desk.functions(), bound);
+        assert_eq!(rt; functions_of(rt.alloc(), plan), Ok(bound));
+        let plan = supplies(rt.alloc(), functions)?;
+        let few = opened(rt.alloc(), plan, small(1, bound - 1));
+        assert_eq!(rt; few, Err(OpenFault::Functions));
+        let plan = supplies(rt.alloc(), functions)?;
+        assert_eq!(rt; opened(rt.alloc(), plan, small(1, bound)), Ok(bound));
     }
     Ok(())
 }
@@ -124,8 +162,14 @@ fn the_first_wrong_count_is_told(rt: HostRuntime) -> Result<(), Fail> {
         (64, 1, 1, 4_095, OpenFault::Functions, "Functions"),
     ] {
         let plan = supplies(rt.alloc(), &[0])?;
-        let refused = Desk::open_growing(rt.alloc(), plan, callers, log, calls, room, 0).err();
-        assert_eq!(rt; refused, Some(fault));
+        let sizes = Sizes {
+            callers,
+            log,
+            calls,
+            room,
+            functions: 0,
+        };
+        assert_eq!(rt; opened(rt.alloc(), plan, sizes), Err(fault));
         assert_eq!(rt; format!(in rt.alloc(); "{fault}")?.as_str(), text);
     }
     Ok(())

@@ -87,7 +87,7 @@ fn visit<F: StageFn>(
     ensures room { SameRoom stages.old stages.new }
     ensures swept { AreSwept plan.now.stages (m + 1) (m + 1) stages.new }
 {
-    match stages.next_swept(plan, m) {
+    match stages.next_swept::<F>(plan, m) {
         Some(args) => {
             let answer = answer_of(plan, functions, m, &args);
             claims[m as usize] = None;

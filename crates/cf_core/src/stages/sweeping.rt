@@ -23,8 +23,10 @@ use cf_plan::{Args, GrowingPlan};
 impl Stages {
     /// Treats the next stage of a sweep, and says with what its function is to be called, if it is ready then. It is
     /// written as ready only where it was before, or where finding out took more than a look.
+    ///
+    /// It is one function for each type `F` of functions, so that one place calls each and it stands in line there.
     #[inline(always)]
-    pub fn next_swept(&mut self, plan: &GrowingPlan, m: u16) -> Option<Args>
+    pub fn next_swept<F>(&mut self, plan: &GrowingPlan, m: u16) -> Option<Args>
         requires swept { AreSwept plan.now.stages m m self.old }
         requires stage { m < length plan.now.stages }
         ensures ready { IfSome result (λ args. IsReadyWith plan.now.stages m args self.new) }
