@@ -32,9 +32,9 @@ pub fn treat(kept: &mut Cells, form: Form, sources: &[u16], m: u16)
 }
 
 /// Treats stage `m`, which waits, as `treat` does. But where a look tells with what its function is to be called, that is
-/// told, and nothing is written.
+/// told, and nothing is written. As the sweep that calls it, it is one function for each type of functions.
 #[inline(always)]
-pub fn offer(kept: &mut Cells, form: Form, sources: &[u16], m: u16) -> Option<Args>
+pub fn offer<F>(kept: &mut Cells, form: Form, sources: &[u16], m: u16) -> Option<Args>
     requires stage { m < length kept.old.items }
     requires sources { All (λ j. j < length kept.old.items) sources.now }
     ensures told { IfSome result (λ args. (function : Option ℕ) → treated kept.old.items (record { form = form; sources = sources.now; function = function }) (kept_at kept.old.items m) ≡ record { stage = Ready args; step = (kept_at kept.old.items m).step }) }
@@ -43,7 +43,7 @@ pub fn offer(kept: &mut Cells, form: Form, sources: &[u16], m: u16) -> Option<Ar
     ensures room { kept.new.capacity ≡ kept.old.capacity }
 {
     if kept.is_pending(m) {
-        offer_due(kept, form, sources, m)
+        offer_due::<F>(kept, form, sources, m)
     } else {
         treat(kept, form, sources, m);
         None
@@ -52,7 +52,7 @@ pub fn offer(kept: &mut Cells, form: Form, sources: &[u16], m: u16) -> Option<Ar
 
 /// Lets a pending stage take what its sources have, in the same way.
 #[inline(always)]
-fn offer_due(kept: &mut Cells, form: Form, sources: &[u16], m: u16) -> Option<Args>
+fn offer_due<F>(kept: &mut Cells, form: Form, sources: &[u16], m: u16) -> Option<Args>
     requires stage { m < length kept.old.items }
     requires sources { All (λ j. j < length kept.old.items) sources.now }
     requires pending { (kept_at kept.old.items m).stage ≡ Pending }

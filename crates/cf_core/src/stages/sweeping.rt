@@ -39,7 +39,7 @@ impl Stages {
         if !self.kept.is_waiting(m) {
             return self.kept.args(m);
         }
-        match self.treat_swept(plan, m) {
+        match self.treat_swept::<F>(plan, m) {
             Some(args) => Some(args),
             None => self.kept.args(m),
         }
@@ -48,7 +48,7 @@ impl Stages {
     /// Treats the next stage of a sweep, which waits. Where it takes something, this is a turn. It says with what its
     /// function is to be called where a look tells that, and then doesn't write it.
     #[inline(always)]
-    fn treat_swept(&mut self, plan: &GrowingPlan, m: u16) -> Option<Args>
+    fn treat_swept<F>(&mut self, plan: &GrowingPlan, m: u16) -> Option<Args>
         requires swept { AreSwept plan.now.stages m m self.old }
         requires stage { m < length plan.now.stages }
         requires waiting { is_waiting ((kept_at self.old.kept.items m).stage) ≡ true }
@@ -59,7 +59,7 @@ impl Stages {
         ensures counted { self.old.turns ≤ self.new.turns }
         ensures room { SameRoom self.old self.new }
     {
-        match offer(&mut self.kept, plan.form(m), plan.sources(m), m) {
+        match offer::<F>(&mut self.kept, plan.form(m), plan.sources(m), m) {
             Some(args) => {
                 self.turns += 1;
                 Some(args)

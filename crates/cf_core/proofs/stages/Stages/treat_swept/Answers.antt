@@ -12,7 +12,7 @@ use Rattle.cf_core.proofs.Keeping.Sweeping.{IsSwept-same, offered_ready, offered
 use Rattle.cf_core.proofs.stages.Stages.treat_swept.Goals as goal
 
 pub returns-in-Some-clause-ready : goal.returns-in-Some-clause-ready
-returns-in-Some-clause-ready c =
+returns-in-Some-clause-ready g c =
     let s = c.args.self.now in
     let plan = c.args.plan.now.stages in
     let told : treated s.kept.items (planned_at plan c.args.m) (kept_at s.kept.items c.args.m) ≡ record { stage = Ready c.in-Some.args; step = (kept_at s.kept.items c.args.m).step } =
@@ -25,14 +25,14 @@ returns-in-Some-clause-ready c =
     }
 
 pub note_swept-requires-clause-stage : goal.note_swept-requires-clause-stage
-note_swept-requires-clause-stage c =
+note_swept-requires-clause-stage g c =
     let s = c.args.self.now in
     let all = swept_within c.args.plan.now.stages s.kept.items s.links s.steps s.turns c.args.m c.args.m c.requires.swept in
     let same = ap length (c.in-None.ensures.kept (function_at c.args.plan.now.stages c.args.m)) ∙ length-set s.kept.items c.args.m _ in
     omega (arith, all, same, c.requires.stage)
 
 pub returns-in-None-clause-same : goal.returns-in-None-clause-same
-returns-in-None-clause-same c =
+returns-in-None-clause-same g c =
     let s = c.args.self.now in
     let plan = c.args.plan.now.stages in
     let new = treated s.kept.items (planned_at plan c.args.m) (kept_at s.kept.items c.args.m) in
@@ -41,7 +41,7 @@ returns-in-None-clause-same c =
     ∙ swept_same plan s.kept.items s.links s.steps s.turns c.args.m new c.requires.swept c.requires.stage refl
 
 pub returns-in-None-clause-taken : goal.returns-in-None-clause-taken
-returns-in-None-clause-taken c =
+returns-in-None-clause-taken g c =
     let s = c.args.self.now in
     let plan = c.args.plan.now.stages in
     let new = treated s.kept.items (planned_at plan c.args.m) (kept_at s.kept.items c.args.m) in
@@ -51,7 +51,7 @@ returns-in-None-clause-taken c =
     (StayTaken-set s.kept.items c.args.m new (omega (arith, all, c.requires.stage)) (λ taken. absurd (waiting_untaken ((kept_at s.kept.items c.args.m).stage) c.requires.waiting taken)))
 
 pub returns-in-None-clause-swept : goal.returns-in-None-clause-swept
-returns-in-None-clause-swept c =
+returns-in-None-clause-swept g c =
     let s = c.args.self.now in
     let t = c.note_swept.new.self in
     let plan = c.args.plan.now.stages in
