@@ -1,0 +1,159 @@
+//! Calls that take memory.
+use crate::answers::{Numbers, Want};
+use crate::graphs::settled;
+use crate::shared::{run_by_three, used};
+use cf_core::Graph;
+use cf_desk::Desk;
+use cf_plan::{Form, LimitKind, Plan, PlanBuilder, PlanFault};
+use cf_script::{Command, read_command};
+use std::alloc::Global;
+use std::fmt;
+use std::sync::Wait;
+use std::thread::Threads;
+
+/// A call that takes memory, or that would if it were made another way.
+#[derive(Clone, Copy, Debug, PartialEq, Eq)]
+pub(crate) enum Case {
+    Builder,
+    RoomyBuilder,
+    PlanCopy,
+    Graph,
+    GrowingGraph,
+    Desk,
+    GrowingDesk,
+    /// A run of three workers on threads of their own.
+    Run,
+    Words,
+}
+
+pub(crate) const CASES: [Case; 9] = [
+    Case::Builder,
+    Case::RoomyBuilder,
+    Case::PlanCopy,
+    Case::Graph,
+    Case::GrowingGraph,
+    Case::Desk,
+    Case::GrowingDesk,
+    Case::Run,
+    Case::Words,
+];
+
+impl fmt::Display for Case {
+    fn fmt<W: fmt::Write>(&self, f: &mut fmt::Formatter<W>) -> fmt::Result {
+        match self {
+            Case::Builder => write!(f, "builder"),
+            Case::RoomyBuilder => write!(f, "builder with room"),
+            Case::PlanCopy => write!(f, "copy of a plan"),
+            Case::Graph => write!(f, "graph"),
+            Case::GrowingGraph => write!(f, "growing graph"),
+            Case::Desk => write!(f, "desk"),
+            Case::GrowingDesk => write!(f, "growing desk"),
+            Case::Run => write!(f, "run of three workers"),
+            Case::Words => write!(f, "words"),
+        }
+    }
+}
+
+/// What a call gave, in three numbers: of a plan its stages, its edges and how often a refused call was made again; of a
+/// graph its stages, how many of them are settled and how many functions were called; of a desk its events, or of a run its
+/// workers, its passes and the settled stages; of words the number of workers.
+pub(crate) fn numbers_of<R: Threads + Wait + Sync>(
+    rt: &R,
+    alloc: Global,
+    plan: &Plan,
+    case: Case,
+) -> Result<Numbers, Want> {
+    match case {
+        Case::Builder => of_built(built(PlanBuilder::new(alloc))?),
+        Case::RoomyBuilder => of_built(built(PlanBuilder::with_room(alloc, 3, 3)?)?),
+        Case::PlanCopy => of_built((plan.copy()?, 0)),
+        Case::Graph => Ok(settled(Graph::new(alloc, plan.copy()?)?)),
+        Case::GrowingGraph => grown(alloc, plan),
+        Case::Desk => shared(alloc, plan),
+        Case::GrowingDesk => grown_and_shared(alloc, plan),
+        Case::Run => run_by_three(rt, alloc),
+        Case::Words => words(alloc),
+    }
+}
+
+/// A source, a function over it, and one over both, with a limit.
+pub(crate) fn plan_of_three(alloc: Global) -> Result<Plan, PlanFault> {
+    Ok(built(PlanBuilder::new(alloc))?.0)
+}
+
+/// That plan, and how often a refused call was made again.
+fn built(mut builder: PlanBuilder) -> Result<(Plan, usize), PlanFault> {
+    let mut again = 0usize;
+    for (form, of, function) in [
+        (Form::Source, &[][..], None),
+        (Form::Apply, &[0], Some(0)),
+        (Form::Combine, &[0, 1], Some(1)),
+    ] {
+        if add(&mut builder, form, of, function)? {
+            again = again.saturating_add(1);
+        }
+    }
+    if limit(&mut builder)? {
+        again = again.saturating_add(1);
+    }
+    Ok((builder.build()?, again))
+}
+
+/// Adds a stage. It says whether memory was refused it, and the same call made once more.
+fn add(
+    builder: &mut PlanBuilder,
+    form: Form,
+    of: &[u16],
+    function: Option<u16>,
+) -> Result<bool, PlanFault> {
+    match builder.stage(form, of, function) {
+        Err(PlanFault::NoMemory) => {
+            builder.stage(form, of, function)?;
+            Ok(true)
+        }
+        Err(fault) => Err(fault),
+        Ok(_) => Ok(false),
+    }
+}
+
+/// Adds a limit, in the same way.
+fn limit(builder: &mut PlanBuilder) -> Result<bool, PlanFault> {
+    match builder.limit(2, 10, LimitKind::Timeout) {
+        Err(PlanFault::NoMemory) => {
+            builder.limit(2, 10, LimitKind::Timeout)?;
+            Ok(true)
+        }
+        Err(fault) => Err(fault),
+        Ok(()) => Ok(false),
+    }
+}
+
+fn of_built(built: (Plan, usize)) -> Result<Numbers, Want> {
+    let (plan, again) = built;
+    Ok(Numbers(usize::from(plan.stages()), plan.edges() as usize, again))
+}
+
+fn grown(alloc: Global, plan: &Plan) -> Result<Numbers, Want> {
+    let plan = plan.copy()?;
+    if plan.stages() != 3 || plan.edges() != 3 {
+        return Err(Want::Other);
+    }
+    Ok(settled(Graph::new_growing(alloc, plan, 2)?))
+}
+
+fn shared(alloc: Global, plan: &Plan) -> Result<Numbers, Want> {
+    let (desk, passes) = Desk::open(alloc, plan.copy()?, 3, 16, 16)?;
+    used(desk, passes)
+}
+
+fn grown_and_shared(alloc: Global, plan: &Plan) -> Result<Numbers, Want> {
+    let (desk, passes) = Desk::open_growing(alloc, plan.copy()?, 3, 16, 16, 2, 4)?;
+    used(desk, passes)
+}
+
+fn words(alloc: Global) -> Result<Numbers, Want> {
+    match read_command(alloc, &["race", "--workers", "2"])? {
+        Command::Run => Err(Want::Other),
+        Command::Race(workers) => Ok(Numbers(usize::from(workers), 0, 0)),
+    }
+}

@@ -1,0 +1,130 @@
+//! Calls that take memory, one after another, each with a line that says what it gave, or that memory was refused it and
+//! what the same call gave then. Before them stand calls that take none, on what was opened at the start.
+//!
+//! `bench/refused` runs it with each allocation refused in turn, and with all refused from one on, and compares the lines.
+//! With all memory there, they are those that the gate has stored.
+#![tactic(auto)]
+
+mod answers;
+mod calls;
+mod cases;
+mod graphs;
+mod rows;
+mod shared;
+
+use answers::Want;
+use anyhow::{Result, anyhow};
+use calls::show_calls;
+use cases::{CASES, Case, numbers_of, plan_of_three};
+use cf_plan::Plan;
+use cf_script::{NoGate, ScriptFault, race_script, run_script};
+use rows::{ROWS, show_row, source_and_apply};
+use std::alloc::Global;
+use std::io;
+use std::io::Write;
+use std::sync::Wait;
+use std::thread::Threads;
+
+/// A source and a function over it.
+const SOURCE_AND_APPLY: &str =
+    "{\"cf\":1,\"stages\":[{\"form\":\"source\"},{\"form\":\"apply\",\"of\":[0],\"fn\":{\"add\":5}}],\"steps\":[[\"complete\",0,3]]}";
+
+/// Two functions that nothing waits for, and one over both.
+const TWO_SUPPLIES: &str =
+    "{\"cf\":1,\"stages\":[{\"form\":\"supply\",\"fn\":{\"const\":4}},{\"form\":\"supply\",\"fn\":{\"const\":5}},{\"form\":\"combine\",\"of\":[0,1],\"fn\":\"sum\"}]}";
+
+/// A script that is run, or raced with two workers.
+#[derive(Clone, Copy)]
+struct Told {
+    name: &'static str,
+    text: &'static str,
+    is_race: bool,
+}
+
+const SCRIPTS: [Told; 3] = [
+    Told {
+        name: "run",
+        text: SOURCE_AND_APPLY,
+        is_race: false,
+    },
+    Told {
+        name: "race",
+        text: SOURCE_AND_APPLY,
+        is_race: true,
+    },
+    Told {
+        name: "race of two",
+        text: TWO_SUPPLIES,
+        is_race: true,
+    },
+];
+
+fn main(rt: HostRuntime) -> Result<()> {
+    let plan = source_and_apply(rt.alloc()).map_err(|_| anyhow!("no memory for a plan"))?;
+    show_free(&rt, rt.alloc(), &plan)?;
+    let plan = plan_of_three(rt.alloc()).map_err(|_| anyhow!("no memory for a plan"))?;
+    for case in CASES {
+        show_case(&rt, rt.alloc(), &plan, case)?;
+    }
+    for script in SCRIPTS {
+        show_script(&rt, rt.alloc(), &mut io::writer(&rt), script)?;
+    }
+    Ok(())
+}
+
+/// Prints what the calls give that take no memory, once what they work on is opened.
+fn show_free<R: Print>(rt: &R, alloc: Global, plan: &Plan) -> Result<()> {
+    for row in ROWS {
+        show_row(rt, alloc, plan, row)?;
+    }
+    show_calls(rt, alloc, plan)
+}
+
+/// Prints what a call gave, and where memory was refused it, what it gave then.
+fn show_case<R: Print + Threads + Wait + Sync>(
+    rt: &R,
+    alloc: Global,
+    plan: &Plan,
+    case: Case,
+) -> Result<()> {
+    let mut gave = numbers_of(rt, alloc, plan, case);
+    if gave == Err(Want::Memory) {
+        println!(rt; "{case}: no memory")?;
+        gave = numbers_of(rt, alloc, plan, case);
+    }
+    match gave {
+        Ok(numbers) => println!(rt; "{case}: {numbers}")?,
+        Err(_) => println!(rt; "{case}: refused")?,
+    }
+    Ok(())
+}
+
+/// Prints a script's report, and where memory was refused it, the line that says so, and the report then.
+fn show_script<R: Print + Threads + Wait + Sync, W: Write>(
+    rt: &R,
+    alloc: Global,
+    w: &mut W,
+    script: Told,
+) -> Result<()> {
+    println!(rt; "{}:", script.name)?;
+    if carried_out(rt, alloc, w, script) == Err(ScriptFault::NoMemory) {
+        println!(rt; "{} again:", script.name)?;
+        let _ = carried_out(rt, alloc, w, script);
+    }
+    Ok(())
+}
+
+/// Runs a script, or races it with two workers.
+fn carried_out<R: Threads + Wait + Sync, W: Write>(
+    rt: &R,
+    alloc: Global,
+    w: &mut W,
+    script: Told,
+) -> Result<(), ScriptFault> {
+    let mut input = script.text.as_bytes();
+    if script.is_race {
+        race_script(rt, alloc, &mut input, w, &NoGate, 2)
+    } else {
+        run_script(alloc, &mut input, w)
+    }
+}

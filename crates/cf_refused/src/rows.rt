@@ -1,0 +1,213 @@
+//! Calls of a desk that take no memory, once it is opened. A row is refused for want of memory where its desk is opened, or
+//! does all of its steps, whatever memory is refused later.
+ghost use Rattle.std.specs.Prelude.{◌≡◌, All, IfOk, IfSome};
+ghost use Rattle.cf_desk.specs.Views.{IsOf};
+
+use crate::answers::Want;
+use crate::graphs::{Four, settled_stages};
+use anyhow::Result;
+use cf_core::Ask;
+use cf_desk::{Call, Closed, Desk, OpenFault, Pass};
+use cf_outcome::Value;
+use cf_plan::{Form, Of, Plan, PlanBuilder, PlanFault};
+use cf_pool::{NoGate, work};
+use std::alloc::Global;
+
+/// One step of a caller at a desk.
+#[derive(Clone, Copy)]
+pub(crate) enum Step {
+    Act(Call),
+    Read(Ask),
+    /// A join of stage 1, by so many looks.
+    Join(u32),
+    /// A look for a ready stage.
+    Ready,
+    /// A worker's whole work.
+    Work,
+}
+
+/// A desk over a source and a function over it, for two callers, and the steps that each takes in its turn. In between the
+/// two meet.
+#[derive(Clone, Copy)]
+pub(crate) struct Row {
+    pub(crate) name: &'static str,
+    log: u16,
+    calls: u16,
+    room: u16,
+    first: &'static [Step],
+    second: &'static [Step],
+}
+
+const COMPLETE: Step = Step::Act(Call::Complete(0, Value::Int(3)));
+
+const ATTACH: Step = Step::Act(Call::Attach(Form::ThenRun, Of::One(0), Some(0)));
+
+pub(crate) const ROWS: [Row; 3] = [
+    Row {
+        name: "full log",
+        log: 2,
+        calls: 4,
+        room: 0,
+        first: &[
+            COMPLETE,
+            Step::Act(Call::Cancel(0)),
+            Step::Act(Call::Tick(5)),
+            Step::Act(Call::Claim(2)),
+            Step::Read(Ask::Outcome(0)),
+        ],
+        second: &[Step::Act(Call::Fail(0, 7)), Step::Join(2)],
+    },
+    Row {
+        name: "full pass",
+        log: 4,
+        calls: 2,
+        room: 0,
+        first: &[
+            Step::Join(3),
+            COMPLETE,
+            Step::Read(Ask::Now(0, Value::Nil)),
+            Step::Act(Call::Tick(1)),
+        ],
+        second: &[Step::Ready, Step::Act(Call::Tick(2))],
+    },
+    Row {
+        name: "worker",
+        log: 16,
+        calls: 16,
+        room: 1,
+        first: &[COMPLETE, ATTACH, ATTACH, Step::Work],
+        second: &[Step::Ready, Step::Work, Step::Read(Ask::Outcome(2))],
+    },
+];
+
+/// A source, and a function over it.
+pub(crate) fn source_and_apply(alloc: Global) -> Result<Plan, PlanFault> {
+    let mut builder = PlanBuilder::new(alloc);
+    builder.stage(Form::Source, &[], None)?;
+    builder.stage(Form::Apply, &[0], Some(0))?;
+    builder.build()
+}
+
+/// Prints what each step of a row's callers is answered, and what the closed desk has; or that memory was refused.
+pub(crate) fn show_row<R: Print>(rt: &R, alloc: Global, plan: &Plan, row: Row) -> Result<()> {
+    let name = row.name;
+    match opened(alloc, plan, row) {
+        Err(_) => println!(rt; "{name}: no memory")?,
+        Ok((desk, passes)) => {
+            println!(rt; "{name}:")?;
+            show_steps(rt, desk, passes, row)?;
+        }
+    }
+    Ok(())
+}
+
+/// The desk of a row.
+fn opened(alloc: Global, plan: &Plan, row: Row) -> Result<(Desk, Vec<Pass>), Want>
+    ensures all { IfOk result (λ r. All (IsOf r.0) r.1.items) }
+    ensures callers { IfOk result (λ r. r.0.setting.callers ≡ 2) }
+{
+    let opened = Desk::open_growing(alloc, plan.copy()?, 2, row.log, row.calls, row.room, 4)?;
+    Ok(opened)
+}
+
+/// Prints what each step is answered, and what the closed desk has.
+fn show_steps<R: Print>(rt: &R, desk: Desk, passes: Vec<Pass>, row: Row) -> Result<()>
+    requires all { All (IsOf desk) passes.items }
+    requires callers { desk.setting.callers ≡ 2 }
+{
+    let Some((mut first, mut second, rest)) = both_of(&desk, passes) else {
+        return Ok(());
+    };
+    take(rt, &desk, &mut first, &mut second, row)?;
+    if let Some(mut closed) = close_two(desk, rest, first, second) {
+        show_end(rt, &mut closed)?;
+    }
+    Ok(())
+}
+
+/// The first and the second of two passes, which are both of one desk, and the list that they stood in.
+fn both_of(desk: &Desk, mut passes: Vec<Pass>) -> Option<(Pass, Pass, Vec<Pass>)>
+    requires { All (IsOf desk.now) passes.items }
+    ensures first { IfSome result (λ r. IsOf desk.now r.0) }
+    ensures second { IfSome result (λ r. IsOf desk.now r.1) }
+{
+    let second = passes.pop()?;
+    let first = passes.pop()?;
+    passes.clear();
+    Some((first, second, passes))
+}
+
+/// The desk of two passes, closed, with the memory of a list that two passes stood in.
+fn close_two(desk: Desk, mut list: Vec<Pass>, first: Pass, second: Pass) -> Option<Closed>
+    requires callers { desk.setting.callers ≡ 2 }
+    requires passes { IsOf desk first × IsOf desk second }
+{
+    list.clear();
+    list.push(first).ok()?;
+    list.push(second).ok()?;
+    desk.close(list).ok()
+}
+
+/// Prints how many events and records a closed desk has, and how many of its stages are settled.
+fn show_end<R: Print>(rt: &R, closed: &mut Closed) -> Result<()> {
+    let events = closed.history.len();
+    let mut records = 0usize;
+    for kept in &closed.passes {
+        records = records.saturating_add(kept.records.len());
+    }
+    let stages = closed.graph.stages();
+    let settled = settled_stages(&mut closed.graph, stages);
+    println!(rt; "  closed: {events} events, {records} records, {settled} settled")?;
+    Ok(())
+}
+
+/// The first caller's steps, the meeting and the second caller's steps.
+fn take<R: Print>(rt: &R, desk: &Desk, p: &mut Pass, q: &mut Pass, row: Row) -> Result<()>
+    requires { IsOf desk.now p.old × IsOf desk.now q.old }
+    ensures { IsOf desk.now p.new × IsOf desk.now q.new }
+{
+    take_by(rt, desk, p, row.first)?;
+    desk.meet(p, q);
+    take_by(rt, desk, q, row.second)
+}
+
+/// Prints what each of a caller's steps is answered.
+fn take_by<R: Print>(rt: &R, desk: &Desk, p: &mut Pass, steps: &[Step]) -> Result<()>
+    requires { IsOf desk.now p.old }
+    ensures { IsOf desk.now p.new }
+{
+    'steps: for step in steps {
+        take_one(rt, desk, p, *step)?;
+    }
+    Ok(())
+}
+
+fn take_one<R: Print>(rt: &R, desk: &Desk, p: &mut Pass, step: Step) -> Result<()>
+    requires { IsOf desk.now p.old }
+    ensures { IsOf desk.now p.new }
+{
+    match step {
+        Step::Act(call) => {
+            let replied = desk.act(p, call);
+            println!(rt; "  {replied:?}")?;
+        }
+        Step::Read(ask) => {
+            let told = desk.read(p, ask);
+            println!(rt; "  {told:?}")?;
+        }
+        Step::Join(looks) if looks > 0 => {
+            let joined = desk.join(p, 1, looks);
+            println!(rt; "  {joined:?}")?;
+        }
+        Step::Join(_) => {}
+        Step::Ready => {
+            let ready = desk.ready(p);
+            println!(rt; "  {ready:?}")?;
+        }
+        Step::Work => {
+            let done = work(desk, p, [Four].as_slice(), &NoGate, 3);
+            println!(rt; "  {done:?}")?;
+        }
+    }
+    Ok(())
+}
