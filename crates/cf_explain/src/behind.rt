@@ -2,7 +2,7 @@
 ghost use Rattle.std.specs.Prelude.{◌≡◌, ◌<◌, true, IfSome, length, slice_get};
 ghost use Rattle.cf_explain.specs.Limits.{fires_before, is_before};
 
-use crate::place::TOP;
+use crate::place::Place;
 use crate::remark::Remark;
 use crate::unread::items;
 use serde_json::Value as Json;
@@ -30,8 +30,7 @@ pub(crate) fn remark_behind(
     }
     for k in 0..firings.len() {
         if let Some(j) = first_before(firings.as_slice(), k) {
-            let limits = TOP.member("limits");
-            remarks.push(Remark::Behind(limits.item(k), limits.item(j)))?;
+            remarks.push(Remark::Behind(Place::limit(k), Place::limit(j)))?;
         }
     }
     Ok(())

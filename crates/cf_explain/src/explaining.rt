@@ -1,12 +1,13 @@
 //! The explanation of a script.
 ghost use Rattle.std.specs.Prelude.{IfOk};
 ghost use Rattle.cf_reading.specs.Reading.{reading};
+ghost use Rattle.cf_explain.specs.Places.{IsIn};
 ghost use Rattle.cf_explain.specs.Verdicts.{Tells};
 
 use crate::behind::remark_behind;
 use crate::idle::remark_idle;
-use crate::place::TOP;
-use crate::refusing::{refusal_of, wrong};
+use crate::place::{Place, area_of};
+use crate::refusing::{Wrong, found, wrong_at};
 use crate::remark::Remark;
 use crate::twice::remark_twice;
 use crate::unread::remark_unread;
@@ -19,23 +20,27 @@ use std::str;
 
 /// What is wrong with the script that the bytes are to be, and what is odd about it.
 ///
-/// Its fault is that of `read_script`, so the script is refused exactly where its reading says so. It fails only where a
-/// growth was refused.
+/// The script is refused exactly where its reading says so, for the same fault, and the place that is told is in the part
+/// that the fault names. It fails only where a growth was refused.
 pub fn explain(alloc: Global, bytes: &[u8]) -> Result<Explanation, AllocError>
-    ensures verdict { IfOk result (λ e. Tells e.fault (reading bytes.now)) }
+    ensures verdict { IfOk result (λ e. Tells e.refusal (reading bytes.now)) }
 {
     match read_script(alloc, bytes) {
         Ok(script) => Ok(Explanation {
-            fault: None,
             refusal: None,
             remarks: remarks_of(alloc, bytes, script)?,
         }),
         Err(ReadingFault::NoMemory) => Err(AllocError),
         Err(fault) => {
-            let (refusal, remarks) = refused(alloc, bytes, fault)?;
+            let mut remarks = Vec::new(alloc);
+            let place = Place::of(area_of(fault));
+            let found = refused(alloc, bytes, fault, place, &mut remarks)?;
+            let (place, why) = match found {
+                Some(Wrong { place, why }) => (place, why),
+                None => (place, Why::Unsaid),
+            };
             Ok(Explanation {
-                fault: Some(fault),
-                refusal,
+                refusal: Some(Refusal { fault, place, why }),
                 remarks,
             })
         }
@@ -53,24 +58,27 @@ fn remarks_of(alloc: Global, bytes: &[u8], script: Script) -> Result<Vec<Remark>
     Ok(remarks)
 }
 
-/// Why bytes are refused for this fault, and what is odd about them where they are JSON.
+/// What is wrong in this part of bytes that are refused for this fault; remarks what is odd about them if they are JSON.
 fn refused(
     alloc: Global,
     bytes: &[u8],
     fault: ReadingFault,
-) -> Result<(Option<Refusal>, Vec<Remark>), AllocError> {
-    let mut remarks = Vec::new(alloc);
+    place: Place,
+    remarks: &mut Vec<Remark>,
+) -> Result<Option<Wrong>, AllocError>
+    ensures { IfOk result (IsIn place.area) }
+{
     if fault == ReadingFault::TooLong {
-        return Ok((wrong(TOP, Why::TooLong(bytes.len())), remarks));
+        return Ok(wrong_at(place, Why::TooLong(bytes.len())));
     }
     match Json::from_slice(alloc, bytes) {
         Ok(json) => {
-            let refusal = refusal_of(alloc, fault, &json)?;
-            remark_written(alloc, bytes, &json, &mut remarks)?;
-            Ok((refusal, remarks))
+            let found = found(alloc, fault, place, &json)?;
+            remark_written(alloc, bytes, &json, remarks)?;
+            Ok(found)
         }
         Err(error) if error.is_memory() => Err(AllocError),
-        Err(error) => Ok((wrong(TOP, Why::NotJson(error)), remarks)),
+        Err(error) => Ok(wrong_at(place, Why::NotJson(error))),
     }
 }
 

@@ -1,7 +1,9 @@
 //! Whether a value is what is wanted in its place.
+ghost use Rattle.std.specs.Prelude.{IfOk};
+ghost use Rattle.cf_explain.specs.Places.{IsIn};
+
 use crate::place::Place;
-use crate::refusing::wrong;
-use crate::verdict::Refusal;
+use crate::refusing::{Wrong, wrong_at};
 use crate::wanted::Wanted;
 use crate::why::Why;
 use crate::words::Words;
@@ -9,24 +11,30 @@ use serde_json::Value as Json;
 use std::alloc::{AllocError, Global};
 
 /// What is wrong with a value that has to be there.
-pub(crate) fn needed(place: Place, said: Option<&Json>, wanted: Wanted) -> Option<Refusal> {
+pub(crate) fn needed(place: Place, said: Option<&Json>, wanted: Wanted) -> Option<Wrong>
+    ensures { IsIn place.area result }
+{
     match said {
-        None => wrong(place, Why::Missing(wanted)),
+        None => wrong_at(place, Why::Missing(wanted)),
         Some(json) => taken(place, json, wanted),
     }
 }
 
 /// What is wrong with a value that may be missing.
-pub(crate) fn optional(place: Place, said: Option<&Json>, wanted: Wanted) -> Option<Refusal> {
+pub(crate) fn optional(place: Place, said: Option<&Json>, wanted: Wanted) -> Option<Wrong>
+    ensures { IsIn place.area result }
+{
     taken(place, said?, wanted)
 }
 
 /// What is wrong with a value.
-pub(crate) fn taken(place: Place, json: &Json, wanted: Wanted) -> Option<Refusal> {
+pub(crate) fn taken(place: Place, json: &Json, wanted: Wanted) -> Option<Wrong>
+    ensures { IsIn place.area result }
+{
     if wanted.takes(json) {
         None
     } else {
-        wrong(place, Why::Wants(wanted))
+        wrong_at(place, Why::Wants(wanted))
     }
 }
 
@@ -36,7 +44,9 @@ pub(crate) fn word_wrong(
     place: Place,
     said: Option<&Json>,
     words: Words,
-) -> Result<Option<Refusal>, AllocError> {
+) -> Result<Option<Wrong>, AllocError>
+    ensures { IfOk result (IsIn place.area) }
+{
     if let Some(found) = needed(place, said, Wanted::One(words)) {
         return Ok(Some(found));
     }
@@ -52,13 +62,15 @@ pub(crate) fn unknown(
     place: Place,
     word: &str,
     words: Words,
-) -> Result<Option<Refusal>, AllocError> {
+) -> Result<Option<Wrong>, AllocError>
+    ensures { IfOk result (IsIn place.area) }
+{
     if words.known(word).is_some() {
         return Ok(None);
     }
     let nearest = words.nearest(alloc, word)?;
     let word = String::from_str(alloc, word)?;
-    Ok(wrong(
+    Ok(wrong_at(
         place,
         Why::Unknown {
             word,
@@ -68,25 +80,23 @@ pub(crate) fn unknown(
     ))
 }
 
-/// The one member of an object, or what is wrong with it where it hasn't exactly one of these.
-pub(crate) fn lone<'a>(
+/// What is wrong with an object that is to have exactly one of these members.
+pub(crate) fn lone_wrong(
     alloc: Global,
     place: Place,
-    json: &'a Json,
+    json: &Json,
     words: Words,
-) -> Result<Result<(&'a str, &'a Json), Option<Refusal>>, AllocError> {
+) -> Result<Option<Wrong>, AllocError>
+    ensures { IfOk result (IsIn place.area) }
+{
     let Some(members) = json.as_object() else {
-        return Ok(Err(wrong(place, Why::Wants(Wanted::Lone(words)))));
+        return Ok(wrong_at(place, Why::Wants(Wanted::Lone(words))));
     };
-    let count = members.len();
     match members.first_key_value() {
-        Some((name, content)) if count == 1 => {
-            if words.known(name.as_str()).is_some() {
-                Ok(Ok((name.as_str(), content)))
-            } else {
-                Ok(Err(unknown(alloc, place, name.as_str(), words)?))
-            }
-        }
-        _ => Ok(Err(wrong(place, Why::Members(count, words)))),
+        Some((name, content)) if members.len() == 1 => match words.held(name.as_str()) {
+            Some((name, wanted)) => Ok(taken(place.member(name), content, wanted)),
+            None => unknown(alloc, place, name.as_str(), words),
+        },
+        _ => Ok(wrong_at(place, Why::Members(members.len(), words))),
     }
 }

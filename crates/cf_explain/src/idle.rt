@@ -1,5 +1,5 @@
 //! The steps that never do anything.
-use crate::place::TOP;
+use crate::place::Place;
 use crate::remark::{Idle, Remark};
 use cf_core::Event;
 use cf_plan::{Limit, Plan};
@@ -40,9 +40,8 @@ pub(crate) fn remark_idle(
         ticked: None,
     };
     for (k, step) in steps.iter().enumerate() {
-        if let Some(why) = seen.idle(plan.limits(), *step) {
-            let place = TOP.member("steps").item(k);
-            remarks.push(Remark::Idle(place, why))?;
+        if let Some(why) = seen.idle(*step) {
+            remarks.push(Remark::Idle(Place::step(k), why))?;
         }
         if let (Ok(k), Step::Does(event)) = (u32::try_from(k), *step) {
             seen.after(plan.limits(), event, k)?;
@@ -84,16 +83,16 @@ impl Seen {
     }
 
     /// Why the step never does anything, if it is known not to.
-    fn idle(&self, limits: &[Limit], step: Step) -> Option<Idle> {
+    fn idle(&self, step: Step) -> Option<Idle> {
         match step {
-            Step::Does(event) => self.idle_event(limits, event),
+            Step::Does(event) => self.idle_event(event),
             Step::Work if !self.stages.iter().any(|known| known.called) => Some(Idle::NoWork),
             Step::Nudge(0) => Some(Idle::NoTurn),
             Step::Work | Step::Nudge(_) | Step::Asks(_) => None,
         }
     }
 
-    fn idle_event(&self, limits: &[Limit], event: Event) -> Option<Idle> {
+    fn idle_event(&self, event: Event) -> Option<Idle> {
         match event {
             Event::Complete { stage, .. }
             | Event::Fail { stage, .. }
@@ -104,7 +103,6 @@ impl Seen {
                 Some(Idle::NotClaimed)
             }
             Event::Finish { .. } => None,
-            Event::Tick { .. } if limits.is_empty() => Some(Idle::NoLimit),
             Event::Tick { now, .. } => self.idle_tick(now),
             Event::Attach { .. } if self.room == 0 => Some(Idle::NoRoom),
             Event::Attach { .. } => None,

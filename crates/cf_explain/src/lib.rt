@@ -3,8 +3,8 @@
 //!
 //! The verdict is that of `cf_reading::read_script`, which is asked first: `explain` is proved to say that a script is
 //! refused exactly where its bytes are, and for the same fault. Only then the JSON value is walked, to find the member by
-//! which the fault came (`refusing.rt` and what it calls), so a walk that went astray would name another member, or none,
-//! and never another verdict.
+//! which the fault came (`refusing.rt` and what it calls): a place in the part that the fault names, which is proved too. So a walk
+//! that went astray would name another member there, and never another verdict.
 //!
 //! What may stand where, and by which names, is in tables: forms, functions, answers, kinds and members in `words.rt`,
 //! the steps in `steps.rt`.
@@ -31,7 +31,7 @@ mod why;
 mod words;
 
 pub use explaining::explain;
-pub use place::{Hop, Place};
+pub use place::{Area, Hop, Place};
 pub use remark::{Idle, Remark};
 pub use verdict::{Explanation, Refusal, Verdict};
 pub use wanted::Wanted;

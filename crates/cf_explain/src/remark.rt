@@ -44,8 +44,6 @@ pub enum Idle {
     NotClaimed,
     /// This step's tick was as late.
     NotLater(u32),
-    /// There is no limit.
-    NoLimit,
     /// No stage has a function.
     NoWork,
     /// There is no room for a stage.
@@ -100,7 +98,6 @@ impl fmt::Display for Idle {
             Idle::Settled(k) => write!(f, "its stage is settled since steps[{k}]"),
             Idle::NotClaimed => write!(f, "its caller hasn't claimed the stage"),
             Idle::NotLater(k) => write!(f, "steps[{k}] was as late or later"),
-            Idle::NoLimit => write!(f, "there are no limits"),
             Idle::NoWork => write!(f, "no stage calls a function"),
             Idle::NoRoom => write!(f, "there is no room for a stage more"),
             Idle::NoTurn => write!(f, "it does no turn"),

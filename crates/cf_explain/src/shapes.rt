@@ -1,9 +1,11 @@
 //! Which member gives a part of a script its wrong shape.
+ghost use Rattle.std.specs.Prelude.{IfOk};
+ghost use Rattle.cf_explain.specs.Places.{IsIn};
+
 use crate::fitting::{needed, optional, taken, word_wrong};
-use crate::place::{Place, TOP};
-use crate::refusing::wrong;
+use crate::place::Place;
+use crate::refusing::{Wrong, wrong_at};
 use crate::stages::stage_wrong;
-use crate::verdict::Refusal;
 use crate::wanted::Wanted;
 use crate::why::Why;
 use crate::words::Words;
@@ -11,27 +13,28 @@ use cf_reading::Part;
 use serde_json::Value as Json;
 use std::alloc::{AllocError, Global};
 
-/// What is wrong with the shape of a part.
+/// What is wrong with the shape of a part, which is at this place.
 pub(crate) fn shape_wrong(
     alloc: Global,
+    place: Place,
     part: Part,
     json: &Json,
-) -> Result<Option<Refusal>, AllocError> {
-    let place = TOP.member(part.name());
+) -> Result<Option<Wrong>, AllocError>
+    ensures { IfOk result (IsIn place.area) }
+{
     match part {
-        Part::Top => Ok(taken(TOP, json, Wanted::Object)),
+        Part::Top => Ok(taken(place, json, Wanted::Object)),
         Part::Version => Ok(needed(place, json.get("cf"), Wanted::Version)),
         Part::Room => Ok(
             match optional(place, json.get("room"), Wanted::UpTo(4_096)) {
                 Some(found) => Some(found),
-                None => wrong(place, Why::NoPlace),
+                None => wrong_at(place, Why::NoPlace),
             },
         ),
         Part::Stages => Ok(needed(place, json.get("stages"), Wanted::Array)),
         Part::Limits => Ok(optional(place, json.get("limits"), Wanted::Array)),
         Part::Steps => Ok(optional(place, json.get("steps"), Wanted::Array)),
         Part::Stage(k) => {
-            let place = TOP.member("stages").item(k as usize);
             let said = json.get("stages").and_then(|list| list.get(k as usize));
             match said {
                 None => Ok(None),
@@ -41,7 +44,6 @@ pub(crate) fn shape_wrong(
             }
         }
         Part::Limit(k) => {
-            let place = TOP.member("limits").item(k as usize);
             let said = json.get("limits").and_then(|list| list.get(k as usize));
             match said {
                 None => Ok(None),
@@ -57,7 +59,9 @@ pub(crate) fn version_of(json: &Json) -> i64 {
 }
 
 /// What is wrong with a limit.
-fn limit_wrong(alloc: Global, place: Place, json: &Json) -> Result<Option<Refusal>, AllocError> {
+fn limit_wrong(alloc: Global, place: Place, json: &Json) -> Result<Option<Wrong>, AllocError>
+    ensures { IfOk result (IsIn place.area) }
+{
     if let Some(found) = number_wrong(place, json) {
         return Ok(Some(found));
     }
@@ -69,7 +73,9 @@ fn limit_wrong(alloc: Global, place: Place, json: &Json) -> Result<Option<Refusa
 }
 
 /// What is wrong with a limit as an object, with its stage or with its moment.
-fn number_wrong(place: Place, json: &Json) -> Option<Refusal> {
+fn number_wrong(place: Place, json: &Json) -> Option<Wrong>
+    ensures { IsIn place.area result }
+{
     if let Some(found) = taken(place, json, Wanted::Object) {
         return Some(found);
     }

@@ -1,8 +1,10 @@
 //! What is wrong with a stage, whether the script's or an attached one.
+ghost use Rattle.std.specs.Prelude.{IfOk};
+ghost use Rattle.cf_explain.specs.Places.{IsIn};
+
 use crate::fitting::{taken, word_wrong};
 use crate::place::Place;
-use crate::refusing::wrong;
-use crate::verdict::Refusal;
+use crate::refusing::{Wrong, wrong_at};
 use crate::wanted::Wanted;
 use crate::why::Why;
 use crate::words::{Words, form_named};
@@ -20,7 +22,9 @@ pub(crate) fn stage_wrong(
     json: &Json,
     version: i64,
     source: Wanted,
-) -> Result<Option<Refusal>, AllocError> {
+) -> Result<Option<Wrong>, AllocError>
+    ensures { IfOk result (IsIn place.area) }
+{
     if let Some(found) = taken(place, json, Wanted::Object) {
         return Ok(Some(found));
     }
@@ -29,27 +33,31 @@ pub(crate) fn stage_wrong(
         return Ok(Some(found));
     }
     if version == 1 && form.and_then(Json::as_str) == Some(LATER) {
-        return Ok(wrong(place.member("form"), Why::NotInVersionOne));
+        return Ok(wrong_at(place.member("form"), Why::NotInVersionOne));
     }
     Ok(sources_wrong(place.member("of"), json.get("of"), source))
 }
 
 /// What is wrong with the sources of a stage.
-fn sources_wrong(place: Place, said: Option<&Json>, source: Wanted) -> Option<Refusal> {
+fn sources_wrong(place: Place, said: Option<&Json>, source: Wanted) -> Option<Wrong>
+    ensures { IsIn place.area result }
+{
     let json = said?;
     let Some(list) = json.as_array() else {
-        return wrong(place, Why::Wants(Wanted::Array));
+        return wrong_at(place, Why::Wants(Wanted::Array));
     };
     for (j, item) in list.iter().enumerate() {
         if !source.takes(item) {
-            return wrong(place.item(j), Why::Wants(source));
+            return wrong_at(place.item(j), Why::Wants(source));
         }
     }
     None
 }
 
 /// What is wrong with a stage's number of sources, or with its having a function or none.
-pub(crate) fn misfit(place: Place, json: &Json) -> Option<Refusal> {
+pub(crate) fn misfit(place: Place, json: &Json) -> Option<Wrong>
+    ensures { IsIn place.area result }
+{
     let form = form_of(json)?;
     let found = source_count(json);
     let called = json.get("fn").is_some();
@@ -64,10 +72,10 @@ pub(crate) fn misfit(place: Place, json: &Json) -> Option<Refusal> {
         } else {
             Why::FunctionMissing
         };
-        wrong(place.member("fn"), why)
+        wrong_at(place.member("fn"), why)
     } else {
         let wanted = sources_taken(form)?;
-        wrong(place.member("of"), Why::Sources { wanted, found })
+        wrong_at(place.member("of"), Why::Sources { wanted, found })
     }
 }
 

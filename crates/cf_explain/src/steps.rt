@@ -1,11 +1,13 @@
 //! The steps, by their words, and what is wrong with one.
+ghost use Rattle.std.specs.Prelude.{IfOk};
+ghost use Rattle.cf_explain.specs.Places.{IsIn};
+
 use crate::course::{Course, course_before};
-use crate::fitting::{taken, word_wrong};
-use crate::functions::{answer_wrong, function_wrong};
-use crate::place::{Place, TOP};
-use crate::refusing::wrong;
+use crate::fitting::{lone_wrong, taken, word_wrong};
+use crate::functions::function_wrong;
+use crate::place::Place;
+use crate::refusing::{Wrong, wrong_at};
 use crate::stages::{misfit, source_count, stage_wrong};
-use crate::verdict::Refusal;
 use crate::wanted::Wanted;
 use crate::why::Why;
 use crate::words::Words;
@@ -108,15 +110,17 @@ pub(crate) const STEPS: [StepShape; 11] = [
     },
 ];
 
-/// What is wrong with step k.
+/// What is wrong with step k, which is at this place.
 pub(crate) fn step_wrong(
     alloc: Global,
+    place: Place,
     k: usize,
     json: &Json,
-) -> Result<Option<Refusal>, AllocError> {
-    let place = TOP.member("steps").item(k);
+) -> Result<Option<Wrong>, AllocError>
+    ensures { IfOk result (IsIn place.area) }
+{
     if k >= MAX_STEPS {
-        return Ok(wrong(place, Why::TooMany(MAX_STEPS as u32, "steps")));
+        return Ok(wrong_at(place, Why::TooMany(MAX_STEPS as u32, "steps")));
     }
     let Some(step) = json.get("steps").and_then(|list| list.get(k)) else {
         return Ok(None);
@@ -130,7 +134,7 @@ pub(crate) fn step_wrong(
     }
     let course = course_before(json, k);
     match word.and_then(Json::as_str) {
-        Some("attach") if course.version == 1 => Ok(wrong(place.item(0), Why::NotInVersionOne)),
+        Some("attach") if course.version == 1 => Ok(wrong_at(place.item(0), Why::NotInVersionOne)),
         Some(word) => written_wrong(alloc, place, word, step, course),
         None => Ok(None),
     }
@@ -143,7 +147,9 @@ fn written_wrong(
     word: &str,
     step: &Json,
     course: Course,
-) -> Result<Option<Refusal>, AllocError> {
+) -> Result<Option<Wrong>, AllocError>
+    ensures { IfOk result (IsIn place.area) }
+{
     for shape in &STEPS {
         if shape.word == word {
             return elements_wrong(alloc, place, shape, step, course);
@@ -159,13 +165,15 @@ fn elements_wrong(
     shape: &StepShape,
     step: &Json,
     course: Course,
-) -> Result<Option<Refusal>, AllocError> {
+) -> Result<Option<Wrong>, AllocError>
+    ensures { IfOk result (IsIn place.area) }
+{
     let Some(list) = step.as_array() else {
         return Ok(None);
     };
     let behind = list.len().saturating_sub(1);
     if behind < shape.least || behind > shape.elements.len() {
-        return Ok(wrong(place, Why::Written(shape.written)));
+        return Ok(wrong_at(place, Why::Written(shape.written)));
     }
     for (i, (element, json)) in shape.elements.iter().zip(list.iter().skip(1)).enumerate() {
         let place = place.item(i.saturating_add(1));
@@ -183,13 +191,15 @@ fn element_wrong(
     element: Element,
     json: &Json,
     course: Course,
-) -> Result<Option<Refusal>, AllocError> {
+) -> Result<Option<Wrong>, AllocError>
+    ensures { IfOk result (IsIn place.area) }
+{
     match element {
         Element::Stage => Ok(taken(place, json, Wanted::Stage(course.stages))),
         Element::Value => Ok(taken(place, json, Wanted::Value)),
         Element::Number => Ok(taken(place, json, Wanted::UpTo(u32::MAX))),
         Element::Caller => Ok(taken(place, json, Wanted::UpTo(63))),
-        Element::Answer => answer_wrong(alloc, place, json),
+        Element::Answer => lone_wrong(alloc, place, json, Words::Answers),
         Element::NewStage => attached_wrong(alloc, place, json, course),
     }
 }
@@ -200,7 +210,9 @@ fn attached_wrong(
     place: Place,
     json: &Json,
     course: Course,
-) -> Result<Option<Refusal>, AllocError> {
+) -> Result<Option<Wrong>, AllocError>
+    ensures { IfOk result (IsIn place.area) }
+{
     let source = Wanted::Stage(course.stages);
     if let Some(found) = stage_wrong(alloc, place, json, course.version, source)? {
         return Ok(Some(found));
@@ -213,10 +225,10 @@ fn attached_wrong(
         return Ok(Some(found));
     }
     if source_count(json) > 2 {
-        return Ok(wrong(place.member("of"), Why::TooManySources));
+        return Ok(wrong_at(place.member("of"), Why::TooManySources));
     }
     if function.is_some() && course.functions > 4_095 {
-        return Ok(wrong(place.member("fn"), Why::TooMany(4_096, "functions")));
+        return Ok(wrong_at(place.member("fn"), Why::TooMany(4_096, "functions")));
     }
     Ok(None)
 }

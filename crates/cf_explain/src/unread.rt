@@ -1,6 +1,6 @@
 //! The members that nobody reads.
 use crate::course::attach_of;
-use crate::place::{Place, TOP};
+use crate::place::Place;
 use crate::remark::Remark;
 use crate::shapes::version_of;
 use crate::words::Words;
@@ -13,20 +13,19 @@ pub(crate) fn remark_unread(
     json: &Json,
     remarks: &mut Vec<Remark>,
 ) -> Result<(), AllocError> {
-    in_object(alloc, TOP, json, Words::ScriptMembers, remarks)?;
+    in_object(alloc, Place::top(), json, Words::ScriptMembers, remarks)?;
     if version_of(json) == 1 && json.get("room").is_some() {
         remarks.push(Remark::RoomInVersionOne)?;
     }
     for (k, stage) in items(json.get("stages")).iter().enumerate() {
-        let place = TOP.member("stages").item(k);
-        in_object(alloc, place, stage, Words::StageMembers, remarks)?;
+        in_object(alloc, Place::stage(k), stage, Words::StageMembers, remarks)?;
     }
     for (k, limit) in items(json.get("limits")).iter().enumerate() {
-        in_limit(alloc, TOP.member("limits").item(k), limit, remarks)?;
+        in_limit(alloc, Place::limit(k), limit, remarks)?;
     }
     for (k, step) in items(json.get("steps")).iter().enumerate() {
         if let Some(stage) = attach_of(step) {
-            let place = TOP.member("steps").item(k).item(1);
+            let place = Place::step(k).item(1);
             in_object(alloc, place, stage, Words::StageMembers, remarks)?;
         }
     }

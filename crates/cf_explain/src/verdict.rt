@@ -11,18 +11,18 @@ use std::fmt;
 /// Why a script is refused, and by which part of it.
 #[derive(Drop)]
 pub struct Refusal {
-    /// The part.
+    /// The fault that `cf run` would tell.
+    pub fault: ReadingFault,
+    /// The place in the script by which it came.
     pub place: Place,
-    /// What is wrong with it.
+    /// What is wrong there.
     pub why: Why,
 }
 
 /// What is wrong with a script, and what is odd about it.
 #[derive(Drop)]
 pub struct Explanation {
-    /// The fault for which it is refused, if it is.
-    pub fault: Option<ReadingFault>,
-    /// Where that fault sits, and what would be right there.
+    /// Why it is refused, if it is.
     pub refusal: Option<Refusal>,
     /// What is odd about it, in the order of its parts; of steps and of limits nothing is said where it is refused.
     pub remarks: Vec<Remark>,
@@ -42,9 +42,9 @@ pub enum Verdict {
 impl Explanation {
     /// The verdict.
     pub fn verdict(&self) -> Verdict
-        ensures { result ≡ verdict_of self.now.fault self.now.remarks.items }
+        ensures { result ≡ verdict_of self.now.refusal self.now.remarks.items }
     {
-        if self.fault.is_some() {
+        if self.refusal.is_some() {
             Verdict::Refused
         } else if self.remarks.is_empty() {
             Verdict::Right
@@ -54,7 +54,7 @@ impl Explanation {
     }
 }
 
-/// The place and what is wrong with it.
+/// The place and what is wrong there.
 impl fmt::Display for Refusal {
     fn fmt<W: fmt::Write>(&self, f: &mut fmt::Formatter<W>) -> fmt::Result {
         write!(f, "{}: {}", self.place, self.why)

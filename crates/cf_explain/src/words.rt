@@ -112,6 +112,15 @@ impl Words {
         None
     }
 
+    /// The word of the table that this one is, and what stands in a member of that name, where that is one thing.
+    pub(crate) fn held(self, word: &str) -> Option<(&'static str, Wanted)> {
+        match self {
+            Words::Functions => row_of(&FUNCTIONS, word),
+            Words::Answers => row_of(&ANSWERS, word),
+            _ => None,
+        }
+    }
+
     /// The word of the table that the fewest edits lead to, if they are few for its length.
     pub(crate) fn nearest(
         self,
@@ -161,31 +170,21 @@ impl fmt::Display for Words {
     }
 }
 
+/// The row of this word.
+fn row_of(table: &[(&'static str, Wanted)], word: &str) -> Option<(&'static str, Wanted)> {
+    for (name, wanted) in table {
+        if *name == word {
+            return Some((*name, *wanted));
+        }
+    }
+    None
+}
+
 /// The form with this name.
 pub(crate) fn form_named(word: &str) -> Option<Form> {
     for (name, form) in FORMS {
         if name == word {
             return Some(form);
-        }
-    }
-    None
-}
-
-/// What stands in the member of this name of a function.
-pub(crate) fn operand_of(word: &str) -> Option<(&'static str, Wanted)> {
-    for (name, wanted) in FUNCTIONS {
-        if name == word {
-            return Some((name, wanted));
-        }
-    }
-    None
-}
-
-/// What stands in the member of this name of an answer.
-pub(crate) fn answer_of(word: &str) -> Option<(&'static str, Wanted)> {
-    for (name, wanted) in ANSWERS {
-        if name == word {
-            return Some((name, wanted));
         }
     }
     None

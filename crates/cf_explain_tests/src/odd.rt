@@ -46,7 +46,7 @@ pub(crate) const LIMITS: [Row; 2] = [
 ];
 
 /// Steps that never do anything.
-pub(crate) const STEPS: [Row; 9] = [
+pub(crate) const STEPS: [Row; 8] = [
     (
         r#"{"cf":1,"stages":[{"form":"source"}],"steps":[["claim",1,0]]}"#,
         "steps[0]: never does anything: its stage calls no function, so nobody can claim it",
@@ -58,10 +58,6 @@ pub(crate) const STEPS: [Row; 9] = [
     (
         r#"{"cf":1,"stages":[{"form":"supply","fn":"neg"}],"steps":[["claim",1,0],["finish",2,0,{"give":1}],["finish",1,0,{"give":1}],["finish",1,0,{"give":1}]]}"#,
         "steps[1]: never does anything: its caller hasn't claimed the stage\nsteps[3]: never does anything: its caller hasn't claimed the stage",
-    ),
-    (
-        r#"{"cf":1,"stages":[{"form":"source"}],"steps":[["tick",1]]}"#,
-        "steps[0]: never does anything: there are no limits",
     ),
     (
         r#"{"cf":1,"stages":[{"form":"source"}],"limits":[{"stage":0,"at":5,"kind":"timeout"}],"steps":[["tick",3],["tick",3],["tick",5],["cancel",0]]}"#,

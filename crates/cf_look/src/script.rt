@@ -7,10 +7,8 @@ use cf_script::ScriptFault;
 /// with which `cf run` would refuse it, and where it sits.
 pub(crate) fn explain_script<R: Print + AllocGlobal>(rt: &R, bytes: &[u8]) -> Result<Verdict> {
     let said = explain(rt.alloc(), bytes)?;
-    if let Some(fault) = said.fault {
-        println!(rt; "{}", ScriptFault::from(fault))?;
-    }
     if let Some(refusal) = &said.refusal {
+        println!(rt; "{}", ScriptFault::from(refusal.fault))?;
         println!(rt; "{refusal}")?;
     }
     for remark in &said.remarks {
