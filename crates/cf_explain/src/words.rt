@@ -81,12 +81,25 @@ const STAGE_MEMBERS: [&str; 4] = ["form", "of", "fn", "note"];
 
 const LIMIT_MEMBERS: [&str; 5] = ["stage", "at", "kind", "value", "note"];
 
+/// The methods of Java's `CompletionStage` and `CompletableFuture` whose forms have other names.
+const METHODS: [(&str, &str); 9] = [
+    ("supplyAsync", "supply"),
+    ("thenApply", "apply"),
+    ("thenAccept", "accept"),
+    ("thenCombine", "combine"),
+    ("thenAcceptBoth", "acceptBoth"),
+    ("runAfterBoth", "runBoth"),
+    ("applyToEither", "applyEither"),
+    ("runAfterEither", "runEither"),
+    ("thenCompose", "compose"),
+];
+
 /// No table has more words.
 const MOST: usize = 19;
 
 impl Words {
     /// The word at this position, if there are so many.
-    pub fn at(self, i: usize) -> Option<&'static str> {
+    fn at(self, i: usize) -> Option<&'static str> {
         match self {
             Words::Forms => Some(FORMS.get(i)?.0),
             Words::PlainFunctions => PLAIN_FUNCTIONS.get(i).copied(),
@@ -121,14 +134,18 @@ impl Words {
         }
     }
 
-    /// The word of the table that the fewest edits lead to, if they are few for its length.
+    /// The form of the method that the word names, or the word of the table that the fewest edits lead to, if they are few
+    /// for its length.
     pub(crate) fn nearest(
         self,
         alloc: Global,
         word: &str,
     ) -> Result<Option<&'static str>, AllocError> {
-        let mut best = None;
-        if word.len() > 40 {
+        let mut best = match self {
+            Words::Forms => form_of_method(word),
+            _ => None,
+        };
+        if best.is_some() || word.len() > 40 {
             return Ok(best);
         }
         let mut least = 2 + word.len() / 3;
@@ -145,7 +162,7 @@ impl Words {
     }
 
     /// What one of them is called.
-    pub fn thing(self) -> &'static str {
+    pub(crate) fn thing(self) -> &'static str {
         match self {
             Words::Forms => "form",
             Words::PlainFunctions | Words::Functions => "function",
@@ -175,6 +192,16 @@ fn row_of(table: &[(&'static str, Wanted)], word: &str) -> Option<(&'static str,
     for (name, wanted) in table {
         if *name == word {
             return Some((*name, *wanted));
+        }
+    }
+    None
+}
+
+/// The name of the form of this method.
+fn form_of_method(word: &str) -> Option<&'static str> {
+    for (method, name) in METHODS {
+        if method == word {
+            return Some(name);
         }
     }
     None

@@ -47,7 +47,11 @@ pub(crate) const PARTS: [Row; 9] = [
 ];
 
 /// The form and the sources of a stage.
-pub(crate) const STAGES: [Row; 8] = [
+pub(crate) const STAGES: [Row; 9] = [
+    (
+        r#"{"cf":1,"stages":[{"form":"thenApply","of":[0],"fn":"neg"}]}"#,
+        "stages[0].form: \"thenApply\" is no form; did you mean \"apply\"? It has to be one of source, supply, runAsync, apply, accept, thenRun, combine, acceptBoth, runBoth, applyEither, acceptEither, runEither, compose, handle, whenComplete, exceptionally, allOf, anyOf, exceptionallyCompose",
+    ),
     (
         r#"{"cf":1,"stages":[[]]}"#,
         "stages[0]: has to be an object",
