@@ -47,13 +47,14 @@ pub fn explain(alloc: Global, bytes: &[u8]) -> Result<Explanation, AllocError>
     }
 }
 
-/// What is odd about a script.
+/// What is odd about a script, whose bytes are JSON.
 fn remarks_of(alloc: Global, bytes: &[u8], script: Script) -> Result<Vec<Remark>, AllocError> {
     let mut remarks = Vec::new(alloc);
-    if let Ok(json) = Json::from_slice(alloc, bytes) {
-        remark_written(alloc, bytes, &json, &mut remarks)?;
-        remark_behind(alloc, &json, &mut remarks)?;
-    }
+    let Ok(json) = Json::from_slice(alloc, bytes) else {
+        return Err(AllocError);
+    };
+    remark_written(alloc, bytes, &json, &mut remarks)?;
+    remark_behind(alloc, &json, &mut remarks)?;
     remark_idle(alloc, script, &mut remarks)?;
     Ok(remarks)
 }

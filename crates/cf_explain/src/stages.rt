@@ -61,9 +61,7 @@ pub(crate) fn misfit(place: Place, json: &Json) -> Option<Wrong>
     let form = form_of(json)?;
     let found = source_count(json);
     let called = json.get("fn").is_some();
-    let Ok(count) = u16::try_from(found) else {
-        return None;
-    };
+    let count = u16::try_from(found).unwrap_or(u16::MAX);
     if fits_form(form, count, called) {
         None
     } else if fits_form(form, count, !called) {
