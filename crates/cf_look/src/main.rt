@@ -1,20 +1,29 @@
-//! Looks at what others made. `cf_look check` reads a history from standard input, a plan with the words of its events and
-//! the records of each caller, and says whether one sequential graph would have answered all callers so; where it wouldn't,
-//! the first thing that doesn't fit, and what the sequential graph answers there. With `--lines` each line is a history,
-//! and each has its line, so that many are judged in one run.
+//! Looks at what others made.
 //!
-//! It ends with status 0 where all fit, 1 where one doesn't, and 2 where the words or a history can't be read. The verdict
-//! is that of `cf_history`, which is proved; this program reads it in and writes it out.
+//! `cf_look check` reads a history from standard input, a plan with the words of its events and the records of each caller,
+//! and says whether one sequential graph would have answered all callers so; where it wouldn't, the first thing that doesn't
+//! fit, and what the sequential graph answers there. With `--lines` each line is a history, and each has its line, so that
+//! many are judged in one run. It ends with status 0 where all fit, and 1 where one doesn't.
+//!
+//! `cf_look explain` reads a script, and says what is wrong with it: the fault that `cf run` would tell, where it sits, and
+//! what would be right there; and what is odd about it. It ends with status 0 where nothing is wrong, 1 where `cf run` would
+//! refuse the script, and 3 where it is only odd.
+//!
+//! Both end with 2 where the words or what is on standard input can't be read. The verdicts are those of `cf_history` and
+//! `cf_explain`, which are proved; this program reads in and writes out.
 #![tactic(auto)]
 
 mod history;
+mod script;
 mod show;
 mod texts;
 mod words;
 
 use anyhow::Result;
+use cf_explain::Verdict as Said;
 use cf_history::Verdict;
 use history::judge;
+use script::explain_script;
 use show::line_of;
 use std::io::Read;
 use std::process::ExitCode;
@@ -29,9 +38,19 @@ const FITS_NOT: u8 = 1;
 /// One can't be read.
 const UNREADABLE: u8 = 2;
 
+/// Nothing is wrong with a script.
+const RIGHT: u8 = 0;
+
+/// `cf run` would refuse it.
+const REFUSED: u8 = 1;
+
+/// It would be run, and something about it is odd.
+const ODD: u8 = 3;
+
 fn main(rt: HostRuntime) -> Result<ExitCode> {
     match read_words(&rt)? {
         Look::Nothing(status) => Ok(ExitCode::from(status)),
+        Look::Explain => Ok(ExitCode::from(explain_one(&rt)?)),
         Look::Check { lines } => {
             let input = std::io::read_to_string(rt.alloc(), rt.reader())?;
             let status = if lines {
@@ -42,6 +61,20 @@ fn main(rt: HostRuntime) -> Result<ExitCode> {
             Ok(ExitCode::from(status))
         }
     }
+}
+
+/// Explains the script on standard input.
+fn explain_one<R: Input + Print + AllocGlobal>(rt: &R) -> Result<u8> {
+    let mut bytes = Vec::new(rt.alloc());
+    if rt.reader().read_to_end(&mut bytes).is_err() {
+        println!(rt; "unreadable: standard input")?;
+        return Ok(UNREADABLE);
+    }
+    Ok(match explain_script(rt, bytes.as_slice())? {
+        Said::Right => RIGHT,
+        Said::Refused => REFUSED,
+        Said::Odd => ODD,
+    })
 }
 
 /// Judges a history, and writes the line of its verdict.

@@ -1,6 +1,7 @@
 //! The words after the program's name.
 use anyhow::Result;
 use clap::{Arg, ArgAction, Command};
+use std::alloc::Global;
 use std::env;
 use std::rt::Env;
 
@@ -9,6 +10,8 @@ use std::rt::Env;
 pub(crate) enum Look {
     /// A history, or one in each line.
     Check { lines: bool },
+    /// A script.
+    Explain,
     /// Nothing: help was asked for, or the words are no command. What there is to say is said, and the program ends with
     /// this status.
     Nothing(u8),
@@ -18,6 +21,29 @@ pub(crate) enum Look {
 pub(crate) fn read_words<R: Env + Print + Eprint + AllocGlobal>(rt: &R) -> Result<Look> {
     let alloc = rt.alloc();
     let words: Vec<String> = env::args(rt)?.collect(alloc)?;
+    let command = Command::new(alloc, "cf_look")
+        .about("Look at histories and scripts of completable futures")
+        .subcommand_required(true)
+        .arg_required_else_help(true)
+        .subcommand(check_command(alloc)?)?
+        .subcommand(explain_command(alloc))?;
+    match command.try_get_matches_from(words.as_slice()) {
+        Ok(matches) => Ok(match matches.subcommand() {
+            Some(("explain", _)) => Look::Explain,
+            Some((_, inner)) => Look::Check {
+                lines: inner.get_flag("lines"),
+            },
+            None => Look::Check { lines: false },
+        }),
+        Err(error) => {
+            error.print(rt)?;
+            Ok(Look::Nothing(error.exit_code() as u8))
+        }
+    }
+}
+
+/// `check`
+fn check_command<'a>(alloc: Global) -> Result<Command<'a>> {
     let lines = Arg::new(alloc, "lines")
         .long("lines")
         .action(ArgAction::SetTrue)
@@ -27,22 +53,12 @@ pub(crate) fn read_words<R: Env + Print + Eprint + AllocGlobal>(rt: &R) -> Resul
             "Say whether the history on standard input is one history, and where not, what doesn't fit",
         )
         .arg(lines)?;
-    let command = Command::new(alloc, "cf_look")
-        .about("Look at histories of completable futures")
-        .subcommand_required(true)
-        .arg_required_else_help(true)
-        .subcommand(check)?;
-    match command.try_get_matches_from(words.as_slice()) {
-        Ok(matches) => {
-            let lines = match matches.subcommand() {
-                Some((_, inner)) => inner.get_flag("lines"),
-                None => false,
-            };
-            Ok(Look::Check { lines })
-        }
-        Err(error) => {
-            error.print(rt)?;
-            Ok(Look::Nothing(error.exit_code() as u8))
-        }
-    }
+    Ok(check)
+}
+
+/// `explain`
+fn explain_command<'a>(alloc: Global) -> Command<'a> {
+    Command::new(alloc, "explain").about(
+        "Say what is wrong with the script on standard input, where, and what would be right, or what is odd about it",
+    )
 }

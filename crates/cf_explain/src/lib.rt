@@ -1,0 +1,39 @@
+//! What is wrong with a script, in words: why `cf run` would refuse it, where that sits, and what would be right there;
+//! and of a script that would be run what nobody reads in it, and which steps and limits can never do anything.
+//!
+//! The verdict is that of `cf_reading::read_script`, which is asked first: `explain` is proved to say that a script is
+//! refused exactly where its bytes are, and for the same fault. Only then the JSON value is walked, to find the member by
+//! which the fault came (`refusing.rt` and what it calls): a place in the part that the fault names, which is proved too. So a walk
+//! that went astray would name another member there, and never another verdict.
+//!
+//! What may stand where, and by which names, is in tables: forms, functions, answers, kinds and members in `words.rt`,
+//! the steps in `steps.rt`.
+#![tactic(auto)]
+
+mod behind;
+mod course;
+mod explaining;
+mod fitting;
+mod functions;
+mod idle;
+mod place;
+mod planned;
+mod refusing;
+mod remark;
+mod shapes;
+mod stages;
+mod steps;
+mod twice;
+mod unread;
+mod verdict;
+mod wanted;
+mod why;
+mod words;
+
+pub use explaining::explain;
+pub use place::{Area, Hop, Place};
+pub use remark::{Idle, Remark};
+pub use verdict::{Explanation, Refusal, Verdict};
+pub use wanted::Wanted;
+pub use why::Why;
+pub use words::Words;

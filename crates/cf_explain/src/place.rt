@@ -1,0 +1,145 @@
+//! Where something stands in a script.
+ghost use Rattle.std.specs.Prelude.{◌≡◌};
+ghost use Rattle.cf_explain.specs.Places.{area_of};
+
+use cf_plan::PlanFault;
+use cf_reading::{Part, ReadingFault};
+use std::fmt;
+
+/// The part of a script that something stands in.
+#[derive(Clone, Copy, Debug, PartialEq, Eq)]
+pub enum Area {
+    /// The whole, one of its members, a stage or a limit.
+    Part(Part),
+    /// The step at this position, from 0 on.
+    Step(u32),
+}
+
+/// One hop of a path through a JSON value.
+#[derive(Clone, Copy, Debug, PartialEq, Eq)]
+pub enum Hop {
+    /// To the member of this name.
+    Member(&'static str),
+    /// To the element at this position, from 0 on.
+    Item(u32),
+}
+
+/// A part of a script, and the hops that lead into it. Nothing that is read lies deeper than four.
+#[derive(Clone, Copy, Debug, PartialEq, Eq)]
+pub struct Place {
+    pub area: Area,
+    pub hops: [Option<Hop>; 4],
+}
+
+/// A position, of which none in a script is greater than a `u32`.
+fn position(k: usize) -> u32 {
+    u32::try_from(k).unwrap_or(u32::MAX)
+}
+
+impl Place {
+    /// This part itself.
+    pub(crate) fn of(area: Area) -> Place
+        ensures { result.area ≡ area }
+    {
+        Place {
+            area,
+            hops: [None; 4],
+        }
+    }
+
+    /// The whole script.
+    pub(crate) fn top() -> Place {
+        Place::of(Area::Part(Part::Top))
+    }
+
+    /// The stage at this position.
+    pub(crate) fn stage(k: usize) -> Place {
+        Place::of(Area::Part(Part::Stage(position(k))))
+    }
+
+    /// The limit at this position.
+    pub(crate) fn limit(k: usize) -> Place {
+        Place::of(Area::Part(Part::Limit(position(k))))
+    }
+
+    /// The step at this position.
+    pub(crate) fn step(k: usize) -> Place {
+        Place::of(Area::Step(position(k)))
+    }
+
+    /// The member of this name in it.
+    pub(crate) fn member(self, name: &'static str) -> Place
+        ensures { result.area ≡ self.area }
+    {
+        self.with(Hop::Member(name))
+    }
+
+    /// The element at this position in it.
+    pub(crate) fn item(self, k: usize) -> Place
+        ensures { result.area ≡ self.area }
+    {
+        self.with(Hop::Item(position(k)))
+    }
+
+    fn with(self, hop: Hop) -> Place
+        ensures { result.area ≡ self.area }
+    {
+        let mut hops = self.hops;
+        for slot in hops.iter_mut() {
+            if slot.is_none() {
+                *slot = Some(hop);
+                break;
+            }
+        }
+        Place {
+            area: self.area,
+            hops,
+        }
+    }
+}
+
+/// The part that a fault names: of what the builder of plans refuses, the stage or the limit.
+pub(crate) fn area_of(fault: ReadingFault) -> Area
+    ensures { result ≡ area_of fault }
+{
+    match fault {
+        ReadingFault::Shape(part) => Area::Part(part),
+        ReadingFault::Plan(PlanFault::NoSuchStage | PlanFault::TooManyLimits, k) => {
+            Area::Part(Part::Limit(k))
+        }
+        ReadingFault::Plan(_, k) | ReadingFault::Function(k) => Area::Part(Part::Stage(k)),
+        ReadingFault::Step(k) => Area::Step(k),
+        ReadingFault::TooLong
+        | ReadingFault::NotJson
+        | ReadingFault::Read
+        | ReadingFault::NoMemory => Area::Part(Part::Top),
+    }
+}
+
+/// As in `stages[3]`; of the whole, `script`.
+impl fmt::Display for Area {
+    fn fmt<W: fmt::Write>(&self, f: &mut fmt::Formatter<W>) -> fmt::Result {
+        match *self {
+            Area::Part(Part::Top) => write!(f, "script"),
+            Area::Part(Part::Stage(k)) => write!(f, "stages[{k}]"),
+            Area::Part(Part::Limit(k)) => write!(f, "limits[{k}]"),
+            Area::Part(part) => write!(f, "{}", part.name()),
+            Area::Step(k) => write!(f, "steps[{k}]"),
+        }
+    }
+}
+
+/// As in `stages[3].of[1]`.
+impl fmt::Display for Place {
+    fn fmt<W: fmt::Write>(&self, f: &mut fmt::Formatter<W>) -> fmt::Result {
+        write!(f, "{}", self.area)?;
+        for hop in self.hops {
+            match hop {
+                Some(Hop::Member(name)) => write!(f, ".{name}")?,
+                Some(Hop::Item(i)) => write!(f, "[{i}]")?,
+                None => return Ok(()),
+            }
+        }
+        Ok(())
+    }
+}

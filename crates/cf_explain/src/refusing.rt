@@ -1,0 +1,52 @@
+//! From a fault to the member of the script that it came by.
+ghost use Rattle.std.specs.Prelude.{◌≡◌, IfOk};
+ghost use Rattle.cf_explain.specs.Places.{IsIn};
+
+use crate::functions::function_wrong;
+use crate::place::Place;
+use crate::planned::plan_wrong;
+use crate::shapes::shape_wrong;
+use crate::steps::step_wrong;
+use crate::why::Why;
+use cf_reading::ReadingFault;
+use serde_json::Value as Json;
+use std::alloc::{AllocError, Global};
+
+/// A place, and what is wrong there.
+#[derive(Drop)]
+pub(crate) struct Wrong {
+    pub(crate) place: Place,
+    pub(crate) why: Why,
+}
+
+/// The place in this part of a script that is JSON by which the fault came, and what is wrong there.
+pub(crate) fn found(
+    alloc: Global,
+    fault: ReadingFault,
+    place: Place,
+    json: &Json,
+) -> Result<Option<Wrong>, AllocError>
+    ensures { IfOk result (IsIn place.area) }
+{
+    match fault {
+        ReadingFault::Shape(part) => shape_wrong(alloc, place, part, json),
+        ReadingFault::Plan(refusal, k) => Ok(plan_wrong(place, refusal, k as usize, json)),
+        ReadingFault::Function(k) => {
+            let stage = json.get("stages").and_then(|list| list.get(k as usize));
+            let said = stage.and_then(|stage| stage.get("fn"));
+            function_wrong(alloc, place.member("fn"), said)
+        }
+        ReadingFault::Step(k) => step_wrong(alloc, place, k as usize, json),
+        ReadingFault::TooLong
+        | ReadingFault::NotJson
+        | ReadingFault::Read
+        | ReadingFault::NoMemory => Ok(None),
+    }
+}
+
+/// This is wrong at this place.
+pub(crate) fn wrong_at(place: Place, why: Why) -> Option<Wrong>
+    ensures { IsIn place.area result }
+{
+    Some(Wrong { place, why })
+}

@@ -1,0 +1,91 @@
+//! Which member gives a part of a script its wrong shape.
+ghost use Rattle.std.specs.Prelude.{IfOk};
+ghost use Rattle.cf_explain.specs.Places.{IsIn};
+
+use crate::fitting::{needed, optional, taken, word_wrong};
+use crate::place::Place;
+use crate::refusing::{Wrong, wrong_at};
+use crate::stages::stage_wrong;
+use crate::wanted::Wanted;
+use crate::why::Why;
+use crate::words::Words;
+use cf_reading::Part;
+use serde_json::Value as Json;
+use std::alloc::{AllocError, Global};
+
+/// What is wrong with the shape of a part, which is at this place.
+pub(crate) fn shape_wrong(
+    alloc: Global,
+    place: Place,
+    part: Part,
+    json: &Json,
+) -> Result<Option<Wrong>, AllocError>
+    ensures { IfOk result (IsIn place.area) }
+{
+    match part {
+        Part::Top => Ok(taken(place, json, Wanted::Object)),
+        Part::Version => Ok(needed(place, json.get("cf"), Wanted::Version)),
+        Part::Room => Ok(
+            match optional(place, json.get("room"), Wanted::UpTo(4_096)) {
+                Some(found) => Some(found),
+                None => wrong_at(place, Why::NoPlace),
+            },
+        ),
+        Part::Stages => Ok(needed(place, json.get("stages"), Wanted::Array)),
+        Part::Limits => Ok(optional(place, json.get("limits"), Wanted::Array)),
+        Part::Steps => Ok(optional(place, json.get("steps"), Wanted::Array)),
+        Part::Stage(k) => {
+            let said = json.get("stages").and_then(|list| list.get(k as usize));
+            match said {
+                None => Ok(None),
+                Some(stage) => {
+                    stage_wrong(alloc, place, stage, version_of(json), Wanted::UpTo(65_535))
+                }
+            }
+        }
+        Part::Limit(k) => {
+            let said = json.get("limits").and_then(|list| list.get(k as usize));
+            match said {
+                None => Ok(None),
+                Some(limit) => limit_wrong(alloc, place, limit),
+            }
+        }
+    }
+}
+
+/// The version of a script that has one.
+pub(crate) fn version_of(json: &Json) -> i64 {
+    json.get("cf").and_then(Json::as_i64).unwrap_or(1)
+}
+
+/// What is wrong with a limit.
+fn limit_wrong(alloc: Global, place: Place, json: &Json) -> Result<Option<Wrong>, AllocError>
+    ensures { IfOk result (IsIn place.area) }
+{
+    if let Some(found) = number_wrong(place, json) {
+        return Ok(Some(found));
+    }
+    let kind = json.get("kind");
+    if let Some(found) = word_wrong(alloc, place.member("kind"), kind, Words::Kinds)? {
+        return Ok(Some(found));
+    }
+    Ok(needed(place.member("value"), json.get("value"), Wanted::Value))
+}
+
+/// What is wrong with a limit as an object, with its stage or with its moment.
+fn number_wrong(place: Place, json: &Json) -> Option<Wrong>
+    ensures { IsIn place.area result }
+{
+    if let Some(found) = taken(place, json, Wanted::Object) {
+        return Some(found);
+    }
+    let stage = needed(
+        place.member("stage"),
+        json.get("stage"),
+        Wanted::UpTo(65_535),
+    );
+    if stage.is_some() {
+        return stage;
+    }
+    needed(place.member("at"), json.get("at"), Wanted::UpTo(u32::MAX))
+}

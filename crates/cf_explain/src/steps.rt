@@ -1,0 +1,234 @@
+//! The steps, by their words, and what is wrong with one.
+ghost use Rattle.std.specs.Prelude.{IfOk};
+ghost use Rattle.cf_explain.specs.Places.{IsIn};
+
+use crate::course::{Course, course_before};
+use crate::fitting::{lone_wrong, taken, word_wrong};
+use crate::functions::function_wrong;
+use crate::place::Place;
+use crate::refusing::{Wrong, wrong_at};
+use crate::stages::{misfit, source_count, stage_wrong};
+use crate::wanted::Wanted;
+use crate::why::Why;
+use crate::words::Words;
+use cf_reading::MAX_STEPS;
+use serde_json::Value as Json;
+use std::alloc::{AllocError, Global};
+
+/// What stands in an element of a step.
+#[derive(Clone, Copy)]
+pub(crate) enum Element {
+    /// The number of a stage that is there.
+    Stage,
+    /// A value.
+    Value,
+    /// A whole number of 32 bits: a code, a moment, turns.
+    Number,
+    /// A caller.
+    Caller,
+    /// A finish's answer.
+    Answer,
+    /// A stage that is attached.
+    NewStage,
+}
+
+/// A step: its word, what stands behind it, how many elements have to, and how it is written.
+pub(crate) struct StepShape {
+    pub(crate) word: &'static str,
+    elements: &'static [Element],
+    least: usize,
+    written: &'static str,
+}
+
+/// All steps.
+pub(crate) const STEPS: [StepShape; 11] = [
+    StepShape {
+        word: "complete",
+        elements: &[Element::Stage, Element::Value],
+        least: 2,
+        written: "[\"complete\",stage,value]",
+    },
+    StepShape {
+        word: "fail",
+        elements: &[Element::Stage, Element::Number],
+        least: 2,
+        written: "[\"fail\",stage,code]",
+    },
+    StepShape {
+        word: "cancel",
+        elements: &[Element::Stage],
+        least: 1,
+        written: "[\"cancel\",stage]",
+    },
+    StepShape {
+        word: "tick",
+        elements: &[Element::Number],
+        least: 1,
+        written: "[\"tick\",moment]",
+    },
+    StepShape {
+        word: "work",
+        elements: &[],
+        least: 0,
+        written: "[\"work\"]",
+    },
+    StepShape {
+        word: "now",
+        elements: &[Element::Stage, Element::Value],
+        least: 1,
+        written: "[\"now\",stage] or [\"now\",stage,value]",
+    },
+    StepShape {
+        word: "outcome",
+        elements: &[Element::Stage],
+        least: 1,
+        written: "[\"outcome\",stage]",
+    },
+    StepShape {
+        word: "claim",
+        elements: &[Element::Caller, Element::Stage],
+        least: 2,
+        written: "[\"claim\",caller,stage]",
+    },
+    StepShape {
+        word: "finish",
+        elements: &[Element::Caller, Element::Stage, Element::Answer],
+        least: 3,
+        written: "[\"finish\",caller,stage,answer]",
+    },
+    StepShape {
+        word: "nudge",
+        elements: &[Element::Number],
+        least: 1,
+        written: "[\"nudge\",turns]",
+    },
+    StepShape {
+        word: "attach",
+        elements: &[Element::NewStage],
+        least: 1,
+        written: "[\"attach\",{\"form\":..}]",
+    },
+];
+
+/// What is wrong with step k, which is at this place.
+pub(crate) fn step_wrong(
+    alloc: Global,
+    place: Place,
+    k: usize,
+    json: &Json,
+) -> Result<Option<Wrong>, AllocError>
+    ensures { IfOk result (IsIn place.area) }
+{
+    if k >= MAX_STEPS {
+        return Ok(wrong_at(place, Why::TooMany(MAX_STEPS as u32, "steps")));
+    }
+    let Some(step) = json.get("steps").and_then(|list| list.get(k)) else {
+        return Ok(None);
+    };
+    if let Some(found) = taken(place, step, Wanted::Array) {
+        return Ok(Some(found));
+    }
+    let word = step.get(0usize);
+    if let Some(found) = word_wrong(alloc, place.item(0), word, Words::Steps)? {
+        return Ok(Some(found));
+    }
+    let course = course_before(json, k);
+    match word.and_then(Json::as_str) {
+        Some("attach") if course.version == 1 => Ok(wrong_at(place.item(0), Why::NotInVersionOne)),
+        Some(word) => written_wrong(alloc, place, word, step, course),
+        None => Ok(None),
+    }
+}
+
+/// What is wrong with what stands behind the word of a step.
+fn written_wrong(
+    alloc: Global,
+    place: Place,
+    word: &str,
+    step: &Json,
+    course: Course,
+) -> Result<Option<Wrong>, AllocError>
+    ensures { IfOk result (IsIn place.area) }
+{
+    for shape in &STEPS {
+        if shape.word == word {
+            return elements_wrong(alloc, place, shape, step, course);
+        }
+    }
+    Ok(None)
+}
+
+/// What is wrong with the elements of a step, which are to have this shape.
+fn elements_wrong(
+    alloc: Global,
+    place: Place,
+    shape: &StepShape,
+    step: &Json,
+    course: Course,
+) -> Result<Option<Wrong>, AllocError>
+    ensures { IfOk result (IsIn place.area) }
+{
+    let Some(list) = step.as_array() else {
+        return Ok(None);
+    };
+    let behind = list.len().saturating_sub(1);
+    if behind < shape.least || behind > shape.elements.len() {
+        return Ok(wrong_at(place, Why::Written(shape.written)));
+    }
+    for (i, (element, json)) in shape.elements.iter().zip(list.iter().skip(1)).enumerate() {
+        let place = place.item(i.saturating_add(1));
+        if let Some(found) = element_wrong(alloc, place, *element, json, course)? {
+            return Ok(Some(found));
+        }
+    }
+    Ok(None)
+}
+
+/// What is wrong with one element of a step.
+fn element_wrong(
+    alloc: Global,
+    place: Place,
+    element: Element,
+    json: &Json,
+    course: Course,
+) -> Result<Option<Wrong>, AllocError>
+    ensures { IfOk result (IsIn place.area) }
+{
+    match element {
+        Element::Stage => Ok(taken(place, json, Wanted::Stage(course.stages))),
+        Element::Value => Ok(taken(place, json, Wanted::Value)),
+        Element::Number => Ok(taken(place, json, Wanted::UpTo(u32::MAX))),
+        Element::Caller => Ok(taken(place, json, Wanted::UpTo(63))),
+        Element::Answer => lone_wrong(alloc, place, json, Words::Answers),
+        Element::NewStage => attached_wrong(alloc, place, json, course),
+    }
+}
+
+/// What is wrong with a stage that is attached.
+fn attached_wrong(
+    alloc: Global,
+    place: Place,
+    json: &Json,
+    course: Course,
+) -> Result<Option<Wrong>, AllocError>
+    ensures { IfOk result (IsIn place.area) }
+{
+    let source = Wanted::Stage(course.stages);
+    if let Some(found) = stage_wrong(alloc, place, json, course.version, source)? {
+        return Ok(Some(found));
+    }
+    let function = json.get("fn");
+    if let Some(found) = function_wrong(alloc, place.member("fn"), function)? {
+        return Ok(Some(found));
+    }
+    if let Some(found) = misfit(place, json) {
+        return Ok(Some(found));
+    }
+    if source_count(json) > 2 {
+        return Ok(wrong_at(place.member("of"), Why::TooManySources));
+    }
+    if function.is_some() && course.functions > 4_095 {
+        return Ok(wrong_at(place.member("fn"), Why::TooMany(4_096, "functions")));
+    }
+    Ok(None)
+}

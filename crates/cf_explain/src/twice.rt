@@ -1,0 +1,82 @@
+//! The members that are given twice in one object.
+use crate::remark::Remark;
+use json::{Reader, Scratch, Token};
+use std::alloc::{AllocError, Global};
+use std::collections::BTreeSet;
+
+/// Remarks each member of an object of this text whose name came before in the same object. What isn't JSON ends it.
+pub(crate) fn remark_twice(
+    alloc: Global,
+    text: &str,
+    remarks: &mut Vec<Remark>,
+) -> Result<(), AllocError> {
+    let mut scratch = Scratch::new(alloc);
+    let mut reader = Reader::new(text, &mut scratch)?;
+    let mut open: Vec<BTreeSet<&str>> = Vec::new(alloc);
+    let mut spot = Spot::START;
+    for _ in 0..=text.len() {
+        let offset = reader.offset();
+        match reader.next() {
+            Some(Token::BeginObject) => open.push(BTreeSet::new(alloc))?,
+            Some(Token::EndObject) => {
+                let _ = open.pop();
+            }
+            Some(Token::Key(name)) => {
+                if let Some(names) = open.last_mut() {
+                    if !names.insert(name)? && name != "note" {
+                        spot = spot.on_to(text.as_bytes(), offset);
+                        remarks.push(spot.twice(alloc, name)?)?;
+                    }
+                }
+            }
+            Some(Token::Bad) | None => break,
+            Some(_) => {}
+        }
+    }
+    Ok(())
+}
+
+/// A place in a text.
+#[derive(Clone, Copy)]
+struct Spot {
+    offset: usize,
+    line: usize,
+    column: usize,
+}
+
+impl Spot {
+    /// The first byte.
+    const START: Spot = Spot {
+        offset: 0,
+        line: 1,
+        column: 1,
+    };
+
+    /// The byte at this offset of the text, which isn't before this one.
+    fn on_to(self, text: &[u8], offset: usize) -> Spot {
+        if offset < self.offset || text.len() < offset {
+            return self;
+        }
+        let (mut line, mut column) = (self.line, self.column);
+        for byte in &text[self.offset..offset] {
+            if *byte == b'\n' {
+                line = line.saturating_add(1);
+                column = 1;
+            } else {
+                column = column.saturating_add(1);
+            }
+        }
+        Spot {
+            offset,
+            line,
+            column,
+        }
+    }
+
+    /// The remark that a member of this name is given again here.
+    fn twice(self, alloc: Global, name: &str) -> Result<Remark, AllocError> {
+        let name = String::from_str(alloc, name)?;
+        let Spot { line, column, .. } = self;
+        Ok(Remark::Twice { name, line, column })
+    }
+}

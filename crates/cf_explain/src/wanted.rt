@@ -1,0 +1,91 @@
+//! What is to stand in some place.
+use crate::words::Words;
+use serde_json::Value as Json;
+use std::fmt;
+
+/// What is to stand in some place.
+#[derive(Clone, Copy, Debug, PartialEq, Eq)]
+pub enum Wanted {
+    /// A JSON object.
+    Object,
+    /// An array.
+    Array,
+    /// The number of a version.
+    Version,
+    /// A whole number from 0 to this one.
+    UpTo(u32),
+    /// A whole number of 32 bits with a sign.
+    Int,
+    /// `null`, or a whole number of 32 bits with a sign.
+    Value,
+    /// One of so many stages, numbered from 0 on.
+    Stage(u32),
+    /// Two stages.
+    Pair,
+    /// One of these words, as a text.
+    One(Words),
+    /// An object of exactly one member, which has one of these names.
+    Lone(Words),
+    /// A function.
+    Function,
+}
+
+impl Wanted {
+    /// Whether the value is a number, a pair, an object or an array as it is wanted. Of words and of what stands in
+    /// objects this says nothing.
+    pub(crate) fn takes(self, json: &Json) -> bool {
+        match self {
+            Wanted::Object | Wanted::Lone(_) => json.is_object(),
+            Wanted::Array => json.is_array(),
+            Wanted::Version => within(json, 1, 2),
+            Wanted::UpTo(most) => within(json, 0, i64::from(most)),
+            Wanted::Int => within(json, -2_147_483_648, 2_147_483_647),
+            Wanted::Value => json.is_null() || within(json, -2_147_483_648, 2_147_483_647),
+            Wanted::Stage(count) => within(json, 0, i64::from(count) - 1),
+            Wanted::Pair => is_pair(json),
+            Wanted::One(_) => json.is_string(),
+            Wanted::Function => json.is_string() || json.is_object(),
+        }
+    }
+}
+
+/// Whether it is a whole number in this range.
+fn within(json: &Json, least: i64, most: i64) -> bool {
+    match json.as_i64() {
+        Some(n) => least <= n && n <= most,
+        None => false,
+    }
+}
+
+/// Whether it is an array of two numbers of 16 bits.
+fn is_pair(json: &Json) -> bool {
+    match json.as_array() {
+        Some(list) => list.len() == 2 && list.iter().all(|item| within(item, 0, 65_535)),
+        None => false,
+    }
+}
+
+impl fmt::Display for Wanted {
+    fn fmt<W: fmt::Write>(&self, f: &mut fmt::Formatter<W>) -> fmt::Result {
+        match *self {
+            Wanted::Object => write!(f, "an object"),
+            Wanted::Array => write!(f, "an array"),
+            Wanted::Version => write!(f, "1 or 2"),
+            Wanted::UpTo(most) => write!(f, "a whole number, 0 to {most}"),
+            Wanted::Int => write!(f, "a whole number, -2147483648 to 2147483647"),
+            Wanted::Value => write!(f, "null or a whole number, -2147483648 to 2147483647"),
+            Wanted::Stage(0) => write!(f, "a stage, and none is there"),
+            Wanted::Stage(1) => write!(f, "stage 0, the only one that is there"),
+            Wanted::Stage(count) => write!(f, "a stage that is there, 0 to {}", count - 1),
+            Wanted::Pair => write!(f, "an array of two stages, each 0 to 65535"),
+            Wanted::One(words) => write!(f, "a text, {words}"),
+            Wanted::Lone(words) => write!(f, "an object of exactly one member, {words}"),
+            Wanted::Function => write!(
+                f,
+                "a text, {}, or an object of exactly one member, {}",
+                Words::PlainFunctions,
+                Words::Functions
+            ),
+        }
+    }
+}

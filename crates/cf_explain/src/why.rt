@@ -1,0 +1,119 @@
+//! Why a part of a script is refused.
+use crate::wanted::Wanted;
+use crate::words::Words;
+use std::fmt;
+
+/// Why a part of a script is refused, which its place names.
+#[derive(Drop)]
+pub enum Why {
+    /// There are so many bytes, and too many.
+    TooLong(usize),
+    /// They are no JSON, for what this says with its line and column.
+    NotJson(serde_json::Error),
+    /// It isn't there, and this is to stand there.
+    Missing(Wanted),
+    /// It isn't what is to stand there.
+    Wants(Wanted),
+    /// A word is none that may stand there.
+    Unknown {
+        /// The word.
+        word: String,
+        /// Those that may stand there.
+        words: Words,
+        /// The nearest of them, if one is near.
+        nearest: Option<&'static str>,
+    },
+    /// Version 1 hasn't got it.
+    NotInVersionOne,
+    /// An object has so many members, and is to have exactly one of these.
+    Members(usize, Words),
+    /// A step isn't written like this.
+    Written(&'static str),
+    /// The form takes another number of sources, of which so many are here.
+    Sources {
+        /// How many it takes.
+        wanted: u16,
+        /// How many are here.
+        found: usize,
+    },
+    /// It names a source that isn't below the stage's own number.
+    NotLower(u32),
+    /// The form calls a function.
+    FunctionMissing,
+    /// The form calls none.
+    FunctionUnwanted,
+    /// There are more than this number of these.
+    TooMany(u32, &'static str),
+    /// A stage that is attached names more than two sources.
+    TooManySources,
+    /// There isn't so much place beside the stages.
+    NoPlace,
+    /// Something is wrong with it.
+    Unsaid,
+}
+
+impl fmt::Display for Why {
+    fn fmt<W: fmt::Write>(&self, f: &mut fmt::Formatter<W>) -> fmt::Result {
+        match self {
+            Why::TooLong(bytes) => write!(f, "has {bytes} bytes, at most 1048576 are read"),
+            Why::NotJson(error) => write!(f, "{error}"),
+            Why::Missing(wanted) => write!(f, "is missing; it has to be {wanted}"),
+            Why::Wants(wanted) => write!(f, "has to be {wanted}"),
+            Why::Unknown {
+                word,
+                words,
+                nearest,
+            } => unknown(f, word.as_str(), *words, *nearest),
+            Why::NotInVersionOne => write!(f, "is read with \"cf\": 2 alone"),
+            Why::Members(count, words) => {
+                write!(
+                    f,
+                    "has {count} members; it has to have exactly one, {words}"
+                )
+            }
+            Why::Written(form) => write!(f, "has another number of elements; it is written {form}"),
+            Why::Sources { wanted, found } => {
+                write!(f, "names {found} stages; the form takes {wanted}")
+            }
+            Why::NotLower(k) => not_lower(f, *k),
+            Why::FunctionMissing => { write!(f, "is missing; it has to be {}", Wanted::Function) }
+            Why::FunctionUnwanted => write!(f, "may not be there: the form calls no function"),
+            Why::TooMany(most, what) => write!(
+                f,
+                "is one too many: there are at most {most} {what}"
+            ),
+            Why::TooManySources => {
+                write!(f, "names too many: an attached stage has at most 2 sources")
+            }
+            Why::NoPlace => write!(
+                f,
+                "is too much: stages and room are at most 4096, edges and twice the room at most 16384"
+            ),
+            Why::Unsaid => write!(f, "isn't as it has to be"),
+        }
+    }
+}
+
+fn unknown<W: fmt::Write>(
+    f: &mut fmt::Formatter<W>,
+    word: &str,
+    words: Words,
+    nearest: Option<&'static str>,
+) -> fmt::Result {
+    match nearest {
+        Some(near) => write!(
+            f,
+            "{word:?} is no {}; did you mean {near:?}? It has to be {words}",
+            words.thing()
+        ),
+        None => write!(f, "{word:?} is no {}; it has to be {words}", words.thing()),
+    }
+}
+
+fn not_lower<W: fmt::Write>(f: &mut fmt::Formatter<W>, k: u32) -> fmt::Result {
+    match k.checked_sub(1) {
+        None => write!(f, "may not be there: no stage is below stage 0"),
+        Some(0) => write!(f, "has to be a stage below this one, 0"),
+        Some(most) => write!(f, "has to be a stage below this one, 0 to {most}"),
+    }
+}

@@ -1,0 +1,218 @@
+//! The words that may stand in a script, in one table for each place, and the nearest known one to a word.
+use crate::steps::STEPS;
+use crate::wanted::Wanted;
+use cf_plan::Form;
+use std::alloc::{AllocError, Global};
+use std::fmt;
+use strsim::levenshtein;
+
+/// Words of which one may stand in some place.
+#[derive(Clone, Copy, Debug, PartialEq, Eq)]
+pub enum Words {
+    /// The forms of stages.
+    Forms,
+    /// The functions that are one word.
+    PlainFunctions,
+    /// The functions that are an object of one member.
+    Functions,
+    /// The words of steps.
+    Steps,
+    /// The answers that a finish hands in.
+    Answers,
+    /// The kinds of limits.
+    Kinds,
+    /// The members of a script.
+    ScriptMembers,
+    /// The members of a stage.
+    StageMembers,
+    /// The members of a limit.
+    LimitMembers,
+}
+
+/// The forms by their names.
+const FORMS: [(&str, Form); 19] = [
+    ("source", Form::Source),
+    ("supply", Form::Supply),
+    ("runAsync", Form::RunAsync),
+    ("apply", Form::Apply),
+    ("accept", Form::Accept),
+    ("thenRun", Form::ThenRun),
+    ("combine", Form::Combine),
+    ("acceptBoth", Form::AcceptBoth),
+    ("runBoth", Form::RunBoth),
+    ("applyEither", Form::ApplyEither),
+    ("acceptEither", Form::AcceptEither),
+    ("runEither", Form::RunEither),
+    ("compose", Form::Compose),
+    ("handle", Form::Handle),
+    ("whenComplete", Form::WhenComplete),
+    ("exceptionally", Form::Exceptionally),
+    ("allOf", Form::AllOf),
+    ("anyOf", Form::AnyOf),
+    ("exceptionallyCompose", Form::ExceptionallyCompose),
+];
+
+/// The functions that are an object of one member, with what stands in it.
+const FUNCTIONS: [(&str, Wanted); 8] = [
+    ("add", Wanted::Int),
+    ("mul", Wanted::Int),
+    ("div", Wanted::Int),
+    ("const", Wanted::Value),
+    ("throw", Wanted::UpTo(u32::MAX)),
+    ("goto", Wanted::UpTo(65_535)),
+    ("select", Wanted::Pair),
+    ("rescue", Wanted::Value),
+];
+
+/// The answers, with what stands in them.
+const ANSWERS: [(&str, Wanted); 3] = [
+    ("give", Wanted::Value),
+    ("throw", Wanted::UpTo(u32::MAX)),
+    ("link", Wanted::UpTo(65_535)),
+];
+
+const PLAIN_FUNCTIONS: [&str; 2] = ["neg", "sum"];
+
+const KINDS: [&str; 2] = ["timeout", "value"];
+
+const SCRIPT_MEMBERS: [&str; 6] = ["cf", "room", "stages", "limits", "steps", "note"];
+
+const STAGE_MEMBERS: [&str; 4] = ["form", "of", "fn", "note"];
+
+const LIMIT_MEMBERS: [&str; 5] = ["stage", "at", "kind", "value", "note"];
+
+/// The methods of Java's `CompletionStage` and `CompletableFuture` whose forms have other names.
+const METHODS: [(&str, &str); 9] = [
+    ("supplyAsync", "supply"),
+    ("thenApply", "apply"),
+    ("thenAccept", "accept"),
+    ("thenCombine", "combine"),
+    ("thenAcceptBoth", "acceptBoth"),
+    ("runAfterBoth", "runBoth"),
+    ("applyToEither", "applyEither"),
+    ("runAfterEither", "runEither"),
+    ("thenCompose", "compose"),
+];
+
+/// No table has more words.
+const MOST: usize = 19;
+
+impl Words {
+    /// The word at this position, if there are so many.
+    fn at(self, i: usize) -> Option<&'static str> {
+        match self {
+            Words::Forms => Some(FORMS.get(i)?.0),
+            Words::PlainFunctions => PLAIN_FUNCTIONS.get(i).copied(),
+            Words::Functions => Some(FUNCTIONS.get(i)?.0),
+            Words::Steps => Some(STEPS.get(i)?.word),
+            Words::Answers => Some(ANSWERS.get(i)?.0),
+            Words::Kinds => KINDS.get(i).copied(),
+            Words::ScriptMembers => SCRIPT_MEMBERS.get(i).copied(),
+            Words::StageMembers => STAGE_MEMBERS.get(i).copied(),
+            Words::LimitMembers => LIMIT_MEMBERS.get(i).copied(),
+        }
+    }
+
+    /// The word of the table that this one is.
+    pub(crate) fn known(self, word: &str) -> Option<&'static str> {
+        for i in 0..MOST {
+            if let Some(known) = self.at(i) {
+                if known == word {
+                    return Some(known);
+                }
+            }
+        }
+        None
+    }
+
+    /// The word of the table that this one is, and what stands in a member of that name, where that is one thing.
+    pub(crate) fn held(self, word: &str) -> Option<(&'static str, Wanted)> {
+        match self {
+            Words::Functions => row_of(&FUNCTIONS, word),
+            Words::Answers => row_of(&ANSWERS, word),
+            _ => None,
+        }
+    }
+
+    /// The form of the method that the word names, or the word of the table that the fewest edits lead to, if they are few
+    /// for its length.
+    pub(crate) fn nearest(
+        self,
+        alloc: Global,
+        word: &str,
+    ) -> Result<Option<&'static str>, AllocError> {
+        let mut best = match self {
+            Words::Forms => form_of_method(word),
+            _ => None,
+        };
+        if best.is_some() || word.len() > 40 {
+            return Ok(best);
+        }
+        let mut least = 2 + word.len() / 3;
+        for i in 0..MOST {
+            if let Some(known) = self.at(i) {
+                let edits = levenshtein(alloc, word, known)?;
+                if edits < least {
+                    least = edits;
+                    best = Some(known);
+                }
+            }
+        }
+        Ok(best)
+    }
+
+    /// What one of them is called.
+    pub(crate) fn thing(self) -> &'static str {
+        match self {
+            Words::Forms => "form",
+            Words::PlainFunctions | Words::Functions => "function",
+            Words::Steps => "step",
+            Words::Answers => "answer",
+            Words::Kinds => "kind of limit",
+            Words::ScriptMembers | Words::StageMembers | Words::LimitMembers => "member",
+        }
+    }
+}
+
+/// All of them, as in `one of neg, sum`.
+impl fmt::Display for Words {
+    fn fmt<W: fmt::Write>(&self, f: &mut fmt::Formatter<W>) -> fmt::Result {
+        for i in 0..MOST {
+            if let Some(word) = self.at(i) {
+                let gap = if i == 0 { "one of " } else { ", " };
+                write!(f, "{gap}{word}")?;
+            }
+        }
+        Ok(())
+    }
+}
+
+/// The row of this word.
+fn row_of(table: &[(&'static str, Wanted)], word: &str) -> Option<(&'static str, Wanted)> {
+    for (name, wanted) in table {
+        if *name == word {
+            return Some((*name, *wanted));
+        }
+    }
+    None
+}
+
+/// The name of the form of this method.
+fn form_of_method(word: &str) -> Option<&'static str> {
+    for (method, name) in METHODS {
+        if method == word {
+            return Some(name);
+        }
+    }
+    None
+}
+
+/// The form with this name.
+pub(crate) fn form_named(word: &str) -> Option<Form> {
+    for (name, form) in FORMS {
+        if name == word {
+            return Some(form);
+        }
+    }
+    None
+}
