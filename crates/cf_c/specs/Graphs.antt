@@ -1,0 +1,86 @@
+-- What a graph behind a handle is asked.
+use Rattle.std.specs.Prelude.{◌≡◌, ℕ, Bool, Option, Some, None, Result, Ok, Err, length, nat_lt, if◌then◌else◌}
+use Rattle.cf_outcome.specs.declared.outcome.Value.{Value}
+use Rattle.cf_outcome.specs.Outcomes.{now_of}
+use Rattle.cf_plan.specs.Plans.{function_at, reopened}
+use Rattle.cf_core.specs.declared.events.Event.{Event}
+use Rattle.cf_core.specs.declared.events.Reply.{Reply}
+use Rattle.cf_core.specs.Events.{answered}
+use Rattle.cf_core.specs.Graphs.{Graph as Graph'}
+use Rattle.cf_core.specs.Ranges.{EventFits}
+use Rattle.cf_core.specs.States.{State, lowest_ready_of, outcome_at, start}
+use Rattle.cf_desk.specs.Faults.{EventNames}
+use Rattle.cf_c.specs.Replies.{as_reply}
+use Rattle.cf_c.specs.Values.{as_now, as_outcome}
+use Rattle.cf_c.specs.declared.code.Code.{Code}
+use Rattle.cf_c.specs.declared.code.Code.TheVariants.{WrongKind, NoStage, BadAttach, Nothing}
+use Rattle.cf_c.specs.declared.held.Held.{Held}
+use Rattle.cf_c.specs.declared.held.Held.TheVariants.{Graph}
+use Rattle.cf_c.specs.declared.reply.CfReply.{CfReply}
+use Rattle.cf_c.specs.declared.value.CfNow.{CfNow}
+use Rattle.cf_c.specs.declared.value.CfOutcome.{CfOutcome}
+
+-- why an event isn't done to a graph of so many stages: a stage of it isn't there, or else what it attaches doesn't fit its form
+abbrev pub IsRefused : ℕ → Event → Code → Type 0
+IsRefused n e NoStage = ¬ EventNames n e
+IsRefused n e BadAttach = EventNames n e × (¬ EventFits n e)
+IsRefused n e code = ⊥
+
+-- the event is done to the graph, which gives the sequential graph's reply and is then at the sequential graph's state
+pub record IsDone (g : Graph') (e : Event) (told : CfReply) (new : Held) : Type 0 where
+  pub fits : EventFits (length g.state.plan.stages) e
+  pub reply : Reply
+  pub now : Graph'
+  pub is : new ≡ Graph now
+  pub replied : (reply, now.state) ≡ answered g.state e
+  pub tells : told ≡ as_reply reply
+
+-- a graph is handed an event, or why there is none
+abbrev pub Answers : Result Event Code → Held → Result CfReply Code → Held → Type 0
+Answers (Ok e) (Graph g) (Ok told) new = IsDone g e told new
+Answers (Ok e) (Graph g) (Err fault) new = IsRefused (length g.state.plan.stages) e fault × (new ≡ Graph g)
+Answers (Err fault) (Graph g) r new = (r ≡ Err fault) × (new ≡ Graph g)
+Answers e held r new = (r ≡ Err WrongKind) × (new ≡ held)
+
+-- the graph may have taken turns, and is at the state at which it was
+pub record IsSame (g : Graph') (new : Held) : Type 0 where
+  pub now : Graph'
+  pub is : new ≡ Graph now
+  pub state : now.state ≡ g.state
+
+-- a graph is asked what this tells of it
+abbrev pub Asked : {X : Type 0} → (Graph' → Result X Code) → Held → Result X Code → Held → Type 0
+Asked tells (Graph g) r new = (r ≡ tells g) × IsSame g new
+Asked tells held r new = (r ≡ Err WrongKind) × (new ≡ held)
+
+-- of a stage, if it is there
+abbrev pub of_stage : {X : Type 0} → State → ℕ → X → Result X Code
+of_stage s stage x = if nat_lt stage (length s.plan.stages) then Ok x else Err NoStage
+
+abbrev pub or_nothing : {X : Type 0} → Option X → Result X Code
+or_nothing None = Err Nothing
+or_nothing (Some x) = Ok x
+
+abbrev pub outcome_told : ℕ → Graph' → Result CfOutcome Code
+outcome_told stage g = of_stage g.state stage (as_outcome (outcome_at g.state stage))
+
+abbrev pub now_told : ℕ → Value → Graph' → Result CfNow Code
+now_told stage absent g = of_stage g.state stage (as_now (now_of (outcome_at g.state stage) absent))
+
+abbrev pub ready_told : Graph' → Result ℕ Code
+ready_told g = or_nothing (lowest_ready_of g.state)
+
+abbrev pub function_told : ℕ → Graph' → Result ℕ Code
+function_told stage g =
+    if nat_lt stage (length g.state.plan.stages) then or_nothing (function_at g.state.plan.stages stage) else Err NoStage
+
+abbrev pub stages_told : Graph' → Result ℕ Code
+stages_told g = Ok (length g.state.plan.stages)
+
+abbrev pub turns_told : Graph' → Result ℕ Code
+turns_told g = Ok g.turns
+
+-- a graph starts again
+abbrev pub Restarts : Held → Result (Unit {0}) Code → Held → Type 0
+Restarts (Graph g) r new = (r ≡ Ok tt) × (new ≡ Graph (record { state = start (reopened g.state.plan); turns = 0 }))
+Restarts held r new = (r ≡ Err WrongKind) × (new ≡ held)

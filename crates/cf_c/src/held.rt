@@ -1,0 +1,23 @@
+//! What stands behind a handle.
+ghost use Rattle.std.specs.Prelude.{◌≡◌};
+
+use cf_core::Graph;
+use cf_plan::{Plan, PlanBuilder};
+
+/// What stands behind a handle: which of these is asked at each call, so that a handle of another kind is refused.
+#[derive(Drop)]
+pub enum Held {
+    /// A plan that is being built.
+    Builder(PlanBuilder),
+    /// A plan that is built, of which any number of graphs and desks may be opened.
+    Plan(Plan),
+    /// A graph that one caller has alone.
+    Graph(Graph),
+}
+
+/// That a handle may go to another thread.
+pub(crate) fn crosses<T: Send + Drop>(held: Box<T>) -> Box<T>
+    ensures { result ≡ held }
+{
+    held
+}

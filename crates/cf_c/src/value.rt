@@ -1,0 +1,171 @@
+//! Values, outcomes, arguments and answers as C has them. Each number of a kind that none has stands for the last.
+ghost use Rattle.std.specs.Prelude.{◌≡◌};
+ghost use Rattle.cf_c.specs.Values.{answer_of, args_with, as_args, as_fault, as_now, as_outcome, as_value, no_fault, value_of};
+
+use cf_outcome::{Cause, Now, Outcome, Value};
+use cf_plan::{Answer, Args};
+
+/// A value: nothing (kind 0), or a number.
+#[repr(C)]
+#[derive(Clone, Copy)]
+pub struct CfValue {
+    pub kind: u32,
+    pub number: i32,
+}
+
+/// What a stage's function answered: it gives a value (kind 0), throws a code (1), or names a stage (any other).
+#[repr(C)]
+#[derive(Clone, Copy)]
+pub struct CfAnswer {
+    pub kind: u32,
+    pub code: u32,
+    pub value: CfValue,
+    pub stage: u16,
+}
+
+/// An outcome: none yet (kind 0), a value (1), or a fault: thrown (2), cancelled (3), timed out (4), a bad answer (5).
+#[repr(C)]
+#[derive(Clone, Copy)]
+pub struct CfOutcome {
+    pub kind: u32,
+    pub wrapped: u32,
+    pub code: u32,
+    pub value: CfValue,
+}
+
+/// What a function is called with: nothing (kind 0), a value (1), two values (2), or an outcome (3).
+#[repr(C)]
+#[derive(Clone, Copy)]
+pub struct CfArgs {
+    pub kind: u32,
+    pub first: CfValue,
+    pub second: CfValue,
+    pub outcome: CfOutcome,
+}
+
+/// What is told of a stage at present: the value handed in for that (kind 0), its value (1), its fault (2), or that it is
+/// cancelled (3).
+#[repr(C)]
+#[derive(Clone, Copy)]
+pub struct CfNow {
+    pub kind: u32,
+    pub outcome: CfOutcome,
+}
+
+const NIL: CfValue = CfValue { kind: 0, number: 0 };
+
+/// The value that C means.
+pub(crate) fn value_of(v: CfValue) -> Value
+    ensures { result ≡ value_of v }
+{
+    if v.kind == 0 {
+        Value::Nil
+    } else {
+        Value::Int(v.number)
+    }
+}
+
+/// The answer that C means.
+pub(crate) fn answer_of(a: CfAnswer) -> Answer
+    ensures { result ≡ answer_of a }
+{
+    match a.kind {
+        0 => Answer::Give(value_of(a.value)),
+        1 => Answer::Throw(a.code),
+        _ => Answer::Link(a.stage),
+    }
+}
+
+/// A value for C.
+pub(crate) fn as_value(v: Value) -> CfValue
+    ensures { result ≡ as_value v }
+{
+    match v {
+        Value::Nil => NIL,
+        Value::Int(number) => CfValue { kind: 1, number },
+    }
+}
+
+/// A cause for C: its kind and its code.
+fn fault(cause: Cause, wrapped: bool) -> CfOutcome
+    ensures { result ≡ as_fault cause wrapped }
+{
+    let (kind, code) = match cause {
+        Cause::Thrown(code) => (2, code),
+        Cause::Cancelled => (3, 0),
+        Cause::TimedOut => (4, 0),
+        Cause::BadAnswer => (5, 0),
+    };
+    CfOutcome {
+        kind,
+        wrapped: u32::from(wrapped),
+        code,
+        value: NIL,
+    }
+}
+
+/// An outcome, or that there is none, for C.
+pub(crate) fn as_outcome(o: Option<Outcome>) -> CfOutcome
+    ensures { result ≡ as_outcome o }
+{
+    match o {
+        None => no_fault(0, NIL),
+        Some(Outcome::Value(v)) => no_fault(1, as_value(v)),
+        Some(Outcome::Fault { cause, wrapped }) => fault(cause, wrapped),
+    }
+}
+
+/// What is no fault, for C.
+fn no_fault(kind: u32, value: CfValue) -> CfOutcome
+    ensures { result ≡ no_fault kind value }
+{
+    CfOutcome {
+        kind,
+        wrapped: 0,
+        code: 0,
+        value,
+    }
+}
+
+/// What a function is called with, for C.
+pub(crate) fn as_args(args: Args) -> CfArgs
+    ensures { result ≡ as_args args }
+{
+    match args {
+        Args::None => args_with(0, NIL, NIL, None),
+        Args::One(v) => args_with(1, as_value(v), NIL, None),
+        Args::Two(v, w) => args_with(2, as_value(v), as_value(w), None),
+        Args::Got(o) => args_with(3, NIL, NIL, Some(o)),
+    }
+}
+
+/// Arguments for C.
+fn args_with(kind: u32, first: CfValue, second: CfValue, got: Option<Outcome>) -> CfArgs
+    ensures { result ≡ args_with kind first second got }
+{
+    CfArgs {
+        kind,
+        first,
+        second,
+        outcome: as_outcome(got),
+    }
+}
+
+/// What is told of a stage at present, for C.
+pub(crate) fn as_now(now: Now) -> CfNow
+    ensures { result ≡ as_now now }
+{
+    match now {
+        Now::Absent(v) => now_with(0, no_fault(1, as_value(v))),
+        Now::Got(v) => now_with(1, no_fault(1, as_value(v))),
+        Now::Completion(cause) => now_with(2, fault(cause, true)),
+        Now::Cancellation => now_with(3, fault(Cause::Cancelled, false)),
+    }
+}
+
+/// What is told at present, for C.
+fn now_with(kind: u32, outcome: CfOutcome) -> CfNow
+    ensures { result ≡ record { kind = kind; outcome = outcome } }
+{
+    CfNow { kind, outcome }
+}
