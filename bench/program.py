@@ -1,14 +1,24 @@
-"""The program cf under test: where it stands, and how it is run."""
+"""The programs under test, cf and cf_look: where they stand, and how they are run."""
 import os
 import subprocess
+import sys
 
 TOP = os.path.dirname(os.path.dirname(os.path.abspath(__file__)))
 
 
-def built():
-    """The program that `./build` built of the sources as they are, if it did."""
-    asked = subprocess.run([f"{TOP}/build", "--current"], capture_output=True, text=True)
+def built(name="cf"):
+    """The program that `./build NAME` built of the sources as they are, if it did."""
+    asked = subprocess.run([f"{TOP}/build", "--current", name], capture_output=True, text=True)
     return asked.stdout if asked.returncode == 0 else None
+
+
+def needed(name):
+    """The same, where nothing can go on without it."""
+    program = built(name)
+    if program is None:
+        print(f"there is no program of these sources: run ./build {name} first", file=sys.stderr)
+        sys.exit(2)
+    return program
 
 
 def run(program, words, input, **streams):
