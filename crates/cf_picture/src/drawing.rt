@@ -2,13 +2,10 @@
 ghost use Rattle.cf_picture.specs.Pictures.{DrawGives};
 ghost use Rattle.cf_script.specs.Printing.{given_by};
 
-use crate::course::do_steps;
+use crate::course::{Course, course_of};
 use crate::limits::write_limits;
-use crate::notes::Notes;
 use crate::stages::{write_attached, write_opening};
-use cf_core::Graph;
-use cf_plan::Plan;
-use cf_reading::{Func, Script, Step, read_script};
+use cf_reading::{Script, read_script};
 use cf_script::ScriptFault;
 use std::alloc::{AllocError, Global};
 
@@ -26,33 +23,25 @@ pub fn draw_script(alloc: Global, bytes: &[u8]) -> Result<String, ScriptFault>
 
 /// The picture of a script.
 fn drawing_of(alloc: Global, script: Script) -> Result<String, AllocError> {
-    let (plan, room, functions, steps) = script.into_parts();
-    let Ok(opening) = plan.copy() else {
-        return Err(AllocError);
-    };
-    let Ok(mut graph) = Graph::new_growing(alloc, plan, room) else {
-        return Err(AllocError);
-    };
-    let mut notes = Notes::new(alloc, opening.stages() as usize + room as usize)?;
-    do_steps(&mut graph, &functions, &mut notes, &steps);
+    let course = course_of(alloc, script)?;
     let mut text = String::new(alloc);
-    write_picture(&mut text, &mut graph, &functions, &notes, &opening, &steps)?;
+    write_picture(&mut text, course)?;
     Ok(text)
 }
 
-/// Adds the picture of a graph whose steps are done.
-fn write_picture(
-    text: &mut String,
-    graph: &mut Graph,
-    functions: &[Func],
-    notes: &Notes,
-    opening: &Plan,
-    steps: &[Step],
-) -> Result<(), AllocError> {
+/// Adds the picture of a script whose steps are done.
+fn write_picture(text: &mut String, course: Course) -> Result<(), AllocError> {
+    let Course {
+        plan,
+        mut graph,
+        functions,
+        notes,
+        steps,
+    } = course;
     write_head(text)?;
-    write_opening(text, graph, functions, notes, opening)?;
-    write_attached(text, graph, functions, notes, opening.stages(), steps)?;
-    write_limits(text, opening.limits())?;
+    write_opening(text, &mut graph, &functions, &notes, &plan)?;
+    write_attached(text, &mut graph, &functions, &notes, plan.stages(), &steps)?;
+    write_limits(text, plan.limits())?;
     writeln!(text, "}}")
 }
 

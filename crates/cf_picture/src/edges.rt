@@ -18,13 +18,7 @@ pub(crate) fn write_sources(
 }
 
 /// Adds the edge from source j, the argument behind k others, to stage i.
-fn write_source(
-    text: &mut String,
-    form: Form,
-    k: usize,
-    j: u16,
-    i: u16,
-) -> Result<(), AllocError> {
+fn write_source(text: &mut String, form: Form, k: usize, j: u16, i: u16) -> Result<(), AllocError> {
     if is_ordered(form) {
         let place = if k == 0 { 1u8 } else { 2 };
         writeln!(text, "  s{j} -> s{i} [label=\"{place}\"];")

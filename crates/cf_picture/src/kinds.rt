@@ -28,7 +28,7 @@ pub(crate) fn name_of(form: Form) -> &'static str {
 
 /// The shape of a form's stages: an ellipse is settled from outside; a box has a function that is called with nothing or
 /// with the value of one source; a hexagon's function is told a fault too; a trapezium waits for all its sources; the first
-/// source decides what happens in a house that stands on its head; a component takes the outcome of the stage that its
+/// source decides what happens in a house that stands on its head; a parallelogram takes the outcome of the stage that its
 /// function names.
 pub(crate) fn shape_of(form: Form) -> &'static str {
     match form {
@@ -37,7 +37,7 @@ pub(crate) fn shape_of(form: Form) -> &'static str {
         Form::Handle | Form::WhenComplete | Form::Exceptionally => "hexagon",
         Form::Combine | Form::AcceptBoth | Form::RunBoth | Form::AllOf => "invtrapezium",
         Form::ApplyEither | Form::AcceptEither | Form::RunEither | Form::AnyOf => "invhouse",
-        Form::Compose | Form::ExceptionallyCompose => "component",
+        Form::Compose | Form::ExceptionallyCompose => "parallelogram",
     }
 }
 

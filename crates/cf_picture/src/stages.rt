@@ -51,12 +51,15 @@ pub(crate) fn write_attached(
 ) -> Result<(), AllocError> {
     let mut number = first;
     for step in steps {
-        if let Step::Does(Event::Attach {
-            form,
-            of,
-            function,
-            ..
-        }) = *step {
+        if let Step::Does(
+            Event::Attach {
+                form,
+                of,
+                function,
+                ..
+            },
+        ) = *step
+        {
             if number < graph.stages() {
                 let said = Said {
                     number,
@@ -112,11 +115,22 @@ fn write_stage(
 
 /// Adds the node of a stage.
 fn write_node(text: &mut String, said: Said, standing: Standing) -> Result<(), AllocError> {
-    write!(text, "  s{} [label=\"{} {}", said.number, said.number, name_of(said.form))?;
+    write!(
+        text,
+        "  s{} [label=\"{} {}",
+        said.number,
+        said.number,
+        name_of(said.form)
+    )?;
     if let Some(function) = said.function {
         write_function(text, function)?;
     }
     write!(text, "\\n")?;
     write_standing(text, standing)?;
-    writeln!(text, "\", shape={}, {}];", shape_of(said.form), look_of(standing))
+    writeln!(
+        text,
+        "\", shape={}, {}];",
+        shape_of(said.form),
+        look_of(standing)
+    )
 }

@@ -61,23 +61,23 @@ pub(crate) const LOOKS: [Row; 8] = [
 pub(crate) const LINKS: [Row; 6] = [
     (
         r#"{"cf":1,"stages":[{"form":"source"},{"form":"source"},{"form":"compose","of":[0],"fn":{"goto":1}}],"steps":[["complete",0,3],["work"]]}"#,
-        r#"s0 [label="0 source\nvalue 3", shape=ellipse, style=filled, fillcolor=darkseagreen1]; / s1 [label="1 source\npending", shape=ellipse, style="filled,dotted", fillcolor=gray95]; / s2 [label="2 compose goto 1\nlinked", shape=component, style="filled,dashed", fillcolor=lightblue]; / s0 -> s2; / s1 -> s2 [label="link", style=dashed];"#,
+        r#"s0 [label="0 source\nvalue 3", shape=ellipse, style=filled, fillcolor=darkseagreen1]; / s1 [label="1 source\npending", shape=ellipse, style="filled,dotted", fillcolor=gray95]; / s2 [label="2 compose goto 1\nlinked", shape=parallelogram, style="filled,dashed", fillcolor=lightblue]; / s0 -> s2; / s1 -> s2 [label="link", style=dashed];"#,
     ),
     (
         r#"{"cf":1,"stages":[{"form":"source"},{"form":"source"},{"form":"compose","of":[0],"fn":{"select":[0,1]}}],"steps":[["complete",0,3],["work"]]}"#,
-        r#"s0 [label="0 source\nvalue 3", shape=ellipse, style=filled, fillcolor=darkseagreen1]; / s1 [label="1 source\npending", shape=ellipse, style="filled,dotted", fillcolor=gray95]; / s2 [label="2 compose select 0 1\nlinked", shape=component, style="filled,dashed", fillcolor=lightblue]; / s0 -> s2; / s0 -> s2 [label="link", style=dashed]; / s1 -> s2 [label="link", style=dashed];"#,
+        r#"s0 [label="0 source\nvalue 3", shape=ellipse, style=filled, fillcolor=darkseagreen1]; / s1 [label="1 source\npending", shape=ellipse, style="filled,dotted", fillcolor=gray95]; / s2 [label="2 compose select 0 1\nlinked", shape=parallelogram, style="filled,dashed", fillcolor=lightblue]; / s0 -> s2; / s0 -> s2 [label="link", style=dashed]; / s1 -> s2 [label="link", style=dashed];"#,
     ),
     (
         r#"{"cf":1,"stages":[{"form":"source"},{"form":"source"},{"form":"compose","of":[0],"fn":{"goto":0}}],"steps":[["complete",0,3],["claim",1,2],["finish",1,2,{"link":1}]]}"#,
-        r#"s0 [label="0 source\nvalue 3", shape=ellipse, style=filled, fillcolor=darkseagreen1]; / s1 [label="1 source\npending", shape=ellipse, style="filled,dotted", fillcolor=gray95]; / s2 [label="2 compose goto 0\nlinked", shape=component, style="filled,dashed", fillcolor=lightblue]; / s0 -> s2; / s1 -> s2 [label="link", style=dashed];"#,
+        r#"s0 [label="0 source\nvalue 3", shape=ellipse, style=filled, fillcolor=darkseagreen1]; / s1 [label="1 source\npending", shape=ellipse, style="filled,dotted", fillcolor=gray95]; / s2 [label="2 compose goto 0\nlinked", shape=parallelogram, style="filled,dashed", fillcolor=lightblue]; / s0 -> s2; / s1 -> s2 [label="link", style=dashed];"#,
     ),
     (
         r#"{"cf":1,"stages":[{"form":"source"},{"form":"compose","of":[0],"fn":{"goto":1}}],"steps":[["complete",0,3],["work"]]}"#,
-        r#"s0 [label="0 source\nvalue 3", shape=ellipse, style=filled, fillcolor=darkseagreen1]; / s1 [label="1 compose goto 1\nfault badanswer wrapped", shape=component, style=filled, peripheries=2, fillcolor=lightcoral]; / s0 -> s1;"#,
+        r#"s0 [label="0 source\nvalue 3", shape=ellipse, style=filled, fillcolor=darkseagreen1]; / s1 [label="1 compose goto 1\nfault badanswer wrapped", shape=parallelogram, style=filled, peripheries=2, fillcolor=lightcoral]; / s0 -> s1;"#,
     ),
     (
         r#"{"cf":1,"stages":[{"form":"source"},{"form":"compose","of":[0],"fn":"neg"}]}"#,
-        r#"s0 [label="0 source\npending", shape=ellipse, style="filled,dotted", fillcolor=gray95]; / s1 [label="1 compose neg\npending", shape=component, style="filled,dotted", fillcolor=gray95]; / s0 -> s1;"#,
+        r#"s0 [label="0 source\npending", shape=ellipse, style="filled,dotted", fillcolor=gray95]; / s1 [label="1 compose neg\npending", shape=parallelogram, style="filled,dotted", fillcolor=gray95]; / s0 -> s1;"#,
     ),
     (
         r#"{"cf":1,"stages":[{"form":"source"},{"form":"apply","of":[0],"fn":{"goto":0}}],"steps":[["complete",0,3],["work"]]}"#,

@@ -37,11 +37,11 @@ pub(crate) const ONE_SOURCE: [Row; 4] = [
     ),
     (
         r#"{"cf":1,"stages":[{"form":"source"},{"form":"compose","of":[0],"fn":{"goto":0}}],"steps":[["complete",0,3],["work"]]}"#,
-        r#"s0 [label="0 source\nvalue 3", shape=ellipse, style=filled, fillcolor=darkseagreen1]; / s1 [label="1 compose goto 0\nvalue 3", shape=component, style=filled, fillcolor=darkseagreen1]; / s0 -> s1; / s0 -> s1 [label="link", style=dashed];"#,
+        r#"s0 [label="0 source\nvalue 3", shape=ellipse, style=filled, fillcolor=darkseagreen1]; / s1 [label="1 compose goto 0\nvalue 3", shape=parallelogram, style=filled, fillcolor=darkseagreen1]; / s0 -> s1; / s0 -> s1 [label="link", style=dashed];"#,
     ),
     (
         r#"{"cf":2,"stages":[{"form":"source"},{"form":"exceptionallyCompose","of":[0],"fn":{"goto":0}}],"steps":[["complete",0,3]]}"#,
-        r#"s0 [label="0 source\nvalue 3", shape=ellipse, style=filled, fillcolor=darkseagreen1]; / s1 [label="1 exceptionallyCompose goto 0\nvalue 3", shape=component, style=filled, fillcolor=darkseagreen1]; / s0 -> s1; / s0 -> s1 [label="link", style=dashed];"#,
+        r#"s0 [label="0 source\nvalue 3", shape=ellipse, style=filled, fillcolor=darkseagreen1]; / s1 [label="1 exceptionallyCompose goto 0\nvalue 3", shape=parallelogram, style=filled, fillcolor=darkseagreen1]; / s0 -> s1; / s0 -> s1 [label="link", style=dashed];"#,
     ),
 ];
 
