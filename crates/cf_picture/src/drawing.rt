@@ -1,6 +1,6 @@
 //! The picture of a script, whole.
-ghost use Rattle.cf_picture.specs.Pictures.{DrawGives};
-ghost use Rattle.cf_script.specs.Printing.{given_by};
+ghost use Rattle.cf_reading.specs.Reading.{reading};
+ghost use Rattle.cf_picture.specs.Pictures.{Draws};
 
 use crate::course::{Course, course_of};
 use crate::limits::write_limits;
@@ -12,7 +12,7 @@ use std::alloc::{AllocError, Global};
 /// The picture of the script that the bytes say, as a text in the language of Graphviz, or the fault with which `run_script`
 /// would refuse it. `NoMemory` is a growth that was refused.
 pub fn draw_script(alloc: Global, bytes: &[u8]) -> Result<String, ScriptFault>
-    ensures { DrawGives bytes.now (given_by result) }
+    ensures { Draws (reading bytes.now) result }
 {
     let script = read_script(alloc, bytes)?;
     match drawing_of(alloc, script) {
