@@ -70,7 +70,7 @@ fn refused(
     ensures { IfOk result (IsIn place.area) }
 {
     if fault == ReadingFault::TooLong {
-        return Ok(wrong_at(place, Why::TooLong(bytes.len())));
+        return Ok(wrong_at(place, Why::TooLong));
     }
     match Json::from_slice(alloc, bytes) {
         Ok(json) => {

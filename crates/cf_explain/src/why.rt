@@ -6,8 +6,8 @@ use std::fmt;
 /// Why a part of a script is refused, which its place names.
 #[derive(Drop)]
 pub enum Why {
-    /// There are so many bytes, and too many.
-    TooLong(usize),
+    /// There are too many bytes.
+    TooLong,
     /// They are no JSON, for what this says with its line and column.
     NotJson(serde_json::Error),
     /// It isn't there, and this is to stand there.
@@ -55,7 +55,7 @@ pub enum Why {
 impl fmt::Display for Why {
     fn fmt<W: fmt::Write>(&self, f: &mut fmt::Formatter<W>) -> fmt::Result {
         match self {
-            Why::TooLong(bytes) => write!(f, "has {bytes} bytes, at most 1048576 are read"),
+            Why::TooLong => write!(f, "has more than 1048576 bytes"),
             Why::NotJson(error) => write!(f, "{error}"),
             Why::Missing(wanted) => write!(f, "is missing; it has to be {wanted}"),
             Why::Wants(wanted) => write!(f, "has to be {wanted}"),

@@ -9,8 +9,12 @@
 //! what would be right there; and what is odd about it. It ends with status 0 where nothing is wrong, 1 where `cf run` would
 //! refuse the script, and 3 where it is only odd.
 //!
-//! Both end with 2 where the words or what is on standard input can't be read. The verdicts are those of `cf_history` and
-//! `cf_explain`, which are proved; this program reads in and writes out.
+//! `cf_look dot` reads a script, and writes its plan as a picture in the language of Graphviz, with what becomes of each stage
+//! by the script's steps. It ends with status 0, or with 1 where `cf run` would refuse the script, for the fault whose line
+//! then is on standard error.
+//!
+//! All end with 2 where the words or what is on standard input can't be read. The verdicts are those of `cf_history`,
+//! `cf_explain` and `cf_picture`, which are proved; this program reads in and writes out.
 #![tactic(auto)]
 
 mod history;
@@ -23,9 +27,8 @@ use anyhow::Result;
 use cf_explain::Verdict as Said;
 use cf_history::Verdict;
 use history::judge;
-use script::explain_script;
+use script::{draw, explain_script, script_in};
 use show::line_of;
-use std::io::Read;
 use std::process::ExitCode;
 use words::{Look, read_words};
 
@@ -41,6 +44,9 @@ const UNREADABLE: u8 = 2;
 /// Nothing is wrong with a script.
 const RIGHT: u8 = 0;
 
+/// It is drawn.
+const DRAWN: u8 = 0;
+
 /// `cf run` would refuse it.
 const REFUSED: u8 = 1;
 
@@ -51,6 +57,7 @@ fn main(rt: HostRuntime) -> Result<ExitCode> {
     match read_words(&rt)? {
         Look::Nothing(status) => Ok(ExitCode::from(status)),
         Look::Explain => Ok(ExitCode::from(explain_one(&rt)?)),
+        Look::Dot => Ok(ExitCode::from(draw_one(&rt)?)),
         Look::Check { lines } => {
             let input = std::io::read_to_string(rt.alloc(), rt.reader())?;
             let status = if lines {
@@ -65,15 +72,27 @@ fn main(rt: HostRuntime) -> Result<ExitCode> {
 
 /// Explains the script on standard input.
 fn explain_one<R: Input + Print + AllocGlobal>(rt: &R) -> Result<u8> {
-    let mut bytes = Vec::new(rt.alloc());
-    if rt.reader().read_to_end(&mut bytes).is_err() {
+    let Ok(bytes) = script_in(rt) else {
         println!(rt; "unreadable: standard input")?;
         return Ok(UNREADABLE);
-    }
+    };
     Ok(match explain_script(rt, bytes.as_slice())? {
         Said::Right => RIGHT,
         Said::Refused => REFUSED,
         Said::Odd => ODD,
+    })
+}
+
+/// Draws the script on standard input.
+fn draw_one<R: Input + Print + Eprint + AllocGlobal>(rt: &R) -> Result<u8> {
+    let Ok(bytes) = script_in(rt) else {
+        eprintln!(rt; "unreadable: standard input")?;
+        return Ok(UNREADABLE);
+    };
+    Ok(if draw(rt, bytes.as_slice())? {
+        DRAWN
+    } else {
+        REFUSED
     })
 }
 

@@ -10,8 +10,10 @@ use std::rt::Env;
 pub(crate) enum Look {
     /// A history, or one in each line.
     Check { lines: bool },
-    /// A script.
+    /// A script, in words.
     Explain,
+    /// A script, as a picture.
+    Dot,
     /// Nothing: help was asked for, or the words are no command. What there is to say is said, and the program ends with
     /// this status.
     Nothing(u8),
@@ -26,10 +28,12 @@ pub(crate) fn read_words<R: Env + Print + Eprint + AllocGlobal>(rt: &R) -> Resul
         .subcommand_required(true)
         .arg_required_else_help(true)
         .subcommand(check_command(alloc)?)?
-        .subcommand(explain_command(alloc))?;
+        .subcommand(explain_command(alloc))?
+        .subcommand(dot_command(alloc))?;
     match command.try_get_matches_from(words.as_slice()) {
         Ok(matches) => Ok(match matches.subcommand() {
             Some(("explain", _)) => Look::Explain,
+            Some(("dot", _)) => Look::Dot,
             Some((_, inner)) => Look::Check {
                 lines: inner.get_flag("lines"),
             },
@@ -60,5 +64,12 @@ fn check_command<'a>(alloc: Global) -> Result<Command<'a>> {
 fn explain_command<'a>(alloc: Global) -> Command<'a> {
     Command::new(alloc, "explain").about(
         "Say what is wrong with the script on standard input, where, and what would be right, or what is odd about it",
+    )
+}
+
+/// `dot`
+fn dot_command<'a>(alloc: Global) -> Command<'a> {
+    Command::new(alloc, "dot").about(
+        "Draw the plan of the script on standard input for Graphviz, with what becomes of each stage",
     )
 }

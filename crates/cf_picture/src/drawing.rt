@@ -1,0 +1,54 @@
+//! The picture of a script, whole.
+ghost use Rattle.cf_reading.specs.Reading.{reading};
+ghost use Rattle.cf_picture.specs.Pictures.{Draws};
+
+use crate::course::{Course, course_of};
+use crate::limits::write_limits;
+use crate::stages::{write_attached, write_opening};
+use cf_reading::{Script, read_script};
+use cf_script::ScriptFault;
+use std::alloc::{AllocError, Global};
+
+/// The picture of the script that the bytes say, as a text in the language of Graphviz, or the fault with which `run_script`
+/// would refuse it. `NoMemory` is a growth that was refused.
+pub fn draw_script(alloc: Global, bytes: &[u8]) -> Result<String, ScriptFault>
+    ensures { Draws (reading bytes.now) result }
+{
+    let script = read_script(alloc, bytes)?;
+    match drawing_of(alloc, script) {
+        Ok(text) => Ok(text),
+        Err(_) => Err(ScriptFault::NoMemory),
+    }
+}
+
+/// The picture of a script.
+fn drawing_of(alloc: Global, script: Script) -> Result<String, AllocError> {
+    let course = course_of(alloc, script)?;
+    let mut text = String::new(alloc);
+    write_picture(&mut text, course)?;
+    Ok(text)
+}
+
+/// Adds the picture of a script whose steps are done.
+fn write_picture(text: &mut String, course: Course) -> Result<(), AllocError> {
+    let Course {
+        plan,
+        mut graph,
+        functions,
+        notes,
+        steps,
+    } = course;
+    write_head(text)?;
+    write_opening(text, &mut graph, &functions, &notes, &plan)?;
+    write_attached(text, &mut graph, &functions, &notes, plan.stages(), &steps)?;
+    write_limits(text, plan.limits())?;
+    writeln!(text, "}}")
+}
+
+/// Adds what stands before the first stage.
+fn write_head(text: &mut String) -> Result<(), AllocError> {
+    writeln!(text, "digraph plan {{")?;
+    writeln!(text, "  graph [rankdir=LR, fontname=\"Helvetica\"];")?;
+    writeln!(text, "  node [fontname=\"Helvetica\", fontsize=11];")?;
+    writeln!(text, "  edge [fontname=\"Helvetica\", fontsize=9];")
+}

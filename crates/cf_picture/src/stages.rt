@@ -1,0 +1,136 @@
+//! Stages, as nodes with the edges that lead to them.
+ghost use Rattle.std.specs.Prelude.{◌<◌, length};
+
+use crate::edges::{write_links, write_sources};
+use crate::functions::write_function;
+use crate::kinds::{name_of, shape_of};
+use crate::notes::Notes;
+use crate::standing::{Standing, look_of, standing_of, write_standing};
+use cf_core::{Event, Graph};
+use cf_plan::{Form, Of, Plan};
+use cf_reading::{Func, Step};
+use std::alloc::AllocError;
+
+/// A stage as its script says it.
+#[derive(Clone, Copy)]
+struct Said {
+    number: u16,
+    form: Form,
+    function: Option<Func>,
+}
+
+/// Adds the stages of the plan that the script begins with.
+pub(crate) fn write_opening(
+    text: &mut String,
+    graph: &mut Graph,
+    functions: &[Func],
+    notes: &Notes,
+    plan: &Plan,
+) -> Result<(), AllocError> {
+    for i in 0..plan.stages() {
+        if graph.has(i) {
+            let said = Said {
+                number: i,
+                form: plan.form(i),
+                function: function_of(functions, plan.function(i)),
+            };
+            write_stage(text, graph, notes, said, plan.sources(i))?;
+        }
+    }
+    Ok(())
+}
+
+/// Adds the stages that the steps attached: behind `first` others as many as there are, in the order in which they came.
+pub(crate) fn write_attached(
+    text: &mut String,
+    graph: &mut Graph,
+    functions: &[Func],
+    notes: &Notes,
+    first: u16,
+    steps: &[Step],
+) -> Result<(), AllocError> {
+    let mut number = first;
+    for step in steps {
+        if let Step::Does(
+            Event::Attach {
+                form,
+                of,
+                function,
+                ..
+            },
+        ) = *step
+        {
+            if number < graph.stages() {
+                let said = Said {
+                    number,
+                    form,
+                    function: function_of(functions, function),
+                };
+                write_stage_of(text, graph, notes, said, of)?;
+                number += 1;
+            }
+        }
+    }
+    Ok(())
+}
+
+/// The function of this number.
+fn function_of(functions: &[Func], number: Option<u16>) -> Option<Func> {
+    functions.get(number? as usize).copied()
+}
+
+/// Adds a stage with these sources.
+fn write_stage_of(
+    text: &mut String,
+    graph: &mut Graph,
+    notes: &Notes,
+    said: Said,
+    of: Of,
+) -> Result<(), AllocError>
+    requires { said.number < length graph.old.state.plan.stages }
+{
+    match of {
+        Of::None => write_stage(text, graph, notes, said, &[]),
+        Of::One(a) => write_stage(text, graph, notes, said, &[a]),
+        Of::Two(a, b) => write_stage(text, graph, notes, said, &[a, b]),
+    }
+}
+
+/// Adds a stage: its node, and the edges from its sources and from what it is linked to.
+fn write_stage(
+    text: &mut String,
+    graph: &mut Graph,
+    notes: &Notes,
+    said: Said,
+    sources: &[u16],
+) -> Result<(), AllocError>
+    requires { said.number < length graph.old.state.plan.stages }
+{
+    let note = notes.of(said.number);
+    let standing = standing_of(graph, note, said.number);
+    write_node(text, said, standing)?;
+    write_sources(text, said.form, sources, said.number)?;
+    write_links(text, said.form, note.link, said.function, said.number)
+}
+
+/// Adds the node of a stage.
+fn write_node(text: &mut String, said: Said, standing: Standing) -> Result<(), AllocError> {
+    write!(
+        text,
+        "  s{} [label=\"{} {}",
+        said.number,
+        said.number,
+        name_of(said.form)
+    )?;
+    if let Some(function) = said.function {
+        write_function(text, function)?;
+    }
+    write!(text, "\\n")?;
+    write_standing(text, standing)?;
+    writeln!(
+        text,
+        "\", shape={}, {}];",
+        shape_of(said.form),
+        look_of(standing)
+    )
+}

@@ -1,0 +1,79 @@
+//! What became of a stage, and how that looks.
+ghost use Rattle.std.specs.Prelude.{◌<◌, length};
+
+use crate::notes::Note;
+use cf_core::{Claimed, Graph};
+use cf_outcome::{Cause, Outcome};
+use std::alloc::AllocError;
+
+/// The caller that asks whether a stage is ready, once all steps are done.
+const ASKER: u8 = 63;
+
+/// What became of a stage.
+#[derive(Clone, Copy, Debug, PartialEq, Eq)]
+pub(crate) enum Standing {
+    /// It waits for its sources, or for its callers.
+    Pending,
+    /// Its function may be called, and isn't.
+    Ready,
+    /// A caller has its function, and hasn't finished it.
+    Claimed,
+    /// It waits for the stage that it takes its outcome from.
+    Linked,
+    Settled(Outcome),
+}
+
+/// What has become of a stage, of which this was noted. Whether it is ready is asked by a claim, which changes nothing for
+/// any other stage.
+pub(crate) fn standing_of(graph: &mut Graph, note: Note, i: u16) -> Standing
+    requires { i < length graph.old.state.plan.stages }
+{
+    if let Some(o) = graph.outcome(i) {
+        return Standing::Settled(o);
+    }
+    match graph.claim(ASKER, i) {
+        Claimed::Granted(_) => Standing::Ready,
+        Claimed::NotReady => Standing::Pending,
+        Claimed::Taken | Claimed::Settled => {
+            if note.open {
+                Standing::Claimed
+            } else {
+                Standing::Linked
+            }
+        }
+    }
+}
+
+/// Adds what became of a stage: an outcome in the words of reports.
+pub(crate) fn write_standing(text: &mut String, standing: Standing) -> Result<(), AllocError> {
+    match standing {
+        Standing::Pending => write!(text, "pending"),
+        Standing::Ready => write!(text, "ready"),
+        Standing::Claimed => write!(text, "claimed"),
+        Standing::Linked => write!(text, "linked"),
+        Standing::Settled(o) => write!(text, "{o}"),
+    }
+}
+
+/// Its look: a value has one line, a fault two, a cancellation two that are broken; what isn't settled is dotted, and in bold
+/// where its function may be called, is being called or has named a stage.
+pub(crate) fn look_of(standing: Standing) -> &'static str {
+    match standing {
+        Standing::Pending => "style=\"filled,dotted\", fillcolor=gray95",
+        Standing::Ready => "style=\"filled,bold\", fillcolor=khaki1",
+        Standing::Claimed => "style=\"filled,bold,dashed\", fillcolor=lightblue",
+        Standing::Linked => "style=\"filled,dashed\", fillcolor=lightblue",
+        Standing::Settled(o) => look_of_outcome(o),
+    }
+}
+
+fn look_of_outcome(o: Outcome) -> &'static str {
+    match o {
+        Outcome::Value(_) => "style=filled, fillcolor=darkseagreen1",
+        Outcome::Fault {
+            cause: Cause::Cancelled,
+            ..
+        } => "style=\"filled,dashed\", peripheries=2, fillcolor=burlywood1",
+        Outcome::Fault { .. } => "style=filled, peripheries=2, fillcolor=lightcoral",
+    }
+}
