@@ -27,6 +27,7 @@ mod race;
 mod script;
 mod shape;
 mod times;
+mod words;
 mod work;
 
 use anyhow::Result;
@@ -37,9 +38,10 @@ use race::{measured_race, measured_read, race_checksum};
 use script::{measured_json, measured_script, report_checksum, script_text};
 use shape::Shape;
 use std::alloc::Global;
-use std::env;
+use std::process::ExitCode;
 use std::thread::Threads;
 use std::time::Clock;
+use words::{Words, read_words};
 
 const SIZES: [u16; 3] = [64, 512, 4095];
 
@@ -165,14 +167,24 @@ fn show_desks<R: Clock + Print + Threads + Sync>(rt: &R, alloc: Global, timed: b
     Ok(())
 }
 
-fn main(rt: HostRuntime) -> Result<()> {
-    let timed = env::args(&rt)?.any(|word| word.as_str() == "time");
-    show_shapes(&rt, rt.alloc(), timed)?;
-    show_script(&rt, rt.alloc(), timed)?;
-    show_attach(&rt, rt.alloc(), timed)?;
-    show_desks(&rt, rt.alloc(), timed)?;
+/// Shows everything.
+fn show_all<R: Clock + Print + Threads + Sync>(rt: &R, alloc: Global, timed: bool) -> Result<()> {
+    show_shapes(rt, alloc, timed)?;
+    show_script(rt, alloc, timed)?;
+    show_attach(rt, alloc, timed)?;
+    show_desks(rt, alloc, timed)?;
     if timed {
-        show_read(&rt, rt.alloc())?;
+        show_read(rt, alloc)?;
     }
     Ok(())
+}
+
+fn main(rt: HostRuntime) -> Result<ExitCode> {
+    match read_words(&rt)? {
+        Words::Nothing(status) => Ok(ExitCode::from(status)),
+        Words::Show { timed } => {
+            show_all(&rt, rt.alloc(), timed)?;
+            Ok(ExitCode::SUCCESS)
+        }
+    }
 }

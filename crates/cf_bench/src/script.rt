@@ -2,7 +2,7 @@
 use crate::times::{Shown, Times};
 use anyhow::{Result, anyhow};
 use cf_script::run_script;
-use serde_json::Value as Json;
+use serde_json::{Value as Json, json};
 use std::alloc::{AllocError, Global};
 use std::time::{Clock, Instant};
 
@@ -19,42 +19,60 @@ const ROUNDS: u32 = 20;
 /// Sources, and combines of two stages each up to the root; each source is completed, all functions are called, and the
 /// other steps ask for outcomes. It is filled with blanks to 1 MiB.
 pub(crate) fn script_text(alloc: Global) -> Result<String, AllocError> {
-    let mut text = String::new(alloc);
-    text.push_str("{\"cf\": 1,\n\"stages\": [\n")?;
+    let stages = stages(alloc)?;
+    let steps = steps(alloc)?;
+    let json = json!(in alloc; {"cf": 1u8, "stages": stages, "steps": steps})?;
+    filled(json.to_string(alloc)?)
+}
+
+fn stages(alloc: Global) -> Result<Json, AllocError> {
+    let mut stages = Vec::with_capacity(alloc, STAGES as usize)?;
     for i in 0..STAGES {
-        let end = if i < STAGES - 1 { ",\n" } else { "],\n" };
-        if i < SOURCES {
-            write!(text, "  {{\"form\": \"source\"}}{end}")?;
-        } else {
-            let left = (i - SOURCES).saturating_mul(2);
-            let right = left.saturating_add(1);
-            write!(
-                text,
-                "  {{\"form\": \"combine\", \"of\": [{left}, {right}], \"fn\": \"sum\"}}{end}"
-            )?;
-        }
+        stages.push(stage(alloc, i)?)?;
     }
-    text.push_str("\"steps\": [\n")?;
+    Ok(Json::Array(stages))
+}
+
+/// Stage `i`: a source, or a combine.
+fn stage(alloc: Global, i: u16) -> Result<Json, AllocError> {
+    if i < SOURCES {
+        return json!(in alloc; {"form": "source"});
+    }
+    let left = (i - SOURCES).saturating_mul(2);
+    let right = left.saturating_add(1);
+    json!(in alloc; {"form": "combine", "of": [left, right], "fn": "sum"})
+}
+
+fn steps(alloc: Global) -> Result<Json, AllocError> {
+    let mut steps = Vec::with_capacity(alloc, STEPS as usize)?;
     for k in 0..STEPS {
-        let end = if k < STEPS - 1 { ",\n" } else { "]" };
-        let stage = k % STAGES;
-        if k < SOURCES {
-            write!(text, "  [\"complete\", {stage}, {k}]{end}")?;
-        } else if k == SOURCES {
-            write!(text, "  [\"work\"]{end}")?;
-        } else if k % 2 == 0 {
-            write!(text, "  [\"now\", {stage}, -1]{end}")?;
-        } else {
-            write!(text, "  [\"outcome\", {stage}]{end}")?;
-        }
+        steps.push(step(alloc, k)?)?;
     }
+    Ok(Json::Array(steps))
+}
+
+/// Step `k`: it completes a source, calls all functions, or asks.
+fn step(alloc: Global, k: u16) -> Result<Json, AllocError> {
+    let stage = k % STAGES;
+    if k < SOURCES {
+        json!(in alloc; ["complete", stage, k])
+    } else if k == SOURCES {
+        json!(in alloc; ["work"])
+    } else if k % 2 == 0 {
+        json!(in alloc; ["now", stage, -1i8])
+    } else {
+        json!(in alloc; ["outcome", stage])
+    }
+}
+
+/// A text with blanks behind it.
+fn filled(mut text: String) -> Result<String, AllocError> {
     for _ in 0..BYTES {
-        if text.len() >= BYTES - 1 {
+        if text.len() >= BYTES {
             break;
         }
         text.push_str(" ")?;
     }
-    text.push_str("}")?;
     Ok(text)
 }
 

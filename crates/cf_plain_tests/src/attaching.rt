@@ -3,11 +3,12 @@ ghost use Rattle.std.specs.Prelude.{◌<◌};
 
 use crate::both::{answer, assert_alike, nudge};
 use crate::calls::{call_of, caller_of, finishing};
-use crate::plans::{FORMS, Takes, choice_of, larger_plan, next_number};
+use crate::plans::{FORMS, Takes, choice_of, larger_plan, numbers_of};
 use cf_core::{Attached, Event, Graph, Reply};
 use cf_outcome::Value;
 use cf_plain::Plain;
 use cf_plan::{Form, LimitKind, Of, Plan, PlanBuilder};
+use rand_core::Rng;
 use std::alloc::Global;
 use std::process::Abort;
 use std::test::Fail;
@@ -128,11 +129,12 @@ fn compare_attached(
     list: u32,
 ) -> Result<(), Fail> {
     let (mut graph, mut plain) = both_of(rt, alloc, plan, 2)?;
-    let mut x = next_number(list);
+    let mut numbers = numbers_of(list);
+    let x = numbers.next_u32();
     let first = x >> 29;
     let second = first + 1 + (x >> 27 & 3);
     for step in 0..CALLS {
-        x = next_number(x);
+        let x = numbers.next_u32();
         nudge(rt, &mut graph, x >> 16 & 3);
         if step == first {
             let told = attach_to_both(rt, alloc, &mut graph, &mut plain, news[0])?;
@@ -289,14 +291,14 @@ fn compare_growing(
     number: u32,
 ) -> Result<(), Fail> {
     let (mut graph, mut plain) = both_of(rt, alloc, plan, (number % 9) as u16)?;
-    let mut x = next_number(number);
+    let mut numbers = numbers_of(number);
     for _ in 0..LARGER_CALLS {
-        x = next_number(x);
+        let x = numbers.next_u32();
         nudge(rt, &mut graph, x >> 9 & 3);
         if x >> 28 < 3 {
             attach_by(rt, alloc, &mut graph, &mut plain, seen, x)?;
         }
-        x = next_number(x);
+        let x = numbers.next_u32();
         nudged_call(rt, alloc, &mut graph, &mut plain, x)?;
     }
     let stages = graph.stages();
@@ -321,6 +323,6 @@ fn stages_are_attached_by_rule(rt: HostRuntime) -> Result<(), Fail> {
         compare_growing(&rt, rt.alloc(), &plan, &mut seen, number)?;
     }
     assert_eq!(rt; seen.forms, [0x30007, 0x7fff8, 0x30fc0, 0x7fff8]);
-    assert_eq!(rt; (seen.attached, seen.full), (7379, 7614));
+    assert_eq!(rt; (seen.attached, seen.full), (7439, 7664));
     Ok(())
 }

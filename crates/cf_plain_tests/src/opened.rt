@@ -1,10 +1,11 @@
 //! Graphs whose stages are all there at the opening.
 use crate::both::{answer, assert_alike, nudge};
 use crate::calls::call_of;
-use crate::plans::{larger_plan, next_number, plan_of};
+use crate::plans::{larger_plan, numbers_of, plan_of};
 use cf_core::Graph;
 use cf_plain::Plain;
 use cf_plan::Plan;
+use rand_core::Rng;
 use std::alloc::Global;
 use std::process::Abort;
 use std::test::Fail;
@@ -32,9 +33,9 @@ fn compare(
     let bound = plan.edges() as u64 + stages as u64;
     let mut graph = Graph::new(alloc, plan.copy()?)?;
     let mut plain = Plain::start(alloc, plan.copy()?)?;
-    let mut x = next_number(list);
+    let mut numbers = numbers_of(list);
     for _ in 0..calls {
-        x = next_number(x);
+        let x = numbers.next_u32();
         nudge(rt, &mut graph, x >> 9 & 3);
         answer(rt, alloc, &mut graph, &mut plain, call_of(stages, x))?;
         if x >> 30 == 0 {

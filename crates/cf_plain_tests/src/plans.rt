@@ -1,6 +1,8 @@
-//! Plans that are made by rule, small ones of each choice of forms and sources, and larger ones by numbers.
+//! Plans that are made by rule, small ones of each choice of forms and sources, and larger ones by random numbers.
 use cf_outcome::Value;
 use cf_plan::{Form, LimitKind, Of, Plan, PlanBuilder};
+use rand_core::{Rng, SeedableRng};
+use rand_pcg::Pcg32;
 use std::alloc::Global;
 use std::test::Fail;
 
@@ -95,9 +97,9 @@ pub(crate) fn plan_of(
     Ok(Some(builder.build()?))
 }
 
-/// The next number of a simple rule, of which the upper bits are used.
-pub(crate) fn next_number(x: u32) -> u32 {
-    x.wrapping_mul(1664525).wrapping_add(1013904223)
+/// The stream of random numbers of a list of calls or of a plan, the same each time.
+pub(crate) fn numbers_of(seed: u32) -> Pcg32 {
+    Pcg32::seed_from_u64(u64::from(seed))
 }
 
 /// The larger plan of a number: two sources, 6 to 14 stages of all forms over lower ones, and three limits.
@@ -105,9 +107,9 @@ pub(crate) fn larger_plan(alloc: Global, number: u32) -> Result<Plan, Fail> {
     let mut builder = PlanBuilder::new(alloc);
     builder.stage(Form::Source, &[], None)?;
     builder.stage(Form::Source, &[], None)?;
-    let mut x = next_number(number);
+    let mut numbers = numbers_of(number);
     for k in 2..8 + (number % 9) as u16 {
-        x = next_number(x);
+        let x = numbers.next_u32();
         let (form, takes, called) = FORMS[(x >> 8) as usize % 19];
         let below = if k == 0 { 1 } else { k };
         let of = [

@@ -1,9 +1,9 @@
 //! Does the steps of callers over one desk, and prints what the closed desk holds.
 //!
-//! The words are how many callers there are, how many words the log has, how many records a pass holds, for how many more
-//! stages there is room, how many functions there are, and `threads` or `turns`. Standard input has a script of the first
-//! version without steps, whose stages' functions are those of the lowest numbers, and beside it in the same object
-//! `calls`, an array of:
+//! `cf_stress --callers N --log N --calls N --room N --functions N` says how many callers there are, how many words the log
+//! has, how many records a pass holds, for how many more stages there is room, and how many functions there are. Standard
+//! input has a script of the first version without steps, whose stages' functions are those of the lowest numbers, and
+//! beside it in the same object `calls`, an array of:
 //!
 //! | Call | What is done |
 //! |---|---|
@@ -14,54 +14,119 @@
 //! | `["work"]` | up to four ready stages are claimed, and finished as their functions answer |
 //! | `["ready"]` | a look for a ready stage |
 //!
-//! They are dealt out to the callers in turn. Each caller does its own on a thread of its own, or one thread does them all
-//! in their order, and then the desk is closed. What is printed is the history, each pass's records and refusals in their
-//! order, and the stages' outcomes: `bench/stress` makes what is read, and checks what comes against a model of its own.
+//! They are dealt out to the callers in turn. Each caller does its own on a thread of its own, or with `--turns` one thread
+//! does them all in their order, and then the desk is closed. What is printed is the history, each pass's records and
+//! refusals in their order, and the stages' outcomes: `bench/stress` makes what is read, and checks what comes against a
+//! model of its own. With `--history` it is one line of JSON, the history with each caller's records as `cf_look check`
+//! reads it (docs/FORMATS.md), which `bench/closed` has judged.
+//!
+//! It ends with status 2 where the words are no run's, and 1 where there is no such run.
 #![tactic(auto)]
 
 mod caller;
 mod forms;
 mod hands;
+mod history;
 mod show;
 mod steps;
+mod texts;
 mod words;
 
 ghost use Rattle.std.specs.Prelude.{◌≡◌, All, IfOk, length, vec_len};
 
 use anyhow::{Result, anyhow};
 use caller::{Shared, take_part, take_turns};
-use cf_desk::{Desk, Pass};
+use cf_desk::{Closed, Desk, Pass};
 use cf_plan::Plan;
 use cf_reading::{Func, read_input, read_script};
-use hands::{Hand, hands_of, parts_of};
+use hands::{Hand, Refusal, hands_of, parts_of};
+use history::history_of;
+use serde_json::Value as Json;
 use show::text_of;
 use std::alloc::Global;
+use std::process::ExitCode;
 use std::sync::atomic::AtomicU32;
 use std::thread;
 use std::thread::Threads;
 use steps::{Step, read_steps};
-use words::{Sizes, Words, read_words};
+use words::{Run, Sizes, Words, read_words};
 
-fn main(rt: HostRuntime) -> Result<()> {
-    let Words { sizes, in_turn } = read_words(&rt)?;
+fn main(rt: HostRuntime) -> Result<ExitCode> {
+    match read_words(&rt)? {
+        Words::Nothing(status) => Ok(ExitCode::from(status)),
+        Words::Run(run) => {
+            let given = read_given(&rt)?;
+            carry_out(&rt, given, run)?;
+            Ok(ExitCode::SUCCESS)
+        }
+    }
+}
+
+/// What is read in: the whole object, and the plan, the functions and the steps in it.
+#[derive(Drop)]
+struct Given {
+    json: Json,
+    plan: Plan,
+    functions: Vec<Func>,
+    steps: Vec<Step>,
+}
+
+fn read_given<R: Input + AllocGlobal>(rt: &R) -> Result<Given> {
     let input = read_input(rt.alloc(), &mut rt.reader()).map_err(|_| anyhow!("no input"))?;
+    let json = Json::from_slice(rt.alloc(), &input).map_err(|_| anyhow!("no JSON"))?;
     let script = read_script(rt.alloc(), &input).map_err(|_| anyhow!("no script"))?;
     let (plan, _, functions, _) = script.into_parts();
-    let steps = read_steps(rt.alloc(), &input)?;
-    let (desk, passes) = open(rt.alloc(), plan, sizes)?;
-    let mut hands = hands_of(rt.alloc(), &desk, passes)?;
-    if in_turn {
-        take_turns(&desk, hands.as_mut_slice(), &functions, &steps);
+    let steps = read_steps(rt.alloc(), &json)?;
+    Ok(Given {
+        json,
+        plan,
+        functions,
+        steps,
+    })
+}
+
+/// Lets the callers use a desk of the plan, closes it and prints what it holds.
+fn carry_out<R: Print + Threads + Sync + AllocGlobal>(
+    rt: &R,
+    given: Given,
+    run: Run,
+) -> Result<()> {
+    let Given {
+        json,
+        plan,
+        functions,
+        steps,
+    } = given;
+    let (closed, refused) = used(rt, plan, &functions, &steps, run)?;
+    let text = if run.history {
+        history_of(rt.alloc(), &json, run.sizes, closed)?
     } else {
-        take_all(&rt, &desk, hands.as_mut_slice(), &functions, &steps);
+        text_of(rt.alloc(), closed, &refused, run.sizes.calls)?
+    };
+    print!(rt; "{text}")?;
+    Ok(())
+}
+
+/// A desk that the callers used and that was closed, and what each was refused.
+fn used<R: Threads + Sync + AllocGlobal>(
+    rt: &R,
+    plan: Plan,
+    functions: &[Func],
+    steps: &[Step],
+    run: Run,
+) -> Result<(Closed, Vec<Vec<Refusal>>)> {
+    let (desk, passes) = open(rt.alloc(), plan, run.sizes)?;
+    let mut hands = hands_of(rt.alloc(), &desk, passes)?;
+    if run.in_turn {
+        take_turns(&desk, hands.as_mut_slice(), functions, steps);
+    } else {
+        take_all(rt, &desk, hands.as_mut_slice(), functions, steps);
     }
     let (passes, refused) = parts_of(rt.alloc(), &desk, hands)?;
     let closed = desk
         .close(passes)
         .map_err(|_| anyhow!("the desk wasn't closed"))?;
-    let text = text_of(rt.alloc(), closed, &refused, sizes.calls)?;
-    print!(rt; "{text}")?;
-    Ok(())
+    Ok((closed, refused))
 }
 
 /// A desk of a plan, and its passes.

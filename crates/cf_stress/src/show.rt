@@ -1,10 +1,10 @@
 //! The text of a closed desk.
 use crate::forms::name_of;
 use crate::hands::{Asked, Refusal};
-use cf_core::{Ask, Attached, Claimed, Event, Finished, Graph, Reply, Ticked, Told};
+use crate::texts::{write_reply, write_stage, write_told};
+use cf_core::{Ask, Event, Graph};
 use cf_desk::{Call, Closed, Kept, Rec};
-use cf_outcome::Outcome;
-use cf_plan::{Answer, Args, Form, Of};
+use cf_plan::{Answer, Form, Of};
 use std::alloc::{AllocError, Global};
 
 /// A line for each event, for each pass with one for each of its records and refusals, and for each stage. Each pass held
@@ -84,10 +84,9 @@ fn caller_of(event: Event) -> u8 {
 
 fn write_stages(text: &mut String, graph: &mut Graph) -> Result<(), AllocError> {
     for i in 0..graph.stages() {
-        if graph.has(i) {
-            write!(text, "stage {i} ")?;
-            write_outcome(text, graph.outcome(i))?;
-        }
+        write!(text, "stage {i} ")?;
+        write_stage(text, graph, i)?;
+        text.push_str("\n")?;
     }
     Ok(())
 }
@@ -98,18 +97,16 @@ fn write_record(text: &mut String, record: Rec) -> Result<(), AllocError> {
             write!(text, "did {place} ")?;
             write_call(text, call)?;
             text.push_str(": ")?;
-            write_reply(text, reply)
+            write_reply(text, reply)?;
         }
         Rec::Saw { place, ask, told } => {
             write!(text, "saw {place} ")?;
             write_ask(text, ask)?;
             text.push_str(": ")?;
-            match told {
-                Told::Now(now) => writeln!(text, "{now}"),
-                Told::Outcome(outcome) => write_outcome(text, outcome),
-            }
+            write_told(text, told)?;
         }
     }
+    text.push_str("\n")
 }
 
 fn write_ask(text: &mut String, ask: Ask) -> Result<(), AllocError> {
@@ -150,37 +147,4 @@ fn write_attach(
         write!(text, " fn {number}")?;
     }
     Ok(())
-}
-
-fn write_outcome(text: &mut String, outcome: Option<Outcome>) -> Result<(), AllocError> {
-    match outcome {
-        Some(o) => writeln!(text, "{o}"),
-        None => writeln!(text, "pending"),
-    }
-}
-
-fn write_reply(text: &mut String, reply: Reply) -> Result<(), AllocError> {
-    match reply {
-        Reply::Flag(flag) => writeln!(text, "{flag}"),
-        Reply::Claim(Claimed::Granted(args)) => write_granted(text, args),
-        Reply::Claim(Claimed::Settled) => writeln!(text, "settled"),
-        Reply::Claim(Claimed::Taken) => writeln!(text, "taken"),
-        Reply::Claim(Claimed::NotReady) => writeln!(text, "notready"),
-        Reply::Finish(Finished::Won) => writeln!(text, "won"),
-        Reply::Finish(Finished::Late) => writeln!(text, "late"),
-        Reply::Finish(Finished::NotYours) => writeln!(text, "notyours"),
-        Reply::Tick(Ticked::Fired(count)) => writeln!(text, "fired {count}"),
-        Reply::Tick(Ticked::Past) => writeln!(text, "past"),
-        Reply::Attach(Attached::At(i)) => writeln!(text, "attached {i}"),
-        Reply::Attach(Attached::StagesFull) => writeln!(text, "stagesfull"),
-    }
-}
-
-fn write_granted(text: &mut String, args: Args) -> Result<(), AllocError> {
-    match args {
-        Args::None => writeln!(text, "granted none"),
-        Args::One(v) => writeln!(text, "granted one {v}"),
-        Args::Two(v, w) => writeln!(text, "granted two {v} {w}"),
-        Args::Got(o) => writeln!(text, "granted got {o}"),
-    }
 }

@@ -22,8 +22,7 @@ pub(crate) enum Step {
 }
 
 /// The steps of the member `calls`, in order.
-pub(crate) fn read_steps(alloc: Global, input: &[u8]) -> Result<Vec<Step>> {
-    let json = Json::from_slice(alloc, input).map_err(|_| anyhow!("no JSON"))?;
+pub(crate) fn read_steps(alloc: Global, json: &Json) -> Result<Vec<Step>> {
     let calls = json.get("calls").and_then(Json::as_array);
     let calls = calls.ok_or_else(|| anyhow!("no calls"))?;
     let mut steps = Vec::with_capacity(alloc, calls.len())?;

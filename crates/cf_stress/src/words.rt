@@ -1,5 +1,7 @@
 //! The words after the program's name.
 use anyhow::{Result, anyhow};
+use clap::{Arg, ArgAction, ArgMatches, Command, value_parser};
+use std::alloc::Global;
 use std::env;
 use std::rt::Env;
 
@@ -13,46 +15,99 @@ pub(crate) struct Sizes {
     pub(crate) functions: u16,
 }
 
-/// What the words ask for.
+/// How callers are to use a desk, and what is printed of it.
 #[derive(Clone, Copy)]
-pub(crate) struct Words {
+pub(crate) struct Run {
     pub(crate) sizes: Sizes,
     /// Whether the callers do their steps in turn, and not on threads.
     pub(crate) in_turn: bool,
+    /// Whether the closed desk is written as a history.
+    pub(crate) history: bool,
 }
+
+/// What the words ask for.
+#[derive(Clone, Copy)]
+pub(crate) enum Words {
+    Run(Run),
+    /// Nothing: help was asked for, or the words are no run's. What there is to say is said, and the program ends with this
+    /// status.
+    Nothing(u8),
+}
+
+/// The numbers of 16 bits, each with what it counts.
+const COUNTS: [(&str, &str); 4] = [
+    ("log", "How many words the desk's log has"),
+    ("calls", "How many records a pass holds"),
+    ("room", "For how many more stages there is room"),
+    ("functions", "How many functions there are"),
+];
 
 /// What the words say.
-pub(crate) fn read_words<R: Env + AllocGlobal>(rt: &R) -> Result<Words> {
-    let mut words = env::args(rt)?;
-    words.next();
-    let callers = number(words.next())?;
-    let log = number(words.next())?;
-    let calls = number(words.next())?;
-    let room = number(words.next())?;
-    let functions = number(words.next())?;
-    let in_turn = is_in_turn(words.next())?;
-    let sizes = Sizes {
-        callers: u8::try_from(callers).map_err(|_| anyhow!("too many callers"))?,
-        log,
-        calls,
-        room,
-        functions,
-    };
-    Ok(Words { sizes, in_turn })
-}
-
-fn is_in_turn(word: Option<String>) -> Result<bool> {
-    let word = word.ok_or_else(|| anyhow!("the last word is missing: threads or turns"))?;
-    match word.as_str() {
-        "threads" => Ok(false),
-        "turns" => Ok(true),
-        _ => Err(anyhow!("the last word isn't threads or turns")),
+pub(crate) fn read_words<R: Env + Print + Eprint + AllocGlobal>(rt: &R) -> Result<Words> {
+    let alloc = rt.alloc();
+    let words: Vec<String> = env::args(rt)?.collect(alloc)?;
+    let command = command_of(alloc)?;
+    match command.try_get_matches_from(words.as_slice()) {
+        Ok(matches) => Ok(Words::Run(run_of(&matches)?)),
+        Err(error) => {
+            error.print(rt)?;
+            Ok(Words::Nothing(error.exit_code() as u8))
+        }
     }
 }
 
-fn number(word: Option<String>) -> Result<u16> {
-    let word = word.ok_or_else(|| anyhow!(
-        "a word is missing: callers, log, calls, room, functions"
-    ))?;
-    word.parse().map_err(|_| anyhow!("a word is no number"))
+/// The command with all its options.
+fn command_of<'a>(alloc: Global) -> Result<Command<'a>> {
+    let callers = Arg::new(alloc, "callers")
+        .long("callers")
+        .required(true)
+        .value_parser(value_parser!(u8))
+        .help("How many callers there are");
+    let command = Command::new(alloc, "cf_stress")
+        .about("Do the steps of callers over one desk, and print what the closed desk holds")
+        .arg(callers)?;
+    with_flags(alloc, with_counts(alloc, command)?)
+}
+
+fn with_counts<'a>(alloc: Global, mut command: Command<'a>) -> Result<Command<'a>> {
+    for (name, help) in COUNTS {
+        let count = Arg::new(alloc, name)
+            .long(name)
+            .required(true)
+            .value_parser(value_parser!(u16))
+            .help(help);
+        command = command.arg(count)?;
+    }
+    Ok(command)
+}
+
+fn with_flags<'a>(alloc: Global, command: Command<'a>) -> Result<Command<'a>> {
+    let turns = Arg::new(alloc, "turns")
+        .long("turns")
+        .action(ArgAction::SetTrue)
+        .help("Let one thread do all steps in their order");
+    let history = Arg::new(alloc, "history")
+        .long("history")
+        .action(ArgAction::SetTrue)
+        .help("Write the closed desk as a history, in one line of JSON");
+    Ok(command.arg(turns)?.arg(history)?)
+}
+
+fn run_of(matches: &ArgMatches<'_>) -> Result<Run> {
+    let sizes = sizes_of(matches).ok_or_else(|| anyhow!("a number is missing"))?;
+    Ok(Run {
+        sizes,
+        in_turn: matches.get_flag("turns"),
+        history: matches.get_flag("history"),
+    })
+}
+
+fn sizes_of(matches: &ArgMatches<'_>) -> Option<Sizes> {
+    Some(Sizes {
+        callers: matches.get_one::<u8>("callers")?,
+        log: matches.get_one::<u16>("log")?,
+        calls: matches.get_one::<u16>("calls")?,
+        room: matches.get_one::<u16>("room")?,
+        functions: matches.get_one::<u16>("functions")?,
+    })
 }
