@@ -9,7 +9,8 @@
 //! what would be right there; and what is odd about it. It ends with status 0 where nothing is wrong, 1 where `cf run` would
 //! refuse the script, and 3 where it is only odd.
 //!
-//! Both end with 2 where the words or what is on standard input can't be read. The verdicts are those of `cf_history` and
+//! Both end with 2 where the words or what is on standard input can't be read, and where standard output can't be written or
+//! memory is refused, which a line on standard error tells. The verdicts are those of `cf_history` and
 //! `cf_explain`, which are proved; this program reads in and writes out.
 #![tactic(auto)]
 
@@ -27,6 +28,7 @@ use script::explain_script;
 use show::line_of;
 use std::io::Read;
 use std::process::ExitCode;
+use std::rt::Env;
 use words::{Look, read_words};
 
 /// All histories fit.
@@ -35,7 +37,7 @@ const FITS: u8 = 0;
 /// One doesn't.
 const FITS_NOT: u8 = 1;
 
-/// One can't be read.
+/// One can't be read, or nothing can be said.
 const UNREADABLE: u8 = 2;
 
 /// Nothing is wrong with a script.
@@ -47,19 +49,35 @@ const REFUSED: u8 = 1;
 /// It would be run, and something about it is odd.
 const ODD: u8 = 3;
 
-fn main(rt: HostRuntime) -> Result<ExitCode> {
-    match read_words(&rt)? {
-        Look::Nothing(status) => Ok(ExitCode::from(status)),
-        Look::Explain => Ok(ExitCode::from(explain_one(&rt)?)),
-        Look::Check { lines } => {
-            let input = std::io::read_to_string(rt.alloc(), rt.reader())?;
-            let status = if lines {
-                check_lines(&rt, &input)?
-            } else {
-                check_one(&rt, &input)?
-            };
-            Ok(ExitCode::from(status))
+fn main(rt: HostRuntime) -> ExitCode {
+    match look(&rt) {
+        Ok(status) => ExitCode::from(status),
+        Err(why) => {
+            let _ = eprintln!(rt; "cf_look: {why}");
+            ExitCode::from(UNREADABLE)
         }
+    }
+}
+
+/// Does what the words ask for, and answers the status to end with, unless standard output fails or memory is refused.
+fn look<R: Env + Input + Print + Eprint + AllocGlobal>(rt: &R) -> Result<u8> {
+    match read_words(rt)? {
+        Look::Nothing(status) => Ok(status),
+        Look::Explain => explain_one(rt),
+        Look::Check { lines } => check_input(rt, lines),
+    }
+}
+
+/// Judges what is on standard input: a history, or one in each line.
+fn check_input<R: Input + Print + AllocGlobal>(rt: &R, lines: bool) -> Result<u8> {
+    let Ok(input) = std::io::read_to_string(rt.alloc(), rt.reader()) else {
+        println!(rt; "unreadable: standard input")?;
+        return Ok(UNREADABLE);
+    };
+    if lines {
+        check_lines(rt, &input)
+    } else {
+        check_one(rt, &input)
     }
 }
 
