@@ -46,6 +46,11 @@ def number_of(text):
     return int(text) if is_whole else float(text)
 
 
+def whole_of(text):
+    """The same of a number without a point and an exponent, of which short ones come often."""
+    return int(text) if len(text) <= 15 and text != "-0" else number_of(text)
+
+
 def no_constant(text):
     raise ValueError(text)
 
@@ -56,12 +61,24 @@ def kept(pairs):
     return dict(pairs)
 
 
+def deepest_at_most(text):
+    """No less than how deep they stand: as deep as there are brackets that open."""
+    return text.count("[") + text.count("{")
+
+
+HOW = {"parse_int": whole_of, "parse_float": number_of, "parse_constant": no_constant}
+READER = json.JSONDecoder(**HOW)
+CAREFUL = json.JSONDecoder(object_pairs_hook=kept, **HOW)
+
+
 def value_of(data):
     try:
         text = data.decode("utf-8")
-        if deepest(text) > 127:
+        if deepest_at_most(text) > 127 and deepest(text) > 127:
             raise ValueError("too deep")
-        value = json.loads(text, parse_int=number_of, parse_float=number_of, parse_constant=no_constant, object_pairs_hook=kept)
+        if "\\" not in text:  # and so no text holds half of a pair
+            return READER.decode(text)
+        value = CAREFUL.decode(text)
         json.dumps(value, ensure_ascii=False).encode("utf-8")
         return value
     except (ValueError, RecursionError):
@@ -190,10 +207,14 @@ def check_steps(script, room, is_race):
         need(is_right and k < MAX_STEPS, f"fault 6 step {k}")
 
 
-def read(data, workers=None):
-    """The script that bytes write, to be run or, with so many workers, to be raced."""
+def read(data):
+    """The JSON value that bytes write, or the first fault of them as a whole."""
     need(len(data) <= MAX_BYTES, "fault 1 too long")
-    script = value_of(data)
+    return value_of(data)
+
+
+def checked(script, workers=None):
+    """The script that a JSON value is, to be run or, with so many workers, to be raced."""
     need(isinstance(script, dict), "fault 3 shape top")
     need(is_whole(script.get("cf"), 1, 2), "fault 3 shape cf")
     need(script["cf"] == 1 or is_whole(script.get("room", 0), 0, MAX_STAGES), "fault 3 shape room")
@@ -213,8 +234,21 @@ def read(data, workers=None):
 
 def answer(data, workers=None):
     """The status, and what is printed."""
+    return answers(data, [workers])[0]
+
+
+def answers(data, ways):
+    """The same for each way to do what the bytes ask for: None, or with so many workers."""
     try:
-        script = read(data, workers)
+        value = read(data)
+    except Fault as fault:
+        return [(1, f"{fault}\n")] * len(ways)
+    return [answer_to(value, workers) for workers in ways]
+
+
+def answer_to(value, workers):
+    try:
+        script = checked(value, workers)
     except Fault as fault:
         return 1, f"{fault}\n"
     lines = model.run(script) if workers is None else model.race(script)

@@ -13,8 +13,9 @@
 //! by the script's steps. It ends with status 0, or with 1 where `cf run` would refuse the script, for the fault whose line
 //! then is on standard error.
 //!
-//! All end with 2 where the words or what is on standard input can't be read. The verdicts are those of `cf_history`,
-//! `cf_explain` and `cf_picture`, which are proved; this program reads in and writes out.
+//! All end with 2 where the words or what is on standard input can't be read, and where standard output can't be written or
+//! memory is refused, which a line on standard error tells. The verdicts are those of `cf_history`, `cf_explain` and
+//! `cf_picture`, which are proved; this program reads in and writes out.
 #![tactic(auto)]
 
 mod history;
@@ -30,6 +31,7 @@ use history::judge;
 use script::{draw, explain_script, script_in};
 use show::line_of;
 use std::process::ExitCode;
+use std::rt::Env;
 use words::{Look, read_words};
 
 /// All histories fit.
@@ -38,7 +40,7 @@ const FITS: u8 = 0;
 /// One doesn't.
 const FITS_NOT: u8 = 1;
 
-/// One can't be read.
+/// One can't be read, or nothing can be said.
 const UNREADABLE: u8 = 2;
 
 /// Nothing is wrong with a script.
@@ -53,20 +55,36 @@ const REFUSED: u8 = 1;
 /// It would be run, and something about it is odd.
 const ODD: u8 = 3;
 
-fn main(rt: HostRuntime) -> Result<ExitCode> {
-    match read_words(&rt)? {
-        Look::Nothing(status) => Ok(ExitCode::from(status)),
-        Look::Explain => Ok(ExitCode::from(explain_one(&rt)?)),
-        Look::Dot => Ok(ExitCode::from(draw_one(&rt)?)),
-        Look::Check { lines } => {
-            let input = std::io::read_to_string(rt.alloc(), rt.reader())?;
-            let status = if lines {
-                check_lines(&rt, &input)?
-            } else {
-                check_one(&rt, &input)?
-            };
-            Ok(ExitCode::from(status))
+fn main(rt: HostRuntime) -> ExitCode {
+    match look(&rt) {
+        Ok(status) => ExitCode::from(status),
+        Err(why) => {
+            let _ = eprintln!(rt; "cf_look: {why}");
+            ExitCode::from(UNREADABLE)
         }
+    }
+}
+
+/// Does what the words ask for, and answers the status to end with, unless standard output fails or memory is refused.
+fn look<R: Env + Input + Print + Eprint + AllocGlobal>(rt: &R) -> Result<u8> {
+    match read_words(rt)? {
+        Look::Nothing(status) => Ok(status),
+        Look::Explain => explain_one(rt),
+        Look::Dot => draw_one(rt),
+        Look::Check { lines } => check_input(rt, lines),
+    }
+}
+
+/// Judges what is on standard input: a history, or one in each line.
+fn check_input<R: Input + Print + AllocGlobal>(rt: &R, lines: bool) -> Result<u8> {
+    let Ok(input) = std::io::read_to_string(rt.alloc(), rt.reader()) else {
+        println!(rt; "unreadable: standard input")?;
+        return Ok(UNREADABLE);
+    };
+    if lines {
+        check_lines(rt, &input)
+    } else {
+        check_one(rt, &input)
     }
 }
 

@@ -4,6 +4,7 @@ use cf_explain::{Verdict, explain};
 use cf_picture::draw_script;
 use cf_reading::MAX_BYTES;
 use cf_script::ScriptFault;
+use std::alloc::AllocError;
 use std::io;
 use std::io::Read;
 
@@ -17,13 +18,14 @@ pub(crate) fn script_in<R: Input + AllocGlobal>(rt: &R) -> io::Result<Vec<u8>> {
 }
 
 /// Writes the picture of the script of these bytes, and says whether there is one. Where `cf run` would refuse it, the line
-/// of its fault goes to standard error.
+/// of its fault goes to standard error. Refused memory is an error, as everywhere in this program.
 pub(crate) fn draw<R: Print + Eprint + AllocGlobal>(rt: &R, bytes: &[u8]) -> Result<bool> {
     match draw_script(rt.alloc(), bytes) {
         Ok(text) => {
             print!(rt; "{text}")?;
             Ok(true)
         }
+        Err(ScriptFault::NoMemory) => Err(AllocError.into()),
         Err(fault) => {
             eprintln!(rt; "{fault}")?;
             Ok(false)

@@ -29,7 +29,7 @@ fn open_growing(alloc: Global, workers: u8) -> Result<(Desk, Vec<Pass>), Fail>
 }
 
 /// Waits until the flag is set, at most 1,000,000,000 looks.
-fn wait_for(flag: &AtomicBool) {
+pub(crate) fn wait_for(flag: &AtomicBool) {
     for _ in 0..1_000_000_000u32 {
         if flag.load(Ordering::SeqCst) {
             return;
@@ -65,7 +65,7 @@ fn attach_two(desk: &Desk, pass: &mut Pass, gate: &Handover)
 }
 
 /// Works until one look finds nothing ready.
-fn work_on<G: Gate>(desk: &Desk, pass: &mut Pass, gate: &G) -> Option<Done>
+pub(crate) fn work_on<G: Gate>(desk: &Desk, pass: &mut Pass, gate: &G) -> Option<Done>
     requires { IsOf desk.now pass.old }
     ensures { IsOf desk.now pass.new }
 {
@@ -73,7 +73,7 @@ fn work_on<G: Gate>(desk: &Desk, pass: &mut Pass, gate: &G) -> Option<Done>
 }
 
 /// A desk of two callers, closed with their passes.
-fn close_two(alloc: Global, desk: Desk, a: Pass, b: Pass) -> Result<Closed, Fail>
+pub(crate) fn close_two(alloc: Global, desk: Desk, a: Pass, b: Pass) -> Result<Closed, Fail>
     requires callers { desk.setting.callers ≡ 2 }
     requires passes { IsOf desk a × IsOf desk b }
 {
@@ -82,7 +82,7 @@ fn close_two(alloc: Global, desk: Desk, a: Pass, b: Pass) -> Result<Closed, Fail
 }
 
 /// The last two passes of a desk.
-fn two_passes(desk: &Desk, mut passes: Vec<Pass>) -> Result<(Pass, Pass), Fail>
+pub(crate) fn two_passes(desk: &Desk, mut passes: Vec<Pass>) -> Result<(Pass, Pass), Fail>
     requires { All (IsOf desk.now) passes.items }
     ensures { IfOk result (λ r. IsOf desk.now r.0 × IsOf desk.now r.1) }
 {

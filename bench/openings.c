@@ -1,0 +1,190 @@
+/* Opens what the library for C opens, one after another, each with a line that says what it gave, or that memory was refused it and
+ * what the same opening gave then. Before them stands a graph whose calls take no memory once it is opened. bench/refused runs this
+ * with each allocation refused in turn, and with all refused from one on.
+ *
+ * A row of OPENINGS is a name and a function, which frees all that it opened, answers a code of the library, and where that is 0
+ * has set three numbers, of which the last is how often a builder's refused call was made again. */
+#include "cf.h"
+#include <stdio.h>
+
+typedef uint32_t opening(long numbers[3]);
+
+static cf_answer four(void) { return (cf_answer){.kind = CF_GIVE, .value = {CF_INT, 4}}; }
+
+/* Adds a stage, and where memory was refused it the same once more. */
+static uint32_t add(cf_handle *builder, uint32_t form, size_t n, uint32_t function, long *again) {
+    static const uint16_t sources[] = {0, 1};
+    uint16_t stage = 0;
+    uint32_t code = cf_builder_stage(builder, form, sources, n, function, &stage);
+    if (code == CF_NO_MEMORY) {
+        ++*again;
+        code = cf_builder_stage(builder, form, sources, n, function, &stage);
+    }
+    return code;
+}
+
+/* Gives a stage a limit, in the same way. */
+static uint32_t limit(cf_handle *builder, long *again) {
+    uint32_t code = cf_builder_limit(builder, 2, 10, CF_TIMEOUT, (cf_value){CF_NIL, 0});
+    if (code == CF_NO_MEMORY) {
+        ++*again;
+        code = cf_builder_limit(builder, 2, 10, CF_TIMEOUT, (cf_value){CF_NIL, 0});
+    }
+    return code;
+}
+
+/* A builder with a source, a function over it, one over both, and a limit. */
+static uint32_t begin(cf_handle *builder, uint16_t stages, uint16_t edges, long *again) {
+    uint32_t code = cf_builder_new(builder, stages, edges);
+    if (code == CF_OK)
+        code = add(builder, CF_SOURCE, 0, CF_NO_FUNCTION, again);
+    if (code == CF_OK)
+        code = add(builder, CF_APPLY, 1, 0, again);
+    if (code == CF_OK)
+        code = add(builder, CF_COMBINE, 2, 1, again);
+    return code == CF_OK ? limit(builder, again) : code;
+}
+
+/* How many stages and limits a builder took. */
+static uint32_t begun(long numbers[3], uint16_t stages, uint16_t edges) {
+    cf_handle builder = {0};
+    numbers[0] = 3;
+    numbers[1] = 1;
+    numbers[2] = 0;
+    uint32_t code = begin(&builder, stages, edges, &numbers[2]);
+    cf_free(&builder);
+    return code;
+}
+
+static uint32_t small_builder(long numbers[3]) { return begun(numbers, 0, 0); }
+
+static uint32_t roomy_builder(long numbers[3]) { return begun(numbers, 3, 3); }
+
+static uint32_t make_plan(cf_handle *plan, long *again) {
+    uint32_t code = begin(plan, 0, 0, again);
+    return code == CF_OK ? cf_build(plan) : code;
+}
+
+/* What a plan answers where it is built once more, and where it is asked for a stage. */
+static uint32_t plan(long numbers[3]) {
+    cf_handle plan = {0};
+    numbers[2] = 0;
+    uint32_t code = make_plan(&plan, &numbers[2]);
+    if (code == CF_OK) {
+        cf_outcome outcome;
+        numbers[0] = cf_build(&plan);
+        numbers[1] = cf_get(&plan, 0, &outcome);
+    }
+    cf_free(&plan);
+    return code;
+}
+
+/* Calls the functions of all stages that are ready. */
+static long work(cf_handle *graph) {
+    long won = 0;
+    uint16_t stage;
+    cf_reply reply;
+    while (cf_lowest_ready(graph, &stage) == CF_OK && cf_claim(graph, 1, stage, &reply) == CF_OK)
+        won += cf_finish(graph, 1, stage, four(), &reply) == CF_OK && reply.answer == CF_WON;
+    return won;
+}
+
+/* How many stages a graph has in the end, and how many functions were called. */
+static uint32_t graph_with(long numbers[3], uint16_t room) {
+    static const uint16_t first[] = {0};
+    cf_handle plan = {0}, graph = {0};
+    numbers[2] = 0;
+    uint32_t code = make_plan(&plan, &numbers[2]);
+    if (code == CF_OK)
+        code = cf_graph_new(&plan, room, &graph);
+    if (code == CF_OK) {
+        cf_reply reply;
+        uint16_t stages = 0;
+        cf_attach(&graph, CF_THEN_RUN, first, 1, 0, &reply);
+        cf_complete(&graph, 0, (cf_value){CF_INT, 3}, &reply);
+        numbers[1] = work(&graph);
+        cf_stages(&graph, &stages);
+        numbers[0] = stages;
+    }
+    cf_free(&graph);
+    cf_free(&plan);
+    return code;
+}
+
+static uint32_t graph(long numbers[3]) { return graph_with(numbers, 0); }
+
+static uint32_t growing_graph(long numbers[3]) { return graph_with(numbers, 2); }
+
+static const struct {
+    const char *name;
+    opening *open;
+} OPENINGS[] = {
+    {"C builder", small_builder}, {"C builder with room", roomy_builder}, {"C plan", plan}, {"C graph", graph},
+    {"C growing graph", growing_graph},
+};
+
+static void show(const char *name, opening *open) {
+    long numbers[3] = {0};
+    uint32_t code = open(numbers);
+    if (code == CF_NO_MEMORY) {
+        dprintf(1, "%s: no memory\n", name);
+        code = open(numbers);
+    }
+    if (code == CF_OK)
+        dprintf(1, "%s: %ld, %ld, %ld\n", name, numbers[0], numbers[1], numbers[2]);
+    else
+        dprintf(1, "%s: refused\n", name);
+}
+
+/* A line of what a changing call answered. */
+static void tell(uint32_t code, const cf_reply *reply) {
+    dprintf(1, "  code %u: %u, %u, first %u %d\n", code, reply->answer, reply->number, reply->args.first.kind, reply->args.first.number);
+}
+
+/* Each call of a graph, of which none takes memory. */
+static void call_each(cf_handle *graph) {
+    static const uint16_t first[] = {0};
+    cf_reply reply = {0};
+    cf_outcome outcome = {0};
+    cf_now now = {0};
+    uint16_t stage = 0, function = 0, stages = 0;
+    uint64_t turns = 0;
+    tell(cf_attach(graph, CF_THEN_RUN, first, 1, 0, &reply), &reply);
+    tell(cf_attach(graph, CF_THEN_RUN, first, 1, 0, &reply), &reply);
+    tell(cf_complete(graph, 0, (cf_value){CF_INT, 3}, &reply), &reply);
+    tell(cf_fail(graph, 0, 7, &reply), &reply);
+    uint32_t ready = cf_lowest_ready(graph, &stage);
+    tell(cf_claim(graph, 1, 1, &reply), &reply);
+    tell(cf_cancel(graph, 1, &reply), &reply);
+    tell(cf_finish(graph, 1, 1, four(), &reply), &reply);
+    tell(cf_tick(graph, 5, &reply), &reply);
+    uint32_t got = cf_get(graph, 0, &outcome), told = cf_get_now(graph, 1, (cf_value){CF_NIL, 0}, &now);
+    dprintf(1, "  ready %u %u, outcome %u %d, now %u %u\n", ready, stage, got, outcome.value.number, told, now.kind);
+    uint32_t named = cf_function(graph, 1, &function), restarted = cf_restart(graph);
+    cf_stages(graph, &stages);
+    cf_turns(graph, &turns);
+    dprintf(1, "  function %u %u, restarted %u: %u stages, %lu turns\n", named, function, restarted, stages, turns);
+}
+
+static void show_calls(void) {
+    cf_handle plan = {0}, graph = {0};
+    long again = 0;
+    uint32_t code = make_plan(&plan, &again);
+    if (code == CF_OK)
+        code = cf_graph_new(&plan, 1, &graph);
+    if (code == CF_OK && again == 0) {
+        dprintf(1, "C calls:\n");
+        call_each(&graph);
+    } else {
+        dprintf(1, "C calls: no memory\n");
+    }
+    cf_free(&graph);
+    cf_free(&plan);
+}
+
+int main(void) {
+    show_calls();
+    for (size_t k = 0; k < sizeof OPENINGS / sizeof *OPENINGS; k++)
+        show(OPENINGS[k].name, OPENINGS[k].open);
+    return 0;
+}
