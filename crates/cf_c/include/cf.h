@@ -9,8 +9,8 @@
  * What C owes, and nothing can check (docs/C.md has more):
  *   - a handle isn't copied and then used twice; it may be moved, by memcpy too, if the old one isn't used again;
  *   - one call at a time has a handle, and two handles of one call are different ones;
- *   - no pointer is null, but `of` where its count is 0; each is aligned, and to as many elements as said, in memory that no other call
- *     uses meanwhile.
+ *   - each pointer is aligned, and to as many elements as said, in memory that no other call uses meanwhile.
+ * A null pointer is answered CF_NULL, unless it is `of` and its count is 0; cf_free of one does nothing.
  *
  * Each call answers a cf_code: 0 where it did what it was asked. What it tells goes through its last pointer then; after any other
  * code that is left as it was, and so is what stands behind the handle, but as cf_build says. Every call on an empty handle answers
@@ -45,7 +45,8 @@ typedef enum {
   CF_NO_STAGE = 14,           /* a stage that the call names isn't there */
   CF_BAD_ATTACH = 15,         /* an attached stage doesn't fit its form */
   CF_ROOM = 16,               /* with the room there would be over 4,096 stages, or, two for each place, over 16,384 edges */
-  CF_NOTHING = 17             /* there is none: no ready stage, no function */
+  CF_NOTHING = 17,            /* there is none: no ready stage, no function */
+  CF_NULL = 255               /* a pointer is null that may not be; nothing was done */
 } cf_code;
 
 /* Forms of stages, for the methods of Java's CompletionStage, with how many sources each takes. All but CF_SOURCE, CF_ALL_OF and
@@ -111,7 +112,7 @@ typedef struct { uint32_t answer; uint32_t number; cf_args args; } cf_reply;
 
 /* ---- Any handle ---- */
 
-/* Frees what stands behind a handle, and leaves it empty. */
+/* Frees what stands behind a handle, and leaves it empty. A null pointer is left alone. */
 void cf_free(cf_handle *h);
 
 /* ---- Plans ---- */

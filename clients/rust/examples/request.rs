@@ -1,0 +1,65 @@
+//! A request: eight backends are asked, of which one doesn't answer before its limit; what they give is summed.
+//! Four threads answer one request each, by graphs of one plan.
+use cf::{Answer, Args, Form, Graph, Limit, Outcome, Plan, PlanBuilder, Refused, Ticked, Value};
+use std::thread;
+
+const BACKENDS: u16 = 8;
+const SLOW: u16 = 5;
+const LIMIT: u32 = 60;
+
+fn number(value: Value) -> i32 {
+    match value {
+        Value::Int(number) => number,
+        Value::Nil => 0,
+    }
+}
+
+/// The functions of stages: 0 asks a backend, 1 adds.
+fn called(_function: u16, args: Args) -> Answer {
+    match args {
+        Args::One(given) => Answer::Give(Value::Int(10 * number(given))),
+        Args::Two(left, right) => Answer::Give(Value::Int(number(left).wrapping_add(number(right)))),
+        _ => Answer::Throw(500),
+    }
+}
+
+fn plan() -> Result<(Plan, u16), Refused> {
+    let mut builder = PlanBuilder::new()?;
+    for _ in 0..BACKENDS {
+        let answer = builder.stage(Form::Source, &[], None)?;
+        builder.limit(answer, LIMIT, Limit::Give(Value::Int(0)))?;
+    }
+    let mut sum = builder.stage(Form::Apply, &[0], Some(0))?;
+    for answer in 1..BACKENDS {
+        let scaled = builder.stage(Form::Apply, &[answer], Some(0))?;
+        sum = builder.stage(Form::Combine, &[sum, scaled], Some(1))?;
+    }
+    Ok((builder.build()?, sum))
+}
+
+fn request(mut graph: Graph, sum: u16, times: i32) -> Result<(Ticked, Option<Outcome>), Refused> {
+    for backend in (0..BACKENDS).filter(|&backend| backend != SLOW) {
+        graph.complete(backend, Value::Int(times * (i32::from(backend) + 1)))?;
+    }
+    graph.work(1, called)?;
+    let ticked = graph.tick(LIMIT)?;
+    graph.work(1, called)?;
+    Ok((ticked, graph.outcome(sum)?))
+}
+
+fn main() -> Result<(), Refused> {
+    let (mut plan, sum) = plan()?;
+    let mut threads = Vec::new();
+    for times in 1..=4 {
+        let graph = plan.graph(0)?;
+        threads.push(thread::spawn(move || request(graph, sum, times)));
+    }
+    for (place, thread) in threads.into_iter().enumerate() {
+        let (ticked, outcome) = thread.join().expect("a request panics")?;
+        println!("request {}: {:?}, {:?}", place + 1, ticked, outcome);
+    }
+    let mut graph = plan.graph(1)?;
+    println!("attached: {:?}, then {:?}", graph.attach(Form::Apply, &[sum], Some(0))?, graph.attach(Form::Apply, &[sum], Some(0))?);
+    println!("no such stage: {}", graph.complete(999, Value::Nil).unwrap_err());
+    Ok(())
+}

@@ -1,0 +1,87 @@
+//! Plans, and how they are built.
+use crate::graph::Graph;
+use crate::held::Held;
+use crate::refused::Refused;
+use crate::sys;
+use crate::values::{value_in, Value};
+
+/// How a stage depends on its sources; the names are those of Java's `CompletionStage`.
+#[derive(Clone, Copy, PartialEq, Eq, Debug)]
+#[repr(u32)]
+pub enum Form {
+    Source,
+    Supply,
+    RunAsync,
+    Apply,
+    Accept,
+    ThenRun,
+    Combine,
+    AcceptBoth,
+    RunBoth,
+    ApplyEither,
+    AcceptEither,
+    RunEither,
+    Compose,
+    Handle,
+    WhenComplete,
+    Exceptionally,
+    AllOf,
+    AnyOf,
+    ExceptionallyCompose,
+}
+
+/// What a limit does to a stage that isn't settled at its moment.
+#[derive(Clone, Copy, PartialEq, Eq, Debug)]
+pub enum Limit {
+    Timeout,
+    Give(Value),
+}
+
+/// Stages, each of which depends on lower ones.
+pub struct PlanBuilder(Held);
+
+impl PlanBuilder {
+    pub fn new() -> Result<PlanBuilder, Refused> {
+        let mut held = Held::empty();
+        held.call(|h| unsafe { sys::cf_builder_new(h, 0, 0) })?;
+        Ok(PlanBuilder(held))
+    }
+
+    /// Adds a stage to these sources, and tells its number. `function` is the number by which you know its function.
+    pub fn stage(&mut self, form: Form, of: &[u16], function: Option<u16>) -> Result<u16, Refused> {
+        self.0.tell(|h, told| unsafe { sys::cf_builder_stage(h, form as u32, of.as_ptr(), of.len(), function_in(function), told) })
+    }
+
+    pub fn limit(&mut self, stage: u16, at: u32, limit: Limit) -> Result<(), Refused> {
+        let (kind, value) = match limit {
+            Limit::Timeout => (0, Value::Nil),
+            Limit::Give(value) => (1, value),
+        };
+        self.0.call(|h| unsafe { sys::cf_builder_limit(h, stage, at, kind, value_in(value)) })
+    }
+
+    pub fn build(mut self) -> Result<Plan, Refused> {
+        self.0.call(|h| unsafe { sys::cf_build(h) })?;
+        Ok(Plan(self.0))
+    }
+}
+
+pub(crate) fn function_in(function: Option<u16>) -> u32 {
+    function.map_or(sys::NO_FUNCTION, u32::from)
+}
+
+/// What graphs are opened of. They share its memory, which stays until the last of them is dropped.
+pub struct Plan(Held);
+
+impl Plan {
+    /// A graph at its start, with room for so many stages that are attached later.
+    pub fn graph(&mut self, room: u16) -> Result<Graph, Refused> {
+        let mut graph = Held::empty();
+        self.0.call(|plan| graph_code(graph.call(|h| unsafe { sys::cf_graph_new(plan, room, h) })))?;
+        Ok(Graph(graph))
+    }
+}
+
+fn graph_code(made: Result<(), Refused>) -> u32 {
+    made.err().map_or(0, Refused::code)
+}

@@ -1,0 +1,159 @@
+//! What callers give and are told.
+use crate::sys;
+
+/// Nothing, which is Java's null, or a number.
+#[derive(Clone, Copy, PartialEq, Eq, Debug)]
+pub enum Value {
+    Nil,
+    Int(i32),
+}
+
+/// Why a stage ended without a value.
+#[derive(Clone, Copy, PartialEq, Eq, Debug)]
+pub enum Cause {
+    Thrown(u32),
+    Cancelled,
+    TimedOut,
+    BadAnswer,
+}
+
+/// What a stage is settled with. `wrapped`: the cause stands inside a `CompletionException`.
+#[derive(Clone, Copy, PartialEq, Eq, Debug)]
+pub enum Outcome {
+    Value(Value),
+    Fault { cause: Cause, wrapped: bool },
+}
+
+/// What a stage's function is called with.
+#[derive(Clone, Copy, PartialEq, Eq, Debug)]
+pub enum Args {
+    None,
+    One(Value),
+    Two(Value, Value),
+    Got(Outcome),
+}
+
+/// What a stage's function answers. `Link`: of a composing form, the stage that it takes its outcome from.
+#[derive(Clone, Copy, PartialEq, Eq, Debug)]
+pub enum Answer {
+    Give(Value),
+    Throw(u32),
+    Link(u16),
+}
+
+/// What is told of a stage at present.
+#[derive(Clone, Copy, PartialEq, Eq, Debug)]
+pub enum Now {
+    Absent(Value),
+    Value(Value),
+    Completion(Cause),
+    Cancellation,
+}
+
+#[derive(Clone, Copy, PartialEq, Eq, Debug)]
+pub enum Claimed {
+    Granted(Args),
+    Settled,
+    Taken,
+    NotReady,
+}
+
+#[derive(Clone, Copy, PartialEq, Eq, Debug)]
+pub enum Finished {
+    Won,
+    Late,
+    NotYours,
+}
+
+/// How many limits settled their stage, or that a later moment was handed in before.
+#[derive(Clone, Copy, PartialEq, Eq, Debug)]
+pub enum Ticked {
+    Fired(u32),
+    Past,
+}
+
+pub(crate) fn value_in(value: Value) -> sys::Value {
+    match value {
+        Value::Nil => sys::Value { kind: 0, number: 0 },
+        Value::Int(number) => sys::Value { kind: 1, number },
+    }
+}
+
+pub(crate) fn value_out(value: sys::Value) -> Value {
+    match value.kind {
+        0 => Value::Nil,
+        _ => Value::Int(value.number),
+    }
+}
+
+pub(crate) fn answer_in(answer: Answer) -> sys::Answer {
+    let none = sys::Answer::default();
+    match answer {
+        Answer::Give(value) => sys::Answer { value: value_in(value), ..none },
+        Answer::Throw(code) => sys::Answer { kind: 1, code, ..none },
+        Answer::Link(stage) => sys::Answer { kind: 2, stage, ..none },
+    }
+}
+
+fn cause_of(outcome: sys::Outcome) -> Cause {
+    match outcome.kind {
+        2 => Cause::Thrown(outcome.code),
+        3 => Cause::Cancelled,
+        4 => Cause::TimedOut,
+        _ => Cause::BadAnswer,
+    }
+}
+
+pub(crate) fn outcome_out(outcome: sys::Outcome) -> Option<Outcome> {
+    match outcome.kind {
+        0 => None,
+        1 => Some(Outcome::Value(value_out(outcome.value))),
+        _ => Some(Outcome::Fault {
+            cause: cause_of(outcome),
+            wrapped: outcome.wrapped != 0,
+        }),
+    }
+}
+
+pub(crate) fn args_out(args: sys::Args) -> Args {
+    match args.kind {
+        0 => Args::None,
+        1 => Args::One(value_out(args.first)),
+        2 => Args::Two(value_out(args.first), value_out(args.second)),
+        // A function is called with an outcome only once there is one.
+        _ => Args::Got(outcome_out(args.outcome).unwrap_or(Outcome::Value(Value::Nil))),
+    }
+}
+
+pub(crate) fn now_out(now: sys::Now) -> Now {
+    match now.kind {
+        0 => Now::Absent(value_out(now.outcome.value)),
+        1 => Now::Value(value_out(now.outcome.value)),
+        2 => Now::Completion(cause_of(now.outcome)),
+        _ => Now::Cancellation,
+    }
+}
+
+pub(crate) fn claimed_out(reply: sys::Reply) -> Claimed {
+    match reply.answer {
+        0 => Claimed::Granted(args_out(reply.args)),
+        1 => Claimed::Settled,
+        2 => Claimed::Taken,
+        _ => Claimed::NotReady,
+    }
+}
+
+pub(crate) fn finished_out(reply: sys::Reply) -> Finished {
+    match reply.answer {
+        0 => Finished::Won,
+        1 => Finished::Late,
+        _ => Finished::NotYours,
+    }
+}
+
+pub(crate) fn ticked_out(reply: sys::Reply) -> Ticked {
+    match reply.answer {
+        0 => Ticked::Fired(reply.number),
+        _ => Ticked::Past,
+    }
+}

@@ -1,0 +1,67 @@
+#!/usr/bin/env python3
+"""Writes the tests of null pointers that stand in front of the proved exports, in C.
+
+    nulls.py HEADER            the C text
+    nulls.py --names HEADER    the names of the calls, a line each
+
+The header is the only table: each call that it declares gets a function of its name, which tests the pointers and calls the proved
+export under the name proved_NAME. A pointer that a `size_t` follows may be null where that is 0; no other may be. Where one is null the
+call answers CF_NULL, and a call without an answer does nothing. It ends with status 1 where a declaration isn't understood.
+"""
+import re
+import sys
+
+DECLARED = re.compile(r"^(uint32_t|void) (cf_[a-z0-9_]+)\(([^)]*)\);", re.M)
+PARAMETER = re.compile(r"(const )?([a-z0-9_]+) (\*?)([a-z0-9_]+)$")
+
+
+def declarations(header):
+    """Of each call what it gives, its name, and its parameters as (text, type, whether it's a pointer, name)."""
+    text = re.sub(r"/\*.*?\*/", "", header, flags=re.S)
+    found = []
+    for gives, name, inside in DECLARED.findall(text):
+        parameters = []
+        for said in " ".join(inside.split()).split(","):
+            parts = PARAMETER.match(said.strip())
+            if not parts:
+                raise SystemExit(f"nulls.py: {name}: {said.strip()} isn't understood")
+            parameters.append((said.strip(), parts[2], bool(parts[3]), parts[4]))
+        found.append((gives, name, parameters))
+    mentioned = len(re.findall(r"\bcf_[a-z0-9_]+\s*\(", text))
+    if not found or mentioned != len(found):
+        raise SystemExit(f"nulls.py: {mentioned} calls are mentioned, and {len(found)} understood")
+    return found
+
+
+def tests(parameters):
+    """What is true where a pointer is null that may not be."""
+    said = []
+    for at, (_, _, is_pointer, name) in enumerate(parameters):
+        follows = parameters[at + 1] if at + 1 < len(parameters) else None
+        if is_pointer:
+            said.append(f"(!{name} && {follows[3]})" if follows and follows[1:3] == ("size_t", False) else f"!{name}")
+    return " || ".join(said)
+
+
+def guard(gives, name, parameters):
+    inside, words = ", ".join(p[0] for p in parameters), ", ".join(p[3] for p in parameters)
+    call, refused = f"proved_{name}({words});", "return CF_NULL;"
+    body = f"if ({tests(parameters)}) {refused}\n  return {call}"
+    if gives == "void":
+        body = f"if ({tests(parameters)}) return;\n  {call}"
+    return f"extern __typeof__({name}) proved_{name};\n{gives} {name}({inside}) {{\n  {body}\n}}\n"
+
+
+def main():
+    names_only = sys.argv[1:2] == ["--names"]
+    with open(sys.argv[-1], encoding="utf-8") as file:
+        found = declarations(file.read())
+    if names_only:
+        print("\n".join(name for _, name, _ in found))
+    else:
+        print('#include "cf.h"\n')
+        print("\n".join(guard(*call) for call in found), end="")
+
+
+if __name__ == "__main__":
+    main()
