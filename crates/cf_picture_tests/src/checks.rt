@@ -11,7 +11,8 @@ use std::test::Fail;
 pub(crate) type Row = (&'static str, &'static str);
 
 /// What stands before the first stage.
-const HEAD: &str = "digraph plan {\n  graph [rankdir=LR, fontname=\"Helvetica\"];\n  node [fontname=\"Helvetica\", fontsize=11];\n  edge [fontname=\"Helvetica\", fontsize=9];\n";
+const HEAD: &str =
+    "digraph plan {\n  graph [rankdir=LR, fontname=\"Helvetica\"];\n  node [fontname=\"Helvetica\", fontsize=11];\n  edge [fontname=\"Helvetica\", fontsize=9];\n";
 
 /// The whole picture with these lines.
 fn whole(alloc: Global, lines: &str) -> Result<String, AllocError> {
@@ -112,7 +113,9 @@ fn the_most_stages_are_drawn(rt: HostRuntime) -> Result<(), Fail> {
     let script = chain(rt.alloc(), 4_096)?;
     let text = drawn(rt.alloc(), script.as_str());
     assert_eq!(rt; text.lines().count(), 4 + 4_096 + 4_095 + 1);
-    assert!(rt; text.as_str().contains("s4095 [label=\"4095 apply add 1\\nvalue 4095\", shape=box"));
+    assert!(rt;
+        text.as_str().contains("s4095 [label=\"4095 apply add 1\\nvalue 4095\", shape=box")
+    );
     assert!(rt; text.as_str().ends_with("  s4094 -> s4095;\n}\n"));
     Ok(())
 }

@@ -3,10 +3,7 @@ use crate::checks::Row;
 
 /// Nothing, and the forms that have no source.
 pub(crate) const NO_SOURCE: [Row; 5] = [
-    (
-        r#"{"cf":1,"stages":[]}"#,
-        "",
-    ),
+    (r#"{"cf":1,"stages":[]}"#, ""),
     (
         r#"{"cf":1,"stages":[{"form":"source"}]}"#,
         r#"s0 [label="0 source\npending", shape=ellipse, style="filled,dotted", fillcolor=gray95];"#,
@@ -66,12 +63,10 @@ pub(crate) const BOTH: [Row; 4] = [
 ];
 
 /// The forms that have any number of sources.
-pub(crate) const WIDE: [Row; 1] = [
-    (
-        r#"{"cf":1,"stages":[{"form":"source"},{"form":"source"},{"form":"allOf","of":[0,1,0]},{"form":"anyOf","of":[1,0]}],"steps":[["complete",0,3]]}"#,
-        r#"s0 [label="0 source\nvalue 3", shape=ellipse, style=filled, fillcolor=darkseagreen1]; / s1 [label="1 source\npending", shape=ellipse, style="filled,dotted", fillcolor=gray95]; / s2 [label="2 allOf\npending", shape=invtrapezium, style="filled,dotted", fillcolor=gray95]; / s0 -> s2; / s1 -> s2; / s0 -> s2; / s3 [label="3 anyOf\nvalue 3", shape=invhouse, style=filled, fillcolor=darkseagreen1]; / s1 -> s3; / s0 -> s3;"#,
-    ),
-];
+pub(crate) const WIDE: [Row; 1] = [(
+    r#"{"cf":1,"stages":[{"form":"source"},{"form":"source"},{"form":"allOf","of":[0,1,0]},{"form":"anyOf","of":[1,0]}],"steps":[["complete",0,3]]}"#,
+    r#"s0 [label="0 source\nvalue 3", shape=ellipse, style=filled, fillcolor=darkseagreen1]; / s1 [label="1 source\npending", shape=ellipse, style="filled,dotted", fillcolor=gray95]; / s2 [label="2 allOf\npending", shape=invtrapezium, style="filled,dotted", fillcolor=gray95]; / s0 -> s2; / s1 -> s2; / s0 -> s2; / s3 [label="3 anyOf\nvalue 3", shape=invhouse, style=filled, fillcolor=darkseagreen1]; / s1 -> s3; / s0 -> s3;"#,
+)];
 
 /// Each function, in the words of scripts.
 pub(crate) const FUNCTIONS: [Row; 3] = [
