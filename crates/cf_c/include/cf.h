@@ -92,7 +92,7 @@ typedef struct { uint32_t kind; uint32_t code; cf_value value; uint16_t stage; }
 enum { CF_PENDING = 0, CF_VALUE = 1, CF_THROWN = 2, CF_CANCELLED = 3, CF_TIMED_OUT = 4, CF_BAD_ANSWER = 5 };
 typedef struct { uint32_t kind; uint32_t wrapped; uint32_t code; cf_value value; } cf_outcome;
 
-/* What a stage's function is called with: nothing (supply and run ..), `first`, `first` and `second` (CF_COMBINE, CF_ACCEPT_BOTH), or
+/* What a stage's function is called with: nothing (supply, run ..), `first`, `first` and `second` (CF_COMBINE, CF_ACCEPT_BOTH), or
  * `outcome` (CF_HANDLE, CF_WHEN_COMPLETE: any; CF_EXCEPTIONALLY, CF_EXCEPTIONALLY_COMPOSE: a fault). Where its sources gave what its
  * function isn't for, such as a fault to CF_APPLY or a value to CF_EXCEPTIONALLY, a stage is settled without it. */
 enum { CF_NO_ARGS = 0, CF_ONE = 1, CF_TWO = 2, CF_GOT = 3 };
