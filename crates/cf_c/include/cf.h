@@ -80,8 +80,11 @@ enum {
 enum { CF_NIL = 0, CF_INT = 1 };
 typedef struct { uint32_t kind; int32_t number; } cf_value;
 
-/* What a stage's function answers: the value, a throw of the code, or, of the composing forms, the stage. Any kind but the first two
- * is a link. */
+/* What a stage's function answers: the value, a throw of the code, or, of CF_COMPOSE and CF_EXCEPTIONALLY_COMPOSE, the stage, whose
+ * outcome the stage then takes over. Any kind but the first two is a link. It links to a stage below its own, so a planned stage
+ * never to an attached one. Another link, a link of another form, and a value of these two end in CF_BAD_ANSWER. The value is left
+ * aside of forms that give none (accept .., run ..), and of CF_WHEN_COMPLETE, which keeps its source's; its throw counts where
+ * its source has no fault. */
 enum { CF_GIVE = 0, CF_THROW = 1, CF_LINK = 2 };
 typedef struct { uint32_t kind; uint32_t code; cf_value value; uint16_t stage; } cf_answer;
 
@@ -89,7 +92,9 @@ typedef struct { uint32_t kind; uint32_t code; cf_value value; uint16_t stage; }
 enum { CF_PENDING = 0, CF_VALUE = 1, CF_THROWN = 2, CF_CANCELLED = 3, CF_TIMED_OUT = 4, CF_BAD_ANSWER = 5 };
 typedef struct { uint32_t kind; uint32_t wrapped; uint32_t code; cf_value value; } cf_outcome;
 
-/* What a stage's function is called with: nothing, `first`, `first` and `second`, or `outcome`. */
+/* What a stage's function is called with: nothing (supply, run ..), `first`, `first` and `second` (CF_COMBINE, CF_ACCEPT_BOTH), or
+ * `outcome` (CF_HANDLE, CF_WHEN_COMPLETE: any; CF_EXCEPTIONALLY, CF_EXCEPTIONALLY_COMPOSE: a fault). Where its sources gave what its
+ * function isn't for, such as a fault to CF_APPLY or a value to CF_EXCEPTIONALLY, a stage is settled without it. */
 enum { CF_NO_ARGS = 0, CF_ONE = 1, CF_TWO = 2, CF_GOT = 3 };
 typedef struct { uint32_t kind; cf_value first, second; cf_outcome outcome; } cf_args;
 
@@ -100,9 +105,10 @@ typedef struct { uint32_t kind; cf_outcome outcome; } cf_now;
 
 /* What a changing call is answered. What a call doesn't have is 0.
  *   complete, fail: `answer` is 1 where the stage was settled by it, else 0; cancel: 1 where the stage is cancelled then, else 0
- *   claim: a CF_GRANTED .., and where granted the `args` of the function
- *   finish: a CF_WON ..
- *   tick: CF_FIRED, and `number` of limits that settled their stage, or CF_PAST
+ *   claim: a CF_GRANTED .., and where granted the `args` of the function; CF_TAKEN also where it waits for the stage it links to
+ *   finish: CF_WON; CF_LATE where the stage was settled after its claim; CF_NOT_YOURS where this caller hasn't claimed it, or has
+ *     finished it already
+ *   tick: CF_FIRED, and `number` of limits that settled their stage, or CF_PAST, where the moment is before the last
  *   attach: CF_AT, and the `number` of the new stage, or CF_STAGES_FULL */
 enum { CF_GRANTED = 0, CF_SETTLED = 1, CF_TAKEN = 2, CF_NOT_READY = 3 };
 enum { CF_WON = 0, CF_LATE = 1, CF_NOT_YOURS = 2 };
@@ -112,7 +118,7 @@ typedef struct { uint32_t answer; uint32_t number; cf_args args; } cf_reply;
 
 /* ---- Any handle ---- */
 
-/* Frees what stands behind a handle, and leaves it empty. A null pointer is left alone. */
+/* Frees what stands behind a handle, and leaves it empty. A null pointer is left alone. A plan may be freed before its graphs. */
 void cf_free(cf_handle *h);
 
 /* ---- Plans ---- */
@@ -149,7 +155,7 @@ uint32_t cf_cancel(cf_handle *graph, uint16_t stage, cf_reply *reply);
 uint32_t cf_claim(cf_handle *graph, uint8_t who, uint16_t stage, cf_reply *reply);
 uint32_t cf_finish(cf_handle *graph, uint8_t who, uint16_t stage, cf_answer answer, cf_reply *reply);
 
-/* Lets it be this moment, in the unit of the plan's limits. */
+/* Lets it be this moment, in the unit of the plan's limits; limits fire by this alone. A graph is opened, and starts again, at 0. */
 uint32_t cf_tick(cf_handle *graph, uint32_t now, cf_reply *reply);
 
 /* Attaches a stage to n sources, at most two. CF_NO_SUCH_NUMBER, CF_WRONG_SOURCE_COUNT, CF_NO_STAGE, CF_BAD_ATTACH. */
