@@ -27,7 +27,7 @@ final class CallsTest {
         limits();
         links();
         attached();
-        forms();
+        builders();
         threads();
     }
 
@@ -118,10 +118,17 @@ final class CallsTest {
         try (Graph graph = graph(0)) {
             graph.complete(2, 5);
             checks.gives("compose", granted(Arguments.Kind.ONE, 5, null), () -> graph.claim(0, 3));
-            checks.gives("link", Finish.WON, () -> graph.finish(0, 3, new Answer.Link(0)));
+            checks.gives("link", Finish.WON, () -> graph.finish(0, 3, new Answer.Link(1)));
             checks.gives("linked", Optional.empty(), () -> graph.outcome(3));
-            graph.complete(0, 6);
+            graph.complete(0, 7);
+            checks.gives("linked to another", Optional.empty(), () -> graph.outcome(3));
+            graph.complete(1, 6);
             checks.gives("by its link", 6, () -> graph.getNow(3, null));
+            graph.restart();
+            graph.complete(2, 5);
+            graph.claim(0, 3);
+            graph.finish(0, 3, new Answer.Link(4));
+            checks.gives("a link that isn't lower", BadAnswerException.class, () -> cause(graph, 3).getClass());
             checks.gives("turns", true, () -> graph.turns() > 0);
             graph.restart();
             checks.gives("no turns", 0L, graph::turns);
@@ -146,22 +153,7 @@ final class CallsTest {
         }
     }
 
-    private void forms() {
-        Object[][] rows = {
-            {Form.SOURCE, 0}, {Form.SUPPLY_ASYNC, 0}, {Form.RUN_ASYNC, 0}, {Form.THEN_APPLY, 1}, {Form.THEN_ACCEPT, 1},
-            {Form.THEN_RUN, 1}, {Form.THEN_COMBINE, 2}, {Form.THEN_ACCEPT_BOTH, 2}, {Form.RUN_AFTER_BOTH, 2}, {Form.APPLY_TO_EITHER, 2},
-            {Form.ACCEPT_EITHER, 2}, {Form.RUN_AFTER_EITHER, 2}, {Form.THEN_COMPOSE, 1}, {Form.HANDLE, 1}, {Form.WHEN_COMPLETE, 1},
-            {Form.EXCEPTIONALLY, 1}, {Form.ALL_OF, 3}, {Form.ANY_OF, 3}, {Form.EXCEPTIONALLY_COMPOSE, 1},
-        };
-        checks.gives("rows of forms", Form.values().length, () -> rows.length);
-        List<Form> without = List.of(Form.SOURCE, Form.ALL_OF, Form.ANY_OF);
-        for (Object[] row : rows) {
-            try (PlanBuilder builder = Plan.builder()) {
-                builder.source();
-                int function = without.contains(row[0]) ? NO_FUNCTION : 3;
-                checks.gives(row[0].toString(), 1, () -> builder.stage((Form) row[0], function, new int[(int) row[1]]));
-            }
-        }
+    private void builders() {
         try (PlanBuilder builder = Plan.builder()) {
             checks.gives("source", 0, builder::source);
             checks.gives("supplyAsync", 1, () -> builder.supplyAsync(0));
@@ -218,6 +210,7 @@ final class CallsTest {
     public static void main(String[] arguments) {
         Checks checks = new Checks();
         new CallsTest(checks).run();
+        FormsTest.run(checks);
         new RefusalsTest(checks).run();
         System.exit(checks.end() ? 0 : 1);
     }
