@@ -74,7 +74,7 @@ public final class PlanBuilder implements AutoCloseable {
         limit(stage, moment, 1, value);
     }
 
-    /** Makes it a plan, and leaves nothing here: any later call is refused as EMPTY. */
+    /** Makes it a plan, and leaves nothing here: any later call is refused as EMPTY. NO_MEMORY leaves a builder without stages. */
     public synchronized Plan build() {
         handle.call((h, none) -> (int) Library.BUILD.invokeExact(h));
         Plan plan = new Plan(handle);

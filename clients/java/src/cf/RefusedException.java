@@ -1,6 +1,6 @@
 package cf;
 
-/** A call was refused, and changed nothing. */
+/** A call was refused, and changed nothing, but as {@link PlanBuilder#build} says. */
 public final class RefusedException extends RuntimeException {
     private static final long serialVersionUID = 1;
     private final Code code;
