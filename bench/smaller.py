@@ -24,7 +24,7 @@ def size(script):
 
 def is_right(script):
     try:
-        reading.read(json.dumps(script).encode())
+        reading.checked(reading.read(json.dumps(script).encode()))
         return True
     except reading.Fault:
         return False
