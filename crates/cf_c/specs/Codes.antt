@@ -2,8 +2,12 @@
 use Rattle.std.specs.Prelude.{ℕ}
 use Rattle.cf_plan.specs.declared.faults.PlanFault.{PlanFault}
 use Rattle.cf_plan.specs.declared.faults.PlanFault.TheVariants as plan
+use Rattle.cf_desk.specs.declared.faults.DeskFault.{DeskFault}
+use Rattle.cf_desk.specs.declared.faults.DeskFault.TheVariants as desk
+use Rattle.cf_desk.specs.declared.faults.OpenFault.{OpenFault}
+use Rattle.cf_desk.specs.declared.faults.OpenFault.TheVariants as open
 use Rattle.cf_c.specs.declared.code.Code.{Code}
-use Rattle.cf_c.specs.declared.code.Code.TheVariants.{TooManyStages, SourceNotLower, WrongSourceCount, FunctionMissing, FunctionUnwanted, TooManyEdges, NoSuchStage, NoMemory, TooManyLimits, Empty, Full, WrongKind, NoSuchNumber, NoStage, BadAttach, Room, Nothing}
+use Rattle.cf_c.specs.declared.code.Code.TheVariants.{TooManyStages, SourceNotLower, WrongSourceCount, FunctionMissing, FunctionUnwanted, TooManyEdges, NoSuchStage, NoMemory, TooManyLimits, Empty, Full, WrongKind, NoSuchNumber, NoStage, BadAttach, Room, Nothing, Callers, Log, Calls, Functions, PassFull, LogFull, OtherDesk, NotAll, NoWord, BadScript}
 
 -- the number that C sees
 abbrev pub number_of : Code → ℕ
@@ -24,6 +28,16 @@ number_of NoStage = 14
 number_of BadAttach = 15
 number_of Room = 16
 number_of Nothing = 17
+number_of Callers = 18
+number_of Log = 19
+number_of Calls = 20
+number_of Functions = 21
+number_of PassFull = 22
+number_of LogFull = 23
+number_of OtherDesk = 24
+number_of NotAll = 25
+number_of NoWord = 26
+number_of BadScript = 27
 
 -- the code of a plan's fault
 abbrev pub plan_code : PlanFault → Code
@@ -36,3 +50,19 @@ plan_code plan.TooManyEdges = TooManyEdges
 plan_code plan.NoSuchStage = NoSuchStage
 plan_code plan.NoMemory = NoMemory
 plan_code plan.TooManyLimits = TooManyLimits
+
+-- the code of a fault for which a desk isn't opened
+abbrev pub open_code : OpenFault → Code
+open_code open.NoMemory = NoMemory
+open_code open.Callers = Callers
+open_code open.Log = Log
+open_code open.Calls = Calls
+open_code open.Room = Room
+open_code open.Functions = Functions
+
+-- the code of a fault for which a desk's call is refused
+abbrev pub desk_code : DeskFault → Code
+desk_code desk.NoStage = NoStage
+desk_code desk.BadAttach = BadAttach
+desk_code desk.LogFull = LogFull
+desk_code desk.PassFull = PassFull
