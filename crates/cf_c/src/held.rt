@@ -1,7 +1,10 @@
 //! What stands behind a handle.
 ghost use Rattle.std.specs.Prelude.{◌≡◌};
 
+use crate::caller::Caller;
+use crate::closing::Closing;
 use cf_core::Graph;
+use cf_desk::Closed;
 use cf_plan::{Plan, PlanBuilder};
 
 /// What stands behind a handle: which of these is asked at each call, so that a handle of another kind is refused.
@@ -13,6 +16,12 @@ pub enum Held {
     Plan(Plan),
     /// A graph that one caller has alone.
     Graph(Graph),
+    /// A caller of a graph that several share.
+    Caller(Caller),
+    /// Callers that were given back, of a desk that is being closed.
+    Closing(Closing),
+    /// A closed desk.
+    Closed(Closed),
 }
 
 /// That a handle may go to another thread.

@@ -8,6 +8,8 @@ ghost use Rattle.std.specs.Prelude.{◌≡◌, None};
 
 mod asking;
 mod building;
+mod caller;
+mod closing;
 mod code;
 mod graphs;
 mod handle;
