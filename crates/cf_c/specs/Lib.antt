@@ -1,6 +1,7 @@
 pub mod Answers
 pub mod Building
 pub mod Codes
+pub mod Desks
 pub mod Graphs
 pub mod Plans
 pub mod Replies

@@ -1,9 +1,11 @@
 //! Forms, sources and functions as C has them.
 ghost use Rattle.std.specs.Prelude.{◌≡◌};
+ghost use Rattle.cf_c.specs.Desks.{call_with};
 ghost use Rattle.cf_c.specs.Plans.{attach_event, form_of, function_of, parts_of, sources_as};
 
 use crate::code::Code;
 use cf_core::Event;
+use cf_desk::Call;
 use cf_plan::{Form, Of};
 
 /// All forms, by their numbers.
@@ -96,6 +98,16 @@ pub(crate) fn attach_event(form: u32, of: &[u16], function: u32) -> Result<Event
             of,
             function,
         }),
+        Err(code) => Err(code),
+    }
+}
+
+/// The call by which the caller of a desk attaches a stage, or why there is none.
+pub(crate) fn attach_call(form: u32, of: &[u16], function: u32) -> Result<Call, Code>
+    ensures { result ≡ call_with (parts_of form of.now function) }
+{
+    match parts_of(form, of, function) {
+        Ok(AttachParts { form, of, function }) => Ok(Call::Attach(form, of, function)),
         Err(code) => Err(code),
     }
 }
