@@ -1,5 +1,5 @@
 -- A caller is asked behind its handle.
-use Rattle.std.proofs.Common.{rules, ◌≡◌, refl}
+use Rattle.std.proofs.Common.{◌≡◌, refl}
 use Rattle.std.specs.Prelude.{Result}
 use Rattle.cf_c.specs.Desks.{ByCaller, IsSameCaller}
 use Rattle.cf_c.specs.declared.caller.Caller.{Caller as Caller'}

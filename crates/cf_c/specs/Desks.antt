@@ -1,5 +1,5 @@
 -- What a caller of a desk is asked.
-use Rattle.std.specs.Prelude.{◌≡◌, ℕ, ◌+◌, ◌==◌, Option, Some, None, Result, Ok, Err, length, nat_lt, if◌then◌else◌}
+use Rattle.std.specs.Prelude.{◌≡◌, ℕ, ◌+◌, ◌==◌, None, Result, Ok, Err, length, nat_lt, if◌then◌else◌}
 use Rattle.std.specs.Arc.{arc_value}
 use Rattle.cf_outcome.specs.declared.now.Now.TheVariants.{Got, Completion, Cancellation}
 use Rattle.cf_plan.specs.Plans.{function_at}

@@ -3,6 +3,7 @@ pub mod Building
 pub mod Codes
 pub mod Desks
 pub mod Graphs
+pub mod Opening
 pub mod Plans
 pub mod Replies
 pub mod Seals

@@ -175,7 +175,7 @@ fn graph_of(alloc: Global, held: &Held, room: u16) -> Result<Held, Code>
 }
 
 /// Whether the stages with so much room, or their edges with two for each place, are too many.
-fn is_overfull(plan: &Plan, room: u16) -> bool
+pub(crate) fn is_overfull(plan: &Plan, room: u16) -> bool
     ensures { IsTrue result ↔ IsOverfull plan.now.stages room }
 {
     plan.stages() as usize + room as usize > MAX_STAGES

@@ -19,6 +19,7 @@ mod handle;
 mod held;
 mod inner;
 mod looking;
+mod opening;
 mod parts;
 mod plans;
 mod reply;

@@ -1,0 +1,35 @@
+-- The callers of a new desk, one after another.
+use Rattle.std.proofs.Common.{rules, ◌≡◌, ℕ, zero, suc, ◌+◌, ◌<◌, Option, Some, None, List, [], ◌∷◌, ◌++◌, length, slice_set, refl, ap, ◌∙◌, sym, arith}
+use Rattle.std.specs.Global.{Box}
+use Rattle.cf_desk.specs.Views.{Desk, Pass}
+use Rattle.cf_c.specs.Opening.{AreBehind, AreBoxed, ArePut, IsBehind, IsCallerOf}
+use Rattle.cf_c.specs.declared.handle.CfHandle.{CfHandle}
+use Rattle.cf_c.specs.declared.held.Held.{Held}
+
+-- one more is made
+pub boxed_push : (d : Desk) (ps : List Pass) (bs : List (Box Held)) (p : Pass) (b : Box Held) → AreBoxed d ps bs → IsCallerOf d p b.value → AreBoxed d (ps ++ p ∷ []) (bs ++ b ∷ [])
+boxed_push d [] [] p b made next = (next, tt)
+boxed_push d (q ∷ ps) (c ∷ bs) p b made next = (made.0, boxed_push d ps bs p b made.1 next)
+
+-- as many are made as there are passes
+pub boxed_count : (d : Desk) (ps : List Pass) (bs : List (Box Held)) → AreBoxed d ps bs → length bs ≡ length ps
+boxed_count d [] [] made = refl
+boxed_count d (p ∷ ps) (b ∷ bs) made = ap suc (boxed_count d ps bs made.1)
+
+-- one more is put behind a handle
+pub put_push : (bs : List (Box Held)) (hs : List CfHandle) (b : Box Held) (h : CfHandle) → ArePut bs hs → h.inner.held ≡ Some b.value → ArePut (bs ++ b ∷ []) (hs ++ h ∷ [])
+put_push [] [] b h put next = (next, tt)
+put_push (c ∷ bs) (g ∷ hs) b h put next = (put.0, put_push bs hs b h put.1 next)
+
+-- what is put behind the next handle leaves those before it and behind it
+pub set_next : (front back : List CfHandle) (h g : CfHandle) → slice_set (front ++ h ∷ back) (length front) g ≡ (front ++ g ∷ []) ++ back
+set_next [] back h g = refl
+set_next (x ∷ front) back h g = ap (λ l. x ∷ l) (set_next front back h g)
+
+behind_one : (d : Desk) (p : Pass) (held : Held) (h : Option Held) → IsCallerOf d p held → h ≡ Some held → IsBehind d p h
+behind_one d p held h is put = rw put is
+
+-- the callers that were made stand behind the handles
+pub behind_of : (d : Desk) (ps : List Pass) (bs : List (Box Held)) (hs : List CfHandle) → AreBoxed d ps bs → ArePut bs hs → AreBehind d ps hs
+behind_of d [] [] [] made put = tt
+behind_of d (p ∷ ps) (b ∷ bs) (h ∷ hs) made put = (behind_one d p b.value h.inner.held made.0 put.0, behind_of d ps bs hs made.1 put.1)
