@@ -177,7 +177,7 @@ fn count_fault(callers: usize, log: u16, calls: u16) -> Option<OpenFault>
 fn are_empty(callers: &[CfHandle]) -> bool
     ensures { IsTrue result ↔ AreEmpty callers.now }
 {
-    for h in callers {
+    'each: for h in callers {
         if h.is_full() {
             return false;
         }
