@@ -1,5 +1,5 @@
 -- The callers of a new desk, one after another.
-use Rattle.std.proofs.Common.{rules, ◌≡◌, ℕ, zero, suc, ◌+◌, ◌<◌, Option, Some, None, List, [], ◌∷◌, ◌++◌, length, length-append, slice_set, refl, ap, ◌∙◌, sym, arith}
+use Rattle.std.proofs.Common.{◌≡◌, ℕ, suc, ◌<◌, Option, Some, List, [], ◌∷◌, ◌++◌, length, length-append, slice_set, refl, ap, sym, arith}
 use Rattle.std.specs.Global.{Box}
 use Rattle.cf_desk.specs.Views.{Desk, Pass}
 use Rattle.cf_c.specs.Opening.{AreBehind, AreBoxed, ArePut, IsBehind, IsCallerOf}

@@ -186,6 +186,7 @@ fn are_empty(callers: &[CfHandle]) -> bool
 }
 
 /// Seats the callers of a new desk behind these handles, as many as it has passes. Where memory is refused they stay.
+#[tactic(auto, using(crate::proofs::Seats::boxed_count, crate::proofs::Seats::behind_of))]
 fn seat_all(
     alloc: Global,
     desk: Desk,

@@ -1,6 +1,5 @@
-use Rattle.std.proofs.Common.{◌≡◌, ◌<◌, ◌+◌, ◌++◌, ◌∷◌, [], length, length-append, ap, sym, subst, ◌∙◌, append_assoc, arith}
-use Rattle.std.specs.Vec.Iter.{into_iter_items, into_iter_len}
-use Rattle.cf_c.specs.Opening.{ArePut}
+use Rattle.std.proofs.Common.{◌<◌, ◌++◌, ◌∷◌, [], length, length-append, ap, sym, ◌∙◌, append_assoc, arith}
+use Rattle.std.specs.Vec.Iter.{into_iter_items}
 use Rattle.cf_c.proofs.Seats.{one_more, put_push}
 use Rattle.cf_c.proofs.opening.put_all.Goals as goal
 use Rattle.cf_c.proofs.opening.put_all.Goals.{in-Some, in_default}
