@@ -6,3 +6,4 @@ pub mod Plans
 pub mod Replies
 pub mod Seals
 pub mod Values
+pub mod Words

@@ -30,6 +30,15 @@ abbrev pub as_value : Value → CfValue
 as_value Nil = record { kind = 0; number = pos 0 }
 as_value (Int number) = record { kind = 1; number = number }
 
+abbrev pub answer_with : ℕ → ℕ → Value → ℕ → CfAnswer
+answer_with kind code value stage = record { kind = kind; code = code; value = as_value value; stage = stage }
+
+-- an answer for C: what it doesn't have is 0
+abbrev pub as_answer : Answer → CfAnswer
+as_answer (Give v) = answer_with 0 0 v 0
+as_answer (Throw code) = answer_with 1 code Nil 0
+as_answer (Link stage) = answer_with 2 0 Nil stage
+
 abbrev pub no_fault : ℕ → CfValue → CfOutcome
 no_fault kind value = record { kind = kind; wrapped = 0; code = 0; value = value }
 

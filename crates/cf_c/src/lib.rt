@@ -11,6 +11,7 @@ mod building;
 mod caller;
 mod closing;
 mod code;
+mod event;
 mod graphs;
 mod handle;
 mod held;
@@ -20,6 +21,7 @@ mod parts;
 mod plans;
 mod reply;
 mod value;
+mod words;
 
 use crate::handle::CfHandle;
 use std::alloc::Global;

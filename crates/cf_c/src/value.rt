@@ -1,6 +1,6 @@
 //! Values, outcomes, arguments and answers as C has them. Each number of a kind that none has stands for the last.
 ghost use Rattle.std.specs.Prelude.{◌≡◌};
-ghost use Rattle.cf_c.specs.Values.{answer_of, args_with, as_args, as_fault, as_now, as_outcome, as_value, no_fault, value_of};
+ghost use Rattle.cf_c.specs.Values.{answer_of, answer_with, args_with, as_answer, as_args, as_fault, as_now, as_outcome, as_value, no_fault, value_of};
 
 use cf_outcome::{Cause, Now, Outcome, Value};
 use cf_plan::{Answer, Args};
@@ -73,6 +73,29 @@ pub(crate) fn answer_of(a: CfAnswer) -> Answer
         0 => Answer::Give(value_of(a.value)),
         1 => Answer::Throw(a.code),
         _ => Answer::Link(a.stage),
+    }
+}
+
+/// An answer for C.
+pub(crate) fn as_answer(a: Answer) -> CfAnswer
+    ensures { result ≡ as_answer a }
+{
+    match a {
+        Answer::Give(v) => answer_with(0, 0, v, 0),
+        Answer::Throw(code) => answer_with(1, code, Value::Nil, 0),
+        Answer::Link(stage) => answer_with(2, 0, Value::Nil, stage),
+    }
+}
+
+/// An answer with these parts.
+fn answer_with(kind: u32, code: u32, value: Value, stage: u16) -> CfAnswer
+    ensures { result ≡ answer_with kind code value stage }
+{
+    CfAnswer {
+        kind,
+        code,
+        value: as_value(value),
+        stage,
     }
 }
 
