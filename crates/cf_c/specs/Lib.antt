@@ -5,5 +5,6 @@ pub mod Graphs
 pub mod Plans
 pub mod Replies
 pub mod Seals
+pub mod Texts
 pub mod Values
 pub mod Words

@@ -17,9 +17,11 @@ mod handle;
 mod held;
 mod inner;
 mod looking;
+mod names;
 mod parts;
 mod plans;
 mod reply;
+mod texts;
 mod value;
 mod words;
 
