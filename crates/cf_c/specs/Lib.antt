@@ -4,6 +4,7 @@ pub mod Codes
 pub mod Graphs
 pub mod Plans
 pub mod Replies
+pub mod Scripts
 pub mod Seals
 pub mod Texts
 pub mod Values

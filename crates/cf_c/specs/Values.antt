@@ -55,6 +55,17 @@ as_fault Cancelled wrapped = fault_with 3 wrapped 0
 as_fault TimedOut wrapped = fault_with 4 wrapped 0
 as_fault BadAnswer wrapped = fault_with 5 wrapped 0
 
+-- the cause that C means: none of these numbers is a bad answer's, too
+abbrev pub cause_of : ℕ → ℕ → Cause
+cause_of kind code = if kind == 2 then Thrown code else (if kind == 3 then Cancelled else (if kind == 4 then TimedOut else BadAnswer))
+
+-- the outcome that C means, or that there is none: a value where the kind is 1, and else a fault, which is raw where `wrapped` is 0
+abbrev pub outcome_of : CfOutcome → Option Outcome
+outcome_of o =
+    if o.kind == 0 then None
+    else (if o.kind == 1 then Some (Gives (value_of o.value))
+    else Some (Fault (cause_of o.kind o.code) (if o.wrapped == 0 then false else true)))
+
 -- an outcome, or that there is none
 abbrev pub as_outcome : Option Outcome → CfOutcome
 as_outcome None = no_fault 0 (as_value Nil)

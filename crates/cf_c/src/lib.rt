@@ -21,6 +21,7 @@ mod names;
 mod parts;
 mod plans;
 mod reply;
+mod scripts;
 mod texts;
 mod value;
 mod words;
