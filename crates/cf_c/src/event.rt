@@ -7,8 +7,8 @@ use crate::code::Code;
 use crate::plans::{as_function, event_with, form_number, form_of, parts_with, sources_with};
 use crate::value::{CfAnswer, CfValue, answer_of, as_answer, as_value, value_of};
 use cf_core::Event;
-use cf_plan::{Answer, Of};
 use cf_outcome::Value;
+use cf_plan::{Answer, Of};
 
 /// A changing call of a caller: complete (0), fail (1), cancel (2), claim (3), finish (4), tick (5), attach (6).
 ///
@@ -97,7 +97,12 @@ pub(crate) fn as_event(e: Event) -> CfEvent
             form,
             of,
             function,
-        } => attaching(form_number(form), of, as_function(function), bare(6, who, 0)),
+        } => attaching(
+            form_number(form),
+            of,
+            as_function(function),
+            bare(6, who, 0),
+        ),
     }
 }
 
