@@ -1,5 +1,6 @@
 //! Events as words, and what the event of a word does to a graph.
-ghost use Rattle.std.specs.Prelude.{◌≡◌};
+ghost use Rattle.std.specs.Prelude.{◌≡◌, IfOk, Ok};
+ghost use Rattle.cf_event.specs.Words.{IsEvent};
 ghost use Rattle.cf_c.specs.Answers.{Gives, Tells};
 ghost use Rattle.cf_c.specs.Graphs.{Answers};
 ghost use Rattle.cf_c.specs.Words.{GivesWord, IsWordOf, event_at, event_of, told_event};
@@ -22,10 +23,12 @@ pub extern "C" fn cf_word_of(event: CfEvent, word: &mut u64) -> u32
     give(word_of(event_of(event)), word)
 }
 
-/// The event of a word.
+/// The event of a word. What C gets means that event, where it is handed in.
 #[unsafe(no_mangle)]
+#[tactic(auto, using(crate::proofs::EventsBack::back_given))]
 pub extern "C" fn cf_event_of(word: u64, event: &mut CfEvent) -> u32
-    ensures { Gives (told_event (event_at word)) result event.old event.new }
+    ensures told { Gives (told_event (event_at word)) result event.old event.new }
+    ensures back { IfOk (event_at word) (λ e. event_of event.new ≡ Ok e) }
 {
     give(told_event(event_at(word)), event)
 }
@@ -58,7 +61,8 @@ fn word_of(event: Result<Event, Code>) -> Result<u64, Code>
 
 /// The event of a word, or that it is no event's.
 fn event_at(word: u64) -> Result<Event, Code>
-    ensures { result ≡ event_at word }
+    ensures event { result ≡ event_at word }
+    ensures has_word { IfOk result IsEvent }
 {
     decode(word).ok_or(Code::NoWord)
 }
