@@ -6,5 +6,8 @@ pub mod Graphs
 pub mod Opening
 pub mod Plans
 pub mod Replies
+pub mod Scripts
 pub mod Seals
+pub mod Texts
 pub mod Values
+pub mod Words

@@ -30,6 +30,15 @@ abbrev pub as_value : Value → CfValue
 as_value Nil = record { kind = 0; number = pos 0 }
 as_value (Int number) = record { kind = 1; number = number }
 
+abbrev pub answer_with : ℕ → ℕ → Value → ℕ → CfAnswer
+answer_with kind code value stage = record { kind = kind; code = code; value = as_value value; stage = stage }
+
+-- an answer for C: what it doesn't have is 0
+abbrev pub as_answer : Answer → CfAnswer
+as_answer (Give v) = answer_with 0 0 v 0
+as_answer (Throw code) = answer_with 1 code Nil 0
+as_answer (Link stage) = answer_with 2 0 Nil stage
+
 abbrev pub no_fault : ℕ → CfValue → CfOutcome
 no_fault kind value = record { kind = kind; wrapped = 0; code = 0; value = value }
 
@@ -45,6 +54,17 @@ as_fault (Thrown code) wrapped = fault_with 2 wrapped code
 as_fault Cancelled wrapped = fault_with 3 wrapped 0
 as_fault TimedOut wrapped = fault_with 4 wrapped 0
 as_fault BadAnswer wrapped = fault_with 5 wrapped 0
+
+-- the cause that C means: none of these numbers is a bad answer's, too
+abbrev pub cause_of : ℕ → ℕ → Cause
+cause_of kind code = if kind == 2 then Thrown code else (if kind == 3 then Cancelled else (if kind == 4 then TimedOut else BadAnswer))
+
+-- the outcome that C means, or that there is none: a value where the kind is 1, and else a fault, which is raw where `wrapped` is 0
+abbrev pub outcome_of : CfOutcome → Option Outcome
+outcome_of o =
+    if o.kind == 0 then None
+    else (if o.kind == 1 then Some (Gives (value_of o.value))
+    else Some (Fault (cause_of o.kind o.code) (if o.wrapped == 0 then false else true)))
 
 -- an outcome, or that there is none
 abbrev pub as_outcome : Option Outcome → CfOutcome

@@ -1,7 +1,8 @@
 //! Forms, sources and functions as C has them.
 ghost use Rattle.std.specs.Prelude.{◌≡◌};
+ghost use Rattle.cf_event.specs.Words.{form_number};
 ghost use Rattle.cf_c.specs.Desks.{call_with};
-ghost use Rattle.cf_c.specs.Plans.{attach_event, form_of, function_of, parts_of, sources_as};
+ghost use Rattle.cf_c.specs.Plans.{as_function, attach_event, event_with, form_of, function_of, parts_of, parts_with, sources_as, sources_with};
 
 use crate::code::Code;
 use cf_core::Event;
@@ -53,6 +54,23 @@ pub(crate) fn function_of(function: u32) -> Option<u16>
     }
 }
 
+/// A function's number for C, or one that is none.
+pub(crate) fn as_function(function: Option<u16>) -> u32
+    ensures { result ≡ as_function function }
+{
+    match function {
+        None => u32::MAX,
+        Some(function) => u32::from(function),
+    }
+}
+
+/// The number of a form.
+pub(crate) fn form_number(form: Form) -> u32
+    ensures { result ≡ form_number form }
+{
+    form as u32
+}
+
 /// The sources of an attached stage, of which there are at most two.
 fn sources_as(of: &[u16]) -> Option<Of>
     ensures { result ≡ sources_as of.now }
@@ -61,6 +79,18 @@ fn sources_as(of: &[u16]) -> Option<Of>
         [] => Some(Of::None),
         [a] => Some(Of::One(*a)),
         [a, b] => Some(Of::Two(*a, *b)),
+        _ => None,
+    }
+}
+
+/// So many sources of these two, of which there are at most two.
+pub(crate) fn sources_with(count: u32, first: u16, second: u16) -> Option<Of>
+    ensures { result ≡ sources_with count first second }
+{
+    match count {
+        0 => Some(Of::None),
+        1 => Some(Of::One(first)),
+        2 => Some(Of::Two(first, second)),
         _ => None,
     }
 }
@@ -77,29 +107,47 @@ pub struct AttachParts {
 fn parts_of(form: u32, of: &[u16], function: u32) -> Result<AttachParts, Code>
     ensures { result ≡ parts_of form of.now function }
 {
-    let Some(form) = form_of(form) else {
+    parts_with(form_of(form), sources_as(of), function)
+}
+
+/// The same of a form and sources that were looked up.
+pub(crate) fn parts_with(
+    form: Option<Form>,
+    of: Option<Of>,
+    function: u32,
+) -> Result<AttachParts, Code>
+    ensures { result ≡ parts_with form of function }
+{
+    let Some(form) = form else {
         return Err(Code::NoSuchNumber);
     };
-    let Some(of) = sources_as(of) else {
+    let Some(of) = of else {
         return Err(Code::WrongSourceCount);
     };
     let function = function_of(function);
     Ok(AttachParts { form, of, function })
 }
 
-/// The event by which the caller of a graph attaches a stage, or why there is none.
-pub(crate) fn attach_event(form: u32, of: &[u16], function: u32) -> Result<Event, Code>
-    ensures { result ≡ attach_event form of.now function }
+/// The event by which a caller attaches a stage, or why there is none.
+pub(crate) fn event_with(who: u8, parts: Result<AttachParts, Code>) -> Result<Event, Code>
+    ensures { result ≡ event_with who parts }
 {
-    match parts_of(form, of, function) {
+    match parts {
         Ok(AttachParts { form, of, function }) => Ok(Event::Attach {
-            who: 0,
+            who,
             form,
             of,
             function,
         }),
         Err(code) => Err(code),
     }
+}
+
+/// The event by which the caller of a graph attaches a stage, or why there is none.
+pub(crate) fn attach_event(form: u32, of: &[u16], function: u32) -> Result<Event, Code>
+    ensures { result ≡ attach_event form of.now function }
+{
+    event_with(0, parts_of(form, of, function))
 }
 
 /// The call by which the caller of a desk attaches a stage, or why there is none.

@@ -1,6 +1,6 @@
 //! Values, outcomes, arguments and answers as C has them. Each number of a kind that none has stands for the last.
 ghost use Rattle.std.specs.Prelude.{◌≡◌};
-ghost use Rattle.cf_c.specs.Values.{answer_of, args_with, as_args, as_fault, as_now, as_outcome, as_value, no_fault, value_of};
+ghost use Rattle.cf_c.specs.Values.{answer_of, answer_with, args_with, as_answer, as_args, as_fault, as_now, as_outcome, as_value, cause_of, no_fault, outcome_of, value_of};
 
 use cf_outcome::{Cause, Now, Outcome, Value};
 use cf_plan::{Answer, Args};
@@ -76,6 +76,29 @@ pub(crate) fn answer_of(a: CfAnswer) -> Answer
     }
 }
 
+/// An answer for C.
+pub(crate) fn as_answer(a: Answer) -> CfAnswer
+    ensures { result ≡ as_answer a }
+{
+    match a {
+        Answer::Give(v) => answer_with(0, 0, v, 0),
+        Answer::Throw(code) => answer_with(1, code, Value::Nil, 0),
+        Answer::Link(stage) => answer_with(2, 0, Value::Nil, stage),
+    }
+}
+
+/// An answer with these parts.
+fn answer_with(kind: u32, code: u32, value: Value, stage: u16) -> CfAnswer
+    ensures { result ≡ answer_with kind code value stage }
+{
+    CfAnswer {
+        kind,
+        code,
+        value: as_value(value),
+        stage,
+    }
+}
+
 /// A value for C.
 pub(crate) fn as_value(v: Value) -> CfValue
     ensures { result ≡ as_value v }
@@ -112,6 +135,32 @@ pub(crate) fn as_outcome(o: Option<Outcome>) -> CfOutcome
         None => no_fault(0, NIL),
         Some(Outcome::Value(v)) => no_fault(1, as_value(v)),
         Some(Outcome::Fault { cause, wrapped }) => fault(cause, wrapped),
+    }
+}
+
+/// The outcome that C means, or that there is none.
+pub(crate) fn outcome_of(o: CfOutcome) -> Option<Outcome>
+    ensures { result ≡ outcome_of o }
+{
+    match o.kind {
+        0 => None,
+        1 => Some(Outcome::Value(value_of(o.value))),
+        kind => Some(Outcome::Fault {
+            cause: cause_of(kind, o.code),
+            wrapped: o.wrapped != 0,
+        }),
+    }
+}
+
+/// The cause that C means.
+fn cause_of(kind: u32, code: u32) -> Cause
+    ensures { result ≡ cause_of kind code }
+{
+    match kind {
+        2 => Cause::Thrown(code),
+        3 => Cause::Cancelled,
+        4 => Cause::TimedOut,
+        _ => Cause::BadAnswer,
     }
 }
 
