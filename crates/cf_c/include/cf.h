@@ -268,8 +268,9 @@ uint32_t cf_closed_graph(cf_handle *closed);
 
 /* ---- Words of events ---- */
 
-/* A changing call as an event: `who` does `call`. cf_attach's `form`, `function` and so many `sources`, `first` and `second`; of any
- * other call what its parameters are called. What a call doesn't have is left aside, and 0 where it is told. */
+/* A changing call as an event: `who` does `call`. CF_CALL_ATTACH has so many `sources`, `first` and `second`; the other fields are called
+ * as the calls' parameters. What a call doesn't have is left aside, and 0 where it is told; that a stage has no function is told as
+ * CF_NO_FUNCTION. */
 enum {
   CF_CALL_COMPLETE = 0, CF_CALL_FAIL = 1, CF_CALL_CANCEL = 2, CF_CALL_CLAIM = 3, CF_CALL_FINISH = 4, CF_CALL_TICK = 5, CF_CALL_ATTACH = 6
 };
@@ -293,7 +294,8 @@ uint32_t cf_apply(cf_handle *graph, uint64_t word, cf_reply *reply);
  * length, which may be above that, to `length`; both also with CF_BAD_SCRIPT. No zero byte is put behind. CF_BAD_SCRIPT, CF_NO_MEMORY. */
 uint32_t cf_run_script(const uint8_t *text, size_t n, uint8_t *report, size_t room, size_t *length);
 
-/* The text of an outcome, as reports have it, and the name of a code, in the same way. CF_NO_SUCH_NUMBER where no code has the number. */
+/* The text of an outcome, as reports have it ("value 3", "fault timeout raw"), and the name of a code ("NoStage"; "Ok" of 0), in the same
+ * way. CF_NO_SUCH_NUMBER where no code has the number. */
 uint32_t cf_outcome_text(cf_outcome outcome, uint8_t *text, size_t room, size_t *length);
 uint32_t cf_code_text(uint32_t code, uint8_t *text, size_t room, size_t *length);
 
