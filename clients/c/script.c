@@ -18,7 +18,7 @@ static void show_name(uint32_t code) {
   printf("\n");
 }
 
-/* Runs a script, and prints its report, or the line of its fault, and the name of the code. The first call tells how much room is wanted. */
+/* Runs a script, and prints its report, or the line of its fault, and the code's name. The first call tells how much room is wanted. */
 static uint32_t run(const char *script) {
   uint8_t *report = NULL;
   size_t room = 0, length = 0;

@@ -234,7 +234,7 @@ static uint32_t serve(struct service *service) {
     }
   }
   for (size_t k = 0; k < started; k++) {
-    if (pthread_join(threads[k], NULL) != 0) return said("pthread_join", CF_NOTHING);
+    pthread_join(threads[k], NULL); /* of a thread that was started and isn't joined yet, so it can't fail */
     if (workers[k].code != CF_OK) code = workers[k].code;
   }
   return code;
