@@ -295,7 +295,7 @@ uint32_t cf_apply(cf_handle *graph, uint64_t word, cf_reply *reply);
 uint32_t cf_run_script(const uint8_t *text, size_t n, uint8_t *report, size_t room, size_t *length);
 
 /* The text of an outcome, as reports have it ("pending", "value 3", "fault timeout raw"), and the name of a code ("Ok", "NoStage"), in the
- * same way; neither has more than 31 bytes. A kind above CF_BAD_ANSWER is taken for that. CF_NO_SUCH_NUMBER where no code has the number. */
+ * same way; neither has more than 31 bytes. A kind above CF_BAD_ANSWER is taken for that. CF_NO_SUCH_NUMBER where a number is no code's. */
 uint32_t cf_outcome_text(cf_outcome outcome, uint8_t *text, size_t room, size_t *length);
 uint32_t cf_code_text(uint32_t code, uint8_t *text, size_t room, size_t *length);
 
