@@ -190,14 +190,14 @@ uint32_t cf_restart(cf_handle *graph);
 /* ---- Desks: a graph that callers on several threads share without a lock ---- */
 
 /* Opens a desk of the plan, and puts its callers 0, 1, .. behind these n empty handles: 1 to 64, each one thread's. `log` is how many
- * changing calls of all callers the desk takes, and `calls` how many records each caller holds: one for each of its own changing calls
- * that is done, each cf_desk_read, cf_desk_read_now and cf_desk_join. The plan stays. CF_EMPTY and CF_WRONG_KIND of the plan, CF_FULL
- * where one of the handles isn't empty, CF_CALLERS, CF_LOG, CF_CALLS, CF_NO_MEMORY, the first that holds in this order; all handles are
- * then as they were. It has no room for more stages: the reply to cf_desk_attach is CF_STAGES_FULL. */
+ * changing calls of all callers the desk takes, also those that change nothing, and `calls` how many records each caller holds: one for
+ * each of its changing calls that is done, each cf_desk_read, cf_desk_read_now and cf_desk_join. The plan stays. There is no room for
+ * more stages: the reply to cf_desk_attach is CF_STAGES_FULL. CF_EMPTY and CF_WRONG_KIND of the plan, CF_FULL where one of the handles
+ * isn't empty, CF_CALLERS, CF_LOG, CF_CALLS, CF_NO_MEMORY, the first that holds in this order; all handles are then as they were. */
 uint32_t cf_desk_open(cf_handle *plan, cf_handle *callers, size_t n, uint16_t log, uint16_t calls);
 
 /* The same with room for so many stages that callers attach later, whose functions have numbers below `functions`, and at most 4,095;
- * those of the plan are below it, too. Besides, after CF_CALLS: CF_ROOM, CF_FUNCTIONS. */
+ * those of the plan have to be below it, too. Besides, after CF_CALLS: CF_ROOM, CF_FUNCTIONS. */
 uint32_t cf_desk_open_growing(cf_handle *plan, cf_handle *callers, size_t n, uint16_t log, uint16_t calls, uint16_t room,
                               uint32_t functions);
 
