@@ -1,6 +1,7 @@
 /* Opens what the library for C opens, one after another, each with a line that says what it gave, or that memory was refused it and
- * what the same opening gave then. Before them stands a graph whose calls take no memory once it is opened. bench/refused runs this
- * with each allocation refused in turn, and with all refused from one on.
+ * what the same opening gave then. Before them stand a graph and a desk whose calls take no memory once they are opened; to close a
+ * desk takes some where that begins, and a script where it is run. bench/refused runs this with each allocation refused in turn, and
+ * with all refused from one on.
  *
  * A row of OPENINGS is a name and a function, which frees all that it opened, answers a code of the library, and where that is 0
  * has set three numbers, of which the last is how often a builder's refused call was made again. */
@@ -128,12 +129,92 @@ static uint32_t graph(long numbers[3]) { return graph_with(numbers, 0); }
 
 static uint32_t growing_graph(long numbers[3]) { return graph_with(numbers, 2); }
 
+enum { CALLERS = 3, LOG = 20, CALLS = 10, FUNCTIONS = 2 };
+
+/* A plan, and the callers of a desk of it. */
+static uint32_t make_desk(cf_handle *plan, cf_handle callers[CALLERS], uint16_t room, long *again) {
+    uint32_t code = make_plan(plan, again);
+    if (code == CF_OK && room == 0)
+        code = cf_desk_open(plan, callers, CALLERS, LOG, CALLS);
+    else if (code == CF_OK)
+        code = cf_desk_open_growing(plan, callers, CALLERS, LOG, CALLS, room, FUNCTIONS);
+    return code;
+}
+
+static void free_desk(cf_handle *plan, cf_handle callers[CALLERS]) {
+    for (size_t k = 0; k < CALLERS; k++)
+        cf_free(&callers[k]);
+    cf_free(plan);
+}
+
+/* Closes a desk, and tells how many events and how many records there are. */
+static uint32_t close_desk(cf_handle callers[CALLERS], long numbers[3]) {
+    uint16_t events = 0, records = 0;
+    uint32_t code = cf_close_begin(&callers[0]);
+    for (size_t k = 1; k < CALLERS && code == CF_OK; k++)
+        code = cf_close_add(&callers[0], &callers[k]);
+    if (code == CF_OK)
+        code = cf_close_end(&callers[0]);
+    if (code == CF_OK)
+        code = cf_closed_events(&callers[0], &events);
+    numbers[0] = events;
+    numbers[1] = 0;
+    for (uint8_t k = 0; k < CALLERS && code == CF_OK; k++) {
+        code = cf_closed_records(&callers[0], k, &records);
+        numbers[1] += records;
+    }
+    return code == CF_OK ? cf_closed_graph(&callers[0]) : code;
+}
+
+static uint32_t desk_with(long numbers[3], uint16_t room) {
+    static const uint16_t first[] = {0};
+    cf_handle plan = {0}, callers[CALLERS] = {{0}, {0}, {0}};
+    numbers[2] = 0;
+    uint32_t code = make_desk(&plan, callers, room, &numbers[2]);
+    if (code == CF_OK) {
+        cf_reply reply;
+        cf_outcome outcome;
+        cf_desk_attach(&callers[0], CF_THEN_RUN, first, 1, 0, &reply);
+        cf_desk_complete(&callers[1], 0, (cf_value){CF_INT, 3}, &reply);
+        cf_desk_claim(&callers[2], 1, &reply);
+        cf_desk_finish(&callers[2], 1, four(), &reply);
+        cf_desk_read(&callers[0], 1, &outcome);
+        code = close_desk(callers, numbers);
+    }
+    free_desk(&plan, callers);
+    return code;
+}
+
+static uint32_t desk(long numbers[3]) { return desk_with(numbers, 0); }
+
+static uint32_t growing_desk(long numbers[3]) { return desk_with(numbers, 2); }
+
+/* The code of a script's run, and how long what it prints is. */
+static uint32_t script_of(const char *text, uint32_t wanted, long numbers[3]) {
+    uint8_t report[100];
+    size_t size = 0, length = 0;
+    while (text[size] != 0)
+        size++;
+    uint32_t code = cf_run_script((const uint8_t *)text, size, report, sizeof report, &length);
+    numbers[0] = code;
+    numbers[1] = (long)length;
+    numbers[2] = 0;
+    return code == wanted ? CF_OK : code;
+}
+
+static uint32_t script(long numbers[3]) {
+    return script_of("{\"cf\": 1, \"stages\": [{\"form\": \"source\"}], \"steps\": [[\"complete\", 0, 3]]}", CF_OK, numbers);
+}
+
+static uint32_t wrong_script(long numbers[3]) { return script_of("{\"cf\": 1, \"stages\": 5}", CF_BAD_SCRIPT, numbers); }
+
 static const struct {
     const char *name;
     opening *open;
 } OPENINGS[] = {
     {"C builder", small_builder}, {"C builder with room", roomy_builder}, {"C plan", plan}, {"C graph", graph},
-    {"C growing graph", growing_graph},
+    {"C growing graph", growing_graph}, {"C desk", desk}, {"C growing desk", growing_desk}, {"C script", script},
+    {"C wrong script", wrong_script},
 };
 
 static void show(const char *name, opening *open) {
@@ -195,8 +276,55 @@ static void show_calls(void) {
     cf_free(&plan);
 }
 
+/* Each call of a desk's callers, of which none takes memory, and the words and texts that C gets. */
+static void call_desk(cf_handle callers[CALLERS]) {
+    static const uint16_t first[] = {0};
+    cf_handle *a = &callers[0], *b = &callers[1];
+    cf_reply reply = {0};
+    cf_outcome outcome = {0};
+    cf_now now = {0}, joined = {0};
+    cf_event event = {0};
+    uint16_t stage = 0, function = 0, seen = 0, left = 0;
+    uint8_t number = 0, text[32];
+    uint64_t word = 0;
+    size_t length = 0;
+    tell(cf_desk_attach(a, CF_THEN_RUN, first, 1, 0, &reply), &reply);
+    tell(cf_desk_attach(b, CF_THEN_RUN, first, 1, 0, &reply), &reply);
+    tell(cf_desk_complete(a, 0, (cf_value){CF_INT, 3}, &reply), &reply);
+    tell(cf_desk_fail(b, 0, 7, &reply), &reply);
+    uint32_t ready = cf_desk_ready(a, &stage);
+    tell(cf_desk_claim(b, 1, &reply), &reply);
+    tell(cf_desk_cancel(a, 1, &reply), &reply);
+    tell(cf_desk_finish(b, 1, four(), &reply), &reply);
+    tell(cf_desk_tick(a, 5, &reply), &reply);
+    uint32_t read = cf_desk_read(b, 0, &outcome), told = cf_desk_read_now(a, 1, (cf_value){CF_NIL, 0}, &now);
+    say("  ready %u %u, outcome %u %d, now %u %u\n", ready, stage, read, outcome.value.number, told, now.kind);
+    uint32_t join = cf_desk_join(a, 0, 2, &joined), met = cf_desk_meet(a, &callers[2]);
+    uint32_t named = cf_desk_function(a, 1, &function), counted = cf_desk_seen(&callers[2], &seen);
+    say("  joined %u %u, met %u, function %u %u, seen %u %u\n", join, joined.kind, met, named, function, counted, seen);
+    uint32_t room = cf_desk_left(a, &left), who = cf_desk_caller(b, &number);
+    say("  left %u %u, caller %u %u\n", room, left, who, number);
+    uint32_t decoded = cf_event_of(0x0100000100000003, &event), encoded = cf_word_of(event, &word);
+    uint32_t written = cf_outcome_text(outcome, text, sizeof text, &length);
+    say("  event %u %u, word %u %lx, text %u %zu\n", decoded, event.call, encoded, word, written, length);
+}
+
+static void show_desk_calls(void) {
+    cf_handle plan = {0}, callers[CALLERS] = {{0}, {0}, {0}};
+    long again = 0;
+    uint32_t code = make_desk(&plan, callers, 1, &again);
+    if (code == CF_OK && again == 0) {
+        say("C desk calls:\n");
+        call_desk(callers);
+    } else {
+        say("C desk calls: no memory\n");
+    }
+    free_desk(&plan, callers);
+}
+
 int main(void) {
     show_calls();
+    show_desk_calls();
     for (size_t k = 0; k < sizeof OPENINGS / sizeof *OPENINGS; k++)
         show(OPENINGS[k].name, OPENINGS[k].open);
     return 0;

@@ -3,18 +3,21 @@
  * Java's CompletableFuture (Java SE 17) over numbered stages: callers complete, fail and cancel stages, claim the function of a ready
  * one and finish it with what the function answered; limits fire when a moment is handed in.
  *
- * A handle is a builder (cf_builder_new), a plan (cf_build), or a graph that one thread has alone (cf_graph_new). An empty handle is all
- * bytes 0: `cf_handle h = {0};`.
+ * A handle is a builder (cf_builder_new), a plan (cf_build), a graph that one thread has alone (cf_graph_new), or one of the callers of
+ * a desk (cf_desk_open), which is a graph that several threads share without a lock: each thread has a caller's handle of its own. A
+ * desk ends as a closing (cf_close_begin) and a closed desk (cf_close_end). An empty handle is all bytes 0: `cf_handle h = {0};`.
  *
  * What C owes, and nothing can check (docs/C.md has more):
  *   - a handle isn't copied and then used twice; it may be moved, by memcpy too, if the old one isn't used again;
- *   - one call at a time has a handle, and two handles of one call are different ones;
+ *   - one call at a time has a handle, and the handles of one call are different ones; no handle is another thread's meanwhile;
  *   - each pointer is aligned, and to as many elements as said, in memory that no other call uses meanwhile.
- * A null pointer is answered CF_NULL, unless it is `of` and its count is 0; cf_free of one does nothing.
+ * A null pointer is answered CF_NULL, unless a count or a room follows it that is 0; cf_free of one does nothing.
  *
  * Each call answers a cf_code: 0 where it did what it was asked. What it tells goes through its last pointer then; after any other
- * code that is left as it was, and so is what stands behind the handle, but as cf_build says. Every call on an empty handle answers
- * CF_EMPTY, and one on a handle of another kind CF_WRONG_KIND; neither changes anything. */
+ * code that is left as it was, and so is what stands behind the handle, but as cf_build says, and a desk's caller may have looked. Every
+ * call on an empty handle answers CF_EMPTY, and one on a handle of another kind CF_WRONG_KIND; neither changes anything.
+ *
+ * Building and opening take memory, and so do cf_close_begin and cf_run_script; no other call takes any. */
 #ifndef CF_H
 #define CF_H
 #include <stdbool.h>
@@ -41,11 +44,21 @@ typedef enum {
   CF_EMPTY = 10,              /* nothing stands behind the handle */
   CF_FULL = 11,               /* something stands behind a handle that has to be empty */
   CF_WRONG_KIND = 12,         /* something of another kind stands behind the handle */
-  CF_NO_SUCH_NUMBER = 13,     /* no form has this number */
+  CF_NO_SUCH_NUMBER = 13,     /* no form, or no call of an event, has this number */
   CF_NO_STAGE = 14,           /* a stage that the call names isn't there */
   CF_BAD_ATTACH = 15,         /* an attached stage doesn't fit its form */
   CF_ROOM = 16,               /* with the room there would be over 4,096 stages, or, two for each place, over 16,384 edges */
-  CF_NOTHING = 17,            /* there is none: no ready stage, no function */
+  CF_NOTHING = 17,            /* there is none: no ready stage, no function, no event or record at a place */
+  CF_CALLERS = 18,            /* a desk is to have no caller, or more than 64 */
+  CF_LOG = 19,                /* a desk's log is to hold nothing */
+  CF_CALLS = 20,              /* a desk's callers are to hold no record */
+  CF_FUNCTIONS = 21,          /* a function of the plan isn't below the number of functions */
+  CF_PASS_FULL = 22,          /* the caller holds as many records as it may */
+  CF_LOG_FULL = 23,           /* the desk's log is full */
+  CF_OTHER_DESK = 24,         /* the two callers aren't of one desk */
+  CF_NOT_ALL = 25,            /* callers of the desk weren't given back yet */
+  CF_NO_WORD = 26,            /* the word is no event's, or the event has no word */
+  CF_BAD_SCRIPT = 27,         /* the script has a fault, whose line stands in the report */
   CF_NULL = 255               /* a pointer is null that may not be; nothing was done */
 } cf_code;
 
@@ -118,7 +131,8 @@ typedef struct { uint32_t answer; uint32_t number; cf_args args; } cf_reply;
 
 /* ---- Any handle ---- */
 
-/* Frees what stands behind a handle, and leaves it empty. A null pointer is left alone. A plan may be freed before its graphs. */
+/* Frees what stands behind a handle, and leaves it empty. A null pointer is left alone. A plan may be freed before its graphs and
+ * desks. Callers are freed in any order, each by its thread; the others go on, but the desk can't be closed then. */
 void cf_free(cf_handle *h);
 
 /* ---- Plans ---- */
@@ -172,6 +186,118 @@ uint32_t cf_turns(cf_handle *graph, uint64_t *turns);
 
 /* Starts again: the graph is as it was opened, with its room free. It takes no memory. */
 uint32_t cf_restart(cf_handle *graph);
+
+/* ---- Desks: a graph that callers on several threads share without a lock ---- */
+
+/* Opens a desk of the plan, and puts its callers 0, 1, .. behind these n empty handles: 1 to 64, each one thread's. `log` is how many
+ * changing calls of all callers the desk takes, also those that change nothing, and `calls` how many records each caller holds: one for
+ * each of its changing calls that is done, each cf_desk_read, cf_desk_read_now and cf_desk_join. The plan stays. There is no room for
+ * more stages: the reply to cf_desk_attach is CF_STAGES_FULL. CF_EMPTY and CF_WRONG_KIND of the plan, CF_FULL where one of the handles
+ * isn't empty, CF_CALLERS, CF_LOG, CF_CALLS, CF_NO_MEMORY, the first that holds in this order; all handles are then as they were. */
+uint32_t cf_desk_open(cf_handle *plan, cf_handle *callers, size_t n, uint16_t log, uint16_t calls);
+
+/* The same with room for so many stages that callers attach later, whose functions have numbers below `functions`, and at most 4,095;
+ * those of the plan have to be below it, too. Besides, after CF_CALLS: CF_ROOM, CF_FUNCTIONS. */
+uint32_t cf_desk_open_growing(cf_handle *plan, cf_handle *callers, size_t n, uint16_t log, uint16_t calls, uint16_t room,
+                              uint32_t functions);
+
+/* The calls of a graph, done by the caller behind the handle and told to all: each has a place in the desk's one history, and its reply
+ * is the graph's after the events before that place. A stage that another caller has attached is there for this one once it has looked,
+ * and a call that names one that isn't there yet looks first. Of cf_desk_attach CF_NO_SUCH_NUMBER of a form and CF_WRONG_SOURCE_COUNT
+ * above two sources; then CF_NO_STAGE, CF_BAD_ATTACH where it doesn't fit its form or its function isn't one of the desk's, CF_PASS_FULL,
+ * CF_LOG_FULL, the first that holds. */
+uint32_t cf_desk_complete(cf_handle *caller, uint16_t stage, cf_value value, cf_reply *reply);
+uint32_t cf_desk_fail(cf_handle *caller, uint16_t stage, uint32_t code, cf_reply *reply);
+uint32_t cf_desk_cancel(cf_handle *caller, uint16_t stage, cf_reply *reply);
+uint32_t cf_desk_claim(cf_handle *caller, uint16_t stage, cf_reply *reply);
+uint32_t cf_desk_finish(cf_handle *caller, uint16_t stage, cf_answer answer, cf_reply *reply);
+uint32_t cf_desk_tick(cf_handle *caller, uint32_t now, cf_reply *reply);
+uint32_t cf_desk_attach(cf_handle *caller, uint32_t form, const uint16_t *of, size_t n, uint32_t function, cf_reply *reply);
+
+/* One look at all that is there, and what it tells of the stage, as cf_get and cf_get_now; recorded. CF_NO_STAGE, CF_PASS_FULL. */
+uint32_t cf_desk_read(cf_handle *caller, uint16_t stage, cf_outcome *outcome);
+uint32_t cf_desk_read_now(cf_handle *caller, uint16_t stage, cf_value absent, cf_now *now);
+
+/* Looks at most so many times (0 is taken for 1) until the stage is settled: CF_GOT_VALUE, CF_COMPLETION, CF_CANCELLATION, or CF_ABSENT
+ * with a pending outcome where it wasn't. It doesn't sleep between two looks. One record. CF_NO_STAGE, CF_PASS_FULL. */
+uint32_t cf_desk_join(cf_handle *caller, uint16_t stage, uint32_t looks, cf_now *now);
+
+/* The lowest ready stage after a look, or CF_NOTHING; not recorded. Another caller may claim it first. */
+uint32_t cf_desk_ready(cf_handle *caller, uint16_t *stage);
+
+/* Lets two callers of one desk, both in this thread's hands, see the longer of what either has seen. CF_OTHER_DESK. */
+uint32_t cf_desk_meet(cf_handle *caller, cf_handle *other);
+
+/* Without a look: how many events the caller has seen; how many records it still takes; the number of a stage's function, or CF_NOTHING,
+ * or CF_NO_STAGE where it hasn't seen that stage; the caller's number. */
+uint32_t cf_desk_seen(cf_handle *caller, uint16_t *events);
+uint32_t cf_desk_left(cf_handle *caller, uint16_t *calls);
+uint32_t cf_desk_function(cf_handle *caller, uint16_t stage, uint16_t *function);
+uint32_t cf_desk_caller(cf_handle *caller, uint8_t *number);
+
+/* ---- Closing a desk: one thread has all its callers then ---- */
+
+/* Begins to close a desk with one of its callers: the handle's caller becomes a closing. CF_NO_MEMORY leaves the caller as it was. */
+uint32_t cf_close_begin(cf_handle *caller);
+
+/* Gives one more caller of the same desk back, whose handle is empty then. CF_OTHER_DESK leaves both as they were. */
+uint32_t cf_close_add(cf_handle *closing, cf_handle *caller);
+
+/* Ends it: the closing becomes a closed desk. CF_NOT_ALL where callers are missing. */
+uint32_t cf_close_end(cf_handle *closing);
+
+/* What a caller was told. CF_DID: a changing call as the word of its event (cf_event_of), and its reply; `place` counts the history's
+ * events up to and with its own. CF_SAW: a look, of which `place` counts the events that were seen. It was asked of the `stage`, and
+ * told is `outcome` (CF_ASKED_OUTCOME; a join's too) or, for `absent`, `now` (CF_ASKED_NOW). What a record doesn't have is 0. */
+enum { CF_DID = 0, CF_SAW = 1 };
+enum { CF_ASKED_OUTCOME = 0, CF_ASKED_NOW = 1 };
+typedef struct {
+  uint32_t kind; uint32_t place; uint64_t word; cf_reply reply;
+  uint32_t asked; uint16_t stage; cf_value absent; cf_outcome outcome; cf_now now;
+} cf_record;
+
+/* Of a closed desk: how many events its history has; the word of the event at a place 0, 1, ..; how many records a caller has, by its
+ * number; its record at 0, 1, .. CF_NOTHING where there is none. */
+uint32_t cf_closed_events(cf_handle *closed, uint16_t *events);
+uint32_t cf_closed_word(cf_handle *closed, uint16_t place, uint64_t *word);
+uint32_t cf_closed_records(cf_handle *closed, uint8_t caller, uint16_t *records);
+uint32_t cf_closed_record(cf_handle *closed, uint8_t caller, uint16_t at, cf_record *record);
+
+/* Makes the closed desk its graph, as all events leave it; history and records are gone. */
+uint32_t cf_closed_graph(cf_handle *closed);
+
+/* ---- Words of events ---- */
+
+/* A changing call as an event: `who` does `call`. CF_CALL_ATTACH has so many `sources`, `first` and `second`; the other fields are called
+ * as the calls' parameters. What a call doesn't have is left aside, and 0 where it is told; that a stage has no function is told as
+ * CF_NO_FUNCTION. */
+enum {
+  CF_CALL_COMPLETE = 0, CF_CALL_FAIL = 1, CF_CALL_CANCEL = 2, CF_CALL_CLAIM = 3, CF_CALL_FINISH = 4, CF_CALL_TICK = 5, CF_CALL_ATTACH = 6
+};
+typedef struct {
+  uint32_t call; uint8_t who; uint16_t stage; cf_value value; uint32_t code; cf_answer answer; uint32_t now;
+  uint32_t form; uint32_t sources; uint16_t first; uint16_t second; uint32_t function;
+} cf_event;
+
+/* The word of an event, of which no two events have the same and which is never 0, and the event of a word. An event has a word where
+ * its caller is at most 63, its stages and its function at most 4,095, and what it attaches fits its form. CF_NO_SUCH_NUMBER of a call
+ * or form, CF_WRONG_SOURCE_COUNT where sources is above 2, CF_NO_WORD. */
+uint32_t cf_word_of(cf_event event, uint64_t *word);
+uint32_t cf_event_of(uint64_t word, cf_event *event);
+
+/* Does the event of a word to a graph, and gives its reply. CF_NO_WORD, CF_NO_STAGE, CF_BAD_ATTACH. */
+uint32_t cf_apply(cf_handle *graph, uint64_t word, cf_reply *reply);
+
+/* ---- Scripts and texts ---- */
+
+/* Runs a script, a JSON text, as `cf run` does: its report, or the line of its fault, goes to `report` as far as there is room, and its
+ * length, which may be above that, to `length`; both also with CF_BAD_SCRIPT. No zero byte is put behind. CF_BAD_SCRIPT, CF_NO_MEMORY. */
+uint32_t cf_run_script(const uint8_t *text, size_t n, uint8_t *report, size_t room, size_t *length);
+
+/* The text of an outcome, as reports have it ("pending", "value 3", "fault timeout raw"), and the name of a code ("Ok", "NoStage"), in the
+ * same way; neither has more than 31 bytes. A kind above CF_BAD_ANSWER is taken for that. CF_NO_SUCH_NUMBER where a number is no code's. */
+uint32_t cf_outcome_text(cf_outcome outcome, uint8_t *text, size_t room, size_t *length);
+uint32_t cf_code_text(uint32_t code, uint8_t *text, size_t room, size_t *length);
 
 #ifdef __cplusplus
 }
