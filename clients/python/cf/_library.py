@@ -1,6 +1,7 @@
 """The shared library, and the structures of cf.h."""
 import ctypes as c
 import os
+from types import SimpleNamespace
 
 NO_FUNCTION = 0xFFFFFFFF
 
@@ -53,23 +54,13 @@ def in_range(number: int, highest: int, lowest: int = 0) -> int:
     return number
 
 
-class _Unsigned:
-    """An argument without a sign."""
-
-    def __init__(self, kind: type) -> None:
-        self._kind, self._highest = kind, 2 ** (8 * c.sizeof(kind)) - 1
-
-    def from_param(self, number):
-        return self._kind(in_range(getattr(number, "value", number), self._highest))
-
-
 def numbers(of) -> "c.Array[c.c_uint16]":
     """Numbers of stages."""
     return (c.c_uint16 * len(of))(*[in_range(stage, 0xFFFF) for stage in of])
 
 
 _H, _R, _OF = c.POINTER(Handle), c.POINTER(CReply), c.POINTER(c.c_uint16)
-_U8, _U16, _U32, _U64, _SIZE = _Unsigned(c.c_uint8), _Unsigned(c.c_uint16), _Unsigned(c.c_uint32), _Unsigned(c.c_uint64), c.c_size_t
+_U8, _U16, _U32, _U64, _SIZE = c.c_uint8, c.c_uint16, c.c_uint32, c.c_uint64, c.c_size_t
 _U8_OUT, _U16_OUT, _U64_OUT = c.POINTER(c.c_uint8), c.POINTER(c.c_uint16), c.POINTER(c.c_uint64)
 _OUTCOME, _NOW, _TEXT = c.POINTER(COutcome), c.POINTER(CNow), [c.c_char_p, _SIZE, c.POINTER(_SIZE)]
 
@@ -129,14 +120,30 @@ CALLS = {
 }
 
 
-def load(path: str) -> c.CDLL:
-    """Loads the library and declares its calls."""
-    library = c.CDLL(path)
+_HIGHEST = {_U8: 2**8 - 1, _U16: 2**16 - 1, _U32: 2**32 - 1, _U64: 2**64 - 1, _SIZE: 2**64 - 1}
+
+
+def _checked(call, arguments):
+    """The call, with its numbers in their ranges."""
+    bounds = [(place, _HIGHEST[kind]) for place, kind in enumerate(arguments) if kind in _HIGHEST]
+
+    def made(*given):
+        for place, highest in bounds:
+            in_range(given[place], highest)
+        return call(*given)
+
+    return made
+
+
+def load(path: str) -> SimpleNamespace:
+    """The calls of the library."""
+    loaded, calls = c.CDLL(path), SimpleNamespace()
     for name, arguments in CALLS.items():
-        call = getattr(library, name)
+        call = getattr(loaded, name)
         call.argtypes = arguments
         call.restype = None if name == "cf_free" else c.c_uint32
-    return library
+        setattr(calls, name, _checked(call, arguments))
+    return calls
 
 
 library = load(os.environ.get("CF_LIBRARY", "libcf.so"))
