@@ -12,7 +12,7 @@ from concurrent.futures import InvalidStateError
 import histories
 import model
 from checks import Line, call_of_step, check_pass, check_stages, states_of
-from module import Difference, Functions, answer_of, cf, changing, compare, event_of, now_of, outcome_of, reply_of, told_or_refused
+from module import Difference, Functions, answer_of, cf, changing, compare, event_of, now_of, outcome_of, plain, reply_of, told_or_refused
 
 CALLERS = 8
 WAYS = ("free", "rounds", "turns")
@@ -419,4 +419,7 @@ def fixed():
         compare(f"an event of {word}", told_or_refused(lambda: cf.event_of(word)), ("refused", "NO_WORD"))
         compare(f"doing {word}", told_or_refused(lambda: cf.Graph(plan).apply(word)), ("refused", "NO_WORD"))
     compare("doing what names another stage", told_or_refused(lambda: cf.Graph(plan).apply(cf.word_of(cf.events.Claim(0, 1)))), ("refused", "NO_STAGE"))
-    compare("names of codes", all(cf.code_text(code) for code in cf.Code), True)
+    for code in cf.Code:
+        if code is not cf.Code.NULL:
+            compare("the name of a code", plain(cf.code_text(code)), plain(code.name))
+    compare("a code that isn't there", told_or_refused(lambda: cf.code_text(200)), ("refused", "NO_SUCH_NUMBER"))
