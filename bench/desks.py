@@ -390,36 +390,65 @@ def in_a_thread(call):
     return told[0]
 
 
-def fixed():
-    """Rows that need no seed."""
-    plan = cf.Plan()
-    plan.stage(cf.Form.SUPPLY, function=0)
-    desk = plan.open_desk(2, 10, 10)
-    one, other = desk.callers
-    with one:
-        compare("a caller that another thread has", in_a_thread(lambda: raised_by(lambda: one.read(0))), "InUse")
-        compare("another caller", in_a_thread(lambda: raised_by(lambda: other.read(0))), None)
-        compare("its own thread's", raised_by(lambda: one.read(0)), None)
-        compare("a closing meanwhile", in_a_thread(lambda: raised_by(lambda: desk.close([one]))), "InUse")
-    compare("a caller that nobody has", in_a_thread(lambda: raised_by(lambda: one.read(0))), None)
-    with cf.Workers([one], [lambda: 1 // 0], code=5) as workers:
-        pass
-    compare("what a function raised", [(number, type(error)) for number, error in workers.errors], [(0, ZeroDivisionError)])
-    compare("what became of it", outcome_of(other.read(0)), ("fault", ("thrown", 5), True))
-    compare("a future of it", raised_by(other.future(0).result), "Thrown")
-    other.close()
-    compare("a desk without a caller that was freed", told_or_refused(desk.close), ("refused", "EMPTY"))
-    for what, call in [("a stage", lambda: one.read(65_536)), ("a source", lambda: one.attach(cf.Form.ALL_OF, -1)), ("a code", lambda: one.fail(0, 2**32)),
-                       ("a function", lambda: one.attach(cf.Form.SUPPLY, function=65_536)), ("a value", lambda: one.complete(0, 2**31)),
-                       ("a link", lambda: one.finish(0, cf.Link(65_536))), ("a caller", lambda: cf.word_of(cf.events.Claim(256, 0)))]:
-        compare(f"{what} that is too great", raised_by(call), "OverflowError")
-    for event in [cf.events.Claim(64, 0), cf.events.Claim(0, 4_096), cf.events.Attach(0, cf.Form.SUPPLY, (), 4_096), cf.events.Attach(0, cf.Form.APPLY, (0,))]:
-        compare(f"a word of {event}", told_or_refused(lambda: cf.word_of(event)), ("refused", "NO_WORD"))
-    for word in [0, 2**64 - 1, 8 * 2**56]:
-        compare(f"an event of {word}", told_or_refused(lambda: cf.event_of(word)), ("refused", "NO_WORD"))
-        compare(f"doing {word}", told_or_refused(lambda: cf.Graph(plan).apply(word)), ("refused", "NO_WORD"))
-    compare("doing what names another stage", told_or_refused(lambda: cf.Graph(plan).apply(cf.word_of(cf.events.Claim(0, 1)))), ("refused", "NO_STAGE"))
+def threads_and_callers():
+    """A caller is in one thread's hands, and a desk is closed with all of its callers."""
+    with one_supply() as plan, plan.open_desk(2, 10, 10) as desk:
+        one, other = desk.callers
+        with one:
+            compare("a caller that another thread has", in_a_thread(lambda: raised_by(lambda: one.read(0))), "InUse")
+            compare("another caller", in_a_thread(lambda: raised_by(lambda: other.read(0))), None)
+            compare("its own thread's", raised_by(lambda: one.read(0)), None)
+            compare("a closing meanwhile", in_a_thread(lambda: raised_by(lambda: desk.close([one]))), "InUse")
+        compare("a caller that nobody has", in_a_thread(lambda: raised_by(lambda: one.read(0))), None)
+        other.close()
+        compare("a desk without a caller that was freed", told_or_refused(desk.close), ("refused", "EMPTY"))
+
+
+def functions_that_raise():
+    with one_supply() as plan, plan.open_desk(2, 10, 10) as desk:
+        one, other = desk.callers
+        with cf.Workers([one], [lambda: 1 // 0], code=5) as workers:
+            pass
+        compare("what a function raised", [(number, type(error)) for number, error in workers.errors], [(0, ZeroDivisionError)])
+        compare("what became of it", outcome_of(other.read(0)), ("fault", ("thrown", 5), True))
+        compare("a future of it", raised_by(other.future(0).result), "Thrown")
+
+
+def numbers_out_of_range():
+    with one_supply() as plan, cf.Graph(plan) as graph:
+        for what, call in [("a stage", lambda: graph.outcome(65_536)), ("a source", lambda: graph.attach(cf.Form.ALL_OF, -1)),
+                           ("a code", lambda: graph.fail(0, 2**32)), ("a function", lambda: graph.attach(cf.Form.SUPPLY, function=65_536)),
+                           ("a value", lambda: graph.complete(0, 2**31)), ("a link", lambda: graph.finish(0, cf.Link(65_536))),
+                           ("a moment", lambda: graph.tick(-1)), ("a caller", lambda: cf.word_of(cf.events.Claim(256, 0)))]:
+            compare(f"{what} out of its range", raised_by(call), "OverflowError")
+
+
+def words_of_nothing():
+    events = cf.events
+    with one_supply() as plan, cf.Graph(plan) as graph:
+        for event in [events.Claim(64, 0), events.Claim(0, 4_096), events.Attach(0, cf.Form.SUPPLY, (), 4_096), events.Attach(0, cf.Form.APPLY, (0,))]:
+            compare(f"a word of {event}", told_or_refused(lambda: cf.word_of(event)), ("refused", "NO_WORD"))
+        for word in [0, 2**64 - 1, 8 * 2**56]:
+            compare(f"an event of {word}", told_or_refused(lambda: cf.event_of(word)), ("refused", "NO_WORD"))
+            compare(f"doing {word}", told_or_refused(lambda: graph.apply(word)), ("refused", "NO_WORD"))
+        other = cf.word_of(events.Claim(0, 1))
+        compare("doing what names another stage", told_or_refused(lambda: graph.apply(other)), ("refused", "NO_STAGE"))
+
+
+def names_of_codes():
     for code in cf.Code:
         if code is not cf.Code.NULL:
             compare("the name of a code", plain(cf.code_text(code)), plain(code.name))
     compare("a code that isn't there", told_or_refused(lambda: cf.code_text(200)), ("refused", "NO_SUCH_NUMBER"))
+
+
+def one_supply():
+    plan = cf.Plan()
+    plan.stage(cf.Form.SUPPLY, function=0)
+    return plan
+
+
+def fixed():
+    """Rows that need no seed."""
+    for rows in (threads_and_callers, functions_that_raise, numbers_out_of_range, words_of_nothing, names_of_codes):
+        rows()

@@ -2,6 +2,7 @@
 import ctypes as c
 import os
 from types import SimpleNamespace
+from typing import Callable, List, Sequence
 
 NO_FUNCTION = 0xFFFFFFFF
 
@@ -54,7 +55,7 @@ def in_range(number: int, highest: int, lowest: int = 0) -> int:
     return number
 
 
-def numbers(of) -> "c.Array[c.c_uint16]":
+def numbers(of: Sequence[int]) -> "c.Array[c.c_uint16]":
     """Numbers of stages."""
     return (c.c_uint16 * len(of))(*[in_range(stage, 0xFFFF) for stage in of])
 
@@ -123,11 +124,11 @@ CALLS = {
 _HIGHEST = {_U8: 2**8 - 1, _U16: 2**16 - 1, _U32: 2**32 - 1, _U64: 2**64 - 1, _SIZE: 2**64 - 1}
 
 
-def _checked(call, arguments):
+def _checked(call: Callable[..., int], arguments: List[object]) -> Callable[..., int]:
     """The call, with its numbers in their ranges."""
     bounds = [(place, _HIGHEST[kind]) for place, kind in enumerate(arguments) if kind in _HIGHEST]
 
-    def made(*given):
+    def made(*given: object) -> int:
         for place, highest in bounds:
             in_range(given[place], highest)
         return call(*given)

@@ -128,18 +128,20 @@ class Desk:
         self.callers: Tuple[Caller, ...] = tuple(Caller(handle) for handle in handles)
         self._left = list(self.callers)
         self._closing: Optional[Held] = None
+        self._lock = threading.Lock()
 
     def close(self, callers: Optional[Iterable[Caller]] = None) -> Closed:
         """Gives these callers back, or else all that weren't yet, and ends the desk: what its callers did is one history, and what
         they were told is recorded. `NOT_ALL` where callers are missing, which may be given back later, and `OTHER_DESK` of one of
         another desk; those before it stay given back."""
-        for caller in list(self._left) if callers is None else callers:
-            self._give_back(caller)
-        if self._closing is None:
-            raise Refused(Code.EMPTY if not self._left else Code.NOT_ALL)
-        self._closing._call("cf_close_end")
-        closed, self._closing = self._closing, None
-        return Closed(closed._let_go(), len(self.callers))
+        with self._lock:
+            for caller in list(self._left) if callers is None else callers:
+                self._give_back(caller)
+            if self._closing is None:
+                raise Refused(Code.NOT_ALL if self._left else Code.EMPTY)
+            self._closing._call("cf_close_end")
+            closed, self._closing = self._closing, None
+            return Closed(closed._let_go(), len(self.callers))
 
     def __enter__(self) -> "Desk":
         return self

@@ -1,7 +1,7 @@
 """Handles, and the calls that graphs and callers of a desk have in common."""
 import ctypes as c
 import threading
-from typing import Callable, Optional, Sequence, Union
+from typing import Callable, Optional, Sequence, TypeVar, Union
 
 from ._library import NO_FUNCTION, CReply, Handle, in_range, library, numbers
 from .values import (Answer, Args, ClaimReply, ClaimStatus, Code, FinishReply, Form, Link, Refused, Thrown, Value, answer_in, check, claim_out,
@@ -9,6 +9,9 @@ from .values import (Answer, Args, ClaimReply, ClaimStatus, Code, FinishReply, F
 
 # The function of a stage. One that raises `Thrown(code)` throws the code.
 Function = Callable[..., Union[Value, Link]]
+
+Told = TypeVar("Told")
+Self = TypeVar("Self", bound="Held")
 
 
 class Held:
@@ -28,7 +31,7 @@ class Held:
         with self._lock:
             check(getattr(library, name)(self._at, *arguments))
 
-    def _tell(self, name: str, told, *arguments: object):
+    def _tell(self, name: str, told: Told, *arguments: object) -> Told:
         """Makes a call on the handle that tells something in this."""
         self._call(name, *arguments, c.byref(told))
         return told
@@ -52,7 +55,7 @@ class Held:
         with self._lock:
             library.cf_free(self._at)
 
-    def __enter__(self):
+    def __enter__(self: Self) -> Self:
         return self
 
     def __exit__(self, *_cause: object) -> None:
