@@ -85,6 +85,7 @@ CALLS = {
     "cf_lowest_ready": [_H, _U16_OUT],
     "cf_function": [_H, _U16, _U16_OUT],
     "cf_stages": [_H, _U16_OUT],
+    "cf_turns": [_H, _U64_OUT],
     "cf_restart": [_H],
     "cf_desk_open": [_H, _H, _SIZE, _U16, _U16],
     "cf_desk_open_growing": [_H, _H, _SIZE, _U16, _U16, _U16, _U32],

@@ -1,4 +1,5 @@
 """The graph of a plan, and views of its stages."""
+import ctypes as c
 from concurrent.futures import InvalidStateError
 from typing import Optional
 
@@ -39,6 +40,10 @@ class Graph(Calls):
     def stages(self) -> int:
         """How many stages there are by now."""
         return self._tell_number("cf_stages")
+
+    def turns(self) -> int:
+        """How many turns were taken since the graph was opened or last restarted."""
+        return self._tell("cf_turns", c.c_uint64()).value
 
     def future(self, stage: int) -> "Future":
         """A view of a stage."""
