@@ -1,3 +1,6 @@
+import cf.Caller;
+import cf.ClosedDesk;
+import cf.Desk;
 import cf.Form;
 import cf.Graph;
 import cf.Plan;
@@ -5,10 +8,15 @@ import cf.PlanBuilder;
 import cf.RefusedException;
 import cf.StageFunction;
 import cf.ThrownException;
+import java.util.ArrayList;
 import java.util.List;
 import java.util.concurrent.CompletionException;
+import java.util.concurrent.atomic.AtomicInteger;
 
-/** A request: eight backends are asked, of which one doesn't answer before its limit; what they give is summed. */
+/**
+ * A request: eight backends are asked, of which one doesn't answer before its limit; what they give is summed. First one thread answers
+ * it, by a graph of the plan, and then four together, by callers of one desk.
+ */
 public class Request {
     private static final int BACKENDS = 8, SLOW = 5, LIMIT = 60, ME = 1;
     private static final int ASK = 0, ADD = 1, REFUSE = 2;
@@ -35,6 +43,7 @@ public class Request {
             try (Plan plan = builder.build();
                     Graph graph = plan.open(1)) {
                 answer(graph, sum, refused);
+                together(plan, sum);
             }
         }
     }
@@ -63,6 +72,42 @@ public class Request {
             graph.complete(999, 1);
         } catch (RefusedException exception) {
             System.out.println("stage 999: " + exception.code());
+        }
+    }
+
+    private static void together(Plan plan, int sum) {
+        try (Desk desk = plan.openDesk(4, 500, 200)) {
+            Caller first = desk.callers().get(0);
+            AtomicInteger calls = new AtomicInteger();
+            List<Thread> threads = new ArrayList<>();
+            for (Caller caller : desk.callers().subList(1, 4)) {
+                threads.add(new Thread(() -> calls.addAndGet(caller.work(FUNCTIONS))));
+            }
+            threads.forEach(Thread::start);
+            for (int backend = 0; backend < BACKENDS; backend++) {
+                if (backend != SLOW) {
+                    first.complete(backend, backend + 1);
+                }
+            }
+            System.out.println("limits fired together: " + first.tick(LIMIT).getAsInt());
+            threads.forEach(Request::join);
+            // What came to be ready behind the last look of all threads is left for the first.
+            calls.addAndGet(first.work(FUNCTIONS));
+            System.out.println("functions run together: " + calls + ", the sum: " + first.join(sum, 1).get());
+            try (ClosedDesk closed = desk.end();
+                    Graph again = plan.open(0)) {
+                System.out.println("the first event: " + closed.events().get(0));
+                closed.words().forEach(again::apply);
+                System.out.println("the sum of all events done again: " + again.getNow(sum, -1));
+            }
+        }
+    }
+
+    private static void join(Thread thread) {
+        try {
+            thread.join();
+        } catch (InterruptedException exception) {
+            throw new AssertionError(exception);
         }
     }
 }

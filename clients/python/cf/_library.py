@@ -1,6 +1,8 @@
 """The shared library, and the structures of cf.h."""
 import ctypes as c
 import os
+from types import SimpleNamespace
+from typing import Callable, List, Sequence
 
 NO_FUNCTION = 0xFFFFFFFF
 
@@ -27,19 +29,47 @@ class CArgs(c.Structure):
     _fields_ = [("kind", c.c_uint32), ("first", CValue), ("second", CValue), ("outcome", COutcome)]
 
 
+class CNow(c.Structure):
+    _fields_ = [("kind", c.c_uint32), ("outcome", COutcome)]
+
+
 class CReply(c.Structure):
     _fields_ = [("answer", c.c_uint32), ("number", c.c_uint32), ("args", CArgs)]
 
 
-_H, _R = c.POINTER(Handle), c.POINTER(CReply)
-_U8, _U16, _U32, _SIZE = c.c_uint8, c.c_uint16, c.c_uint32, c.c_size_t
-_OF = c.POINTER(_U16)
+class CRecord(c.Structure):
+    _fields_ = [("kind", c.c_uint32), ("place", c.c_uint32), ("word", c.c_uint64), ("reply", CReply), ("asked", c.c_uint32),
+                ("stage", c.c_uint16), ("absent", CValue), ("outcome", COutcome), ("now", CNow)]
+
+
+class CEvent(c.Structure):
+    _fields_ = [("call", c.c_uint32), ("who", c.c_uint8), ("stage", c.c_uint16), ("value", CValue), ("code", c.c_uint32),
+                ("answer", CAnswer), ("now", c.c_uint32), ("form", c.c_uint32), ("sources", c.c_uint32), ("first", c.c_uint16),
+                ("second", c.c_uint16), ("function", c.c_uint32)]
+
+
+def in_range(number: int, highest: int, lowest: int = 0) -> int:
+    """The number, which ctypes would cut to C's width. One out of its range raises OverflowError, and no call is made."""
+    if not lowest <= number <= highest:
+        raise OverflowError(f"{number} isn't between {lowest} and {highest}")
+    return number
+
+
+def numbers(of: Sequence[int]) -> "c.Array[c.c_uint16]":
+    """Numbers of stages."""
+    return (c.c_uint16 * len(of))(*[in_range(stage, 0xFFFF) for stage in of])
+
+
+_H, _R, _OF = c.POINTER(Handle), c.POINTER(CReply), c.POINTER(c.c_uint16)
+_U8, _U16, _U32, _U64, _SIZE = c.c_uint8, c.c_uint16, c.c_uint32, c.c_uint64, c.c_size_t
+_U8_OUT, _U16_OUT, _U64_OUT = c.POINTER(c.c_uint8), c.POINTER(c.c_uint16), c.POINTER(c.c_uint64)
+_OUTCOME, _NOW, _TEXT = c.POINTER(COutcome), c.POINTER(CNow), [c.c_char_p, _SIZE, c.POINTER(_SIZE)]
 
 # The arguments of each call that the module makes.
 CALLS = {
     "cf_free": [_H],
     "cf_builder_new": [_H, _U16, _U16],
-    "cf_builder_stage": [_H, _U32, _OF, _SIZE, _U32, c.POINTER(_U16)],
+    "cf_builder_stage": [_H, _U32, _OF, _SIZE, _U32, _U16_OUT],
     "cf_builder_limit": [_H, _U16, _U32, _U32, CValue],
     "cf_build": [_H],
     "cf_graph_new": [_H, _U16, _H],
@@ -50,21 +80,72 @@ CALLS = {
     "cf_finish": [_H, _U8, _U16, CAnswer, _R],
     "cf_tick": [_H, _U32, _R],
     "cf_attach": [_H, _U32, _OF, _SIZE, _U32, _R],
-    "cf_get": [_H, _U16, c.POINTER(COutcome)],
-    "cf_lowest_ready": [_H, c.POINTER(_U16)],
-    "cf_function": [_H, _U16, c.POINTER(_U16)],
+    "cf_get": [_H, _U16, _OUTCOME],
+    "cf_get_now": [_H, _U16, CValue, _NOW],
+    "cf_lowest_ready": [_H, _U16_OUT],
+    "cf_function": [_H, _U16, _U16_OUT],
+    "cf_stages": [_H, _U16_OUT],
+    "cf_turns": [_H, _U64_OUT],
     "cf_restart": [_H],
+    "cf_desk_open": [_H, _H, _SIZE, _U16, _U16],
+    "cf_desk_open_growing": [_H, _H, _SIZE, _U16, _U16, _U16, _U32],
+    "cf_desk_complete": [_H, _U16, CValue, _R],
+    "cf_desk_fail": [_H, _U16, _U32, _R],
+    "cf_desk_cancel": [_H, _U16, _R],
+    "cf_desk_claim": [_H, _U16, _R],
+    "cf_desk_finish": [_H, _U16, CAnswer, _R],
+    "cf_desk_tick": [_H, _U32, _R],
+    "cf_desk_attach": [_H, _U32, _OF, _SIZE, _U32, _R],
+    "cf_desk_read": [_H, _U16, _OUTCOME],
+    "cf_desk_read_now": [_H, _U16, CValue, _NOW],
+    "cf_desk_join": [_H, _U16, _U32, _NOW],
+    "cf_desk_ready": [_H, _U16_OUT],
+    "cf_desk_meet": [_H, _H],
+    "cf_desk_seen": [_H, _U16_OUT],
+    "cf_desk_left": [_H, _U16_OUT],
+    "cf_desk_function": [_H, _U16, _U16_OUT],
+    "cf_desk_caller": [_H, _U8_OUT],
+    "cf_close_begin": [_H],
+    "cf_close_add": [_H, _H],
+    "cf_close_end": [_H],
+    "cf_closed_events": [_H, _U16_OUT],
+    "cf_closed_word": [_H, _U16, _U64_OUT],
+    "cf_closed_records": [_H, _U8, _U16_OUT],
+    "cf_closed_record": [_H, _U8, _U16, c.POINTER(CRecord)],
+    "cf_closed_graph": [_H],
+    "cf_word_of": [CEvent, _U64_OUT],
+    "cf_event_of": [_U64, c.POINTER(CEvent)],
+    "cf_apply": [_H, _U64, _R],
+    "cf_run_script": [c.c_char_p, _SIZE, *_TEXT],
+    "cf_outcome_text": [COutcome, *_TEXT],
+    "cf_code_text": [_U32, *_TEXT],
 }
 
 
-def load(path: str) -> c.CDLL:
-    """Loads the library and declares its calls."""
-    library = c.CDLL(path)
+_HIGHEST = {_U8: 2**8 - 1, _U16: 2**16 - 1, _U32: 2**32 - 1, _U64: 2**64 - 1, _SIZE: 2**64 - 1}
+
+
+def _checked(call: Callable[..., int], arguments: List[object]) -> Callable[..., int]:
+    """The call, with its numbers in their ranges."""
+    bounds = [(place, _HIGHEST[kind]) for place, kind in enumerate(arguments) if kind in _HIGHEST]
+
+    def made(*given: object) -> int:
+        for place, highest in bounds:
+            in_range(given[place], highest)
+        return call(*given)
+
+    return made
+
+
+def load(path: str) -> SimpleNamespace:
+    """The calls of the library."""
+    loaded, calls = c.CDLL(path), SimpleNamespace()
     for name, arguments in CALLS.items():
-        call = getattr(library, name)
+        call = getattr(loaded, name)
         call.argtypes = arguments
         call.restype = None if name == "cf_free" else c.c_uint32
-    return library
+        setattr(calls, name, _checked(call, arguments))
+    return calls
 
 
 library = load(os.environ.get("CF_LIBRARY", "libcf.so"))

@@ -1,4 +1,5 @@
 //! A graph, which one owner has alone.
+use crate::event::{reply_out, Event};
 use crate::held::Held;
 use crate::plan::{function_in, Form};
 use crate::refused::{if_there, Refused};
@@ -40,9 +41,9 @@ impl Graph {
 
     /// Attaches a stage, and tells its number, or None where no room is left.
     pub fn attach(&mut self, form: Form, of: &[u16], function: Option<u16>) -> Result<Option<u16>, Refused> {
-        let reply: sys::Reply =
-            self.0.tell(|h, reply| unsafe { sys::cf_attach(h, form as u32, of.as_ptr(), of.len(), function_in(function), reply) })?;
-        Ok((reply.answer == 0).then_some(reply.number as u16))
+        self.0
+            .tell(|h, reply| unsafe { sys::cf_attach(h, form as u32, of.as_ptr(), of.len(), function_in(function), reply) })
+            .map(attached_out)
     }
 
     /// What a stage is settled with, if it is.
@@ -72,6 +73,12 @@ impl Graph {
     /// How many turns were taken since the graph was opened or last restarted.
     pub fn turns(&mut self) -> Result<u64, Refused> {
         self.0.tell(|h, told| unsafe { sys::cf_turns(h, told) })
+    }
+
+    /// Does the event of a word, and gives its reply.
+    pub fn apply(&mut self, word: u64) -> Result<Reply, Refused> {
+        let event = Event::of_word(word)?;
+        self.0.tell(|h, told| unsafe { sys::cf_apply(h, word, told) }).map(|reply| reply_out(event.call, reply))
     }
 
     /// Starts again, as the graph was opened.

@@ -15,6 +15,11 @@ impl Held {
         Held(sys::Handle::EMPTY)
     }
 
+    /// Of a handle that nobody uses any more.
+    pub(crate) fn of(handle: sys::Handle) -> Held {
+        Held(handle)
+    }
+
     /// Makes a call on the handle, which answers a code.
     pub(crate) fn call(&mut self, call: impl FnOnce(*mut sys::Handle) -> u32) -> Result<(), Refused> {
         done(call(&mut self.0))

@@ -1,21 +1,44 @@
 //! Completable futures that are proved: Java's `CompletableFuture` over numbered stages.
 //!
-//! A [`PlanBuilder`] makes a [`Plan`], and that any number of graphs. A [`Graph`] goes to any thread, and is in one call at a time,
-//! since each takes it by `&mut`. What C owes by docs/C.md is met by the types: nothing copies a handle, and dropping frees it.
+//! A [`PlanBuilder`] makes a [`Plan`], and that any number of graphs and desks. A [`Graph`] goes to any thread, and is in one call at a
+//! time, since each takes it by `&mut`. A [`Desk`] is a graph that threads share without a lock, each by a [`Caller`] of its own; closed
+//! with all of them it gives the one history of what they did. What C owes by docs/C.md is met by the types: nothing copies a handle,
+//! and dropping frees it.
 //!
 //! ```compile_fail
 //! fn twice(graph: cf::Graph) -> (cf::Graph, cf::Graph) {
 //!     (graph.clone(), graph)
 //! }
 //! ```
+//!
+//! ```compile_fail
+//! fn twice(caller: cf::Caller) -> (cf::Caller, cf::Caller) {
+//!     (caller.clone(), caller)
+//! }
+//! ```
+//!
+//! ```compile_fail
+//! fn after_closing(desk: cf::Desk, callers: Vec<cf::Caller>) {
+//!     let _ = desk.close(callers);
+//!     drop(callers);
+//! }
+//! ```
+mod closed;
+mod desk;
+mod event;
 mod graph;
 mod held;
 mod plan;
 mod refused;
 mod sys;
+mod text;
 mod values;
 
+pub use closed::{Closed, Record};
+pub use desk::{Caller, Desk, NotClosed};
+pub use event::{Call, Event, Of};
 pub use graph::Graph;
-pub use plan::{Form, Limit, Plan, PlanBuilder};
+pub use plan::{Form, Limit, Plan, PlanBuilder, Sizes};
 pub use refused::Refused;
-pub use values::{Answer, Args, Cause, Claimed, Finished, Now, Outcome, Ticked, Value};
+pub use text::{outcome_text, run_script, ScriptFault};
+pub use values::{Answer, Args, Cause, Claimed, Finished, Now, Outcome, Reply, Ticked, Value};

@@ -1,4 +1,5 @@
 //! Plans, and how they are built.
+use crate::desk::{opened, Caller, Desk};
 use crate::graph::Graph;
 use crate::held::Held;
 use crate::refused::Refused;
@@ -28,6 +29,33 @@ pub enum Form {
     AllOf,
     AnyOf,
     ExceptionallyCompose,
+}
+
+const FORMS: [Form; 19] = [
+    Form::Source,
+    Form::Supply,
+    Form::RunAsync,
+    Form::Apply,
+    Form::Accept,
+    Form::ThenRun,
+    Form::Combine,
+    Form::AcceptBoth,
+    Form::RunBoth,
+    Form::ApplyEither,
+    Form::AcceptEither,
+    Form::RunEither,
+    Form::Compose,
+    Form::Handle,
+    Form::WhenComplete,
+    Form::Exceptionally,
+    Form::AllOf,
+    Form::AnyOf,
+    Form::ExceptionallyCompose,
+];
+
+/// The form of a number of cf.h.
+pub(crate) fn form_out(number: u32) -> Form {
+    FORMS[number as usize]
 }
 
 /// What a limit does to a stage that isn't settled at its moment.
@@ -80,6 +108,30 @@ impl Plan {
         self.0.call(|plan| graph_code(graph.call(|h| unsafe { sys::cf_graph_new(plan, room, h) })))?;
         Ok(Graph(graph))
     }
+
+    /// A desk at its start, and its callers 0, 1, .., each for one thread.
+    pub fn desk(&mut self, sizes: Sizes) -> Result<(Desk, Vec<Caller>), Refused> {
+        let mut handles: Vec<sys::Handle> = (0..sizes.callers).map(|_| sys::Handle::EMPTY).collect();
+        let (callers, n) = (handles.as_mut_ptr(), handles.len());
+        self.0.call(|plan| match sizes.growth {
+            None => unsafe { sys::cf_desk_open(plan, callers, n, sizes.log, sizes.calls) },
+            Some((room, functions)) => unsafe { sys::cf_desk_open_growing(plan, callers, n, sizes.log, sizes.calls, room, functions) },
+        })?;
+        Ok(opened(sizes, handles))
+    }
+}
+
+/// How much a desk holds.
+#[derive(Clone, Copy, PartialEq, Eq, Debug)]
+pub struct Sizes {
+    /// 1 to 64.
+    pub callers: u8,
+    /// How many changing calls of all callers the log holds.
+    pub log: u16,
+    /// How many records of its own calls, reads too, each caller holds.
+    pub calls: u16,
+    /// Where callers attach stages: room for so many, and the number that each function's is below.
+    pub growth: Option<(u16, u32)>,
 }
 
 fn graph_code(made: Result<(), Refused>) -> u32 {

@@ -1,4 +1,6 @@
 //! Why a call is refused.
+use crate::sys;
+use crate::text::told;
 use std::error::Error;
 use std::fmt;
 
@@ -6,7 +8,7 @@ use std::fmt;
 #[derive(Clone, Copy, PartialEq, Eq, Debug)]
 pub struct Refused(u32);
 
-const WORDS: [&str; 17] = [
+const WORDS: [&str; 27] = [
     "the plan has 4,096 stages already",
     "a source isn't below the new stage's number",
     "the number of sources isn't the form's",
@@ -24,6 +26,16 @@ const WORDS: [&str; 17] = [
     "an attached stage doesn't fit its form",
     "there would be too many stages or edges with the room",
     "there is none",
+    "a desk is to have no caller, or more than 64",
+    "a desk's log is to hold nothing",
+    "a desk's callers are to hold no record",
+    "a function of the plan isn't below the number of functions",
+    "the caller holds as many records as it may",
+    "the desk's log is full",
+    "the two callers aren't of one desk",
+    "callers of the desk weren't given back",
+    "the word is no event's, or the event has no word",
+    "the script has a fault",
 ];
 
 impl Refused {
@@ -40,10 +52,25 @@ impl Refused {
     pub const BAD_ATTACH: Refused = Refused(15);
     pub const ROOM: Refused = Refused(16);
     pub(crate) const NOTHING: Refused = Refused(17);
+    pub const CALLERS: Refused = Refused(18);
+    pub const LOG: Refused = Refused(19);
+    pub const CALLS: Refused = Refused(20);
+    pub const FUNCTIONS: Refused = Refused(21);
+    pub const PASS_FULL: Refused = Refused(22);
+    pub const LOG_FULL: Refused = Refused(23);
+    pub const OTHER_DESK: Refused = Refused(24);
+    pub const NOT_ALL: Refused = Refused(25);
+    pub const NO_WORD: Refused = Refused(26);
+    pub const BAD_SCRIPT: Refused = Refused(27);
 
     /// The number of the code in cf.h.
     pub fn code(self) -> u32 {
         self.0
+    }
+
+    /// Its name, as the library has it: `NoStage`.
+    pub fn name(self) -> String {
+        told(|text, room, length| unsafe { sys::cf_code_text(self.0, text, room, length) }).1
     }
 }
 

@@ -72,6 +72,18 @@ pub enum Ticked {
     Past,
 }
 
+/// What a changing call was answered.
+#[derive(Clone, Copy, PartialEq, Eq, Debug)]
+pub enum Reply {
+    /// Of complete, fail and cancel.
+    Flag(bool),
+    Claimed(Claimed),
+    Finished(Finished),
+    Ticked(Ticked),
+    /// The number of the new stage, or None where no room was left.
+    Attached(Option<u16>),
+}
+
 pub(crate) fn value_in(value: Value) -> sys::Value {
     match value {
         Value::Nil => sys::Value { kind: 0, number: 0 },
@@ -155,5 +167,34 @@ pub(crate) fn ticked_out(reply: sys::Reply) -> Ticked {
     match reply.answer {
         0 => Ticked::Fired(reply.number),
         _ => Ticked::Past,
+    }
+}
+
+pub(crate) fn attached_out(reply: sys::Reply) -> Option<u16> {
+    (reply.answer == 0).then_some(reply.number as u16)
+}
+
+pub(crate) fn answer_out(answer: sys::Answer) -> Answer {
+    match answer.kind {
+        0 => Answer::Give(value_out(answer.value)),
+        1 => Answer::Throw(answer.code),
+        _ => Answer::Link(answer.stage),
+    }
+}
+
+pub(crate) fn outcome_in(outcome: Option<Outcome>) -> sys::Outcome {
+    let none = sys::Outcome::default();
+    match outcome {
+        None => none,
+        Some(Outcome::Value(value)) => sys::Outcome { kind: 1, value: value_in(value), ..none },
+        Some(Outcome::Fault { cause, wrapped }) => {
+            let (kind, code) = match cause {
+                Cause::Thrown(code) => (2, code),
+                Cause::Cancelled => (3, 0),
+                Cause::TimedOut => (4, 0),
+                Cause::BadAnswer => (5, 0),
+            };
+            sys::Outcome { kind, wrapped: u32::from(wrapped), code, ..none }
+        }
     }
 }

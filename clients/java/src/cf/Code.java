@@ -22,6 +22,16 @@ public enum Code {
     BAD_ATTACH(15),
     ROOM(16),
     NOTHING(17),
+    CALLERS(18),
+    LOG(19),
+    CALLS(20),
+    FUNCTIONS(21),
+    PASS_FULL(22),
+    LOG_FULL(23),
+    OTHER_DESK(24),
+    NOT_ALL(25),
+    NO_WORD(26),
+    BAD_SCRIPT(27),
     NULL(255);
 
     private final int number;
@@ -33,6 +43,11 @@ public enum Code {
     /** The number of the code in cf.h. */
     public int number() {
         return number;
+    }
+
+    /** The library's name for it, as {@code NoStage}. */
+    public String text() {
+        return Text.told((text, room, length) -> (int) Library.CODE_TEXT.invokeExact(number, text, room, length));
     }
 
     static Code of(int number) {

@@ -33,6 +33,45 @@ final class Given {
         return memory;
     }
 
+    /** Writes a cf_value. */
+    static void value(MemorySegment value, Integer given) {
+        MemoryAccess.setIntAtOffset(value, 0, given == null ? 0 : 1);
+        MemoryAccess.setIntAtOffset(value, 4, given == null ? 0 : given);
+    }
+
+    /** Writes a cf_answer. */
+    static void answer(MemorySegment answer, Answer given) {
+        answer.fill((byte) 0);
+        if (given instanceof Answer.Value it) {
+            value(answer.asSlice(8, 8), it.value());
+        } else if (given instanceof Answer.Throw it) {
+            MemoryAccess.setIntAtOffset(answer, 0, 1);
+            MemoryAccess.setIntAtOffset(answer, 4, unsignedInt(it.code()));
+        } else if (given instanceof Answer.Link it) {
+            MemoryAccess.setIntAtOffset(answer, 0, 2);
+            MemoryAccess.setShortAtOffset(answer, 16, unsignedShort(it.stage()));
+        } else {
+            throw new NullPointerException("answer");
+        }
+    }
+
+    /** Writes a cf_outcome. */
+    static void outcome(MemorySegment outcome, Outcome given) {
+        MemoryAccess.setIntAtOffset(outcome, 0, given.kind().ordinal() + 1);
+        MemoryAccess.setIntAtOffset(outcome, 4, given.wrapped() ? 1 : 0);
+        MemoryAccess.setIntAtOffset(outcome, 8, unsignedInt(given.code()));
+        value(outcome.asSlice(12, 8), given.value());
+    }
+
+    /** What a stage's function answers, or throws by a ThrownException. */
+    static Answer answer(StageFunction function, Arguments arguments) {
+        try {
+            return function.call(arguments);
+        } catch (ThrownException thrown) {
+            return new Answer.Throw(thrown.code());
+        }
+    }
+
     private static long inRange(long number, long highest) {
         if (number < 0 || number > highest) {
             throw new IllegalArgumentException(number + " isn't between 0 and " + highest);

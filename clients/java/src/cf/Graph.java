@@ -38,10 +38,7 @@ public final class Graph implements AutoCloseable {
     public Claim claim(int caller, int stage) {
         byte who = Given.unsignedByte(caller);
         short number = Given.unsignedShort(stage);
-        return handle.tell((h, told) -> (int) Library.CLAIM.invokeExact(h, who, number, told), told -> {
-            Claim.Status status = Claim.Status.values()[told.number(0)];
-            return new Claim(status, status == Claim.Status.GRANTED ? told.arguments() : null);
-        });
+        return handle.tell((h, told) -> (int) Library.CLAIM.invokeExact(h, who, number, told), Told::claim);
     }
 
     /** Hands in what the function of a claimed stage answered. */
@@ -49,14 +46,13 @@ public final class Graph implements AutoCloseable {
         byte who = Given.unsignedByte(caller);
         short number = Given.unsignedShort(stage);
         return handle.tell(
-                (h, told) -> (int) Library.FINISH.invokeExact(h, who, number, handle.answer(answer), told),
-                told -> Finish.values()[told.number(0)]);
+                (h, told) -> (int) Library.FINISH.invokeExact(h, who, number, handle.answer(answer), told), Told::finish);
     }
 
     /** Lets it be this moment, 0 to 4,294,967,295: how many limits settled their stage, or empty where it is past. */
     public OptionalInt tick(long moment) {
         int now = Given.unsignedInt(moment);
-        return handle.tell((h, told) -> (int) Library.TICK.invokeExact(h, now, told), Graph::numberIfFirst);
+        return handle.tell((h, told) -> (int) Library.TICK.invokeExact(h, now, told), Told::numberIfFirst);
     }
 
     /**
@@ -70,7 +66,7 @@ public final class Graph implements AutoCloseable {
             int number = Given.function(function);
             return handle.tell(
                     (h, told) -> (int) Library.ATTACH.invokeExact(h, form.ordinal(), of, (long) sources.length, number, told),
-                    Graph::numberIfFirst);
+                    Told::numberIfFirst);
         }
     }
 
@@ -88,17 +84,8 @@ public final class Graph implements AutoCloseable {
      */
     public Integer getNow(int stage, Integer valueIfAbsent) {
         short number = Given.unsignedShort(stage);
-        return handle.tell((h, told) -> (int) Library.GET_NOW.invokeExact(h, number, handle.value(valueIfAbsent), told), told -> {
-            switch (told.number(0)) {
-                case 0:
-                case 1:
-                    return told.value(16);
-                case 2:
-                    throw new CompletionException(told.outcome(4).cause());
-                default:
-                    throw new CancellationException();
-            }
-        });
+        return handle.tell(
+                (h, told) -> (int) Library.GET_NOW.invokeExact(h, number, handle.value(valueIfAbsent), told), Told::now).get();
     }
 
     public boolean isDone(int stage) {
@@ -107,13 +94,13 @@ public final class Graph implements AutoCloseable {
 
     /** The lowest stage that can be claimed, if one can. */
     public OptionalInt lowestReady() {
-        return ifThere((h, told) -> (int) Library.LOWEST_READY.invokeExact(h, told));
+        return handle.ifThere((h, told) -> (int) Library.LOWEST_READY.invokeExact(h, told));
     }
 
     /** The number of a stage's function, if it has one. */
     public OptionalInt function(int stage) {
         short number = Given.unsignedShort(stage);
-        return ifThere((h, told) -> (int) Library.FUNCTION.invokeExact(h, number, told));
+        return handle.ifThere((h, told) -> (int) Library.FUNCTION.invokeExact(h, number, told));
     }
 
     /** How many stages there are by now. */
@@ -124,6 +111,12 @@ public final class Graph implements AutoCloseable {
     /** How many turns were taken since the graph was opened or last restarted. */
     public long turns() {
         return handle.tell((h, told) -> (int) Library.TURNS.invokeExact(h, told), Told::longNumber);
+    }
+
+    /** Does the event of a word, and gives its reply. */
+    public Reply apply(long word) {
+        Event event = Event.of(word);
+        return handle.tell((h, told) -> (int) Library.APPLY.invokeExact(h, word, told), told -> told.reply(event));
     }
 
     /** Starts again, as the graph was opened. */
@@ -142,7 +135,7 @@ public final class Graph implements AutoCloseable {
             StageFunction function = functions.get(function(stage).getAsInt());
             Claim claim = claim(caller, stage);
             if (claim.granted()) {
-                finish(caller, stage, answerOf(function, claim.arguments()));
+                finish(caller, stage, Given.answer(function, claim.arguments()));
                 calls++;
             }
         }
@@ -155,30 +148,7 @@ public final class Graph implements AutoCloseable {
         handle.close();
     }
 
-    private static Answer answerOf(StageFunction function, Arguments arguments) {
-        try {
-            return function.call(arguments);
-        } catch (ThrownException thrown) {
-            return new Answer.Throw(thrown.code());
-        }
-    }
-
     private boolean flag(Handle.Call call) {
-        return handle.tell(call, told -> told.number(0) != 0);
-    }
-
-    private OptionalInt ifThere(Handle.Call call) {
-        try {
-            return OptionalInt.of(handle.tell(call, Told::unsignedShort));
-        } catch (RefusedException refused) {
-            if (refused.code() == Code.NOTHING) {
-                return OptionalInt.empty();
-            }
-            throw refused;
-        }
-    }
-
-    private static OptionalInt numberIfFirst(Told told) {
-        return told.number(0) == 0 ? OptionalInt.of(told.number(4)) : OptionalInt.empty();
+        return handle.tell(call, Told::flag);
     }
 }

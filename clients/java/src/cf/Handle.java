@@ -1,7 +1,7 @@
 package cf;
 
+import java.util.OptionalInt;
 import java.util.function.Function;
-import jdk.incubator.foreign.MemoryAccess;
 import jdk.incubator.foreign.MemoryAddress;
 import jdk.incubator.foreign.MemorySegment;
 import jdk.incubator.foreign.ResourceScope;
@@ -16,11 +16,21 @@ final class Handle implements AutoCloseable {
         int make(MemoryAddress handle, MemoryAddress told) throws Throwable;
     }
 
-    private final MemorySegment memory = MemorySegment.allocateNative(96, 8, ResourceScope.newImplicitScope());
+    /** How many bytes a cf_handle has. */
+    static final long BYTES = 16;
+
+    private final MemorySegment memory = MemorySegment.allocateNative(176, 8, ResourceScope.newImplicitScope());
     private final MemoryAddress at = memory.address();
-    private final MemorySegment told = memory.asSlice(16, 48);
-    private final MemorySegment value = memory.asSlice(64, 8);
-    private final MemorySegment answer = memory.asSlice(72, 20);
+    private final MemorySegment told = memory.asSlice(16, 128);
+    private final MemorySegment value = memory.asSlice(144, 8);
+    private final MemorySegment answer = memory.asSlice(152, 20);
+
+    Handle() {}
+
+    /** Takes over what stands behind a handle of C, which nobody uses any more. */
+    Handle(MemorySegment handle) {
+        memory.asSlice(0, BYTES).copyFrom(handle);
+    }
 
     synchronized void call(Call call) {
         int code;
@@ -42,9 +52,29 @@ final class Handle implements AutoCloseable {
         return read.apply(new Told(told));
     }
 
+    /** The same where it tells a number, or that there is none. */
+    OptionalInt ifThere(Call call) {
+        try {
+            return OptionalInt.of(tell(call, Told::unsignedShort));
+        } catch (RefusedException refused) {
+            if (refused.code() == Code.NOTHING) {
+                return OptionalInt.empty();
+            }
+            throw refused;
+        }
+    }
+
     /** Puts a graph of the plan behind this handle, which no other thread knows yet, and answers the code. */
     int open(MemoryAddress plan, short room) throws Throwable {
         return (int) Library.GRAPH_NEW.invokeExact(plan, room, at);
+    }
+
+    /** Makes a call on this handle and a second one. The caller sees to it that no two such calls wait for each other. */
+    void callWith(Handle other, Call call) {
+        other.call((second, none) -> {
+            call((first, nothing) -> call.make(first, second));
+            return 0;
+        });
     }
 
     /** Frees what stands behind the handle, and leaves it empty. */
@@ -57,24 +87,12 @@ final class Handle implements AutoCloseable {
     }
 
     MemorySegment value(Integer given) {
-        MemoryAccess.setIntAtOffset(value, 0, given == null ? 0 : 1);
-        MemoryAccess.setIntAtOffset(value, 4, given == null ? 0 : given);
+        Given.value(value, given);
         return value;
     }
 
     MemorySegment answer(Answer given) {
-        answer.fill((byte) 0);
-        if (given instanceof Answer.Value it) {
-            answer.asSlice(8, 8).copyFrom(value(it.value()));
-        } else if (given instanceof Answer.Throw it) {
-            MemoryAccess.setIntAtOffset(answer, 0, 1);
-            MemoryAccess.setIntAtOffset(answer, 4, Given.unsignedInt(it.code()));
-        } else if (given instanceof Answer.Link it) {
-            MemoryAccess.setIntAtOffset(answer, 0, 2);
-            MemoryAccess.setShortAtOffset(answer, 16, Given.unsignedShort(it.stage()));
-        } else {
-            throw new NullPointerException("answer");
-        }
+        Given.answer(answer, given);
         return answer;
     }
 }

@@ -25,6 +25,10 @@ final class Library {
     private static final MemoryLayout VALUE = MemoryLayout.structLayout(C_INT, C_INT);
     private static final MemoryLayout ANSWER =
             MemoryLayout.structLayout(C_INT, C_INT, VALUE, C_SHORT, MemoryLayout.paddingLayout(16));
+    private static final MemoryLayout OUTCOME = MemoryLayout.structLayout(C_INT, C_INT, C_INT, VALUE);
+    static final MemoryLayout EVENT =
+            MemoryLayout.structLayout(
+                    C_INT, C_CHAR, MemoryLayout.paddingLayout(8), C_SHORT, VALUE, C_INT, ANSWER, C_INT, C_INT, C_INT, C_SHORT, C_SHORT, C_INT);
 
     static final MethodHandle FREE =
             CLinker.getInstance().downcallHandle(
@@ -48,6 +52,39 @@ final class Library {
     static final MethodHandle STAGES = call("cf_stages", C_POINTER, C_POINTER);
     static final MethodHandle TURNS = call("cf_turns", C_POINTER, C_POINTER);
     static final MethodHandle RESTART = call("cf_restart", C_POINTER);
+    static final MethodHandle DESK_OPEN = call("cf_desk_open", C_POINTER, C_POINTER, C_LONG, C_SHORT, C_SHORT);
+    static final MethodHandle DESK_OPEN_GROWING =
+            call("cf_desk_open_growing", C_POINTER, C_POINTER, C_LONG, C_SHORT, C_SHORT, C_SHORT, C_INT);
+    static final MethodHandle DESK_COMPLETE = call("cf_desk_complete", C_POINTER, C_SHORT, VALUE, C_POINTER);
+    static final MethodHandle DESK_FAIL = call("cf_desk_fail", C_POINTER, C_SHORT, C_INT, C_POINTER);
+    static final MethodHandle DESK_CANCEL = call("cf_desk_cancel", C_POINTER, C_SHORT, C_POINTER);
+    static final MethodHandle DESK_CLAIM = call("cf_desk_claim", C_POINTER, C_SHORT, C_POINTER);
+    static final MethodHandle DESK_FINISH = call("cf_desk_finish", C_POINTER, C_SHORT, ANSWER, C_POINTER);
+    static final MethodHandle DESK_TICK = call("cf_desk_tick", C_POINTER, C_INT, C_POINTER);
+    static final MethodHandle DESK_ATTACH = call("cf_desk_attach", C_POINTER, C_INT, C_POINTER, C_LONG, C_INT, C_POINTER);
+    static final MethodHandle DESK_READ = call("cf_desk_read", C_POINTER, C_SHORT, C_POINTER);
+    static final MethodHandle DESK_READ_NOW = call("cf_desk_read_now", C_POINTER, C_SHORT, VALUE, C_POINTER);
+    static final MethodHandle DESK_JOIN = call("cf_desk_join", C_POINTER, C_SHORT, C_INT, C_POINTER);
+    static final MethodHandle DESK_READY = call("cf_desk_ready", C_POINTER, C_POINTER);
+    static final MethodHandle DESK_MEET = call("cf_desk_meet", C_POINTER, C_POINTER);
+    static final MethodHandle DESK_SEEN = call("cf_desk_seen", C_POINTER, C_POINTER);
+    static final MethodHandle DESK_LEFT = call("cf_desk_left", C_POINTER, C_POINTER);
+    static final MethodHandle DESK_FUNCTION = call("cf_desk_function", C_POINTER, C_SHORT, C_POINTER);
+    static final MethodHandle DESK_CALLER = call("cf_desk_caller", C_POINTER, C_POINTER);
+    static final MethodHandle CLOSE_BEGIN = call("cf_close_begin", C_POINTER);
+    static final MethodHandle CLOSE_ADD = call("cf_close_add", C_POINTER, C_POINTER);
+    static final MethodHandle CLOSE_END = call("cf_close_end", C_POINTER);
+    static final MethodHandle CLOSED_EVENTS = call("cf_closed_events", C_POINTER, C_POINTER);
+    static final MethodHandle CLOSED_WORD = call("cf_closed_word", C_POINTER, C_SHORT, C_POINTER);
+    static final MethodHandle CLOSED_RECORDS = call("cf_closed_records", C_POINTER, C_CHAR, C_POINTER);
+    static final MethodHandle CLOSED_RECORD = call("cf_closed_record", C_POINTER, C_CHAR, C_SHORT, C_POINTER);
+    static final MethodHandle CLOSED_GRAPH = call("cf_closed_graph", C_POINTER);
+    static final MethodHandle WORD_OF = call("cf_word_of", EVENT, C_POINTER);
+    static final MethodHandle EVENT_OF = call("cf_event_of", C_LONG, C_POINTER);
+    static final MethodHandle APPLY = call("cf_apply", C_POINTER, C_LONG, C_POINTER);
+    static final MethodHandle RUN_SCRIPT = call("cf_run_script", C_POINTER, C_LONG, C_POINTER, C_LONG, C_POINTER);
+    static final MethodHandle OUTCOME_TEXT = call("cf_outcome_text", OUTCOME, C_POINTER, C_LONG, C_POINTER);
+    static final MethodHandle CODE_TEXT = call("cf_code_text", C_INT, C_POINTER, C_LONG, C_POINTER);
 
     private Library() {}
 

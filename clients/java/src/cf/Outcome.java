@@ -2,6 +2,8 @@ package cf;
 
 import java.util.concurrent.CancellationException;
 import java.util.concurrent.TimeoutException;
+import jdk.incubator.foreign.MemorySegment;
+import jdk.incubator.foreign.ResourceScope;
 
 /**
  * What a stage is settled with.
@@ -35,5 +37,19 @@ public record Outcome(Kind kind, Integer value, long code, boolean wrapped) {
             case TIMED_OUT -> new TimeoutException();
             case BAD_ANSWER -> new BadAnswerException();
         };
+    }
+
+    /** As reports have it: {@code value 3}, {@code fault timeout raw}. */
+    public String text() {
+        try (ResourceScope scope = ResourceScope.newConfinedScope()) {
+            MemorySegment outcome = MemorySegment.allocateNative(20, 4, scope);
+            Given.outcome(outcome, this);
+            return Text.told((text, room, length) -> (int) Library.OUTCOME_TEXT.invokeExact(outcome, text, room, length));
+        }
+    }
+
+    /** The same fault inside a CompletionException. */
+    Outcome inside() {
+        return new Outcome(kind, value, code, true);
     }
 }

@@ -1,6 +1,6 @@
 package cf;
 
-/** Stages and limits, of which any number of graphs is opened. They share its memory, and outlive it. */
+/** Stages and limits, of which any number of graphs and desks is opened. They share its memory, and outlive it. */
 public final class Plan implements AutoCloseable {
     private final Handle handle;
 
@@ -20,7 +20,36 @@ public final class Plan implements AutoCloseable {
         return new Graph(graph);
     }
 
-    /** Frees the plan; its graphs stay. */
+    /**
+     * A desk at its start, without room for stages that are attached.
+     *
+     * @param callers 1 to 64
+     * @param log how many changing calls of all callers it takes
+     * @param calls how many records each caller holds, of its changing calls and its reads
+     */
+    public Desk openDesk(int callers, int log, int calls) {
+        short words = Given.unsignedShort(log);
+        short records = Given.unsignedShort(calls);
+        return Desk.open(callers, (handles, n) -> (h, none) -> (int) Library.DESK_OPEN.invokeExact(h, handles, n, words, records), handle);
+    }
+
+    /**
+     * The same with room for so many stages that callers attach later.
+     *
+     * @param functions what the number of each function is below, those of the plan too
+     */
+    public Desk openDesk(int callers, int log, int calls, int room, long functions) {
+        short words = Given.unsignedShort(log);
+        short records = Given.unsignedShort(calls);
+        short places = Given.unsignedShort(room);
+        int most = Given.unsignedInt(functions);
+        return Desk.open(
+                callers,
+                (handles, n) -> (h, none) -> (int) Library.DESK_OPEN_GROWING.invokeExact(h, handles, n, words, records, places, most),
+                handle);
+    }
+
+    /** Frees the plan; its graphs and desks stay. */
     @Override
     public void close() {
         handle.close();

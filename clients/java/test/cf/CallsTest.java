@@ -190,7 +190,7 @@ final class CallsTest {
         }
     }
 
-    private static void join(Thread thread) {
+    static void join(Thread thread) {
         try {
             thread.join();
         } catch (InterruptedException exception) {
@@ -212,6 +212,7 @@ final class CallsTest {
         new CallsTest(checks).run();
         FormsTest.run(checks);
         new RefusalsTest(checks).run();
+        new DesksTest(checks).run();
         System.exit(checks.end() ? 0 : 1);
     }
 }

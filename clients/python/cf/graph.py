@@ -1,0 +1,109 @@
+"""The graph of a plan, and views of its stages."""
+import ctypes as c
+from concurrent.futures import InvalidStateError
+from typing import Optional
+
+from ._library import CNow, COutcome, CReply, Handle
+from .events import reply_of
+from .held import Calls
+from .plan import Plan
+from .values import Cancelled, Fault, Now, Outcome, Reply, Value, now_out, outcome_out, value_in
+
+
+class Graph(Calls):
+    """The graph of a plan, with room for so many stages that are attached later. Its claims and finishes are by a caller of a
+    number, 0 to 255."""
+
+    _prefix, _ready = "cf_", "cf_lowest_ready"
+
+    def __init__(self, plan: Plan, room: int = 0, who: int = 0) -> None:
+        super().__init__()
+        self.who = who
+        plan.build()._call("cf_graph_new", room, self._at)
+
+    @classmethod
+    def _of(cls, handle: Handle) -> "Graph":
+        """A graph that stands behind a handle."""
+        graph = cls.__new__(cls)
+        Calls.__init__(graph, handle)
+        graph.who = 0
+        return graph
+
+    def outcome(self, stage: int) -> Optional[Outcome]:
+        """What a stage is settled with, if it is."""
+        return outcome_out(self._tell("cf_get", COutcome(), stage))
+
+    def get_now(self, stage: int, absent: Value = None) -> Now:
+        """What a stage gives at present, `absent` where it isn't settled."""
+        return now_out(self._tell("cf_get_now", CNow(), stage, value_in(absent)))
+
+    def stages(self) -> int:
+        """How many stages there are by now."""
+        return self._tell_number("cf_stages")
+
+    def turns(self) -> int:
+        """How many turns were taken since the graph was opened or last restarted."""
+        return self._tell("cf_turns", c.c_uint64()).value
+
+    def future(self, stage: int) -> "Future":
+        """A view of a stage."""
+        return Future(self, stage)
+
+    def apply(self, word: int) -> Reply:
+        """Does the event of a word, and gives its reply."""
+        return reply_of(word, self._tell("cf_apply", CReply(), word))
+
+    def restart(self) -> None:
+        """Starts again, as the graph was opened."""
+        self._call("cf_restart")
+
+    def _by(self) -> tuple:
+        return (self.who,)
+
+
+class Future:
+    """A view of a stage: as much of `concurrent.futures.Future` as a graph of one thread has. Nothing waits."""
+
+    def __init__(self, graph: Graph, stage: int) -> None:
+        self._graph, self.stage = graph, stage
+
+    def done(self) -> bool:
+        """Whether the stage is settled."""
+        return self._outcome() is not None
+
+    def cancel(self) -> bool:
+        """Cancels the stage, and says whether it is cancelled then."""
+        return self._graph.cancel(self.stage)
+
+    def cancelled(self) -> bool:
+        """Whether the stage was cancelled itself."""
+        outcome = self._outcome()
+        return outcome is not None and isinstance(outcome.fault, Cancelled) and not outcome.fault.wrapped
+
+    def exception(self) -> Optional[Fault]:
+        """The stage's fault, or None. A stage that isn't settled raises `InvalidStateError`."""
+        return self._settled().fault
+
+    def result(self) -> Value:
+        """The stage's value; its fault is raised. A stage that isn't settled raises `InvalidStateError`."""
+        return value_of(self._settled())
+
+    def _outcome(self) -> Optional[Outcome]:
+        return self._graph.outcome(self.stage)
+
+    def _settled(self) -> Outcome:
+        return there(self._outcome(), self.stage)
+
+
+def there(outcome: Optional[Outcome], stage: int) -> Outcome:
+    """The outcome of a stage, which raises where there is none."""
+    if outcome is None:
+        raise InvalidStateError(f"stage {stage} isn't settled")
+    return outcome
+
+
+def value_of(outcome: Outcome) -> Value:
+    """The value of an outcome; its fault is raised."""
+    if outcome.fault is not None:
+        raise outcome.fault
+    return outcome.value

@@ -1,0 +1,144 @@
+"""Handles, and the calls that graphs and callers of a desk have in common."""
+import ctypes as c
+import threading
+from typing import Callable, Optional, Sequence, TypeVar, Union
+
+from ._library import NO_FUNCTION, CReply, Handle, in_range, library, numbers
+from .values import (Answer, Args, ClaimReply, ClaimStatus, Code, FinishReply, Form, Link, Refused, Thrown, Value, answer_in, check, claim_out,
+                     finish_out, flag_out, number_out, value_in)
+
+# The function of a stage. One that raises `Thrown(code)` throws the code.
+Function = Callable[..., Union[Value, Link]]
+
+Told = TypeVar("Told")
+Self = TypeVar("Self", bound="Held")
+
+
+class Held:
+    """A handle that is freed at the end of a `with`, or when nobody has it any more. One call at a time has it: another thread's
+    waits."""
+
+    def __init__(self, handle: Optional[Handle] = None) -> None:
+        self._handle = Handle() if handle is None else handle
+        self._lock = threading.RLock()
+
+    @property
+    def _at(self) -> "c.pointer[Handle]":
+        return c.pointer(self._handle)
+
+    def _call(self, name: str, *arguments: object) -> None:
+        """Makes a call on the handle."""
+        with self._lock:
+            check(getattr(library, name)(self._at, *arguments))
+
+    def _tell(self, name: str, told: Told, *arguments: object) -> Told:
+        """Makes a call on the handle that tells something in this."""
+        self._call(name, *arguments, c.byref(told))
+        return told
+
+    def _tell_number(self, name: str, *arguments: object) -> Optional[int]:
+        """Makes a call that tells a number, or that there is none."""
+        try:
+            return self._tell(name, c.c_uint16(), *arguments).value
+        except Refused as refused:
+            if refused.code == Code.NOTHING:
+                return None
+            raise
+
+    def _let_go(self) -> Handle:
+        """The handle, which is another object's then. An empty one stays."""
+        handle, self._handle = self._handle, Handle()
+        return handle
+
+    def close(self) -> None:
+        """Frees what stands behind the handle."""
+        with self._lock:
+            library.cf_free(self._at)
+
+    def __enter__(self: Self) -> Self:
+        return self
+
+    def __exit__(self, *_cause: object) -> None:
+        self.close()
+
+    def __del__(self) -> None:
+        if library is not None and hasattr(self, "_handle"):
+            library.cf_free(c.pointer(self._handle))
+
+
+def function_in(function: Optional[int]) -> int:
+    return NO_FUNCTION if function is None else in_range(function, 0xFFFF)
+
+
+class Calls(Held):
+    """The calls that settle stages and do their work."""
+
+    _prefix: str
+    _ready: str
+
+    def complete(self, stage: int, value: Value = None) -> bool:
+        """Settles a stage with a value, and says whether it did."""
+        return flag_out(self._do("complete", stage, value_in(value)))
+
+    def fail(self, stage: int, code: int) -> bool:
+        """Settles a stage with a thrown code, and says whether it did."""
+        return flag_out(self._do("fail", stage, code))
+
+    def cancel(self, stage: int) -> bool:
+        """Cancels a stage, and says whether it is cancelled then."""
+        return flag_out(self._do("cancel", stage))
+
+    def claim(self, stage: int) -> ClaimReply:
+        """Takes a ready stage, whose function is then to be called, and the stage to be finished."""
+        return claim_out(self._do("claim", *self._by(), stage))
+
+    def finish(self, stage: int, answer: Answer = None) -> FinishReply:
+        """Finishes a claimed stage with what its function answered: a value, `Thrown(code)`, or `Link(stage)`."""
+        return finish_out(self._do("finish", *self._by(), stage, answer_in(answer)))
+
+    def tick(self, now: int) -> Optional[int]:
+        """Lets it be this moment: how many limits fired, or None where it is past."""
+        return number_out(self._do("tick", now))
+
+    def attach(self, form: Form, *of: int, function: Optional[int] = None) -> Optional[int]:
+        """Attaches a stage, and tells its number, or None where there is no room."""
+        return number_out(self._do("attach", form, numbers(of), len(of), function_in(function)))
+
+    def ready(self) -> Optional[int]:
+        """The lowest stage that can be claimed, if one can."""
+        return self._tell_number(self._ready)
+
+    def function(self, stage: int) -> Optional[int]:
+        """The number of a stage's function, if it has one."""
+        return self._tell_number(self._prefix + "function", stage)
+
+    def work(self, functions: Sequence[Function], most: Optional[int] = None) -> int:
+        """Claims ready stages, the lowest first, calls their functions, which stand at their numbers, and finishes them, until none
+        is ready, or so many were called: how many. A function that raises anything but `Thrown` ends it, and its stage stays
+        claimed."""
+        calls = 0
+        while most is None or calls < most:
+            stage = self.ready()
+            if stage is None:
+                break
+            function = functions[self.function(stage)]
+            told = self.claim(stage)
+            if told.status is ClaimStatus.GRANTED:
+                self.finish(stage, answer_of(function, told.args))
+                calls += 1
+        return calls
+
+    def _by(self) -> tuple:
+        """What a claim and a finish name their caller by."""
+        return ()
+
+    def _do(self, name: str, *arguments: object) -> CReply:
+        return self._tell(self._prefix + name, CReply(), *arguments)
+
+
+def answer_of(function: Function, args: Args) -> Answer:
+    """What a function answers or throws."""
+    try:
+        return function(*args)
+    except Thrown as fault:
+        return Thrown(fault.code)

@@ -1,0 +1,218 @@
+"""What callers give and are told."""
+import enum
+from concurrent.futures import CancelledError
+from dataclasses import dataclass
+from typing import NamedTuple, Optional, Tuple, Union
+
+from ._library import CAnswer, CArgs, CNow, COutcome, CReply, CValue, in_range
+
+Value = Optional[int]
+
+
+class Form(enum.IntEnum):
+    """How a stage depends on its sources."""
+
+    SOURCE, SUPPLY, RUN_ASYNC, APPLY, ACCEPT, THEN_RUN, COMBINE, ACCEPT_BOTH, RUN_BOTH, APPLY_EITHER = range(10)
+    ACCEPT_EITHER, RUN_EITHER, COMPOSE, HANDLE, WHEN_COMPLETE, EXCEPTIONALLY, ALL_OF, ANY_OF, EXCEPTIONALLY_COMPOSE = range(10, 19)
+
+
+class Code(enum.IntEnum):
+    """Why a call is refused."""
+
+    TOO_MANY_STAGES, SOURCE_NOT_LOWER, WRONG_SOURCE_COUNT, FUNCTION_MISSING, FUNCTION_UNWANTED, TOO_MANY_EDGES = range(1, 7)
+    NO_SUCH_STAGE, NO_MEMORY, TOO_MANY_LIMITS, EMPTY, FULL, WRONG_KIND, NO_SUCH_NUMBER, NO_STAGE, BAD_ATTACH = range(7, 16)
+    ROOM, NOTHING, CALLERS, LOG, CALLS, FUNCTIONS, PASS_FULL, LOG_FULL, OTHER_DESK, NOT_ALL, NO_WORD, BAD_SCRIPT = range(16, 28)
+    NULL = 255
+
+
+class Refused(Exception):
+    """A call was refused, and changed nothing."""
+
+    def __init__(self, code: int) -> None:
+        self.code = Code(code)
+        super().__init__(self.code.name.lower().replace("_", " "))
+
+
+class Fault(Exception):
+    """A stage ended in a fault; `wrapped` where it took it over from another stage. Two faults of one cause are equal."""
+
+    wrapped = False
+
+    def __eq__(self, other: object) -> bool:
+        if not isinstance(other, Fault):
+            return NotImplemented
+        return (type(self), self.args, self.wrapped) == (type(other), other.args, other.wrapped)
+
+    def __hash__(self) -> int:
+        return hash((type(self), self.args, self.wrapped))
+
+
+class Thrown(Fault):
+    """A stage was failed, or its function threw, with a code. Raised by a function, it is what the function throws."""
+
+    def __init__(self, code: int) -> None:
+        self.code = code
+        super().__init__(f"thrown {code}")
+
+
+class TimedOut(Fault):
+    """A limit fired."""
+
+
+class BadAnswer(Fault):
+    """A function answered what its form can't take."""
+
+
+class Cancelled(Fault, CancelledError):
+    """The stage, or what it took its outcome from, was cancelled."""
+
+
+@dataclass(frozen=True)
+class Link:
+    """What the function of a composing stage answers: the stage that it takes its outcome from."""
+
+    stage: int
+
+
+# What a stage's function answers: a value, a throw of a code, or a link.
+Answer = Union[Value, Thrown, Link]
+
+
+class Outcome(NamedTuple):
+    """What a stage is settled with: a value, or else a fault."""
+
+    value: Value
+    fault: Optional[Fault]
+
+
+# What a stage's function is called with: nothing, a value, two values, or an outcome.
+Args = Tuple[Union[Value, Outcome], ...]
+
+
+class NowKind(enum.Enum):
+    """What is told of a stage at present: it isn't settled, its value, its fault inside a CompletionException, or that it was cancelled itself."""
+
+    ABSENT, VALUE, COMPLETION, CANCELLATION = range(4)
+
+
+class Now(NamedTuple):
+    """What a stage gives at present: where it isn't settled, the value that was handed in."""
+
+    kind: NowKind
+    value: Value
+    fault: Optional[Fault]
+
+    def get(self) -> Value:
+        """The value; a fault is raised."""
+        if self.fault is not None:
+            raise self.fault
+        return self.value
+
+
+class ClaimStatus(enum.Enum):
+    """Whether a claim is granted, and why not: the stage is settled, another caller has it, or its sources aren't settled."""
+
+    GRANTED, SETTLED, TAKEN, NOT_READY = range(4)
+
+
+class ClaimReply(NamedTuple):
+    """What a claim is answered, and where it is granted, what the stage's function is called with."""
+
+    status: ClaimStatus
+    args: Optional[Args]
+
+
+class FinishReply(enum.Enum):
+    """What a finish is answered: it settled or linked its stage, that had been settled before, or the caller hasn't claimed it."""
+
+    WON, LATE, NOT_YOURS = range(3)
+
+
+# What a changing call is answered. Of a tick how many limits fired, or None where it is past; of an attach the number of the new
+# stage, or None where there is no room.
+Reply = Union[bool, ClaimReply, FinishReply, Optional[int]]
+
+
+def check(code: int) -> None:
+    if code:
+        raise Refused(code)
+
+
+def value_in(value: Value) -> CValue:
+    return CValue(0, 0) if value is None else CValue(1, in_range(value, 2**31 - 1, -(2**31)))
+
+
+def value_out(value: CValue) -> Value:
+    return value.number if value.kind else None
+
+
+def answer_in(answer: Answer) -> CAnswer:
+    if isinstance(answer, Thrown):
+        return CAnswer(kind=1, code=in_range(answer.code, 2**32 - 1))
+    if isinstance(answer, Link):
+        return CAnswer(kind=2, stage=in_range(answer.stage, 0xFFFF))
+    return CAnswer(kind=0, value=value_in(answer))
+
+
+def answer_out(answer: CAnswer) -> Answer:
+    return value_out(answer.value) if answer.kind == 0 else Thrown(answer.code) if answer.kind == 1 else Link(answer.stage)
+
+
+FAULTS = {3: Cancelled, 4: TimedOut, 5: BadAnswer}
+
+
+def _fault_out(outcome: COutcome, wrapped: bool) -> Fault:
+    fault: Fault = Thrown(outcome.code) if outcome.kind == 2 else FAULTS[outcome.kind]()
+    fault.wrapped = wrapped
+    return fault
+
+
+def outcome_out(outcome: COutcome) -> Optional[Outcome]:
+    if outcome.kind == 0:
+        return None
+    if outcome.kind == 1:
+        return Outcome(value_out(outcome.value), None)
+    return Outcome(None, _fault_out(outcome, bool(outcome.wrapped)))
+
+
+def outcome_in(outcome: Optional[Outcome]) -> COutcome:
+    if outcome is None:
+        return COutcome(kind=0)
+    fault = outcome.fault
+    if fault is None:
+        return COutcome(kind=1, value=value_in(outcome.value))
+    if isinstance(fault, Thrown):
+        return COutcome(kind=2, wrapped=fault.wrapped, code=in_range(fault.code, 2**32 - 1))
+    return COutcome(kind=next(kind for kind, cause in FAULTS.items() if isinstance(fault, cause)), wrapped=fault.wrapped)
+
+
+def now_out(now: CNow) -> Now:
+    kind = NowKind(now.kind)
+    if kind in (NowKind.ABSENT, NowKind.VALUE):
+        return Now(kind, value_out(now.outcome.value), None)
+    if kind is NowKind.CANCELLATION:
+        return Now(kind, None, Cancelled())
+    return Now(kind, None, _fault_out(now.outcome, True))
+
+
+def args_out(args: CArgs) -> Args:
+    if args.kind == 3:
+        return (outcome_out(args.outcome),)
+    return (value_out(args.first), value_out(args.second))[:args.kind]
+
+
+def claim_out(reply: CReply) -> ClaimReply:
+    status = ClaimStatus(reply.answer)
+    return ClaimReply(status, args_out(reply.args) if status is ClaimStatus.GRANTED else None)
+
+
+def flag_out(reply: CReply) -> bool:
+    return bool(reply.answer)
+
+
+def finish_out(reply: CReply) -> FinishReply:
+    return FinishReply(reply.answer)
+
+
+def number_out(reply: CReply) -> Optional[int]:
+    return None if reply.answer else reply.number
