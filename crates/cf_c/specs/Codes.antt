@@ -5,7 +5,7 @@ use Rattle.cf_plan.specs.declared.faults.PlanFault.TheVariants as plan
 use Rattle.cf_desk.specs.declared.faults.DeskFault.{DeskFault}
 use Rattle.cf_desk.specs.declared.faults.DeskFault.TheVariants as desk
 use Rattle.cf_desk.specs.declared.faults.OpenFault.{OpenFault}
-use Rattle.cf_desk.specs.declared.faults.OpenFault.TheVariants as open
+use Rattle.cf_desk.specs.declared.faults.OpenFault.TheVariants as opening
 use Rattle.cf_c.specs.declared.code.Code.{Code}
 use Rattle.cf_c.specs.declared.code.Code.TheVariants.{TooManyStages, SourceNotLower, WrongSourceCount, FunctionMissing, FunctionUnwanted, TooManyEdges, NoSuchStage, NoMemory, TooManyLimits, Empty, Full, WrongKind, NoSuchNumber, NoStage, BadAttach, Room, Nothing, Callers, Log, Calls, Functions, PassFull, LogFull, OtherDesk, NotAll, NoWord, BadScript}
 
@@ -53,12 +53,12 @@ plan_code plan.TooManyLimits = TooManyLimits
 
 -- the code of a fault for which a desk isn't opened
 abbrev pub open_code : OpenFault → Code
-open_code open.NoMemory = NoMemory
-open_code open.Callers = Callers
-open_code open.Log = Log
-open_code open.Calls = Calls
-open_code open.Room = Room
-open_code open.Functions = Functions
+open_code opening.NoMemory = NoMemory
+open_code opening.Callers = Callers
+open_code opening.Log = Log
+open_code opening.Calls = Calls
+open_code opening.Room = Room
+open_code opening.Functions = Functions
 
 -- the code of a fault for which a desk's call is refused
 abbrev pub desk_code : DeskFault → Code

@@ -1,8 +1,11 @@
 pub mod Answers
 pub mod Building
+pub mod Closed
+pub mod Closings
 pub mod Codes
 pub mod Graphs
 pub mod Plans
+pub mod Records
 pub mod Replies
 pub mod Seals
 pub mod Values
