@@ -2,8 +2,7 @@
 use Rattle.std.proofs.Common.{◌≡◌, ℕ, zero, suc, Bool, true, false, eqb, List, [], ◌∷◌, ◌++◌, map, sym, subst}
 use Rattle.std.specs.Prelude.{Option, Some, cond, slice_get}
 use Rattle.std.specs.List.{All, find}
-use Rattle.std.proofs.lemmas.List.Elements.{All-nil, All-cons, All-head, All-tail, All-filter, All-weaker}
-use Rattle.atomic_table.specs.Seated.{TableId}
+use Rattle.std.proofs.lemmas.List.Elements.{All-append, All-nil, All-cons, All-head, All-tail, All-filter, All-weaker}
 use Rattle.cf_plan.specs.Plans.{Planned}
 use Rattle.cf_core.specs.declared.events.Event.{Event}
 use Rattle.cf_core.specs.States.{start}
@@ -17,7 +16,6 @@ use Rattle.cf_desk.specs.Calls.{event_by}
 use Rattle.cf_desk.specs.Keepings.{AllFit, IsKeptFit, pass_kept}
 use Rattle.cf_desk.specs.Log.{AreLogged, events_of, placed}
 use Rattle.cf_desk.specs.Records.{dids}
-use Rattle.cf_desk.specs.Views.{Pass}
 use Rattle.cf_desk.proofs.Events.{events_each}
 use Rattle.cf_c.specs.Records.{CallHasWord, CallsHaveWords, HasWord, kept_of}
 
@@ -64,6 +62,6 @@ passes_have plan history (k ∷ passes) h fit = All-cons CallsHaveWords k passes
     (subst (All DidHasWord) (sym (All-head (IsKeptFit plan history) (pass_kept k) (map pass_kept passes) fit).did) (All-filter (λ e. eqb (who_of e.1) k.caller) DidHasWord (placed 0 history) (placed_has 0 history h)))
     (passes_have plan history passes h (All-tail (IsKeptFit plan history) (pass_kept k) (map pass_kept passes) fit))
 
--- one more pass of the same row
-pub all_own : (z : TableId) (passes now : List Pass) (pass : Pass) → All (λ (p : Pass). p.table ≡ z) passes → pass.table ≡ z → now ≡ passes ++ pass ∷ [] → All (λ (p : Pass). p.table ≡ z) now
-all_own z passes now pass all one is = subst (All (λ (p : Pass). p.table ≡ z)) (sym is) (All-append (λ (p : Pass). p.table ≡ z) passes (pass ∷ []) all (All-cons (λ (p : Pass). p.table ≡ z) pass [] one (All-nil (λ (p : Pass). p.table ≡ z))))
+-- one more
+pub all_more : {X : Type 0} (P : X → Type 0) (xs now : List X) (x : X) → All P xs → P x → now ≡ xs ++ x ∷ [] → All P now
+all_more P xs now x all one is = subst (All P) (sym is) (All-append P xs (x ∷ []) all (All-cons P x [] one (All-nil P)))
