@@ -1,10 +1,13 @@
 pub mod Answers
 pub mod Building
+pub mod Closed
+pub mod Closings
 pub mod Codes
 pub mod Desks
 pub mod Graphs
 pub mod Opening
 pub mod Plans
+pub mod Records
 pub mod Replies
 pub mod Scripts
 pub mod Seals

@@ -2,9 +2,9 @@
 ghost use Rattle.std.specs.Prelude.{◌≡◌};
 
 use crate::caller::Caller;
+use crate::closed::ClosedDesk;
 use crate::closing::Closing;
 use cf_core::Graph;
-use cf_desk::Closed;
 use cf_plan::{Plan, PlanBuilder};
 
 /// What stands behind a handle: which of these is asked at each call, so that a handle of another kind is refused.
@@ -21,7 +21,7 @@ pub enum Held {
     /// Callers that were given back, of a desk that is being closed.
     Closing(Closing),
     /// A closed desk.
-    Closed(Closed),
+    Closed(ClosedDesk),
 }
 
 /// That a handle may go to another thread.

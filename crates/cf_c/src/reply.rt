@@ -1,5 +1,6 @@
 //! Replies as C has them.
 ghost use Rattle.std.specs.Prelude.{◌≡◌};
+ghost use Rattle.cf_plan.specs.declared.forms.Args.TheVariants.{None as NoArgs};
 ghost use Rattle.cf_c.specs.Replies.{as_reply, reply_with};
 
 use crate::value::{CfArgs, as_args};
@@ -33,6 +34,13 @@ fn reply_with(answer: u32, number: u16, args: Args) -> CfReply
         number: u32::from(number),
         args: as_args(args),
     }
+}
+
+/// No reply: all of it is 0.
+pub(crate) fn no_reply() -> CfReply
+    ensures { result ≡ reply_with 0 0 NoArgs }
+{
+    reply_with(0, 0, Args::None)
 }
 
 /// A reply for C.

@@ -1,0 +1,109 @@
+-- How a desk is closed, call by call, and what a closed desk tells.
+use Rattle.std.specs.Prelude.{◌≡◌, ℕ, ◌≤◌, Option, Some, None, Result, Ok, Err, [], ◌∷◌, ◌++◌, length, option_and_then, option_map, slice_get}
+use Rattle.std.specs.Arc.{arc_value}
+use Rattle.cf_event.specs.Words.{word_of}
+use Rattle.cf_desk.specs.declared.calls.Closed.{Closed as Closed'}
+use Rattle.cf_c.specs.Answers.{Done}
+use Rattle.cf_c.specs.Closed.{IsClosed}
+use Rattle.cf_c.specs.Codes.{number_of}
+use Rattle.cf_c.specs.Graphs.{or_nothing}
+use Rattle.cf_c.specs.Records.{count_told, kept_of, record_of}
+use Rattle.cf_c.specs.declared.caller.Caller.{Caller as Caller'}
+use Rattle.cf_c.specs.declared.closed.ClosedDesk.{ClosedDesk}
+use Rattle.cf_c.specs.declared.closing.Closing.{Closing as Closing'}
+use Rattle.cf_c.specs.declared.code.Code.{Code}
+use Rattle.cf_c.specs.declared.code.Code.TheVariants.{Empty, Full, NoMemory, NotAll, OtherDesk, WrongKind}
+use Rattle.cf_c.specs.declared.held.Held.{Held}
+use Rattle.cf_c.specs.declared.held.Held.TheVariants.{Caller, Closed, Closing, Graph}
+use Rattle.cf_c.specs.declared.record.CfRecord.{CfRecord}
+
+-- the desk of a caller is being closed, and its pass was given back
+pub record IsBegun (caller : Caller') (closing : Closing') : Type 0 where
+  pub desk : closing.desk ≡ caller.desk
+  pub passes : closing.passes.items ≡ caller.pass ∷ []
+
+-- a caller becomes a closing of its desk, or where memory is refused stays
+pub record Begun (caller : Caller') (new : Held) : Type 0 where
+  pub now : Closing'
+  pub is : new ≡ Closing now
+  pub begun : IsBegun caller now
+
+abbrev pub Begins : Held → Result (Unit {0}) Code → Held → Type 0
+Begins (Caller c) (Ok done) new = Begun c new
+Begins (Caller c) (Err fault) new = (fault ≡ NoMemory) × (new ≡ Caller c)
+Begins held r new = (r ≡ Err WrongKind) × (new ≡ held)
+
+-- two callers are of one desk, which C owes where the first is a closing
+abbrev pub AreOfOneDesk : Option Held → Option Held → Type 0
+AreOfOneDesk (Some (Closing c)) (Some (Caller d)) = (arc_value d.desk).table ≡ (arc_value c.desk).table
+AreOfOneDesk held given = Unit {0}
+
+-- one more caller's pass was given back
+pub record HasMore (before : Closing') (caller : Caller') (closing : Closing') : Type 0 where
+  pub desk : closing.desk ≡ before.desk
+  pub passes : closing.passes.items ≡ before.passes.items ++ caller.pass ∷ []
+
+-- why a caller isn't taken: it is seen to be of another desk, or all passes were given back
+abbrev pub IsRefused : Closing' → Code → Type 0
+IsRefused closing OtherDesk = Unit {0}
+IsRefused closing Full = (arc_value closing.desk).setting.callers ≤ length closing.passes.items
+IsRefused closing code = ⊥
+
+-- a caller is given back, and its handle is empty
+pub record Returned (closing : Closing') (caller : Caller') (new : Held) (back : Option Held) : Type 0 where
+  pub now : Closing'
+  pub is : new ≡ Closing now
+  pub more : HasMore closing caller now
+  pub gone : back ≡ None
+
+-- a closing takes what is given, if it is a caller; where it is refused both stay
+abbrev pub Takes : Closing' → Held → Result (Unit {0}) Code → Closing' → Held → Type 0
+Takes c (Caller d) (Ok done) now left = HasMore c d now
+Takes c (Caller d) (Err fault) now left = IsRefused c fault × (now ≡ c) × (left ≡ Caller d)
+Takes c given r now left = (r ≡ Err WrongKind) × (now ≡ c) × (left ≡ given)
+
+-- what stands behind a handle is given back to a closing, if it is a caller; where it is refused both stay
+abbrev pub Returns : Option Held → Option Held → Held → Result (Unit {0}) Code → Held → Type 0
+Returns (Some (Caller d)) back (Closing c) (Ok done) new = Returned c d new back
+Returns (Some (Caller d)) back (Closing c) (Err fault) new = IsRefused c fault × (new ≡ Closing c) × (back ≡ Some (Caller d))
+Returns (Some given) back (Closing c) r new = (r ≡ Err WrongKind) × (new ≡ Closing c) × (back ≡ Some given)
+Returns None back (Closing c) r new = (r ≡ Err Empty) × (new ≡ Closing c) × (back ≡ None)
+Returns given back held r new = (r ≡ Err WrongKind) × (new ≡ held) × (back ≡ given)
+
+-- the same through the closing's handle
+abbrev pub Adds : Option Held → Option Held → ℕ → Option Held → Option Held → Type 0
+Adds None given code new back = (code ≡ number_of Empty) × (new ≡ None) × (back ≡ given)
+Adds (Some held) given code new back = Done (Returns given back) held new code
+
+-- a closing becomes its desk, closed, or where callers are missing stays
+pub record Ended (closing : Closing') (new : Held) : Type 0 where
+  pub now : ClosedDesk
+  pub is : new ≡ Closed now
+  pub closed : IsClosed (arc_value closing.desk) closing.passes.items now.closed
+
+abbrev pub Ends : Held → Result (Unit {0}) Code → Held → Type 0
+Ends (Closing c) (Ok done) new = Ended c new
+Ends (Closing c) (Err fault) new = (fault ≡ NotAll) × (new ≡ Closing c)
+Ends held r new = (r ≡ Err WrongKind) × (new ≡ held)
+
+-- a closed desk is asked what this tells of it
+abbrev pub OfClosed : {X : Type 0} → (Closed' → Result X Code) → Held → Result X Code → Held → Type 0
+OfClosed tells (Closed c) r new = (r ≡ tells c.closed) × (new ≡ Closed c)
+OfClosed tells held r new = (r ≡ Err WrongKind) × (new ≡ held)
+
+abbrev pub events_told : Closed' → Result ℕ Code
+events_told closed = Ok (length closed.history.items)
+
+abbrev pub word_told : ℕ → Closed' → Result ℕ Code
+word_told place closed = or_nothing (option_map word_of (slice_get closed.history.items place))
+
+abbrev pub records_told : ℕ → Closed' → Result ℕ Code
+records_told caller closed = or_nothing (option_map count_told (kept_of closed.passes.items caller))
+
+abbrev pub record_told : ℕ → ℕ → Closed' → Result CfRecord Code
+record_told caller at closed = or_nothing (option_and_then (record_of at) (kept_of closed.passes.items caller))
+
+-- a closed desk becomes its graph
+abbrev pub BecomesGraph : Held → Result (Unit {0}) Code → Held → Type 0
+BecomesGraph (Closed c) r new = (r ≡ Ok tt) × (new ≡ Graph c.closed.graph)
+BecomesGraph held r new = (r ≡ Err WrongKind) × (new ≡ held)

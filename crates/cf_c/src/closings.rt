@@ -1,0 +1,236 @@
+//! Closing a desk, and what a closed desk tells.
+ghost use Rattle.std.specs.Prelude.{◌≡◌, Some};
+ghost use Rattle.cf_c.specs.declared.held.Held.TheVariants.{Closing as IsClosing};
+ghost use Rattle.cf_c.specs.Answers.{Does, Tells};
+ghost use Rattle.cf_c.specs.Closings.{Adds, AreOfOneDesk, BecomesGraph, Begins, Ends, OfClosed, Returns, Takes, events_told, record_told, records_told, word_told};
+
+use crate::closing::Closing;
+use crate::code::Code;
+use crate::handle::CfHandle;
+use crate::held::Held;
+use crate::looking::{ask, code_of, give, tell};
+use crate::record::CfRecord;
+use cf_plan::PlanBuilder;
+use std::alloc::Global;
+use std::mem;
+
+/// Begins to close a desk with one of its callers, which becomes a closing.
+#[unsafe(no_mangle)]
+pub extern "C" fn cf_close_begin(alloc: Global, caller: &mut CfHandle) -> u32
+    ensures { Does Begins caller.old.inner.held caller.new.inner.held result }
+{
+    ask!(alloc, caller, held => begin(alloc, &mut held))
+}
+
+/// Gives one more caller of the same desk back, whose handle is empty then.
+#[unsafe(no_mangle)]
+pub extern "C" fn cf_close_add(alloc: Global, closing: &mut CfHandle, caller: &mut CfHandle) -> u32
+    requires { AreOfOneDesk closing.old.inner.held caller.old.inner.held }
+    ensures { Adds closing.old.inner.held caller.old.inner.held result closing.new.inner.held caller.new.inner.held }
+{
+    ask!(alloc, closing, held => add(alloc, &mut held, caller))
+}
+
+/// Closes the desk, all of whose callers were given back.
+#[unsafe(no_mangle)]
+pub extern "C" fn cf_close_end(alloc: Global, closing: &mut CfHandle) -> u32
+    ensures { Does Ends closing.old.inner.held closing.new.inner.held result }
+{
+    ask!(alloc, closing, held => end(alloc, &mut held))
+}
+
+/// How many events the history of a closed desk has.
+#[unsafe(no_mangle)]
+pub extern "C" fn cf_closed_events(alloc: Global, closed: &mut CfHandle, events: &mut u16) -> u32
+    ensures { Tells (OfClosed events_told) closed.old.inner.held closed.new.inner.held result events.old events.new }
+{
+    tell!(alloc, closed, events, held => events_of(&mut held))
+}
+
+/// The word of the event at a place of the history.
+#[unsafe(no_mangle)]
+pub extern "C" fn cf_closed_word(
+    alloc: Global,
+    closed: &mut CfHandle,
+    place: u16,
+    word: &mut u64,
+) -> u32
+    ensures { Tells (OfClosed (word_told place)) closed.old.inner.held closed.new.inner.held result word.old word.new }
+{
+    tell!(alloc, closed, word, held => word_at(&mut held, place))
+}
+
+/// How many records a caller has.
+#[unsafe(no_mangle)]
+pub extern "C" fn cf_closed_records(
+    alloc: Global,
+    closed: &mut CfHandle,
+    caller: u8,
+    records: &mut u16,
+) -> u32
+    ensures { Tells (OfClosed (records_told caller)) closed.old.inner.held closed.new.inner.held result records.old records.new }
+{
+    tell!(alloc, closed, records, held => records_of(&mut held, caller))
+}
+
+/// A caller's record at a place.
+#[unsafe(no_mangle)]
+pub extern "C" fn cf_closed_record(
+    alloc: Global,
+    closed: &mut CfHandle,
+    caller: u8,
+    at: u16,
+    record: &mut CfRecord,
+) -> u32
+    ensures { Tells (OfClosed (record_told caller at)) closed.old.inner.held closed.new.inner.held result «record».old «record».new }
+{
+    tell!(alloc, closed, record, held => record_at(&mut held, caller, at))
+}
+
+/// Makes a closed desk its graph, as all events leave it.
+#[unsafe(no_mangle)]
+pub extern "C" fn cf_closed_graph(alloc: Global, closed: &mut CfHandle) -> u32
+    ensures { Does BecomesGraph closed.old.inner.held closed.new.inner.held result }
+{
+    ask!(alloc, closed, held => become_graph(alloc, &mut held))
+}
+
+fn begin(alloc: Global, held: &mut Held) -> Result<(), Code>
+    ensures { Begins held.old result held.new }
+{
+    match take(alloc, held) {
+        Held::Caller(caller) => match Closing::of(alloc, caller) {
+            Ok(closing) => {
+                *held = Held::Closing(closing);
+                Ok(())
+            }
+            Err(caller) => {
+                *held = Held::Caller(caller);
+                Err(Code::NoMemory)
+            }
+        },
+        other => {
+            *held = other;
+            Err(Code::WrongKind)
+        }
+    }
+}
+
+fn add(alloc: Global, held: &mut Held, caller: &mut CfHandle) -> Result<(), Code>
+    requires { AreOfOneDesk (Some held.old) caller.old.inner.held }
+    ensures { Returns caller.old.inner.held caller.new.inner.held held.old result held.new }
+{
+    let Held::Closing(closing) = held else {
+        return Err(Code::WrongKind);
+    };
+    let Some(mut given) = caller.take(alloc) else {
+        return Err(Code::Empty);
+    };
+    let done = add_given(alloc, closing, &mut given);
+    if done.is_err() {
+        caller.put(given);
+    }
+    done
+}
+
+/// Takes a caller, in whose place an empty builder is left. Where it is refused it stays.
+fn add_given(alloc: Global, closing: &mut Closing, given: &mut Held) -> Result<(), Code>
+    requires { AreOfOneDesk (Some (IsClosing closing.old)) (Some given.old) }
+    ensures { Takes closing.old given.old result closing.new given.new }
+{
+    match take(alloc, given) {
+        Held::Caller(caller) => match closing.refusal(&caller) {
+            None => {
+                closing.add(caller);
+                Ok(())
+            }
+            Some(code) => {
+                *given = Held::Caller(caller);
+                Err(code)
+            }
+        },
+        other => {
+            *given = other;
+            Err(Code::WrongKind)
+        }
+    }
+}
+
+fn end(alloc: Global, held: &mut Held) -> Result<(), Code>
+    ensures { Ends held.old result held.new }
+{
+    match take(alloc, held) {
+        Held::Closing(closing) => match closing.end() {
+            Ok(closed) => {
+                *held = Held::Closed(closed);
+                Ok(())
+            }
+            Err(closing) => {
+                *held = Held::Closing(closing);
+                Err(Code::NotAll)
+            }
+        },
+        other => {
+            *held = other;
+            Err(Code::WrongKind)
+        }
+    }
+}
+
+fn become_graph(alloc: Global, held: &mut Held) -> Result<(), Code>
+    ensures { BecomesGraph held.old result held.new }
+{
+    match take(alloc, held) {
+        Held::Closed(closed) => {
+            *held = Held::Graph(closed.into_graph());
+            Ok(())
+        }
+        other => {
+            *held = other;
+            Err(Code::WrongKind)
+        }
+    }
+}
+
+/// Takes what is held. An empty builder is left, which takes no memory.
+fn take(alloc: Global, held: &mut Held) -> Held
+    ensures { result ≡ held.old }
+{
+    mem::replace(held, Held::Builder(PlanBuilder::new(alloc)))
+}
+
+fn events_of(held: &mut Held) -> Result<u16, Code>
+    ensures { OfClosed events_told held.old result held.new }
+{
+    match held {
+        Held::Closed(closed) => Ok(closed.events()),
+        _ => Err(Code::WrongKind),
+    }
+}
+
+fn word_at(held: &mut Held, place: u16) -> Result<u64, Code>
+    ensures { OfClosed (word_told place) held.old result held.new }
+{
+    match held {
+        Held::Closed(closed) => closed.word(place).ok_or(Code::Nothing),
+        _ => Err(Code::WrongKind),
+    }
+}
+
+fn records_of(held: &mut Held, caller: u8) -> Result<u16, Code>
+    ensures { OfClosed (records_told caller) held.old result held.new }
+{
+    match held {
+        Held::Closed(closed) => closed.records(caller).ok_or(Code::Nothing),
+        _ => Err(Code::WrongKind),
+    }
+}
+
+fn record_at(held: &mut Held, caller: u8, at: u16) -> Result<CfRecord, Code>
+    ensures { OfClosed (record_told caller at) held.old result held.new }
+{
+    match held {
+        Held::Closed(closed) => closed.record(caller, at).ok_or(Code::Nothing),
+        _ => Err(Code::WrongKind),
+    }
+}
