@@ -5,6 +5,7 @@ pub mod Closings
 pub mod Codes
 pub mod Desks
 pub mod Graphs
+pub mod Meetings
 pub mod Opening
 pub mod Plans
 pub mod Records

@@ -22,6 +22,7 @@ mod handle;
 mod held;
 mod inner;
 mod looking;
+mod meeting;
 mod names;
 mod opening;
 mod parts;

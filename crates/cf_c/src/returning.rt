@@ -84,7 +84,7 @@ const TRIES: u8 = 64;
 
 /// Whether two shares are seen to be of one desk: then one share more of the first is one more of the second. Their addresses
 /// can't be compared.
-fn is_one_desk(a: &Arc<Desk, Global>, b: &Arc<Desk, Global>) -> bool {
+pub(crate) fn is_one_desk(a: &Arc<Desk, Global>, b: &Arc<Desk, Global>) -> bool {
     for _ in 0..TRIES {
         let before = Arc::strong_count(b);
         let Ok(_more) = Arc::try_clone(a) else {
