@@ -13,7 +13,7 @@ parts c = c.next.invariant.parts ∙ ap (λ l. c.next.invariant.done ++ l) c.in-
 pub seat-requires : goal.seat-requires
 seat-requires c =
     all_at (λ (p : Pass). p.table ≡ c.args.desk.table) c.next.invariant.done c.in-Some.pass (into_iter_items c.next-in-next.new.self)
-      (subst (All (λ (p : Pass). p.table ≡ c.args.desk.table)) (parts (goal.at.seat-requires c).In-Some) c.requires)
+    (subst (All (λ (p : Pass). p.table ≡ c.args.desk.table)) (parts (goal.at.seat-requires c).In-Some) c.requires)
     ∙ sym (ap (λ (d : Desk). d.table) c.next.invariant.desk)
 
 pub next-preserved : goal.next-preserved
