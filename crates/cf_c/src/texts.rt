@@ -1,8 +1,10 @@
 //! Texts for C.
 ghost use Rattle.std.specs.Prelude.{◌≡◌, Some};
 ghost use Rattle.cf_script.specs.Texts.{settled_text};
-ghost use Rattle.cf_c.specs.Texts.{GivesText, TellsText, code_text};
+ghost use Rattle.cf_c.specs.Codes.{number_of};
+ghost use Rattle.cf_c.specs.Texts.{GivesText, TellsText, code_text, name_of};
 ghost use Rattle.cf_c.specs.Values.{outcome_of};
+ghost use Rattle.cf_c.specs.declared.code.Code.{Code};
 
 use crate::code::Code;
 use crate::names::text_of;
@@ -21,8 +23,10 @@ pub extern "C" fn cf_outcome_text(outcome: CfOutcome, text: &mut [u8], length: &
 
 /// The name of a code.
 #[unsafe(no_mangle)]
+#[tactic(auto, using(crate::proofs::CodeNames::code_named))]
 pub extern "C" fn cf_code_text(code: u32, text: &mut [u8], length: &mut usize) -> u32
-    ensures { TellsText (code_text code) result text.old text.new length.old length.new }
+    ensures told { TellsText (code_text code) result text.old text.new length.old length.new }
+    ensures named { (c : Code) → code ≡ number_of c → code_text code ≡ Some (name_of c) }
 {
     match text_of(code) {
         Some(name) => {

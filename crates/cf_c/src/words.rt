@@ -23,7 +23,7 @@ pub extern "C" fn cf_word_of(event: CfEvent, word: &mut u64) -> u32
     give(word_of(event_of(event)), word)
 }
 
-/// The event of a word. What C gets means that event, where it is handed in.
+/// The event of a word, of which `cf_word_of` tells this word again.
 #[unsafe(no_mangle)]
 #[tactic(auto, using(crate::proofs::EventsBack::back_given))]
 pub extern "C" fn cf_event_of(word: u64, event: &mut CfEvent) -> u32

@@ -1,0 +1,38 @@
+-- Each code's number has the text of its name.
+use Rattle.std.proofs.Common.{◌≡◌, ◌∙◌, ap, ℕ, Some, refl}
+use Rattle.cf_c.specs.Codes.{number_of}
+use Rattle.cf_c.specs.Texts.{code_text, name_of}
+use Rattle.cf_c.specs.declared.code.Code.{Code}
+use Rattle.cf_c.specs.declared.code.Code.TheVariants.{TooManyStages, SourceNotLower, WrongSourceCount, FunctionMissing, FunctionUnwanted, TooManyEdges, NoSuchStage, NoMemory, TooManyLimits, Empty, Full, WrongKind, NoSuchNumber, NoStage, BadAttach, Room, Nothing, Callers, Log, Calls, Functions, PassFull, LogFull, OtherDesk, NotAll, NoWord, BadScript}
+
+text_of_number : (c : Code) → code_text (number_of c) ≡ Some (name_of c)
+text_of_number TooManyStages = refl
+text_of_number SourceNotLower = refl
+text_of_number WrongSourceCount = refl
+text_of_number FunctionMissing = refl
+text_of_number FunctionUnwanted = refl
+text_of_number TooManyEdges = refl
+text_of_number NoSuchStage = refl
+text_of_number NoMemory = refl
+text_of_number TooManyLimits = refl
+text_of_number Empty = refl
+text_of_number Full = refl
+text_of_number WrongKind = refl
+text_of_number NoSuchNumber = refl
+text_of_number NoStage = refl
+text_of_number BadAttach = refl
+text_of_number Room = refl
+text_of_number Nothing = refl
+text_of_number Callers = refl
+text_of_number Log = refl
+text_of_number Calls = refl
+text_of_number Functions = refl
+text_of_number PassFull = refl
+text_of_number LogFull = refl
+text_of_number OtherDesk = refl
+text_of_number NotAll = refl
+text_of_number NoWord = refl
+text_of_number BadScript = refl
+
+pub code_named : (number : ℕ) (c : Code) → number ≡ number_of c → code_text number ≡ Some (name_of c)
+code_named number c is = ap code_text is ∙ text_of_number c
