@@ -206,10 +206,10 @@ static uint32_t work(struct worker *me) {
   }
 }
 
-/* Tells the others by the page itself that it won't be done. */
+/* Cancels every stage, so that nobody waits for one any longer. What is refused then, as where the log is full, the limits end. */
 static void give_up(cf_handle *caller) {
   cf_reply reply;
-  (void)cf_desk_cancel(caller, PAGE, &reply);
+  for (uint16_t stage = 0; stage < STAGES; stage++) (void)cf_desk_cancel(caller, stage, &reply);
 }
 
 static void *begin(void *worker) {

@@ -17,9 +17,11 @@
 //! - `desk`: a desk for so many callers is opened of a plan that is there, its 16 stages are settled and seen by each
 //!   caller, and it is closed; all of it.
 //! - `read`: a read that finds nothing new.
+//! - `call graph`, `call desk`: a call of each kind over a fan-out of 512, of a graph and of a desk's one caller.
 #![tactic(auto)]
 
 mod attach;
+mod calls;
 mod desk;
 mod gate;
 mod graphs;
@@ -32,6 +34,7 @@ mod work;
 
 use anyhow::Result;
 use attach::{attach_checksum, measured_attach};
+use calls::{Calls, measured_desk_calls, measured_graph_calls};
 use desk::{desk_checksum, measured_desk};
 use graphs::{measured_from_scratch, measured_per_request, sums_of};
 use race::{measured_race, measured_read, race_checksum};
@@ -148,6 +151,21 @@ fn show_read<R: Clock + Print>(rt: &R, alloc: Global) -> Result<()> {
     Ok(())
 }
 
+/// How long each kind of call takes.
+fn show_calls<R: Print>(rt: &R, of: &str, calls: Calls) -> Result<()> {
+    let Calls {
+        ready,
+        claim,
+        finish,
+        outcome,
+    } = calls;
+    println!(rt; "call {of} ready: {ready}")?;
+    println!(rt; "call {of} claim: {claim}")?;
+    println!(rt; "call {of} finish: {finish}")?;
+    println!(rt; "call {of} outcome: {outcome}")?;
+    Ok(())
+}
+
 fn show_shapes<R: Clock + Print>(rt: &R, alloc: Global, timed: bool) -> Result<()> {
     for shape in SHAPES {
         for stages in SIZES {
@@ -175,6 +193,8 @@ fn show_all<R: Clock + Print + Threads + Sync>(rt: &R, alloc: Global, timed: boo
     show_desks(rt, alloc, timed)?;
     if timed {
         show_read(rt, alloc)?;
+        show_calls(rt, "graph", measured_graph_calls(rt, alloc)?)?;
+        show_calls(rt, "desk", measured_desk_calls(rt, alloc)?)?;
     }
     Ok(())
 }
