@@ -1,9 +1,10 @@
 //! Closing a desk, and what a closed desk tells.
 ghost use Rattle.std.specs.Prelude.{◌≡◌, Some};
-ghost use Rattle.cf_c.specs.declared.held.Held.TheVariants.{Closing as IsClosing};
+ghost use Rattle.cf_c.specs.declared.held.Held.TheVariants.{Caller as IsCaller, Closing as IsClosing};
 ghost use Rattle.cf_c.specs.Answers.{Does, Tells};
 ghost use Rattle.cf_c.specs.Closings.{Adds, AreOfOneDesk, BecomesGraph, Begins, Ends, OfClosed, Returns, Takes, events_told, record_told, records_told, word_told};
 
+use crate::caller::Caller;
 use crate::closing::Closing;
 use crate::code::Code;
 use crate::handle::CfHandle;
@@ -99,20 +100,25 @@ fn begin(alloc: Global, held: &mut Held) -> Result<(), Code>
     ensures { Begins held.old result held.new }
 {
     match take(alloc, held) {
-        Held::Caller(caller) => match Closing::of(alloc, caller) {
-            Ok(closing) => {
-                *held = Held::Closing(closing);
-                Ok(())
-            }
-            Err(caller) => {
-                *held = Held::Caller(caller);
-                Err(Code::NoMemory)
-            }
-        },
+        Held::Caller(caller) => {
+            let (now, done) = begun(alloc, caller);
+            *held = now;
+            done
+        }
         other => {
             *held = other;
             Err(Code::WrongKind)
         }
+    }
+}
+
+/// What stands behind the handle of a caller with which a desk is begun to be closed.
+fn begun(alloc: Global, caller: Caller) -> (Held, Result<(), Code>)
+    ensures { Begins (IsCaller caller) result.1 result.0 }
+{
+    match Closing::of(alloc, caller) {
+        Ok(closing) => (Held::Closing(closing), Ok(())),
+        Err(caller) => (Held::Caller(caller), Err(Code::NoMemory)),
     }
 }
 
@@ -160,20 +166,25 @@ fn end(alloc: Global, held: &mut Held) -> Result<(), Code>
     ensures { Ends held.old result held.new }
 {
     match take(alloc, held) {
-        Held::Closing(closing) => match closing.end() {
-            Ok(closed) => {
-                *held = Held::Closed(closed);
-                Ok(())
-            }
-            Err(closing) => {
-                *held = Held::Closing(closing);
-                Err(Code::NotAll)
-            }
-        },
+        Held::Closing(closing) => {
+            let (now, done) = ended(closing);
+            *held = now;
+            done
+        }
         other => {
             *held = other;
             Err(Code::WrongKind)
         }
+    }
+}
+
+/// What stands behind the handle of a closing that is ended.
+fn ended(closing: Closing) -> (Held, Result<(), Code>)
+    ensures { Ends (IsClosing closing) result.1 result.0 }
+{
+    match closing.end() {
+        Ok(closed) => (Held::Closed(closed), Ok(())),
+        Err(closing) => (Held::Closing(closing), Err(Code::NotAll)),
     }
 }
 
