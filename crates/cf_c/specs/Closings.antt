@@ -44,19 +44,22 @@ IsRefused closing OtherDesk = Unit {0}
 IsRefused closing Full = (arc_value closing.desk).setting.callers ≤ length closing.passes.items
 IsRefused closing code = ⊥
 
--- a closing takes what is given, if it is a caller; where it is refused both stay
-abbrev pub Takes : Closing' → Held → Result (Unit {0}) Code → Closing' → Held → Type 0
-Takes c (Caller d) (Ok done) now left = HasMore c d now
-Takes c (Caller d) (Err fault) now left = IsRefused c fault × (now ≡ c) × (left ≡ Caller d)
-Takes c given r now left = (r ≡ Err WrongKind) × (now ≡ c) × (left ≡ given)
+-- a closing takes what is given, if it is a caller that isn't refused; else it stays
+abbrev pub Takes : Closing' → Held → Result (Unit {0}) Code → Closing' → Type 0
+Takes c (Caller d) (Ok done) now = HasMore c d now
+Takes c (Caller d) (Err fault) now = IsRefused c fault × (now ≡ c)
+Takes c given r now = (r ≡ Err WrongKind) × (now ≡ c)
 
--- what stands behind a handle is given back to a closing, if it is a caller, and the handle is empty; where it is refused both stay
+-- the same from a handle, which is empty then; where it is refused, it stays behind the handle
+abbrev pub TakesFrom : Closing' → Option Held → Result (Unit {0}) Code → Closing' → Option Held → Type 0
+TakesFrom c None r now back = (r ≡ Err Empty) × (now ≡ c) × (back ≡ None)
+TakesFrom c (Some given) (Ok done) now back = Takes c given (Ok done) now × (back ≡ None)
+TakesFrom c (Some given) (Err fault) now back = Takes c given (Err fault) now × (back ≡ Some given)
+
+-- a closing takes what stands behind a handle; of another kind nothing does
 abbrev pub Returns : Option Held → Option Held → Held → Result (Unit {0}) Code → Held → Type 0
-Returns (Some (Caller d)) back (Closing c) (Ok done) (Closing now) = HasMore c d now × (back ≡ None)
-Returns (Some (Caller d)) back (Closing c) (Ok done) new = ⊥
-Returns (Some (Caller d)) back (Closing c) (Err fault) new = IsRefused c fault × (new ≡ Closing c) × (back ≡ Some (Caller d))
-Returns (Some given) back (Closing c) r new = (r ≡ Err WrongKind) × (new ≡ Closing c) × (back ≡ Some given)
-Returns None back (Closing c) r new = (r ≡ Err Empty) × (new ≡ Closing c) × (back ≡ None)
+Returns given back (Closing c) r (Closing now) = TakesFrom c given r now back
+Returns given back (Closing c) r new = ⊥
 Returns given back held r new = (r ≡ Err WrongKind) × (new ≡ held) × (back ≡ given)
 
 -- the same through the closing's handle
