@@ -169,16 +169,23 @@ fn end(alloc: Global, held: &mut Held) -> Result<(), Code>
     done
 }
 
-/// What stands behind a handle whose closing is ended.
+/// What stands behind a handle that is asked to end a closing.
 fn ended(held: Held) -> (Held, Result<(), Code>)
     ensures { Ends held result.1 result.0 }
 {
     match held {
-        Held::Closing(closing) => match closing.end() {
-            Ok(closed) => (Held::Closed(closed), Ok(())),
-            Err(closing) => (Held::Closing(closing), Err(Code::NotAll)),
-        },
+        Held::Closing(closing) => end_closing(closing),
         other => (other, Err(Code::WrongKind)),
+    }
+}
+
+/// The closed desk of a closing, or where callers are missing the closing.
+fn end_closing(closing: Closing) -> (Held, Result<(), Code>)
+    ensures { Ends (IsClosing closing) result.1 result.0 }
+{
+    match closing.end() {
+        Ok(closed) => (Held::Closed(closed), Ok(())),
+        Err(closing) => (Held::Closing(closing), Err(Code::NotAll)),
     }
 }
 

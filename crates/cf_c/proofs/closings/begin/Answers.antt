@@ -4,4 +4,4 @@ use Rattle.cf_c.specs.declared.held.Held.{Held}
 use Rattle.cf_c.proofs.closings.begin.Goals as goal
 
 pub returns : goal.returns
-returns c = subst (λ (h : Held). Begins h c.begun.result.1 c.begun.result.0) c.take.ensures c.begun.ensures
+returns c = subst (λ (h : Held). Begins h c.begun-now.result.1 c.begun-now.result.0) c.take.ensures c.begun-now.ensures
