@@ -9,7 +9,6 @@ use Rattle.cf_c.specs.Codes.{number_of}
 use Rattle.cf_c.specs.Graphs.{or_nothing}
 use Rattle.cf_c.specs.Records.{count_told, kept_of, record_of}
 use Rattle.cf_c.specs.declared.caller.Caller.{Caller as Caller'}
-use Rattle.cf_c.specs.declared.closed.ClosedDesk.{ClosedDesk}
 use Rattle.cf_c.specs.declared.closing.Closing.{Closing as Closing'}
 use Rattle.cf_c.specs.declared.code.Code.{Code}
 use Rattle.cf_c.specs.declared.code.Code.TheVariants.{Empty, Full, NoMemory, NotAll, OtherDesk, WrongKind}
@@ -23,13 +22,9 @@ pub record IsBegun (caller : Caller') (closing : Closing') : Type 0 where
   pub passes : closing.passes.items ≡ caller.pass ∷ []
 
 -- a caller becomes a closing of its desk, or where memory is refused stays
-pub record Begun (caller : Caller') (new : Held) : Type 0 where
-  pub now : Closing'
-  pub is : new ≡ Closing now
-  pub begun : IsBegun caller now
-
 abbrev pub Begins : Held → Result (Unit {0}) Code → Held → Type 0
-Begins (Caller c) (Ok done) new = Begun c new
+Begins (Caller c) (Ok done) (Closing d) = IsBegun c d
+Begins (Caller c) (Ok done) new = ⊥
 Begins (Caller c) (Err fault) new = (fault ≡ NoMemory) × (new ≡ Caller c)
 Begins held r new = (r ≡ Err WrongKind) × (new ≡ held)
 
@@ -49,25 +44,22 @@ IsRefused closing OtherDesk = Unit {0}
 IsRefused closing Full = (arc_value closing.desk).setting.callers ≤ length closing.passes.items
 IsRefused closing code = ⊥
 
--- a caller is given back, and its handle is empty
-pub record Returned (closing : Closing') (caller : Caller') (new : Held) (back : Option Held) : Type 0 where
-  pub now : Closing'
-  pub is : new ≡ Closing now
-  pub more : HasMore closing caller now
-  pub gone : back ≡ None
+-- a closing takes what is given, if it is a caller that isn't refused; else it stays
+abbrev pub Takes : Closing' → Held → Result (Unit {0}) Code → Closing' → Type 0
+Takes c (Caller d) (Ok done) now = HasMore c d now
+Takes c (Caller d) (Err fault) now = IsRefused c fault × (now ≡ c)
+Takes c given r now = (r ≡ Err WrongKind) × (now ≡ c)
 
--- a closing takes what is given, if it is a caller; where it is refused both stay
-abbrev pub Takes : Closing' → Held → Result (Unit {0}) Code → Closing' → Held → Type 0
-Takes c (Caller d) (Ok done) now left = HasMore c d now
-Takes c (Caller d) (Err fault) now left = IsRefused c fault × (now ≡ c) × (left ≡ Caller d)
-Takes c given r now left = (r ≡ Err WrongKind) × (now ≡ c) × (left ≡ given)
+-- the same from a handle, which is empty then; where it is refused, it stays behind the handle
+abbrev pub TakesFrom : Closing' → Option Held → Result (Unit {0}) Code → Closing' → Option Held → Type 0
+TakesFrom c None r now back = (r ≡ Err Empty) × (now ≡ c) × (back ≡ None)
+TakesFrom c (Some given) (Ok done) now back = Takes c given (Ok done) now × (back ≡ None)
+TakesFrom c (Some given) (Err fault) now back = Takes c given (Err fault) now × (back ≡ Some given)
 
--- what stands behind a handle is given back to a closing, if it is a caller; where it is refused both stay
+-- a closing takes what stands behind a handle; of another kind nothing does
 abbrev pub Returns : Option Held → Option Held → Held → Result (Unit {0}) Code → Held → Type 0
-Returns (Some (Caller d)) back (Closing c) (Ok done) new = Returned c d new back
-Returns (Some (Caller d)) back (Closing c) (Err fault) new = IsRefused c fault × (new ≡ Closing c) × (back ≡ Some (Caller d))
-Returns (Some given) back (Closing c) r new = (r ≡ Err WrongKind) × (new ≡ Closing c) × (back ≡ Some given)
-Returns None back (Closing c) r new = (r ≡ Err Empty) × (new ≡ Closing c) × (back ≡ None)
+Returns given back (Closing c) r (Closing now) = TakesFrom c given r now back
+Returns given back (Closing c) r new = ⊥
 Returns given back held r new = (r ≡ Err WrongKind) × (new ≡ held) × (back ≡ given)
 
 -- the same through the closing's handle
@@ -76,13 +68,9 @@ Adds None given code new back = (code ≡ number_of Empty) × (new ≡ None) × 
 Adds (Some held) given code new back = Done (Returns given back) held new code
 
 -- a closing becomes its desk, closed, or where callers are missing stays
-pub record Ended (closing : Closing') (new : Held) : Type 0 where
-  pub now : ClosedDesk
-  pub is : new ≡ Closed now
-  pub closed : IsClosed (arc_value closing.desk) closing.passes.items now.closed
-
 abbrev pub Ends : Held → Result (Unit {0}) Code → Held → Type 0
-Ends (Closing c) (Ok done) new = Ended c new
+Ends (Closing c) (Ok done) (Closed d) = IsClosed (arc_value c.desk) c.passes.items d.closed
+Ends (Closing c) (Ok done) new = ⊥
 Ends (Closing c) (Err fault) new = (fault ≡ NotAll) × (new ≡ Closing c)
 Ends held r new = (r ≡ Err WrongKind) × (new ≡ held)
 

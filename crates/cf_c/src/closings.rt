@@ -1,8 +1,8 @@
 //! Closing a desk, and what a closed desk tells.
-ghost use Rattle.std.specs.Prelude.{◌≡◌, Some};
+ghost use Rattle.std.specs.Prelude.{◌≡◌, Err, MatchResult, Ok, Some};
 ghost use Rattle.cf_c.specs.declared.held.Held.TheVariants.{Closing as IsClosing};
 ghost use Rattle.cf_c.specs.Answers.{Does, Tells};
-ghost use Rattle.cf_c.specs.Closings.{Adds, AreOfOneDesk, BecomesGraph, Begins, Ends, OfClosed, Returns, Takes, events_told, record_told, records_told, word_told};
+ghost use Rattle.cf_c.specs.Closings.{Adds, AreOfOneDesk, BecomesGraph, Begins, Ends, OfClosed, Returns, Takes, TakesFrom, events_told, record_told, records_told, word_told};
 
 use crate::closing::Closing;
 use crate::code::Code;
@@ -98,21 +98,21 @@ pub extern "C" fn cf_closed_graph(alloc: Global, closed: &mut CfHandle) -> u32
 fn begin(alloc: Global, held: &mut Held) -> Result<(), Code>
     ensures { Begins held.old result held.new }
 {
-    match take(alloc, held) {
+    let (now, done) = begun(alloc, take(alloc, held));
+    *held = now;
+    done
+}
+
+/// What stands behind a handle with which a desk is begun to be closed.
+fn begun(alloc: Global, held: Held) -> (Held, Result<(), Code>)
+    ensures { Begins held result.1 result.0 }
+{
+    match held {
         Held::Caller(caller) => match Closing::of(alloc, caller) {
-            Ok(closing) => {
-                *held = Held::Closing(closing);
-                Ok(())
-            }
-            Err(caller) => {
-                *held = Held::Caller(caller);
-                Err(Code::NoMemory)
-            }
+            Ok(closing) => (Held::Closing(closing), Ok(())),
+            Err(caller) => (Held::Caller(caller), Err(Code::NoMemory)),
         },
-        other => {
-            *held = other;
-            Err(Code::WrongKind)
-        }
+        other => (other, Err(Code::WrongKind)),
     }
 }
 
@@ -120,60 +120,72 @@ fn add(alloc: Global, held: &mut Held, caller: &mut CfHandle) -> Result<(), Code
     requires { AreOfOneDesk (Some held.old) caller.old.inner.held }
     ensures { Returns caller.old.inner.held caller.new.inner.held held.old result held.new }
 {
-    let Held::Closing(closing) = held else {
-        return Err(Code::WrongKind);
-    };
-    let Some(mut given) = caller.take(alloc) else {
-        return Err(Code::Empty);
-    };
-    let done = add_given(alloc, closing, &mut given);
-    if done.is_err() {
-        caller.put(given);
+    match held {
+        Held::Closing(closing) => add_from(alloc, closing, caller),
+        _ => Err(Code::WrongKind),
     }
-    done
 }
 
-/// Takes a caller, in whose place an empty builder is left. Where it is refused it stays.
-fn add_given(alloc: Global, closing: &mut Closing, given: &mut Held) -> Result<(), Code>
-    requires { AreOfOneDesk (Some (IsClosing closing.old)) (Some given.old) }
-    ensures { Takes closing.old given.old result closing.new given.new }
+/// Takes what stands behind a handle, if it is a caller.
+fn add_from(alloc: Global, closing: &mut Closing, caller: &mut CfHandle) -> Result<(), Code>
+    requires { AreOfOneDesk (Some (IsClosing closing.old)) caller.old.inner.held }
+    ensures { TakesFrom closing.old caller.old.inner.held result closing.new caller.new.inner.held }
 {
-    match take(alloc, given) {
+    match caller.take(alloc) {
+        None => Err(Code::Empty),
+        Some(mut given) => match add_given(closing, take(alloc, &mut given)) {
+            Ok(()) => Ok(()),
+            Err((back, code)) => {
+                *given = back;
+                caller.put(given);
+                Err(code)
+            }
+        },
+    }
+}
+
+/// Takes what is given, if it is a caller. Where it is refused it comes back.
+fn add_given(closing: &mut Closing, given: Held) -> Result<(), (Held, Code)>
+    requires { AreOfOneDesk (Some (IsClosing closing.old)) (Some given) }
+    ensures { MatchResult result (λ done. Takes closing.old given (Ok done) closing.new) (λ back. Takes closing.old given (Err back.1) closing.new × (back.0 ≡ given)) }
+{
+    match given {
         Held::Caller(caller) => match closing.refusal(&caller) {
             None => {
                 closing.add(caller);
                 Ok(())
             }
-            Some(code) => {
-                *given = Held::Caller(caller);
-                Err(code)
-            }
+            Some(code) => Err((Held::Caller(caller), code)),
         },
-        other => {
-            *given = other;
-            Err(Code::WrongKind)
-        }
+        other => Err((other, Code::WrongKind)),
     }
 }
 
 fn end(alloc: Global, held: &mut Held) -> Result<(), Code>
     ensures { Ends held.old result held.new }
 {
-    match take(alloc, held) {
-        Held::Closing(closing) => match closing.end() {
-            Ok(closed) => {
-                *held = Held::Closed(closed);
-                Ok(())
-            }
-            Err(closing) => {
-                *held = Held::Closing(closing);
-                Err(Code::NotAll)
-            }
-        },
-        other => {
-            *held = other;
-            Err(Code::WrongKind)
-        }
+    let (now, done) = ended(take(alloc, held));
+    *held = now;
+    done
+}
+
+/// What stands behind a handle that is asked to end a closing.
+fn ended(held: Held) -> (Held, Result<(), Code>)
+    ensures { Ends held result.1 result.0 }
+{
+    match held {
+        Held::Closing(closing) => end_closing(closing),
+        other => (other, Err(Code::WrongKind)),
+    }
+}
+
+/// The closed desk of a closing, or where callers are missing the closing.
+fn end_closing(closing: Closing) -> (Held, Result<(), Code>)
+    ensures { Ends (IsClosing closing) result.1 result.0 }
+{
+    match closing.end() {
+        Ok(closed) => (Held::Closed(closed), Ok(())),
+        Err(closing) => (Held::Closing(closing), Err(Code::NotAll)),
     }
 }
 
