@@ -16,7 +16,7 @@ use Rattle.cf_event.specs.Words.{IsEvent, count_of, first_of, form_number, secon
 use Rattle.cf_c.specs.Answers.{Gives}
 use Rattle.cf_c.specs.Plans.{as_function, event_with, form_of, function_of, parts_with, sources_with}
 use Rattle.cf_c.specs.Values.{answer_of, as_answer, as_value, value_of}
-use Rattle.cf_c.specs.Words.{as_event, event_of, told_event}
+use Rattle.cf_c.specs.Words.{HasWord, as_event, event_of, told_event}
 use Rattle.cf_c.specs.declared.code.Code.{Code}
 use Rattle.cf_c.specs.declared.event.CfEvent.{CfEvent}
 
@@ -72,6 +72,7 @@ told_back (Ticks who now) is = refl
 told_back (Attaches who form of function) is = attach_back who form of function _ _ (as_function function) (form_back form) (sources_back of) (function_back function is.3)
 
 -- what C gets of an event that has a word means that event
-pub back_given : (event : Result Event Code) (code : ℕ) (had has : CfEvent) → IfOk event IsEvent → Gives (told_event event) code had has → IfOk event (λ (e : Event). event_of has ≡ Ok e)
-back_given (Ok e) code had has is h = ap event_of h.1 ∙ told_back e is
-back_given (Err why) code had has is h = tt
+pub back_given : (event : Result Event Code) (word code : ℕ) (had has : CfEvent) → IfOk event (λ (e : Event). HasWord e word) → Gives (told_event event) code had has →
+    IfOk event (λ (e : Event). (event_of has ≡ Ok e) × HasWord e word)
+back_given (Ok e) word code had has is h = (ap event_of h.1 ∙ told_back e is.has_room, is)
+back_given (Err why) word code had has is h = tt

@@ -40,16 +40,14 @@ as_event (Ticks who now) = record (bare 5 who 0) { now = now }
 as_event (Attaches who form of function) =
     record (bare 6 who 0) { form = form_number form; sources = count_of of; first = first_of of; second = second_of of; function = as_function function }
 
--- the word of an event, which is never 0, and which is this event's
+-- an event has this word
 pub record HasWord (e : Event) (word : ℕ) : Type 0 where
   pub has_room : IsEvent e
   pub is : word ≡ word_of e
-  pub filled : 0 < word
-  pub back : event_of_word word ≡ Some e
 
--- the word of an event, or why there is none
+-- the word of an event, which is never 0, and which is this event's; or why there is none
 abbrev pub IsWordOf : Result Event Code → Result ℕ Code → Type 0
-IsWordOf (Ok e) (Ok word) = HasWord e word
+IsWordOf (Ok e) (Ok word) = HasWord e word × (0 < word) × (event_of_word word ≡ Some e)
 IsWordOf (Ok e) (Err fault) = (fault ≡ NoWord) × (¬ IsEvent e)
 IsWordOf (Err why) r = r ≡ Err why
 

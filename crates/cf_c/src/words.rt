@@ -1,9 +1,8 @@
 //! Events as words, and what the event of a word does to a graph.
 ghost use Rattle.std.specs.Prelude.{◌≡◌, IfOk, Ok};
-ghost use Rattle.cf_event.specs.Words.{IsEvent};
 ghost use Rattle.cf_c.specs.Answers.{Gives, Tells};
 ghost use Rattle.cf_c.specs.Graphs.{Answers};
-ghost use Rattle.cf_c.specs.Words.{GivesWord, IsWordOf, event_at, event_of, told_event};
+ghost use Rattle.cf_c.specs.Words.{GivesWord, HasWord, IsWordOf, event_at, event_of, told_event};
 
 use crate::asking;
 use crate::code::Code;
@@ -28,7 +27,7 @@ pub extern "C" fn cf_word_of(event: CfEvent, word: &mut u64) -> u32
 #[tactic(auto, using(crate::proofs::EventsBack::back_given))]
 pub extern "C" fn cf_event_of(word: u64, event: &mut CfEvent) -> u32
     ensures told { Gives (told_event (event_at word)) result event.old event.new }
-    ensures back { IfOk (event_at word) (λ e. event_of event.new ≡ Ok e) }
+    ensures back { IfOk (event_at word) (λ e. (event_of event.new ≡ Ok e) × HasWord e word) }
 {
     give(told_event(event_at(word)), event)
 }
@@ -62,7 +61,7 @@ fn word_of(event: Result<Event, Code>) -> Result<u64, Code>
 /// The event of a word, or that it is no event's.
 fn event_at(word: u64) -> Result<Event, Code>
     ensures event { result ≡ event_at word }
-    ensures has_word { IfOk result IsEvent }
+    ensures has_word { IfOk result (λ e. HasWord e word) }
 {
     decode(word).ok_or(Code::NoWord)
 }
