@@ -1,0 +1,267 @@
+//! Single calls over a fan-out whose source is completed: of a graph, and of a desk's one caller.
+ghost use Rattle.std.specs.Prelude.{◌≡◌, All, IfOk};
+
+use crate::graphs::graph_of;
+use crate::shape::{Shape, plan_of};
+use crate::times::{Shown, Times};
+use anyhow::{Result, anyhow};
+use cf_core::{Claimed, Finished, Graph, Reply, Told};
+use cf_desk::{Ask, Call, Desk, Pass};
+use cf_outcome::{Outcome, Value};
+use cf_plan::Answer;
+use std::alloc::Global;
+use std::time::{Clock, Instant};
+
+/// How many stages the fan-out has: a source, and applies of it.
+const STAGES: u16 = 512;
+
+/// How often each kind of call is measured.
+const ROUNDS: u32 = 300;
+
+/// The caller that does all the work.
+const WORKER: u8 = 0;
+
+const SOURCE: Value = Value::Int(1);
+
+const GIVEN: Value = Value::Int(2);
+
+/// What a claim, a finish, a question for the lowest ready stage and one for an outcome took.
+#[derive(Clone, Copy, Debug)]
+pub(crate) struct Calls {
+    pub(crate) ready: Shown,
+    pub(crate) claim: Shown,
+    pub(crate) finish: Shown,
+    pub(crate) outcome: Shown,
+}
+
+/// The times of the rounds.
+#[derive(Drop)]
+struct Rounds {
+    ready: Times,
+    claim: Times,
+    finish: Times,
+    outcome: Times,
+}
+
+impl Rounds {
+    fn new(alloc: Global) -> Result<Rounds> {
+        Ok(Rounds {
+            ready: Times::new(alloc, ROUNDS)?,
+            claim: Times::new(alloc, ROUNDS)?,
+            finish: Times::new(alloc, ROUNDS)?,
+            outcome: Times::new(alloc, ROUNDS)?,
+        })
+    }
+
+    /// What each kind of call took.
+    fn a_call(self) -> Result<Calls> {
+        let Rounds {
+            ready,
+            claim,
+            finish,
+            outcome,
+        } = self;
+        Ok(Calls {
+            ready: ready.a_part(STAGES - 1)?,
+            claim: claim.a_part(STAGES - 1)?,
+            finish: finish.a_part(STAGES - 1)?,
+            outcome: outcome.a_part(STAGES - 1)?,
+        })
+    }
+}
+
+/// That as many calls were answered as there are applies.
+fn all_right(right: u16) -> Result<()> {
+    if right == STAGES - 1 {
+        Ok(())
+    } else {
+        Err(anyhow!("a call was answered otherwise"))
+    }
+}
+
+fn ready_in(graph: &mut Graph) -> u16 {
+    let mut right = 0u16;
+    for _ in 1..STAGES {
+        if graph.lowest_ready() == Some(1) {
+            right = right.saturating_add(1);
+        }
+    }
+    right
+}
+
+fn claimed_in(graph: &mut Graph) -> u16 {
+    let mut right = 0u16;
+    for i in 1..STAGES {
+        if graph.has(i) {
+            if let Claimed::Granted(_) = graph.claim(WORKER, i) {
+                right = right.saturating_add(1);
+            }
+        }
+    }
+    right
+}
+
+fn finished_in(graph: &mut Graph) -> u16 {
+    let mut right = 0u16;
+    for i in 1..STAGES {
+        if graph.has(i) {
+            if graph.finish(WORKER, i, Answer::Give(GIVEN)) == Finished::Won {
+                right = right.saturating_add(1);
+            }
+        }
+    }
+    right
+}
+
+fn outcomes_in(graph: &mut Graph) -> u16 {
+    let mut right = 0u16;
+    for i in 1..STAGES {
+        if graph.has(i) {
+            if graph.outcome(i) == Some(Outcome::Value(GIVEN)) {
+                right = right.saturating_add(1);
+            }
+        }
+    }
+    right
+}
+
+/// A round of each kind of call.
+fn call_graph<R: Clock>(rt: &R, rounds: &mut Rounds, graph: &mut Graph) -> Result<()> {
+    graph.restart();
+    if graph.has(0) {
+        graph.complete(0, SOURCE);
+    }
+    let start = Instant::now(rt)?;
+    let ready = ready_in(graph);
+    rounds.ready.add(start.elapsed(rt)?)?;
+    let start = Instant::now(rt)?;
+    let claimed = claimed_in(graph);
+    rounds.claim.add(start.elapsed(rt)?)?;
+    let start = Instant::now(rt)?;
+    let finished = finished_in(graph);
+    rounds.finish.add(start.elapsed(rt)?)?;
+    let start = Instant::now(rt)?;
+    let outcomes = outcomes_in(graph);
+    rounds.outcome.add(start.elapsed(rt)?)?;
+    all_right(ready)?;
+    all_right(claimed)?;
+    all_right(finished)?;
+    all_right(outcomes)
+}
+
+/// What each kind of call of a graph took.
+pub(crate) fn measured_graph_calls<R: Clock>(rt: &R, alloc: Global) -> Result<Calls> {
+    let mut rounds = Rounds::new(alloc)?;
+    let mut graph = graph_of(alloc, Shape::FanOut, STAGES)?;
+    for _ in 0..ROUNDS {
+        call_graph(rt, &mut rounds, &mut graph)?;
+    }
+    rounds.a_call()
+}
+
+fn ready_on(desk: &Desk, p: &mut Pass) -> u16
+    requires { p.old.table ≡ desk.now.table }
+    ensures { p.new.table ≡ p.old.table }
+{
+    let mut right = 0u16;
+    for _ in 1..STAGES {
+        if desk.ready(p) == Some(1) {
+            right = right.saturating_add(1);
+        }
+    }
+    right
+}
+
+fn claimed_on(desk: &Desk, p: &mut Pass) -> u16
+    requires { p.old.table ≡ desk.now.table }
+    ensures { p.new.table ≡ p.old.table }
+{
+    let mut right = 0u16;
+    for i in 1..STAGES {
+        if let Ok(Reply::Claim(Claimed::Granted(_))) = desk.act(p, Call::Claim(i)) {
+            right = right.saturating_add(1);
+        }
+    }
+    right
+}
+
+fn finished_on(desk: &Desk, p: &mut Pass) -> u16
+    requires { p.old.table ≡ desk.now.table }
+    ensures { p.new.table ≡ p.old.table }
+{
+    let mut right = 0u16;
+    for i in 1..STAGES {
+        let call = Call::Finish(i, Answer::Give(GIVEN));
+        if let Ok(Reply::Finish(Finished::Won)) = desk.act(p, call) {
+            right = right.saturating_add(1);
+        }
+    }
+    right
+}
+
+fn outcomes_on(desk: &Desk, p: &mut Pass) -> u16
+    requires { p.old.table ≡ desk.now.table }
+    ensures { p.new.table ≡ p.old.table }
+{
+    let mut right = 0u16;
+    for i in 1..STAGES {
+        if let Ok(Told::Outcome(Some(Outcome::Value(_)))) = desk.read(p, Ask::Outcome(i)) {
+            right = right.saturating_add(1);
+        }
+    }
+    right
+}
+
+/// A round of each kind of call.
+fn call_desk<R: Clock>(rt: &R, rounds: &mut Rounds, desk: &Desk, p: &mut Pass) -> Result<()>
+    requires { p.old.table ≡ desk.now.table }
+{
+    let _ = desk.act(p, Call::Complete(0, SOURCE));
+    let start = Instant::now(rt)?;
+    let ready = ready_on(desk, p);
+    rounds.ready.add(start.elapsed(rt)?)?;
+    let start = Instant::now(rt)?;
+    let claimed = claimed_on(desk, p);
+    rounds.claim.add(start.elapsed(rt)?)?;
+    let start = Instant::now(rt)?;
+    let finished = finished_on(desk, p);
+    rounds.finish.add(start.elapsed(rt)?)?;
+    let start = Instant::now(rt)?;
+    let outcomes = outcomes_on(desk, p);
+    rounds.outcome.add(start.elapsed(rt)?)?;
+    all_right(ready)?;
+    all_right(claimed)?;
+    all_right(finished)?;
+    all_right(outcomes)
+}
+
+/// The same by the first pass.
+fn call_first<R: Clock>(rt: &R, rounds: &mut Rounds, desk: &Desk, passes: &mut [Pass]) -> Result<()>
+    requires { All (λ p. p.table ≡ desk.now.table) passes.old }
+{
+    match passes.first_mut() {
+        Some(p) => call_desk(rt, rounds, desk, p),
+        None => Err(anyhow!("the desk has no caller")),
+    }
+}
+
+/// A desk over the fan-out, and its one pass.
+fn open(alloc: Global) -> Result<(Desk, Vec<Pass>)>
+    ensures table { IfOk result (λ r. All (λ p. p.table ≡ r.0.table) r.1.items) }
+{
+    let plan = plan_of(alloc, Shape::FanOut, STAGES);
+    let plan = plan.map_err(|_| anyhow!("the plan was refused"))?;
+    Ok(Desk::open(alloc, plan, 1, 2 * STAGES, 3 * STAGES).map_err(|_| anyhow!(
+        "the desk was refused"
+    ))?)
+}
+
+/// What each kind of call of a desk's one caller took.
+pub(crate) fn measured_desk_calls<R: Clock>(rt: &R, alloc: Global) -> Result<Calls> {
+    let mut rounds = Rounds::new(alloc)?;
+    for _ in 0..ROUNDS {
+        let (desk, mut passes) = open(alloc)?;
+        call_first(rt, &mut rounds, &desk, passes.as_mut_slice())?;
+    }
+    rounds.a_call()
+}
