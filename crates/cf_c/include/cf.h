@@ -10,6 +10,7 @@
  * What C owes, and nothing can check (docs/C.md has more):
  *   - a handle isn't copied and then used twice; it may be moved, by memcpy too, if the old one isn't used again;
  *   - one call at a time has a handle, and the handles of one call are different ones; no handle is another thread's meanwhile;
+ *   - the callers of cf_desk_meet, and those given to one closing, are of one desk; where they are seen not to be, CF_OTHER_DESK is told;
  *   - each pointer is aligned, and to as many elements as said, in memory that no other call uses meanwhile.
  * A null pointer is answered CF_NULL, unless a count or a room follows it that is 0; cf_free of one does nothing.
  *
@@ -225,7 +226,8 @@ uint32_t cf_desk_join(cf_handle *caller, uint16_t stage, uint32_t looks, cf_now 
 /* The lowest ready stage after a look, or CF_NOTHING; not recorded. Another caller may claim it first. */
 uint32_t cf_desk_ready(cf_handle *caller, uint16_t *stage);
 
-/* Lets two callers of one desk, both in this thread's hands, see the longer of what either has seen. CF_OTHER_DESK. */
+/* Lets two callers of one desk, both in this thread's hands, see the longer of what either has seen. CF_OTHER_DESK leaves
+ * both as they were. */
 uint32_t cf_desk_meet(cf_handle *caller, cf_handle *other);
 
 /* Without a look: how many events the caller has seen; how many records it still takes; the number of a stage's function, or CF_NOTHING,
