@@ -1,5 +1,5 @@
 -- What a graph behind a handle is asked.
-use Rattle.std.specs.Prelude.{◌≡◌, ℕ, Bool, Option, Some, None, Result, Ok, Err, length, nat_lt, if◌then◌else◌}
+use Rattle.std.specs.Prelude.{◌≡◌, ℕ, Option, Some, None, Result, Ok, Err, length, nat_lt, if◌then◌else◌}
 use Rattle.cf_outcome.specs.declared.outcome.Value.{Value}
 use Rattle.cf_outcome.specs.Outcomes.{now_of}
 use Rattle.cf_plan.specs.Plans.{function_at, reopened}
