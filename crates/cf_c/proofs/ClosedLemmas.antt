@@ -1,8 +1,8 @@
 -- That the events and the calls of a closed desk have words.
 use Rattle.std.proofs.Common.{◌≡◌, ℕ, zero, suc, Bool, true, false, eqb, List, [], ◌∷◌, ◌++◌, map, sym, subst}
 use Rattle.std.specs.Prelude.{Option, Some, cond, slice_get}
-use Rattle.std.specs.List.{All, find}
-use Rattle.std.proofs.lemmas.List.Elements.{All-append, All-nil, All-cons, All-head, All-tail, All-filter, All-weaker}
+use Rattle.std.specs.List.{All}
+use Rattle.std.proofs.lemmas.List.Elements.{All-append, All-nil, All-cons, All-head, All-tail, All-filter}
 use Rattle.cf_plan.specs.Plans.{Planned}
 use Rattle.cf_core.specs.declared.events.Event.{Event}
 use Rattle.cf_core.specs.States.{start}
@@ -13,8 +13,8 @@ use Rattle.cf_desk.specs.declared.calls.Rec.{Rec}
 use Rattle.cf_desk.specs.declared.calls.Rec.TheVariants.{Did, Saw}
 use Rattle.cf_desk.specs.declared.row.Setting.{Setting}
 use Rattle.cf_desk.specs.Calls.{event_by}
-use Rattle.cf_desk.specs.Keepings.{AllFit, IsKeptFit, pass_kept}
-use Rattle.cf_desk.specs.Log.{AreLogged, events_of, placed}
+use Rattle.cf_desk.specs.Keepings.{IsKeptFit, pass_kept}
+use Rattle.cf_desk.specs.Log.{AreLogged, placed}
 use Rattle.cf_desk.specs.Records.{dids}
 use Rattle.cf_desk.proofs.Events.{events_each}
 use Rattle.cf_c.specs.Records.{CallHasWord, CallsHaveWords, HasWord, kept_of}

@@ -1,4 +1,3 @@
-use Rattle.std.proofs.Common.{◌≤◌, ◌<◌, arith}
 use Rattle.cf_c.proofs.ClosedLemmas.{history_has, passes_have}
 use Rattle.cf_c.proofs.returning.close.Goals as goal
 
