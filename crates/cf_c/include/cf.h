@@ -120,10 +120,10 @@ typedef struct { uint32_t kind; cf_outcome outcome; } cf_now;
 /* What a changing call is answered. What a call doesn't have is 0.
  *   complete, fail: `answer` is 1 where the stage was settled by it, else 0; cancel: 1 where the stage is cancelled then, else 0
  *   claim: a CF_GRANTED .., and where granted the `args` of the function; CF_TAKEN also where it waits for the stage it links to
- *   finish: CF_WON; CF_LATE where the stage was settled after its claim; CF_NOT_YOURS where this caller hasn't claimed it, or has
- *     finished it already
+ *   finish: CF_WON where the answer was taken, and with a link the stage waits for that stage then; CF_LATE where the stage was settled
+ *     after its claim; CF_NOT_YOURS where this caller hasn't claimed it, or has finished it already
  *   tick: CF_FIRED, and `number` of limits that settled their stage, or CF_PAST, where the moment is before the last
- *   attach: CF_AT, and the `number` of the new stage, or CF_STAGES_FULL */
+ *   attach: CF_AT, and the `number` of the new stage, which is the next one, or CF_STAGES_FULL */
 enum { CF_GRANTED = 0, CF_SETTLED = 1, CF_TAKEN = 2, CF_NOT_READY = 3 };
 enum { CF_WON = 0, CF_LATE = 1, CF_NOT_YOURS = 2 };
 enum { CF_FIRED = 0, CF_PAST = 1 };
@@ -142,12 +142,13 @@ void cf_free(cf_handle *h);
 uint32_t cf_builder_new(cf_handle *builder, uint16_t stages, uint16_t edges);
 
 /* Adds a stage of a form to n sources, each below it, and tells its number: 0, 1, .. `of` may be null where n is 0. `function` is the
- * number, up to 65,535, by which you know its function, or CF_NO_FUNCTION. CF_NO_SUCH_NUMBER of a form, and 1, 3, 2, 4, 5, 6, 8, the
- * first that holds in this order. */
+ * number, up to 65,535, by which you know its function, or CF_NO_FUNCTION. CF_NO_SUCH_NUMBER of a form,
+ * CF_TOO_MANY_STAGES, CF_WRONG_SOURCE_COUNT, CF_SOURCE_NOT_LOWER, CF_FUNCTION_MISSING, CF_FUNCTION_UNWANTED, CF_TOO_MANY_EDGES,
+ * CF_NO_MEMORY, the first that holds in this order. */
 uint32_t cf_builder_stage(cf_handle *builder, uint32_t form, const uint16_t *of, size_t n, uint32_t function, uint16_t *stage);
 
-/* Adds a limit: at this moment of cf_tick the stage times out (kind 0), or gets the value (any other kind), if it isn't settled by
- * then. 7, 9, 8. */
+/* Adds a limit: by the first cf_tick at this moment or later the stage times out (kind 0), or gets the value (any other kind), if it isn't
+ * settled by then. CF_NO_SUCH_STAGE, CF_TOO_MANY_LIMITS, CF_NO_MEMORY. */
 enum { CF_TIMEOUT = 0, CF_GIVE_VALUE = 1 };
 uint32_t cf_builder_limit(cf_handle *builder, uint16_t stage, uint32_t at, uint32_t kind, cf_value value);
 
@@ -166,7 +167,9 @@ uint32_t cf_complete(cf_handle *graph, uint16_t stage, cf_value value, cf_reply 
 uint32_t cf_fail(cf_handle *graph, uint16_t stage, uint32_t code, cf_reply *reply);
 uint32_t cf_cancel(cf_handle *graph, uint16_t stage, cf_reply *reply);
 
-/* Takes a ready stage for a caller of any number, who then runs its function and finishes the stage. CF_NO_STAGE. */
+/* Takes a ready stage for a caller of any number, who then runs its function and finishes the stage. A stage is ready once its sources
+ * gave what its function is for, until it is claimed or settled. Stages whose functions aren't called, such as anyOf, or apply of a fault,
+ * need no caller: each call is answered as if all that follows from the calls before it had been settled at once. CF_NO_STAGE. */
 uint32_t cf_claim(cf_handle *graph, uint8_t who, uint16_t stage, cf_reply *reply);
 uint32_t cf_finish(cf_handle *graph, uint8_t who, uint16_t stage, cf_answer answer, cf_reply *reply);
 
@@ -223,7 +226,8 @@ uint32_t cf_desk_read_now(cf_handle *caller, uint16_t stage, cf_value absent, cf
  * with a pending outcome where it wasn't. It doesn't sleep between two looks. One record. CF_NO_STAGE, CF_PASS_FULL. */
 uint32_t cf_desk_join(cf_handle *caller, uint16_t stage, uint32_t looks, cf_now *now);
 
-/* The lowest ready stage after a look, or CF_NOTHING; not recorded. Another caller may claim it first. */
+/* The lowest ready stage after a look, or CF_NOTHING; not recorded. Another caller may claim it first. A claim and its finish take a record
+ * each: who claims should have two left (cf_desk_left). */
 uint32_t cf_desk_ready(cf_handle *caller, uint16_t *stage);
 
 /* Lets two callers of one desk, both in this thread's hands, see the longer of what either has seen. CF_OTHER_DESK leaves
@@ -249,8 +253,9 @@ uint32_t cf_close_add(cf_handle *closing, cf_handle *caller);
 uint32_t cf_close_end(cf_handle *closing);
 
 /* What a caller was told. CF_DID: a changing call as the word of its event (cf_event_of), and its reply; `place` counts the history's
- * events up to and with its own. CF_SAW: a look, of which `place` counts the events that were seen. It was asked of the `stage`, and
- * told is `outcome` (CF_ASKED_OUTCOME; a join's too) or, for `absent`, `now` (CF_ASKED_NOW). What a record doesn't have is 0. */
+ * events up to and with its own, so its word is cf_closed_word at place - 1. CF_SAW: a look, of which `place` counts the events that
+ * were seen. It was asked of the `stage`, and told is `outcome` (CF_ASKED_OUTCOME, as cf_desk_read tells it; so is a join's last look
+ * recorded) or, for `absent`, `now` (CF_ASKED_NOW). What a record doesn't have is 0. */
 enum { CF_DID = 0, CF_SAW = 1 };
 enum { CF_ASKED_OUTCOME = 0, CF_ASKED_NOW = 1 };
 typedef struct {
