@@ -12,7 +12,7 @@ struct Head {
     count: u16,
 }
 
-/// For each stage a list of stages. A stage stands in at most one of them, where it names the one behind it, so that no
+/// For each stage a list of stages, or no list at all. A stage stands in at most one of them, where it names the one behind it, so that no
 /// call but `new` takes memory.
 #[derive(Drop)]
 pub struct Links {
@@ -49,13 +49,14 @@ impl Links {
         self.heads.fill(Head { first: 0, count: 0 });
     }
 
-    /// Empties the list of `target`.
+    /// Empties the list of `target`, if there is one.
     #[inline(always)]
     pub fn clear(&mut self, target: u16)
-        requires { target < length self.old }
         ensures { self.new ≡ slice_set self.old target [] }
     {
-        self.heads[target as usize] = Head { first: 0, count: 0 };
+        if (target as usize) < self.heads.len() {
+            self.heads[target as usize] = Head { first: 0, count: 0 };
+        }
     }
 
     /// Puts a stage that stands in no list at the head of that of `target`.
@@ -74,13 +75,15 @@ impl Links {
         };
     }
 
-    /// Takes the first stage out of the list of `target`.
+    /// Takes the first stage out of the list of `target`, if there is one.
     pub fn pop(&mut self, target: u16) -> Option<u16>
-        requires { target < length self.old }
         ensures first { result ≡ slice_get (list_at self.old target) 0 }
         ensures rest { self.new ≡ slice_set self.old target (drop 1 (list_at self.old target)) }
         ensures within { IfSome result (λ i. i < length self.old) }
     {
+        if target as usize >= self.heads.len() {
+            return None;
+        }
         let head = self.heads[target as usize];
         if head.count == 0 {
             return None;

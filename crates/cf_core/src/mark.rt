@@ -48,7 +48,6 @@ pub fn mark_later(kept: &Cells, marks: &mut BitSet, stages: Later<'_>)
 pub fn mark_linked(kept: &Cells, marks: &mut BitSet, links: &mut Links, target: u16)
     requires target { target < length kept.now.items }
     requires all { length marks.old ≡ length kept.now.items }
-    requires lists { length kept.now.items ≤ length links.old }
     requires linked { All (λ i. i < length kept.now.items) (list_at links.old target) }
     ensures marks { marks.new ≡ mark_all kept.now.items (list_at links.old target) marks.old }
     ensures links { links.new ≡ slice_set links.old target [] }

@@ -11,7 +11,7 @@ ghost use Rattle.cf_core.specs.declared.stage.Stage.TheVariants.{Claimed, Linked
 ghost use Rattle.cf_core.specs.States.{is_ready, new_states, outcome_in, outcome_of};
 ghost use Rattle.cf_core.specs.Keeping.Landings.{landed_stages};
 ghost use Rattle.cf_core.specs.Keeping.Links.{list_at};
-ghost use Rattle.cf_core.specs.Keeping.Sound.{AreTreated, ReadyIsTreated, StayTaken, StayTakenBut, is_taken, kept_at, links_after, mark_all, marks_after};
+ghost use Rattle.cf_core.specs.Keeping.Sound.{AreTreated, HasLists, ReadyIsTreated, StayTaken, StayTakenBut, is_taken, kept_at, links_after, mark_all, marks_after};
 ghost use Rattle.cf_core.specs.Keeping.SoundStages.{AreSound, HasRoom, SameRoom, outlook_of};
 ghost use Rattle.cf_core.specs.Keeping.Sweeps.{AreSwept};
 ghost use Rattle.cf_core.specs.Keeping.Turns.{TurnsBelowReady, TurnsUpTo, turned};
@@ -25,7 +25,7 @@ use crate::stage::Stage;
 use crate::treat::treat;
 use cf_bits::BitSet;
 use cf_outcome::{Outcome, wrap};
-use cf_plan::{Form, GrowingPlan, Landing, Plan, starts};
+use cf_plan::{Form, GrowingPlan, Landing, Plan, composes, starts};
 use std::alloc::{AllocError, Global};
 
 /// The stages of a plan: what is kept of each, which of them are marked for treatment, which are ready, which are linked
@@ -47,14 +47,14 @@ impl Stages {
         ensures start { IfOk result (λ s. outlook_of plan.now.stages s ≡ new_states [] plan.now.stages (replicate (length plan.now.stages) Pending)) }
         ensures turns { IfOk result (λ s. s.turns ≡ 0) }
         ensures sound { IfOk result (λ s. AreSound plan.now.stages s) }
-        ensures room { IfOk result (λ s. HasRoom (length plan.now.stages + plan.now.room) s) }
+        ensures room { IfOk result (λ s. HasRoom plan.now.opened (length plan.now.stages + plan.now.room) s) }
     {
         let count = plan.stages();
         let room = plan.room();
         let kept = Cells::new(alloc, count, room)?;
         let mut marks = BitSet::new(alloc, count)?;
         let ready = BitSet::new(alloc, count)?;
-        let links = Links::new(alloc, (count + room) as usize)?;
+        let links = Links::new(alloc, lists_of(plan) as usize)?;
         mark_starts(plan, &mut marks);
         Ok(Stages {
             kept,
@@ -75,7 +75,6 @@ impl Stages {
         requires all_kept { length self.old.kept.items ≡ length plan.now.stages }
         requires all_marks { length self.old.marks ≡ length plan.now.stages }
         requires all_ready { length self.old.ready ≡ length plan.now.stages }
-        requires all_links { length plan.now.stages ≤ length self.old.links }
         requires linked { All (λ i. i < length plan.now.stages) (list_at self.old.links d) }
         ensures kept { self.new.kept.items ≡ slice_set self.old.kept.items d new }
         ensures marks { self.new.marks ≡ marks_after plan.now.stages (slice_set self.old.kept.items d new) self.old.links self.old.marks d new.stage }
@@ -97,7 +96,6 @@ impl Stages {
         requires all_kept { length self.old.kept.items ≡ length plan.now.stages }
         requires all_marks { length self.old.marks ≡ length plan.now.stages }
         requires all_ready { length self.old.ready ≡ length plan.now.stages }
-        requires all_links { length plan.now.stages ≤ length self.old.links }
         requires linked { All (λ i. i < length plan.now.stages) (list_at self.old.links d) }
         ensures kept { self.new.kept ≡ self.old.kept }
         ensures marks { self.new.marks ≡ marks_after plan.now.stages self.old.kept.items self.old.links self.old.marks d ((kept_at self.old.kept.items d).stage) }
@@ -123,7 +121,6 @@ impl Stages {
         requires stage { d < length plan.now.stages }
         requires all_kept { length self.old.kept.items ≡ length plan.now.stages }
         requires all_marks { length self.old.marks ≡ length plan.now.stages }
-        requires all_links { length plan.now.stages ≤ length self.old.links }
         requires linked { All (λ i. i < length plan.now.stages) (list_at self.old.links d) }
         ensures marks { self.new.marks ≡ mark_all self.old.kept.items (list_at self.old.links d) (mark_all self.old.kept.items (dependents_of plan.now.stages d) self.old.marks) }
         ensures links { self.new.links ≡ slice_set self.old.links d [] }
@@ -413,6 +410,31 @@ impl Stages {
             },
         }
     }
+}
+
+/// How many lists of linked stages are made: one for each stage that there may be, or none where no stage ever links.
+fn lists_of(plan: &GrowingPlan) -> u16
+    ensures composing { HasLists plan.now.stages result }
+    ensures room { plan.now.opened < length plan.now.stages + plan.now.room → length plan.now.stages + plan.now.room ≤ result }
+{
+    let most = plan.stages() + plan.room();
+    if plan.opening().stages() < most || has_composing(plan) {
+        most
+    } else {
+        0
+    }
+}
+
+/// Whether a stage is of a form that composes.
+fn has_composing(plan: &GrowingPlan) -> bool
+    ensures { result ≡ false → (d : ℕ) → composes (form_at plan.now.stages d) ≡ false }
+{
+    for i in 0..plan.stages() {
+        if composes(plan.form(i)) {
+            return true;
+        }
+    }
+    false
 }
 
 /// Marks the stages that have something to take from the start on.

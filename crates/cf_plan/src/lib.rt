@@ -36,5 +36,5 @@ pub use growing::GrowingPlan;
 pub use limits::{Limit, LimitKind};
 pub use plan::Plan;
 pub use starting::starts;
-pub use tables::{due_one, due_two, landing};
+pub use tables::{composes, due_one, due_two, landing};
 pub use threads::Later;

@@ -81,8 +81,8 @@ pub fn landing(form: Form, stage: u16, source: Option<Outcome>, answer: Answer) 
     }
 }
 
-/// Whether the function of a form answers with a stage.
-fn composes(form: Form) -> bool
+/// Whether the function of a form answers with a stage, to which its own is then linked.
+pub fn composes(form: Form) -> bool
     ensures { result ≡ composes form }
 {
     matches!(form, Form::Compose | Form::ExceptionallyCompose)

@@ -269,7 +269,7 @@ attach_sound plan kept marks ready links steps turns h p due turns2 is few edges
       sources_lower = HasLowerSources-push 0 plan p h.sources_lower (λ k d l. let s = lower k d l in omega arith);
       all_kept = omega (arith, longer, kept_longer, all_kept);
       all_marks = omega (arith, longer, marks_longer, all_marks);
-      all_links = omega (arith, longer);
+      all_links = λ d c. omega (arith, longer);
       ready_are = ap (λ xs. xs ++ is_ready fresh.stage ∷ []) h.ready_are ∙ sym (map-append (λ (k : KeptStage). is_ready k.stage) kept (fresh ∷ []));
       waits = λ i q k eq ek em. elim (get_push plan p i q eq) [
         | inl old ↦ (let l = there_within plan i q old in

@@ -52,8 +52,8 @@ told_below plan s i j h l treated below =
 
 -- ---- room
 
-pub room_stays : (most : ℕ) (old new : Stages) → HasRoom most old → SameRoom old new → HasRoom most new
-room_stays most old new h same = (let a = h.0 in let e = same.0 in omega (arith, a, e), (let a = h.1 in let e = same.1 in omega (arith, a, e)))
+pub room_stays : (opened most : ℕ) (old new : Stages) → HasRoom opened most old → SameRoom old new → HasRoom opened most new
+room_stays opened most old new h same = (let a = h.0 in let e = same.0 in omega (arith, a, e), λ more. (let a = h.1 more in let e = same.1 in omega (arith, a, e)))
 
 -- ---- settling
 
@@ -233,7 +233,7 @@ attach_in_step plan form of function s t u claims capacity used h room fits lowe
       sound = sound;
       all_claims = omega (arith, longer, one, more, all);
       claimed = AreClaimed-push claims s.kept.items u.kept.items h.claimed (λ i e. then i (first i e));
-      stages_room = room_stays _ t u (room_stays _ s t (subst (λ most. HasRoom most s) (sym same) h.stages_room) room_first) room_then;
+      stages_room = room_stays _ _ t u (room_stays _ _ s t (subst (λ most. HasRoom plan.opened most s) (sym same) h.stages_room) room_first) room_then;
       claims_room = omega (arith, same, enough);
       few_used = h.few_used;
     }

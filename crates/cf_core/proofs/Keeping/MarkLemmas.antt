@@ -1,12 +1,12 @@
 -- A stage is taken out of the list of linked stages, and marked.
-use Rattle.std.proofs.Common.{◌≡◌, ◌≢◌, ℕ, ◌<◌, ◌∷◌, ◌++◌, [], List, Bool, true, false, cond, Some, None, length, suc, zero, arith, ap, sym, ◌∙◌, refl, set, drop, length-set, subst, All}
+use Rattle.std.proofs.Common.{◌≡◌, ◌≢◌, ℕ, ◌<◌, ◌∷◌, ◌++◌, [], List, Bool, true, false, cond, Some, None, length, suc, zero, arith, ap, sym, ◌∙◌, refl, set, drop, subst, All}
 use Rattle.std.specs.Prelude.{reverse, slice_get, unwrap_or}
 use Rattle.std.proofs.lemmas.List.{reverse-append}
 use Rattle.std.proofs.lemmas.List.Elements.{All-head, All-tail}
 use Rattle.cf_core.specs.declared.kept.KeptStage.{KeptStage}
 use Rattle.cf_core.specs.Keeping.Links.{list_at}
 use Rattle.cf_core.specs.Keeping.Sound.{is_waiting, kept_at, mark_one, mark_all}
-use Rattle.cf_core.proofs.Keeping.Marking.{get-set_other, get-set_same}
+use Rattle.cf_core.proofs.Keeping.Marking.{get-set_other}
 
 set-twice : {X : Type 0} (xs : List X) (i : ℕ) (a b : X) → set (set xs i a) i b ≡ set xs i b
 set-twice [] i a b = refl
@@ -25,29 +25,28 @@ nothing_left : (stages : List ℕ) → None ≡ slice_get stages 0 → stages �
 nothing_left [] e = refl
 nothing_left (j ∷ stages) e = cc
 
-list_is : (lists : List (List ℕ)) (t : ℕ) → t < length lists → list_at (set lists t (drop 1 (list_at lists t))) t ≡ drop 1 (list_at lists t)
-list_is lists t l = ap (λ x. unwrap_or x []) (get-set_same lists t (drop 1 (list_at lists t)) l)
+list_is : (lists : List (List ℕ)) (t : ℕ) → list_at (set lists t (drop 1 (list_at lists t))) t ≡ drop 1 (list_at lists t)
+list_is [] t = refl
+list_is (x ∷ lists) zero = refl
+list_is (x ∷ lists) (suc t) = list_is lists t
 
-pub pop_marks : (kept : List KeptStage) (lists new : List (List ℕ)) (t : ℕ) (marks : List Bool) (i : ℕ) → t < length lists → Some i ≡ slice_get (list_at lists t) 0 → new ≡ set lists t (drop 1 (list_at lists t)) →
+pub pop_marks : (kept : List KeptStage) (lists new : List (List ℕ)) (t : ℕ) (marks : List Bool) (i : ℕ) → Some i ≡ slice_get (list_at lists t) 0 → new ≡ set lists t (drop 1 (list_at lists t)) →
     mark_all kept (list_at new t) (mark_one kept i marks) ≡ mark_all kept (list_at lists t) marks
-pop_marks kept lists new t marks i l e is =
+pop_marks kept lists new t marks i e is =
     ap (λ xs. mark_all kept (list_at xs t) (mark_one kept i marks)) is
-    ∙ ap (λ xs. mark_all kept xs (mark_one kept i marks)) (list_is lists t l) ∙ first_marked kept (list_at lists t) marks i e
+    ∙ ap (λ xs. mark_all kept xs (mark_one kept i marks)) (list_is lists t) ∙ first_marked kept (list_at lists t) marks i e
 
 pub pop_empties : (lists new : List (List ℕ)) (t : ℕ) → new ≡ set lists t (drop 1 (list_at lists t)) → set new t [] ≡ set lists t []
 pop_empties lists new t is = ap (λ xs. set xs t []) is ∙ set-twice lists t (drop 1 (list_at lists t)) []
-
-pub length-pop : (lists new : List (List ℕ)) (t : ℕ) → new ≡ set lists t (drop 1 (list_at lists t)) → length new ≡ length lists
-length-pop lists new t is = ap length is ∙ length-set lists t (drop 1 (list_at lists t))
 
 -- the stages of a list that are left, and the first of them, are within the same bound
 rest_within : (xs : List ℕ) (n : ℕ) → All (λ i. i < n) xs → All (λ i. i < n) (drop 1 xs)
 rest_within [] n h = h
 rest_within (x ∷ xs) n h = All-tail (λ i. i < n) x xs h
 
-pub pop_within : (lists new : List (List ℕ)) (t n : ℕ) → t < length lists → new ≡ set lists t (drop 1 (list_at lists t)) → All (λ i. i < n) (list_at lists t) → All (λ i. i < n) (list_at new t)
-pop_within lists new t n l is h =
-    subst (λ xs. All (λ i. i < n) xs) (sym (ap (λ xs. list_at xs t) is ∙ list_is lists t l)) (rest_within (list_at lists t) n h)
+pub pop_within : (lists new : List (List ℕ)) (t n : ℕ) → new ≡ set lists t (drop 1 (list_at lists t)) → All (λ i. i < n) (list_at lists t) → All (λ i. i < n) (list_at new t)
+pop_within lists new t n is h =
+    subst (λ xs. All (λ i. i < n) xs) (sym (ap (λ xs. list_at xs t) is ∙ list_is lists t)) (rest_within (list_at lists t) n h)
 
 pub first_within : (xs : List ℕ) (n i : ℕ) → Some i ≡ slice_get xs 0 → All (λ j. j < n) xs → i < n
 first_within [] n i e h = cc

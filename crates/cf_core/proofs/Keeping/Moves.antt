@@ -15,7 +15,7 @@ use Rattle.cf_core.specs.Keeping.Late.{IsSteady, all_treated, dated_in, linked_k
 use Rattle.cf_core.specs.Keeping.Links.{list_at}
 use Rattle.cf_core.specs.Keeping.Sound.{AreBound, IsSound, is_bound, kept_at, mark_all, marks_of, link_marks, outlook, steps_of}
 use Rattle.cf_core.proofs.Keeping.Marking.{get-set_same, get-set_other}
-use Rattle.cf_core.proofs.Keeping.Sums.{sum_by-set_at, sum_by-at, kept_there, kept_is, list_there, there_within}
+use Rattle.cf_core.proofs.Keeping.Sums.{sum_by-set_at, list_in_sum, kept_there, kept_is, list_there, there_within}
 use Rattle.cf_core.proofs.Keeping.Waiting.{steady_below, steady_at, treated-take, sources_below}
 use Rattle.cf_core.proofs.Keeping.Turns.{turns_change_nothing}
 use Rattle.cf_core.proofs.Keeping.Settling.{settling_is_after}
@@ -105,9 +105,9 @@ module _ (plan : List PlannedStage) (kept : List KeptStage) (marks ready : List 
   pub link_free : (d : ℕ) → (kept_at kept d).stage ≡ Claimed → All (λ stages. All (λ i. i ≢ d) stages) links
   link_free d e = bound_free kept links d (ap is_bound e) h.bound
 
-  pub link_room : (j : ℕ) → j < length plan → length (list_at links j) < 65535
-  link_room j l =
-      let some = sum_by-at {X = List ℕ} length links j (list_at links j) (list_there links j (omega (arith, h.all_links))) in
+  pub link_room : (j : ℕ) → length (list_at links j) < 65535
+  link_room j =
+      let some = list_in_sum links j in
       let left = h.turns_left in
       let few = h.few_stages in
       let edges = h.few_edges in
@@ -120,7 +120,8 @@ module _ (plan : List PlannedStage) (kept : List KeptStage) (marks ready : List 
       let k = kept_at kept d in
       let there = kept_there kept d (omega (arith, h.all_kept)) in
       let before : outcome_of k.stage ≡ None = ap outcome_of e in
-      let in_links : j < length links = omega (arith, h.all_links) in
+      let enough = h.all_links d composing in
+      let in_links : j < length links = omega (arith, enough) in
       let two = ap steps_of e in
       let budget = ap (marks_of plan d) e in
       let one : link_marks (form_at plan d) ≡ 1 = ap (λ b. cond b 1 0) composing in

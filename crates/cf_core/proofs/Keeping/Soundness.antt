@@ -21,7 +21,7 @@ use Rattle.cf_core.specs.Keeping.Marks.{WaitsNow}
 use Rattle.cf_core.specs.Keeping.Links.{list_at, IsFree}
 use Rattle.cf_core.specs.Keeping.Sound.{IsSound, IsListed, AreAbove, AreListed, AreBound, is_waiting, is_bound, kept_at, mark_all, marks_after, links_after, marks_of, steps_of, link_marks}
 use Rattle.cf_core.proofs.Keeping.Marking.{mentioned, get-set_same, get-set_other, length-mark_all, count-mark_all, count-set_false}
-use Rattle.cf_core.proofs.Keeping.Sums.{sum_by-set_at, marks_from-set, kept_there, kept_is, list_there, there_within, StepsUpTo-set, StepsUpTo-le, StepsUpTo-at}
+use Rattle.cf_core.proofs.Keeping.Sums.{sum_by-set_at, marks_from-set, kept_there, kept_is, emptied_sum, there_within, StepsUpTo-set, StepsUpTo-le, StepsUpTo-at}
 use Rattle.cf_core.proofs.Keeping.Waiting.{never_linked, links_same, NamesDependents, but_marks, but_closed, but_unsettled, but_settled, stays, treated_again, treated-few, sources_below}
 
 -- ---- pieces
@@ -157,7 +157,6 @@ settled_sound plan kept marks ready links steps turns named h d o step steps2 tu
     let new : KeptStage = record { stage = Settled o; step = step } in
     let old = kept_at kept d in
     let in_kept : d < length kept = omega (arith, h.all_kept) in
-    let in_links : d < length links = omega (arith, h.all_links) in
     let there = kept_there kept d in_kept in
     let marked = mark_all (set kept d new) (dependents_of plan d) first in
     let settles = some_step old.stage unsettled in
@@ -166,7 +165,7 @@ settled_sound plan kept marks ready links steps turns named h d o step steps2 tu
     let marks_sum = marks_from-set plan 0 kept d old new there in
     let zero_plus : 0 + d ≡ d = omega arith in
     let marks_sum2 = rw zero_plus at marks_sum in
-    let links_sum = sum_by-set_at {X = List ℕ} length links d (list_at links d) [] (list_there links d in_links) in
+    let links_sum = emptied_sum links d in
     let count_first = count-mark_all (set kept d new) (dependents_of plan d) first in
     let count_second = count-mark_all (set kept d new) (list_at links d) marked in
     record {
@@ -175,7 +174,7 @@ settled_sound plan kept marks ready links steps turns named h d o step steps2 tu
       sources_lower = h.sources_lower;
       all_kept = length-set kept d new ∙ h.all_kept;
       all_marks = length-mark_all (set kept d new) (list_at links d) marked ∙ length-mark_all (set kept d new) (dependents_of plan d) first ∙ count ∙ h.all_marks;
-      all_links = (let same = length-set links d [] in let enough = h.all_links in omega (arith, same, enough));
+      all_links = λ e c. (let same = length-set links d [] in let enough = h.all_links e c in omega (arith, same, enough));
       ready_are = ap (λ xs. set xs d false) h.ready_are ∙ sym (map-set (λ (k : KeptStage). is_ready k.stage) kept d new);
       waits = but_closed plan (set kept d new) (mark_all (set kept d new) (list_at links d) marked) d
           (but_settled plan kept links first d new old there unsettled (count ∙ h.all_marks) named h.listed (but_marks plan kept marks first d others h.waits))
@@ -212,7 +211,7 @@ unsettled_sound plan kept marks ready links steps turns h d new steps2 turns2 fi
       sources_lower = h.sources_lower;
       all_kept = length-set kept d new ∙ h.all_kept;
       all_marks = count ∙ h.all_marks;
-      all_links = (let enough = h.all_links in omega (arith, same_links, enough));
+      all_links = λ e c. (let enough = h.all_links e c in omega (arith, same_links, enough));
       ready_are = ap (λ xs. set xs d (is_ready new.stage)) h.ready_are ∙ sym (map-set (λ (k : KeptStage). is_ready k.stage) kept d new);
       waits = but_closed plan (set kept d new) first d (but_unsettled plan kept first d old new there before then (but_marks plan kept marks first d others h.waits))
           (λ p k ep ek em. (let is : Some k ≡ Some new = sym ek ∙ get-set_same kept d new in_kept in let same : k ≡ new = cc in subst (WaitsNow (set kept d new) p) (sym same) (waits p ep em)));

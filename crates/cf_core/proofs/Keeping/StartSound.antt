@@ -19,7 +19,7 @@ use Rattle.cf_core.proofs.StateLemmas.{form_at-within, sources_at-within}
 use Rattle.cf_core.specs.declared.kept.KeptStage.{KeptStage}
 use Rattle.cf_core.specs.Keeping.Late.{StepsUpTo, dated_in, due_kept, earliest, late_due, outcome_part, treated}
 use Rattle.cf_core.specs.Keeping.Links.{list_at}
-use Rattle.cf_core.specs.Keeping.Sound.{IsSound, is_bound, kept_at, link_marks, marks_from, steps_of}
+use Rattle.cf_core.specs.Keeping.Sound.{HasLists, IsSound, is_bound, kept_at, link_marks, marks_from, steps_of}
 use Rattle.cf_core.specs.Keeping.Starts.{mark_starts, mark_those, untreated}
 use Rattle.cf_core.proofs.Keeping.Marking.{count-set_true, get-set_same, get-set_other, length-mark_one}
 
@@ -182,7 +182,7 @@ no_list zero j i c = absurd (omega (arith, c.1))
 no_list (suc n) zero i c = absurd (omega (arith, c.1))
 no_list (suc n) (suc j) i c = no_list n j i c
 
-pub start_sound : (plan : List PlannedStage) (most : ℕ) → length plan ≤ most → length plan ≤ 4096 → edges_of plan ≤ 16384 → HasLowerSources 0 plan →
+pub start_sound : (plan : List PlannedStage) (most : ℕ) → HasLists plan most → length plan ≤ 4096 → edges_of plan ≤ 16384 → HasLowerSources 0 plan →
     IsSound plan (replicate (length plan) untreated) (mark_starts 0 plan (replicate (length plan) false)) (replicate (length plan) false) (replicate most []) 0 0
 start_sound plan most enough few edges lower =
     let n = length plan in
@@ -200,7 +200,7 @@ start_sound plan most enough few edges lower =
       sources_lower = lower;
       all_kept = length-replicate n untreated;
       all_marks = length-mark_starts 0 plan none ∙ m;
-      all_links = (let same = length-replicate {A = List ℕ} most [] in omega (arith, same));
+      all_links = λ d c. (let same = length-replicate {A = List ℕ} most [] in let all = enough d c in omega (arith, same, all));
       ready_are = none_ready n;
       waits = λ i p k ep ek em. (let is = get-replicate n i untreated k ek in
           let at : 0 + i ≡ i = omega arith in

@@ -23,14 +23,22 @@ sum_by-set_at f (x ∷ xs) (suc i) old new e =
     let rest = sum_by-set_at f xs i old new e in
     omega (arith, h, k, rest)
 
-pub sum_by-at : {X : Type 0} (f : X → ℕ) (xs : List X) (i : ℕ) (x : X) → slice_get xs i ≡ Some x → f x ≤ sum_by f xs
-sum_by-at f [] i x e = cc
-sum_by-at f (y ∷ xs) zero x e =
-    let same : f y ≡ f x = (let s : y ≡ x = cc in ap f s) in
-    let k = sum_by-cons f y xs in omega (arith, k, same)
-sum_by-at f (y ∷ xs) (suc i) x e =
-    let k = sum_by-cons f y xs in
-    let rest = sum_by-at f xs i x e in omega (arith, k, rest)
+-- a list that is emptied, whether it is there or not
+pub emptied_sum : (links : List (List ℕ)) (d : ℕ) → sum_by length (set links d []) + length (list_at links d) ≡ sum_by length links
+emptied_sum [] d = refl
+emptied_sum (x ∷ links) zero =
+    let h = sum_by-cons {X = List ℕ} length [] links in
+    let k = sum_by-cons {X = List ℕ} length x links in
+    let none : length {A = ℕ} [] ≡ 0 = refl in
+    omega (arith, h, k, none)
+emptied_sum (x ∷ links) (suc d) =
+    let h = sum_by-cons {X = List ℕ} length x (set links d []) in
+    let k = sum_by-cons {X = List ℕ} length x links in
+    let rest = emptied_sum links d in
+    omega (arith, h, k, rest)
+
+pub list_in_sum : (links : List (List ℕ)) (d : ℕ) → length (list_at links d) ≤ sum_by length links
+list_in_sum links d = let h = emptied_sum links d in omega (arith, h)
 
 pub marks_from-set : (plan : List PlannedStage) (n : ℕ) (kept : List KeptStage) (d : ℕ) (old new : KeptStage) → slice_get kept d ≡ Some old →
     marks_from plan n (set kept d new) + marks_of plan (n + d) old.stage ≡ marks_from plan n kept + marks_of plan (n + d) new.stage

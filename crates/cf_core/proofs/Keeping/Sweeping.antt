@@ -120,9 +120,6 @@ module _ (plan : List PlannedStage) (kept : List KeptStage) (links : List (List 
       let left = sound.turns_left in
       omega (arith, left, sound.few_stages, sound.few_edges)
 
-  pub swept_lists : (n m : ℕ) → IsSwept plan n m kept links steps turns → length plan ≤ length links
-  swept_lists n m h = let sound = h.sound in sound.all_links
-
   pub swept_within : (n m : ℕ) → IsSwept plan n m kept links steps turns → length kept ≡ length plan
   swept_within n m h = let sound = h.sound in sound.all_kept
 
@@ -136,8 +133,8 @@ module _ (plan : List PlannedStage) (kept : List KeptStage) (links : List (List 
   pub swept_outcome : (n m i : ℕ) → IsSwept plan n m kept links steps turns → i < length plan → i < n → outcome_in (outlook plan kept) i ≡ outcome_of ((kept_at kept i).stage)
   swept_outcome n m i h l b = ap (option_and_then outcome_of) (swept_stage n m i h l b)
 
-  pub swept_room : (n m j : ℕ) → IsSwept plan n m kept links steps turns → j < length plan → length (list_at links j) < 65535
-  swept_room n m j h l = link_room plan kept h.marks h.ready links steps turns h.sound j l
+  pub swept_room : (n m j : ℕ) → IsSwept plan n m kept links steps turns → length (list_at links j) < 65535
+  swept_room n m j h = link_room plan kept h.marks h.ready links steps turns h.sound j
 
   pub swept_free : (n m d : ℕ) → IsSwept plan n m kept links steps turns → is_ready ((kept_at kept d).stage) ≡ true → IsFree links d
   swept_free n m d h e =

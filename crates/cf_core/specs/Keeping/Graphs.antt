@@ -16,6 +16,6 @@ pub record IsInStep (plan : Planned) (stages : Stages) (claims : List (Option �
   pub sound : AreSound plan.stages stages
   pub all_claims : length claims ≡ length plan.stages
   pub claimed : AreClaimed claims stages.kept.items
-  pub stages_room : HasRoom (length plan.stages + plan.room) stages
+  pub stages_room : HasRoom plan.opened (length plan.stages + plan.room) stages
   pub claims_room : length plan.stages + plan.room ≤ capacity
   pub few_used : used ≤ length plan.limits

@@ -95,6 +95,10 @@ marks_from plan i (k ∷ kept) = marks_of plan i k.stage + marks_from plan (i + 
 abbrev pub turns_in_all : List PlannedStage → List KeptStage → List Bool → List (List ℕ) → ℕ → ℕ
 turns_in_all plan kept marks links turns = turns + count_by (λ b. b) marks + marks_from plan 0 kept + sum_by length links
 
+-- so many lists of linked stages are enough: where a form composes, there is one for each stage
+abbrev pub HasLists : List PlannedStage → ℕ → Type 0
+HasLists plan count = (d : ℕ) → composes (form_at plan d) ≡ true → length plan ≤ count
+
 -- what is true of the stages between any two calls
 pub record IsSound (plan : List PlannedStage) (kept : List KeptStage) (marks ready : List Bool) (links : List (List ℕ)) (steps turns : ℕ) : Type 0 where
   pub few_stages : length plan ≤ 4096
@@ -102,7 +106,7 @@ pub record IsSound (plan : List PlannedStage) (kept : List KeptStage) (marks rea
   pub sources_lower : HasLowerSources 0 plan
   pub all_kept : length kept ≡ length plan
   pub all_marks : length marks ≡ length plan
-  pub all_links : length plan ≤ length links
+  pub all_links : HasLists plan (length links)
   pub ready_are : ready ≡ map (λ k. is_ready k.stage) kept
   pub waits : Waits plan kept marks
   pub listed : AreListed kept links

@@ -1,5 +1,5 @@
 -- The stages of a graph, as contracts speak of them.
-use Rattle.std.specs.Prelude.{◌≡◌, ◌≤◌, ℕ, List, length}
+use Rattle.std.specs.Prelude.{◌≡◌, ◌<◌, ◌≤◌, ℕ, List, length}
 use Rattle.cf_plan.specs.Plans.{PlannedStage}
 use Rattle.cf_core.specs.declared.stage.Stage.{Stage}
 use Rattle.cf_core.specs.declared.stages.Stages.{Stages}
@@ -13,9 +13,9 @@ AreSound plan s = IsSound plan s.kept.items s.marks s.ready s.links s.steps s.tu
 abbrev pub outlook_of : List PlannedStage → Stages → List Stage
 outlook_of plan s = outlook plan s.kept.items
 
--- there is room for so many stages
-abbrev pub HasRoom : ℕ → Stages → Type 0
-HasRoom most s = (most ≤ s.kept.capacity) × (most ≤ length s.links)
+-- there is room for so many stages, and a list of linked ones for each where there may be more than so many of the opening
+abbrev pub HasRoom : ℕ → ℕ → Stages → Type 0
+HasRoom opened most s = (most ≤ s.kept.capacity) × (opened < most → most ≤ length s.links)
 
 -- the room that was made for stages stays
 abbrev pub SameRoom : Stages → Stages → Type 0

@@ -76,7 +76,6 @@ impl Stages {
     #[inline(always)]
     fn note_swept(&mut self, m: u16)
         requires stage { m < length self.old.kept.items }
-        requires lists { m < length self.old.links }
         requires few { self.old.turns < 20481 }
         ensures kept { self.new.kept ≡ self.old.kept }
         ensures links { self.new.links ≡ links_after self.old.links m ((kept_at self.old.kept.items m).stage) }

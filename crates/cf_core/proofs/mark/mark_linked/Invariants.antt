@@ -1,4 +1,4 @@
-use Rattle.std.proofs.Common.{◌≡◌, ◌<◌, ◌≤◌, All, length, set, []}
+use Rattle.std.proofs.Common.{◌≡◌, ◌<◌, All, length, set, []}
 use Rattle.cf_core.specs.Keeping.Links.{list_at}
 use Rattle.cf_core.specs.Keeping.Sound.{mark_all}
 use Rattle.cf_core.proofs.mark.mark_linked.Given as goal
@@ -9,7 +9,6 @@ invariant-loop-i l = record {
   marked : mark_all l.kept.items (list_at l.links l.target) l.marks ≡ mark_all l.kept.items (list_at l.initial.links l.target) l.initial.marks;
   emptied : set l.links l.target [] ≡ set l.initial.links l.target [];
   all : length l.marks ≡ length l.kept.items;
-  lists : length l.kept.items ≤ length l.links;
   linked : All (λ i. i < length l.kept.items) (list_at l.links l.target);
 }
 

@@ -19,7 +19,7 @@ invariant_of-self c =
       all_claims = length-set c.self.inside.claims.items c.args.i (Some c.args.who) ∙ h.all_claims;
       claimed = AreClaimed-set c.self.inside.claims.items t.kept.items c.claim.new.self.kept.items c.args.i c.args.who
           (AreClaimed-stay c.self.inside.claims.items c.self.inside.stages.kept.items t.kept.items h.claimed c.treat_up_to.ensures.taken) c.claim.ensures.taken c.claim.ensures.here;
-      stages_room = room_stays _ t c.claim.new.self (room_stays _ c.self.inside.stages t h.stages_room c.treat_up_to.ensures.room) c.claim.ensures.room;
+      stages_room = room_stays _ _ t c.claim.new.self (room_stays _ _ c.self.inside.stages t h.stages_room c.treat_up_to.ensures.room) c.claim.ensures.room;
       claims_room = h.claims_room;
       few_used = h.few_used;
     }

@@ -19,7 +19,7 @@ invariant_of-self-in-Some c =
       sound = c.treat_up_to.ensures.sound;
       all_claims = length-set claims c.args.i None ∙ h.all_claims;
       claimed = AreClaimed-closed claims s.kept.items t.kept.items c.args.i h.claimed (λ i ne. c.treat_up_to.ensures.taken i);
-      stages_room = room_stays _ s t h.stages_room c.treat_up_to.ensures.room;
+      stages_room = room_stays _ _ s t h.stages_room c.treat_up_to.ensures.room;
       claims_room = h.claims_room;
       few_used = h.few_used;
     }
@@ -51,7 +51,7 @@ invariant_of-self-in-None c =
       sound = c.land.ensures.sound;
       all_claims = length-set claims c.args.i None ∙ h.all_claims;
       claimed = AreClaimed-closed claims t.kept.items c.land.new.self.kept.items c.args.i (AreClaimed-stay claims s.kept.items t.kept.items h.claimed c.treat_up_to.ensures.taken) c.land.ensures.taken;
-      stages_room = room_stays _ t c.land.new.self (room_stays _ s t h.stages_room c.treat_up_to.ensures.room) c.land.ensures.room;
+      stages_room = room_stays _ _ t c.land.new.self (room_stays _ _ s t h.stages_room c.treat_up_to.ensures.room) c.land.ensures.room;
       claims_room = h.claims_room;
       few_used = h.few_used;
     }

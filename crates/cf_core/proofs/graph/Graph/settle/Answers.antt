@@ -26,7 +26,7 @@ invariant_of-self-in-None c =
       sound = c.settle.ensures.sound;
       all_claims = h.all_claims;
       claimed = AreClaimed-stay claims t.kept.items u.kept.items (AreClaimed-stay claims s.kept.items t.kept.items h.claimed c.treat_up_to.ensures.taken) c.settle.ensures.taken;
-      stages_room = room_stays _ t u (room_stays _ s t h.stages_room c.treat_up_to.ensures.room) c.settle.ensures.room;
+      stages_room = room_stays _ _ t u (room_stays _ _ s t h.stages_room c.treat_up_to.ensures.room) c.settle.ensures.room;
       claims_room = h.claims_room;
       few_used = h.few_used;
     }

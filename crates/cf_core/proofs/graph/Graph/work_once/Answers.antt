@@ -25,7 +25,7 @@ invariant_of-self-in-Some g c =
       sound = c.serve.ensures.sound;
       all_claims = length-set claims c.in-Some.i None ∙ h.all_claims;
       claimed = AreClaimed-closed claims t.kept.items c.serve.new.stages.kept.items c.in-Some.i (AreClaimed-stay claims s.kept.items t.kept.items h.claimed c.in-Some.ensures.taken) c.serve.ensures.taken;
-      stages_room = room_stays _ t c.serve.new.stages (room_stays _ s t h.stages_room c.in-Some.ensures.room) c.serve.ensures.room;
+      stages_room = room_stays _ _ t c.serve.new.stages (room_stays _ _ s t h.stages_room c.in-Some.ensures.room) c.serve.ensures.room;
       claims_room = h.claims_room;
       few_used = h.few_used;
     }

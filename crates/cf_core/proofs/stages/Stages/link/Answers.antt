@@ -18,7 +18,7 @@ put-requires-clause-linked c =
 pub push-requires-clause-room : goal.push-requires-clause-room
 push-requires-clause-room c =
     let s = c.args.self.now in
-    link_room c.args.plan.now.stages s.kept.items s.marks s.ready s.links s.steps s.turns c.requires.sound c.args.j (omega (arith, c.requires.target, c.requires.stage))
+    link_room c.args.plan.now.stages s.kept.items s.marks s.ready s.links s.steps s.turns c.requires.sound c.args.j
 
 pub push-requires-clause-free : goal.push-requires-clause-free
 push-requires-clause-free c =

@@ -1,4 +1,4 @@
-use Rattle.std.proofs.Common.{◌+◌, ◌∙◌, ap, arith, refl, subst, sym}
+use Rattle.std.proofs.Common.{◌+◌, ◌∙◌, ap, refl, subst, sym}
 use Rattle.cf_core.specs.declared.stage.Stage.TheVariants.{Linked}
 use Rattle.cf_core.specs.declared.kept.KeptStage.{KeptStage}
 use Rattle.cf_core.specs.Keeping.Cells.{KeptStages}
@@ -10,7 +10,7 @@ use Rattle.cf_core.proofs.stages.Stages.link_swept.Goals as goal
 pub push-requires-clause-room : goal.push-requires-clause-room
 push-requires-clause-room c =
     let s = c.args.self.now in
-    swept_room c.args.plan.now.stages s.kept.items s.links s.steps s.turns (c.args.m + 1) c.args.m c.args.j c.requires.swept (omega (arith, c.requires.target, c.requires.stage))
+    swept_room c.args.plan.now.stages s.kept.items s.links s.steps s.turns (c.args.m + 1) c.args.m c.args.j c.requires.swept
 
 pub push-requires-clause-free : goal.push-requires-clause-free
 push-requires-clause-free c =

@@ -1,4 +1,4 @@
-use Rattle.std.proofs.Common.{◌∙◌, ◌+◌, arith, [], refl, ap, length}
+use Rattle.std.proofs.Common.{◌∙◌, refl, ap, length}
 use Rattle.std.specs.Prelude.{false, replicate}
 use Rattle.cf_core.specs.Keeping.Sound.{outlook}
 use Rattle.cf_core.specs.Keeping.Starts.{mark_starts, untreated}
@@ -21,6 +21,6 @@ returns-clause-sound c =
     (c.in_ok-kept.ensures.kept ∙ ap (λ n. replicate n untreated) count)
     (c.mark_starts.ensures ∙ ap (mark_starts 0 plan) (c.in_ok-marks.ensures ∙ ap (λ n. replicate n false) count))
     (c.in_ok-ready.ensures ∙ ap (λ n. replicate n false) count)
-    (c.in_ok-links.ensures ∙ ap (λ n. replicate (n + c.room-room.result) []) count)
+    c.in_ok-links.ensures
     refl refl
-    (start_sound plan (length plan + c.room-room.result) (omega arith) built.few_stages built.few_edges built.lower)
+    (start_sound plan c.lists_of.result c.lists_of.ensures.composing built.few_stages built.few_edges built.lower)
