@@ -3,6 +3,8 @@
 #![tactic(auto)]
 
 #[cfg(test)]
+mod composing;
+#[cfg(test)]
 mod growing;
 #[cfg(test)]
 mod plans;
