@@ -6,7 +6,7 @@ use cf_core::{Ask, Event, Graph, Reply, Told};
 use cf_desk::{Call, Closed, Kept, Rec};
 use cf_event::{encode, is_event};
 use cf_outcome::Value;
-use serde_json::{Value as Json, json};
+use serde_json::{Map, Value as Json, put};
 use std::alloc::{AllocError, Global};
 
 /// The line of a history: the plan of what was read in, the words of all events, each caller's own records, and what the
@@ -15,36 +15,70 @@ pub(crate) fn history_of(
     alloc: Global,
     given: &Json,
     sizes: Sizes,
-    closed: Closed,
+    mut closed: Closed,
 ) -> Result<String> {
-    let Closed {
-        history,
-        passes,
-        mut graph,
-    } = closed;
-    let plan = plan_of(alloc, given, sizes.room)?;
-    let events = words_of(alloc, history.as_slice())?;
-    let callers = callers_of(alloc, passes.as_slice())?;
-    let outcomes = outcomes_of(alloc, &mut graph)?;
-    line_of(alloc, plan, sizes.functions, [events, callers, outcomes])
+    let mut members = Map::new(alloc);
+    put_given(alloc, &mut members, given, sizes)?;
+    put_closed(alloc, &mut members, &mut closed)?;
+    Ok(line_of(alloc, Json::Object(members))?)
 }
 
-/// The text of the object with these members.
-fn line_of(alloc: Global, plan: Json, functions: u16, lists: [Json; 3]) -> Result<String> {
-    let [events, callers, outcomes] = lists;
-    let json = json!(in alloc; {
-        "plan": plan, "functions": functions, "events": events, "callers": callers, "outcomes": outcomes
-    })?;
+/// The text of a value, as a line.
+fn line_of(alloc: Global, json: Json) -> Result<String, AllocError> {
     let mut line = json.to_string(alloc)?;
     line.push_str("\n")?;
     Ok(line)
 }
 
+/// Puts what was read in: the plan, and the number of functions.
+fn put_given(
+    alloc: Global,
+    members: &mut Map<String, Json>,
+    given: &Json,
+    sizes: Sizes,
+) -> Result<(), AllocError> {
+    let plan = plan_of(alloc, given, sizes.room)?;
+    put(members, alloc, "plan", plan)?;
+    put(members, alloc, "functions", Json::from(sizes.functions))
+}
+
+/// Puts what the closed desk holds.
+fn put_closed(alloc: Global, members: &mut Map<String, Json>, closed: &mut Closed) -> Result<()> {
+    let events = words_of(alloc, closed.history.as_slice())?;
+    put(members, alloc, "events", events)?;
+    let callers = callers_of(alloc, closed.passes.as_slice())?;
+    put(members, alloc, "callers", callers)?;
+    put_outcomes(alloc, members, &mut closed.graph)?;
+    Ok(())
+}
+
+fn put_outcomes(
+    alloc: Global,
+    members: &mut Map<String, Json>,
+    graph: &mut Graph,
+) -> Result<(), AllocError> {
+    let outcomes = outcomes_of(alloc, graph)?;
+    put(members, alloc, "outcomes", outcomes)
+}
+
 /// The plan with its room.
-fn plan_of(alloc: Global, given: &Json, room: u16) -> Result<Json> {
-    let stages = list_of(alloc, given, "stages")?;
-    let limits = list_of(alloc, given, "limits")?;
-    Ok(json!(in alloc; {"cf": 2u8, "room": room, "stages": stages, "limits": limits})?)
+fn plan_of(alloc: Global, given: &Json, room: u16) -> Result<Json, AllocError> {
+    let mut plan = Map::new(alloc);
+    put(&mut plan, alloc, "cf", Json::from(2u8))?;
+    put(&mut plan, alloc, "room", Json::from(room))?;
+    put_list(alloc, &mut plan, given, "stages")?;
+    put_list(alloc, &mut plan, given, "limits")?;
+    Ok(Json::Object(plan))
+}
+
+fn put_list(
+    alloc: Global,
+    plan: &mut Map<String, Json>,
+    given: &Json,
+    name: &str,
+) -> Result<(), AllocError> {
+    let list = list_of(alloc, given, name)?;
+    put(plan, alloc, name, list)
 }
 
 /// A member, and an empty list where it is absent.
@@ -85,38 +119,70 @@ fn callers_of(alloc: Global, passes: &[Kept]) -> Result<Json> {
 fn records_of(alloc: Global, pass: &Kept) -> Result<Json> {
     let mut records = Vec::new(alloc);
     for record in &pass.records {
-        records.push(match *record {
-            Rec::Did { place, call, reply } => did(
-                alloc,
-                place,
-                event_by(pass.caller, call),
-                reply,
-            )?,
-            Rec::Saw { place, ask, told } => saw(alloc, place, ask, told)?,
-        })?;
+        records.push(record_of(alloc, pass.caller, *record)?)?;
     }
     Ok(Json::Array(records))
+}
+
+fn record_of(alloc: Global, caller: u8, record: Rec) -> Result<Json> {
+    match record {
+        Rec::Did { place, call, reply } => did(alloc, place, event_by(caller, call), reply),
+        Rec::Saw { place, ask, told } => Ok(saw(alloc, place, ask, told)?),
+    }
 }
 
 /// `["did",place,word,reply]`
 fn did(alloc: Global, place: u16, event: Event, reply: Reply) -> Result<Json> {
     let word = word_of(alloc, event)?;
-    let mut text = String::new(alloc);
-    write_reply(&mut text, reply)?;
-    Ok(json!(in alloc; ["did", place, word, text])?)
+    let reply = reply_of(alloc, reply)?;
+    Ok(did_so(alloc, place, word, reply)?)
+}
+
+fn did_so(alloc: Global, place: u16, word: Json, reply: Json) -> Result<Json, AllocError> {
+    let record = with(opening(alloc, "did", place)?, word)?;
+    Ok(Json::Array(with(record, reply)?))
 }
 
 /// `["now",place,stage,absent,told]` or `["outcome",place,stage,told]`
-fn saw(alloc: Global, place: u16, ask: Ask, told: Told) -> Result<Json> {
+fn saw(alloc: Global, place: u16, ask: Ask, told: Told) -> Result<Json, AllocError> {
+    let mut record = asking(alloc, place, ask)?;
+    record.push(told_of(alloc, told)?)?;
+    Ok(Json::Array(record))
+}
+
+/// The record of a question, but for what was told.
+fn asking(alloc: Global, place: u16, ask: Ask) -> Result<Vec<Json>, AllocError> {
+    match ask {
+        Ask::Now(i, absent) => with(
+            with(opening(alloc, "now", place)?, Json::from(i))?,
+            value_of(absent),
+        ),
+        Ask::Outcome(i) => with(opening(alloc, "outcome", place)?, Json::from(i)),
+    }
+}
+
+/// What all records begin with.
+fn opening(alloc: Global, name: &str, place: u16) -> Result<Vec<Json>, AllocError> {
+    let name = Json::try_from_str(alloc, name)?;
+    with(with(Vec::new(alloc), name)?, Json::from(place))
+}
+
+/// A list with one value more.
+fn with(mut list: Vec<Json>, value: Json) -> Result<Vec<Json>, AllocError> {
+    list.push(value)?;
+    Ok(list)
+}
+
+fn reply_of(alloc: Global, reply: Reply) -> Result<Json, AllocError> {
+    let mut text = String::new(alloc);
+    write_reply(&mut text, reply)?;
+    Ok(Json::String(text))
+}
+
+fn told_of(alloc: Global, told: Told) -> Result<Json, AllocError> {
     let mut text = String::new(alloc);
     write_told(&mut text, told)?;
-    Ok(match ask {
-        Ask::Now(i, absent) => {
-            let absent = value_of(absent);
-            json!(in alloc; ["now", place, i, absent, text])?
-        }
-        Ask::Outcome(i) => json!(in alloc; ["outcome", place, i, text])?,
-    })
+    Ok(Json::String(text))
 }
 
 fn value_of(value: Value) -> Json {
@@ -130,11 +196,15 @@ fn value_of(value: Value) -> Json {
 fn outcomes_of(alloc: Global, graph: &mut Graph) -> Result<Json, AllocError> {
     let mut outcomes = Vec::new(alloc);
     for i in 0..graph.stages() {
-        let mut text = String::new(alloc);
-        write_stage(&mut text, graph, i)?;
-        outcomes.push(Json::String(text))?;
+        outcomes.push(outcome_of(alloc, graph, i)?)?;
     }
     Ok(Json::Array(outcomes))
+}
+
+fn outcome_of(alloc: Global, graph: &mut Graph, i: u16) -> Result<Json, AllocError> {
+    let mut text = String::new(alloc);
+    write_stage(&mut text, graph, i)?;
+    Ok(Json::String(text))
 }
 
 /// A caller's call as an event.

@@ -43,7 +43,7 @@ use hands::{Hand, Refusal, hands_of, parts_of};
 use history::history_of;
 use serde_json::Value as Json;
 use show::text_of;
-use std::alloc::Global;
+use std::alloc::{AllocError, Global};
 use std::process::ExitCode;
 use std::sync::atomic::AtomicU32;
 use std::thread;
@@ -72,10 +72,9 @@ struct Given {
 }
 
 fn read_given<R: Input + AllocGlobal>(rt: &R) -> Result<Given> {
-    let input = read_input(rt.alloc(), &mut rt.reader()).map_err(|_| anyhow!("no input"))?;
-    let json = Json::from_slice(rt.alloc(), &input).map_err(|_| anyhow!("no JSON"))?;
-    let script = read_script(rt.alloc(), &input).map_err(|_| anyhow!("no script"))?;
-    let (plan, _, functions, _) = script.into_parts();
+    let input = input_of(rt)?;
+    let json = json_of(rt.alloc(), &input)?;
+    let (plan, functions) = plan_of(rt.alloc(), &input)?;
     let steps = read_steps(rt.alloc(), &json)?;
     Ok(Given {
         json,
@@ -85,12 +84,44 @@ fn read_given<R: Input + AllocGlobal>(rt: &R) -> Result<Given> {
     })
 }
 
+fn input_of<R: Input + AllocGlobal>(rt: &R) -> Result<Vec<u8>> {
+    match read_input(rt.alloc(), &mut rt.reader()) {
+        Ok(input) => Ok(input),
+        Err(_) => Err(anyhow!("no input")),
+    }
+}
+
+fn json_of(alloc: Global, input: &[u8]) -> Result<Json> {
+    match Json::from_slice(alloc, input) {
+        Ok(json) => Ok(json),
+        Err(_) => Err(anyhow!("no JSON")),
+    }
+}
+
+/// The plan of a script, and its functions.
+fn plan_of(alloc: Global, input: &[u8]) -> Result<(Plan, Vec<Func>)> {
+    match read_script(alloc, input) {
+        Ok(script) => {
+            let (plan, _, functions, _) = script.into_parts();
+            Ok((plan, functions))
+        }
+        Err(_) => Err(anyhow!("no script")),
+    }
+}
+
 /// Lets the callers use a desk of the plan, closes it and prints what it holds.
 fn carry_out<R: Print + Threads + Sync + AllocGlobal>(
     rt: &R,
     given: Given,
     run: Run,
 ) -> Result<()> {
+    let text = text_after(rt, given, run)?;
+    print!(rt; "{text}")?;
+    Ok(())
+}
+
+/// What is to be printed of the desk when it is closed.
+fn text_after<R: Threads + Sync + AllocGlobal>(rt: &R, given: Given, run: Run) -> Result<String> {
     let Given {
         json,
         plan,
@@ -98,13 +129,11 @@ fn carry_out<R: Print + Threads + Sync + AllocGlobal>(
         steps,
     } = given;
     let (closed, refused) = used(rt, plan, &functions, &steps, run)?;
-    let text = if run.history {
-        history_of(rt.alloc(), &json, run.sizes, closed)?
+    if run.history {
+        history_of(rt.alloc(), &json, run.sizes, closed)
     } else {
-        text_of(rt.alloc(), closed, &refused, run.sizes.calls)?
-    };
-    print!(rt; "{text}")?;
-    Ok(())
+        Ok(text_of(rt.alloc(), closed, &refused, run.sizes.calls)?)
+    }
 }
 
 /// A desk that the callers used and that was closed, and what each was refused.
@@ -116,17 +145,33 @@ fn used<R: Threads + Sync + AllocGlobal>(
     run: Run,
 ) -> Result<(Closed, Vec<Vec<Refusal>>)> {
     let (desk, passes) = open(rt.alloc(), plan, run.sizes)?;
-    let mut hands = hands_of(rt.alloc(), &desk, passes)?;
-    if run.in_turn {
-        take_turns(&desk, hands.as_mut_slice(), functions, steps);
-    } else {
-        take_all(rt, &desk, hands.as_mut_slice(), functions, steps);
+    let (passes, refused) = worked(rt, &desk, passes, functions, steps, run.in_turn)?;
+    match desk.close(passes) {
+        Ok(closed) => Ok((closed, refused)),
+        Err(_) => Err(anyhow!("the desk wasn't closed")),
     }
-    let (passes, refused) = parts_of(rt.alloc(), &desk, hands)?;
-    let closed = desk
-        .close(passes)
-        .map_err(|_| anyhow!("the desk wasn't closed"))?;
-    Ok((closed, refused))
+}
+
+/// The passes when the callers have done their steps, and what each was refused.
+fn worked<R: Threads + Sync + AllocGlobal>(
+    rt: &R,
+    desk: &Desk,
+    passes: Vec<Pass>,
+    functions: &[Func],
+    steps: &[Step],
+    in_turn: bool,
+) -> Result<(Vec<Pass>, Vec<Vec<Refusal>>), AllocError>
+    requires { All (λ p. p.table ≡ desk.now.table) passes.items }
+    ensures table { IfOk result (λ r. All (λ p. p.table ≡ desk.now.table) r.0.items) }
+    ensures count { IfOk result (λ r. vec_len r.0 ≡ vec_len passes) }
+{
+    let mut hands = hands_of(rt.alloc(), desk, passes)?;
+    if in_turn {
+        take_turns(desk, hands.as_mut_slice(), functions, steps);
+    } else {
+        take_all(rt, desk, hands.as_mut_slice(), functions, steps);
+    }
+    parts_of(rt.alloc(), desk, hands)
 }
 
 /// A desk of a plan, and its passes.
@@ -142,9 +187,10 @@ fn open(alloc: Global, plan: Plan, sizes: Sizes) -> Result<(Desk, Vec<Pass>)>
         functions,
     } = sizes;
     let functions = u32::from(functions);
-    Ok(Desk::open_growing(alloc, plan, callers, log, calls, room, functions).map_err(|_| anyhow!(
-        "the desk wasn't opened"
-    ))?)
+    match Desk::open_growing(alloc, plan, callers, log, calls, room, functions) {
+        Ok(opened) => Ok(opened),
+        Err(_) => Err(anyhow!("the desk wasn't opened")),
+    }
 }
 
 /// Lets each caller do its steps, on a thread for each.

@@ -2,7 +2,7 @@
 use crate::forms::name_of;
 use crate::hands::{Asked, Refusal};
 use crate::texts::{write_reply, write_stage, write_told};
-use cf_core::{Ask, Event, Graph};
+use cf_core::{Ask, Event, Graph, Reply, Told};
 use cf_desk::{Call, Closed, Kept, Rec};
 use cf_plan::{Answer, Form, Of};
 use std::alloc::{AllocError, Global};
@@ -11,28 +11,42 @@ use std::alloc::{AllocError, Global};
 /// so many records.
 pub(crate) fn text_of(
     alloc: Global,
-    closed: Closed,
+    mut closed: Closed,
     refused: &[Vec<Refusal>],
     calls: u16,
 ) -> Result<String, AllocError> {
-    let Closed {
-        history,
-        passes,
-        mut graph,
-    } = closed;
     let mut text = String::new(alloc);
-    for event in &history {
-        let who = caller_of(*event);
-        let call = Call::of(event);
-        write!(text, "event {who} ")?;
-        write_call(&mut text, call)?;
-        text.push_str("\n")?;
-    }
-    for (kept, refused) in passes.iter().zip(refused) {
-        write_pass(&mut text, kept, refused, calls)?;
-    }
-    write_stages(&mut text, &mut graph)?;
+    write_events(&mut text, closed.history.as_slice())?;
+    write_passes(&mut text, closed.passes.as_slice(), refused, calls)?;
+    write_stages(&mut text, &mut closed.graph)?;
     Ok(text)
+}
+
+fn write_events(text: &mut String, history: &[Event]) -> Result<(), AllocError> {
+    for event in history {
+        write_event(text, event)?;
+    }
+    Ok(())
+}
+
+fn write_event(text: &mut String, event: &Event) -> Result<(), AllocError> {
+    let who = caller_of(*event);
+    let call = Call::of(event);
+    write!(text, "event {who} ")?;
+    write_call(text, call)?;
+    text.push_str("\n")
+}
+
+fn write_passes(
+    text: &mut String,
+    passes: &[Kept],
+    refused: &[Vec<Refusal>],
+    calls: u16,
+) -> Result<(), AllocError> {
+    for (kept, refused) in passes.iter().zip(refused) {
+        write_pass(text, kept, refused, calls)?;
+    }
+    Ok(())
 }
 
 /// A pass, with each refusal behind the records that it had by then.
@@ -44,9 +58,19 @@ fn write_pass(
 ) -> Result<(), AllocError> {
     let caller = kept.caller;
     writeln!(text, "pass {caller}")?;
+    write_refused(text, refused, calls)?;
+    write_records(text, kept.records.as_slice(), refused, calls)
+}
+
+/// The records of a pass that took so many, and what it was refused behind each.
+fn write_records(
+    text: &mut String,
+    records: &[Rec],
+    refused: &[Refusal],
+    calls: u16,
+) -> Result<(), AllocError> {
     let mut left = calls;
-    write_refused(text, refused, left)?;
-    for record in &kept.records {
+    for record in records {
         write_record(text, *record)?;
         left = left.saturating_sub(1);
         write_refused(text, refused, left)?;
@@ -58,17 +82,24 @@ fn write_pass(
 fn write_refused(text: &mut String, refused: &[Refusal], left: u16) -> Result<(), AllocError> {
     for refusal in refused {
         if refusal.left == left {
-            let place = refusal.place;
-            write!(text, "no {place} ")?;
-            match refusal.asked {
-                Asked::Call(call) => write_call(text, call)?,
-                Asked::Ask(ask) => write_ask(text, ask)?,
-            }
-            let fault = refusal.fault;
-            writeln!(text, ": {fault}")?;
+            write_refusal(text, *refusal)?;
         }
     }
     Ok(())
+}
+
+fn write_refusal(text: &mut String, refusal: Refusal) -> Result<(), AllocError> {
+    let (place, fault) = (refusal.place, refusal.fault);
+    write!(text, "no {place} ")?;
+    write_asked(text, refusal.asked)?;
+    writeln!(text, ": {fault}")
+}
+
+fn write_asked(text: &mut String, asked: Asked) -> Result<(), AllocError> {
+    match asked {
+        Asked::Call(call) => write_call(text, call),
+        Asked::Ask(ask) => write_ask(text, ask),
+    }
 }
 
 fn caller_of(event: Event) -> u8 {
@@ -93,20 +124,24 @@ fn write_stages(text: &mut String, graph: &mut Graph) -> Result<(), AllocError> 
 
 fn write_record(text: &mut String, record: Rec) -> Result<(), AllocError> {
     match record {
-        Rec::Did { place, call, reply } => {
-            write!(text, "did {place} ")?;
-            write_call(text, call)?;
-            text.push_str(": ")?;
-            write_reply(text, reply)?;
-        }
-        Rec::Saw { place, ask, told } => {
-            write!(text, "saw {place} ")?;
-            write_ask(text, ask)?;
-            text.push_str(": ")?;
-            write_told(text, told)?;
-        }
+        Rec::Did { place, call, reply } => write_did(text, place, call, reply)?,
+        Rec::Saw { place, ask, told } => write_saw(text, place, ask, told)?,
     }
     text.push_str("\n")
+}
+
+fn write_did(text: &mut String, place: u16, call: Call, reply: Reply) -> Result<(), AllocError> {
+    write!(text, "did {place} ")?;
+    write_call(text, call)?;
+    text.push_str(": ")?;
+    write_reply(text, reply)
+}
+
+fn write_saw(text: &mut String, place: u16, ask: Ask, told: Told) -> Result<(), AllocError> {
+    write!(text, "saw {place} ")?;
+    write_ask(text, ask)?;
+    text.push_str(": ")?;
+    write_told(text, told)
 }
 
 fn write_ask(text: &mut String, ask: Ask) -> Result<(), AllocError> {
@@ -122,11 +157,17 @@ fn write_call(text: &mut String, call: Call) -> Result<(), AllocError> {
         Call::Fail(i, code) => write!(text, "fail {i} {code}"),
         Call::Cancel(i) => write!(text, "cancel {i}"),
         Call::Claim(i) => write!(text, "claim {i}"),
-        Call::Finish(i, Answer::Give(value)) => write!(text, "finish {i} give {value}"),
-        Call::Finish(i, Answer::Throw(code)) => write!(text, "finish {i} throw {code}"),
-        Call::Finish(i, Answer::Link(j)) => write!(text, "finish {i} link {j}"),
+        Call::Finish(i, answer) => write_finish(text, i, answer),
         Call::Tick(now) => write!(text, "tick {now}"),
         Call::Attach(form, of, function) => write_attach(text, form, of, function),
+    }
+}
+
+fn write_finish(text: &mut String, i: u16, answer: Answer) -> Result<(), AllocError> {
+    match answer {
+        Answer::Give(value) => write!(text, "finish {i} give {value}"),
+        Answer::Throw(code) => write!(text, "finish {i} throw {code}"),
+        Answer::Link(j) => write!(text, "finish {i} link {j}"),
     }
 }
 
@@ -138,13 +179,17 @@ fn write_attach(
 ) -> Result<(), AllocError> {
     let name = name_of(form);
     write!(text, "attach {name}")?;
+    write_sources(text, of)?;
+    match function {
+        Some(number) => write!(text, " fn {number}"),
+        None => Ok(()),
+    }
+}
+
+fn write_sources(text: &mut String, of: Of) -> Result<(), AllocError> {
     match of {
-        Of::None => (),
-        Of::One(a) => write!(text, " {a}")?,
-        Of::Two(a, b) => write!(text, " {a} {b}")?,
+        Of::None => Ok(()),
+        Of::One(a) => write!(text, " {a}"),
+        Of::Two(a, b) => write!(text, " {a} {b}"),
     }
-    if let Some(number) = function {
-        write!(text, " fn {number}")?;
-    }
-    Ok(())
 }

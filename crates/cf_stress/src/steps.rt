@@ -23,11 +23,19 @@ pub(crate) enum Step {
 
 /// The steps of the member `calls`, in order.
 pub(crate) fn read_steps(alloc: Global, json: &Json) -> Result<Vec<Step>> {
-    let calls = json.get("calls").and_then(Json::as_array);
-    let calls = calls.ok_or_else(|| anyhow!("no calls"))?;
+    match json.get("calls").and_then(Json::as_array) {
+        Some(calls) => steps_of(alloc, calls.as_slice()),
+        None => Err(anyhow!("no calls")),
+    }
+}
+
+fn steps_of(alloc: Global, calls: &[Json]) -> Result<Vec<Step>> {
     let mut steps = Vec::with_capacity(alloc, calls.len())?;
     for call in calls {
-        steps.push(step_of(call).ok_or_else(|| anyhow!("a call is none"))?)?;
+        match step_of(call) {
+            Some(step) => steps.push(step)?,
+            None => return Err(anyhow!("a call is none")),
+        }
     }
     Ok(steps)
 }
@@ -35,24 +43,35 @@ pub(crate) fn read_steps(alloc: Global, json: &Json) -> Result<Vec<Step>> {
 fn step_of(json: &Json) -> Option<Step> {
     let word = json.get(0usize)?.as_str()?;
     match word {
-        "now" => Some(Step::Asks(Ask::Now(small(json.get(1usize)?)?, value(json.get(2usize)?)?))),
+        "now" => Some(Step::Asks(now(json)?)),
         "outcome" => Some(Step::Asks(Ask::Outcome(small(json.get(1usize)?)?))),
         "work" => Some(Step::Work),
         "ready" => Some(Step::Ready),
-        _ => Some(Step::Does(call(word, json)?)),
+        _ => Some(Step::Does(call(word, json.get(1usize)?, json)?)),
     }
 }
 
-fn call(word: &str, json: &Json) -> Option<Call> {
-    let first = json.get(1usize)?;
+fn now(json: &Json) -> Option<Ask> {
+    let stage = small(json.get(1usize)?)?;
+    Some(Ask::Now(stage, value(json.get(2usize)?)?))
+}
+
+fn call(word: &str, first: &Json, json: &Json) -> Option<Call> {
     match word {
-        "complete" => Some(Call::Complete(small(first)?, value(json.get(2usize)?)?)),
-        "fail" => Some(Call::Fail(small(first)?, large(json.get(2usize)?)?)),
-        "cancel" => Some(Call::Cancel(small(first)?)),
-        "claim" => Some(Call::Claim(small(first)?)),
-        "finish" => Some(Call::Finish(small(first)?, answer(json.get(2usize)?)?)),
         "tick" => Some(Call::Tick(large(first)?)),
         "attach" => attach(first, json),
+        "cancel" => Some(Call::Cancel(small(first)?)),
+        "claim" => Some(Call::Claim(small(first)?)),
+        _ => settling(word, small(first)?, json.get(2usize)?),
+    }
+}
+
+/// A call that hands something in for a stage.
+fn settling(word: &str, stage: u16, handed: &Json) -> Option<Call> {
+    match word {
+        "complete" => Some(Call::Complete(stage, value(handed)?)),
+        "fail" => Some(Call::Fail(stage, large(handed)?)),
+        "finish" => Some(Call::Finish(stage, answer(handed)?)),
         _ => None,
     }
 }

@@ -1,7 +1,7 @@
 //! The words after the program's name.
 use anyhow::{Result, anyhow};
 use clap::{Arg, ArgAction, ArgMatches, Command, value_parser};
-use std::alloc::Global;
+use std::alloc::{AllocError, Global};
 use std::env;
 use std::rt::Env;
 
@@ -42,6 +42,15 @@ const COUNTS: [(&str, &str); 4] = [
     ("functions", "How many functions there are"),
 ];
 
+/// The flags, each with what it asks for.
+const FLAGS: [(&str, &str); 2] = [
+    ("turns", "Let one thread do all steps in their order"),
+    (
+        "history",
+        "Write the closed desk as a history, in one line of JSON",
+    ),
+];
+
 /// What the words say.
 pub(crate) fn read_words<R: Env + Print + Eprint + AllocGlobal>(rt: &R) -> Result<Words> {
     let alloc = rt.alloc();
@@ -58,39 +67,55 @@ pub(crate) fn read_words<R: Env + Print + Eprint + AllocGlobal>(rt: &R) -> Resul
 
 /// The command with all its options.
 fn command_of<'a>(alloc: Global) -> Result<Command<'a>> {
-    let callers = Arg::new(alloc, "callers")
-        .long("callers")
+    let options = options_of(alloc)?;
+    let command = Command::new(alloc, "cf_stress").about(
+        "Do the steps of callers over one desk, and print what the closed desk holds",
+    );
+    Ok(command.args(options)?)
+}
+
+/// All options, in the order in which the help has them.
+fn options_of<'a>(alloc: Global) -> Result<Vec<Arg<'a>>, AllocError> {
+    let mut options = Vec::new(alloc);
+    options.push(callers(alloc))?;
+    add_counts(alloc, &mut options)?;
+    add_flags(alloc, &mut options)?;
+    Ok(options)
+}
+
+fn callers<'a>(alloc: Global) -> Arg<'a> {
+    option(alloc, "callers", "How many callers there are")
         .required(true)
         .value_parser(value_parser!(u8))
-        .help("How many callers there are");
-    let command = Command::new(alloc, "cf_stress")
-        .about("Do the steps of callers over one desk, and print what the closed desk holds")
-        .arg(callers)?;
-    with_flags(alloc, with_counts(alloc, command)?)
 }
 
-fn with_counts<'a>(alloc: Global, mut command: Command<'a>) -> Result<Command<'a>> {
+fn add_counts(alloc: Global, options: &mut Vec<Arg<'_>>) -> Result<(), AllocError> {
     for (name, help) in COUNTS {
-        let count = Arg::new(alloc, name)
-            .long(name)
-            .required(true)
-            .value_parser(value_parser!(u16))
-            .help(help);
-        command = command.arg(count)?;
+        options.push(count(alloc, name, help))?;
     }
-    Ok(command)
+    Ok(())
 }
 
-fn with_flags<'a>(alloc: Global, command: Command<'a>) -> Result<Command<'a>> {
-    let turns = Arg::new(alloc, "turns")
-        .long("turns")
-        .action(ArgAction::SetTrue)
-        .help("Let one thread do all steps in their order");
-    let history = Arg::new(alloc, "history")
-        .long("history")
-        .action(ArgAction::SetTrue)
-        .help("Write the closed desk as a history, in one line of JSON");
-    Ok(command.arg(turns)?.arg(history)?)
+fn count<'a>(alloc: Global, name: &'a str, help: &'a str) -> Arg<'a> {
+    option(alloc, name, help)
+        .required(true)
+        .value_parser(value_parser!(u16))
+}
+
+fn add_flags(alloc: Global, options: &mut Vec<Arg<'_>>) -> Result<(), AllocError> {
+    for (name, help) in FLAGS {
+        options.push(flag(alloc, name, help))?;
+    }
+    Ok(())
+}
+
+fn flag<'a>(alloc: Global, name: &'a str, help: &'a str) -> Arg<'a> {
+    option(alloc, name, help).action(ArgAction::SetTrue)
+}
+
+/// The option `--NAME`.
+fn option<'a>(alloc: Global, name: &'a str, help: &'a str) -> Arg<'a> {
+    Arg::new(alloc, name).long(name).help(help)
 }
 
 fn run_of(matches: &ArgMatches<'_>) -> Result<Run> {
