@@ -26,9 +26,9 @@ const FORMS: [(Form, &str); 19] = [
 
 /// The form of this name.
 pub(crate) fn form_named(word: &str) -> Option<Form> {
-    for (form, name) in FORMS {
-        if name == word {
-            return Some(form);
+    for (form, name) in &FORMS {
+        if *name == word {
+            return Some(*form);
         }
     }
     None
@@ -36,9 +36,9 @@ pub(crate) fn form_named(word: &str) -> Option<Form> {
 
 /// The name of a form.
 pub(crate) fn name_of(wanted: Form) -> &'static str {
-    for (form, name) in FORMS {
-        if form == wanted {
-            return name;
+    for (form, name) in &FORMS {
+        if *form == wanted {
+            return *name;
         }
     }
     ""

@@ -15,11 +15,11 @@ pub(crate) fn history_of(
     alloc: Global,
     given: &Json,
     sizes: Sizes,
-    mut closed: Closed,
+    closed: &mut Closed,
 ) -> Result<String> {
     let mut members = Map::new(alloc);
     put_given(alloc, &mut members, given, sizes)?;
-    put_closed(alloc, &mut members, &mut closed)?;
+    put_closed(alloc, &mut members, closed)?;
     Ok(line_of(alloc, Json::Object(members))?)
 }
 

@@ -129,10 +129,21 @@ fn text_after<R: Threads + Sync + AllocGlobal>(rt: &R, given: Given, run: Run) -
         steps,
     } = given;
     let (closed, refused) = used(rt, plan, &functions, &steps, run)?;
+    shown(rt.alloc(), closed, &json, &refused, run)
+}
+
+/// What is to be printed of a closed desk.
+fn shown(
+    alloc: Global,
+    mut closed: Closed,
+    json: &Json,
+    refused: &[Vec<Refusal>],
+    run: Run,
+) -> Result<String> {
     if run.history {
-        history_of(rt.alloc(), &json, run.sizes, closed)
+        history_of(alloc, json, run.sizes, &mut closed)
     } else {
-        Ok(text_of(rt.alloc(), closed, &refused, run.sizes.calls)?)
+        Ok(text_of(alloc, &mut closed, refused, run.sizes.calls)?)
     }
 }
 

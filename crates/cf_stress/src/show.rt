@@ -11,7 +11,7 @@ use std::alloc::{AllocError, Global};
 /// so many records.
 pub(crate) fn text_of(
     alloc: Global,
-    mut closed: Closed,
+    closed: &mut Closed,
     refused: &[Vec<Refusal>],
     calls: u16,
 ) -> Result<String, AllocError> {

@@ -1,6 +1,6 @@
 //! The words after the program's name.
 use anyhow::{Result, anyhow};
-use clap::{Arg, ArgAction, ArgMatches, Command, value_parser};
+use clap::{Arg, ArgAction, ArgMatches, Command, Error, value_parser};
 use std::alloc::{AllocError, Global};
 use std::env;
 use std::rt::Env;
@@ -55,14 +55,18 @@ const FLAGS: [(&str, &str); 2] = [
 pub(crate) fn read_words<R: Env + Print + Eprint + AllocGlobal>(rt: &R) -> Result<Words> {
     let alloc = rt.alloc();
     let words: Vec<String> = env::args(rt)?.collect(alloc)?;
-    let command = command_of(alloc)?;
-    match command.try_get_matches_from(words.as_slice()) {
+    match matched(alloc, words.as_slice())? {
         Ok(matches) => Ok(Words::Run(run_of(&matches)?)),
         Err(error) => {
             error.print(rt)?;
             Ok(Words::Nothing(error.exit_code() as u8))
         }
     }
+}
+
+/// The words as the command takes them, or what there is to say of them.
+fn matched<'a>(alloc: Global, words: &'a [String]) -> Result<Result<ArgMatches<'a>, Error>> {
+    Ok(command_of(alloc)?.try_get_matches_from(words))
 }
 
 /// The command with all its options.
