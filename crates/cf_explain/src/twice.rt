@@ -12,28 +12,48 @@ pub(crate) fn remark_twice(
 ) -> Result<(), AllocError> {
     let mut scratch = Scratch::new(alloc);
     let mut reader = Reader::new(text, &mut scratch)?;
-    let mut open: Vec<BTreeSet<&str>> = Vec::new(alloc);
+    let mut open = Vec::new(alloc);
     let mut spot = Spot::START;
     for _ in 0..=text.len() {
         let offset = reader.offset();
-        match reader.next() {
-            Some(Token::BeginObject) => open.push(BTreeSet::new(alloc))?,
-            Some(Token::EndObject) => {
-                let _ = open.pop();
-            }
-            Some(Token::Key(name)) => {
-                if let Some(names) = open.last_mut() {
-                    if !names.insert(name)? && name != "note" {
-                        spot = spot.on_to(text.as_bytes(), offset);
-                        remarks.push(spot.twice(alloc, name)?)?;
-                    }
-                }
-            }
-            Some(Token::Bad) | None => break,
-            Some(_) => {}
+        let Some(token) = reader.next() else {
+            break;
+        };
+        if let Some(name) = given_again(alloc, token, &mut open)? {
+            spot = spot.on_to(text.as_bytes(), offset);
+            remarks.push(spot.twice(alloc, name)?)?;
         }
     }
     Ok(())
+}
+
+/// The name that the token gives again in its object, but for a note. Of each object that is open the names so far are kept.
+fn given_again<'a>(
+    alloc: Global,
+    token: Token<'a>,
+    open: &mut Vec<BTreeSet<&'a str>>,
+) -> Result<Option<&'a str>, AllocError> {
+    match token {
+        Token::BeginObject => open.push(BTreeSet::new(alloc))?,
+        Token::EndObject => {
+            let _ = open.pop();
+        }
+        Token::Key(name) => {
+            if is_there(name, open)? && name != "note" {
+                return Ok(Some(name));
+            }
+        }
+        _ => {}
+    }
+    Ok(None)
+}
+
+/// Whether the innermost object has this name already; it has it from now on.
+fn is_there<'a>(name: &'a str, open: &mut Vec<BTreeSet<&'a str>>) -> Result<bool, AllocError> {
+    match open.last_mut() {
+        Some(names) => Ok(!names.insert(name)?),
+        None => Ok(false),
+    }
 }
 
 /// A place in a text.

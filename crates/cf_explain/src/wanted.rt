@@ -65,27 +65,53 @@ fn is_pair(json: &Json) -> bool {
     }
 }
 
-impl fmt::Display for Wanted {
-    fn fmt<W: fmt::Write>(&self, f: &mut fmt::Formatter<W>) -> fmt::Result {
-        match *self {
-            Wanted::Object => write!(f, "an object"),
-            Wanted::Array => write!(f, "an array"),
-            Wanted::Version => write!(f, "1 or 2"),
-            Wanted::UpTo(most) => write!(f, "a whole number, 0 to {most}"),
-            Wanted::Int => write!(f, "a whole number, -2147483648 to 2147483647"),
-            Wanted::Value => write!(f, "null or a whole number, -2147483648 to 2147483647"),
-            Wanted::Stage(0) => write!(f, "a stage, and none is there"),
-            Wanted::Stage(1) => write!(f, "stage 0, the only one that is there"),
-            Wanted::Stage(count) => write!(f, "a stage that is there, 0 to {}", count - 1),
-            Wanted::Pair => write!(f, "an array of two stages, each 0 to 65535"),
-            Wanted::One(words) => write!(f, "a text, {words}"),
-            Wanted::Lone(words) => write!(f, "an object of exactly one member, {words}"),
-            Wanted::Function => write!(
-                f,
-                "a text, {}, or an object of exactly one member, {}",
-                Words::PlainFunctions,
-                Words::Functions
-            ),
+impl Wanted {
+    /// How it is written where that is the same text each time.
+    fn text(self) -> Option<&'static str> {
+        match self {
+            Wanted::Object => Some("an object"),
+            Wanted::Array => Some("an array"),
+            Wanted::Version => Some("1 or 2"),
+            Wanted::Int => Some("a whole number, -2147483648 to 2147483647"),
+            Wanted::Value => Some("null or a whole number, -2147483648 to 2147483647"),
+            Wanted::Stage(0) => Some("a stage, and none is there"),
+            Wanted::Stage(1) => Some("stage 0, the only one that is there"),
+            Wanted::Pair => Some("an array of two stages, each 0 to 65535"),
+            _ => None,
         }
     }
+}
+
+impl fmt::Display for Wanted {
+    fn fmt<W: fmt::Write>(&self, f: &mut fmt::Formatter<W>) -> fmt::Result {
+        match self.text() {
+            Some(text) => f.write_str(text),
+            None => numbered(f, *self),
+        }
+    }
+}
+
+/// Writes one whose text has a number or words in it.
+fn numbered<W: fmt::Write>(f: &mut fmt::Formatter<W>, wanted: Wanted) -> fmt::Result {
+    match wanted {
+        Wanted::UpTo(most) => write!(f, "a whole number, 0 to {most}"),
+        Wanted::Stage(count) => stages(f, count),
+        Wanted::One(words) => write!(f, "a text, {words}"),
+        Wanted::Lone(words) => write!(f, "an object of exactly one member, {words}"),
+        _ => function(f),
+    }
+}
+
+fn stages<W: fmt::Write>(f: &mut fmt::Formatter<W>, count: u32) -> fmt::Result {
+    let most = count.saturating_sub(1);
+    write!(f, "a stage that is there, 0 to {most}")
+}
+
+fn function<W: fmt::Write>(f: &mut fmt::Formatter<W>) -> fmt::Result {
+    write!(
+        f,
+        "a text, {}, or an object of exactly one member, {}",
+        Words::PlainFunctions,
+        Words::Functions
+    )
 }

@@ -52,45 +52,63 @@ pub enum Why {
     Unsaid,
 }
 
+impl Why {
+    /// How it is written where that is the same text each time.
+    fn text(&self) -> Option<&'static str> {
+        match self {
+            Why::TooLong => Some("has more than 1048576 bytes"),
+            Why::NotInVersionOne => Some("is read with \"cf\": 2 alone"),
+            Why::FunctionUnwanted => Some("may not be there: the form calls no function"),
+            Why::TooManySources => Some("names too many: an attached stage has at most 2 sources"),
+            Why::NoPlace => Some(
+                "is too much: stages and room are at most 4096, edges and twice the room at most 16384",
+            ),
+            _ => None,
+        }
+    }
+}
+
 impl fmt::Display for Why {
     fn fmt<W: fmt::Write>(&self, f: &mut fmt::Formatter<W>) -> fmt::Result {
-        match self {
-            Why::TooLong => write!(f, "has more than 1048576 bytes"),
-            Why::NotJson(error) => write!(f, "{error}"),
-            Why::Missing(wanted) => write!(f, "is missing; it has to be {wanted}"),
-            Why::Wants(wanted) => write!(f, "has to be {wanted}"),
-            Why::Unknown {
-                word,
-                words,
-                nearest,
-            } => unknown(f, word.as_str(), *words, *nearest),
-            Why::NotInVersionOne => write!(f, "is read with \"cf\": 2 alone"),
-            Why::Members(count, words) => {
-                write!(
-                    f,
-                    "has {count} members; it has to have exactly one, {words}"
-                )
-            }
-            Why::Written(form) => write!(f, "has another number of elements; it is written {form}"),
-            Why::Sources { wanted, found } => {
-                write!(f, "names {found} stages; the form takes {wanted}")
-            }
-            Why::NotLower(k) => not_lower(f, *k),
-            Why::FunctionMissing => { write!(f, "is missing; it has to be {}", Wanted::Function) }
-            Why::FunctionUnwanted => write!(f, "may not be there: the form calls no function"),
-            Why::TooMany(most, what) => write!(
-                f,
-                "is one too many: there are at most {most} {what}"
-            ),
-            Why::TooManySources => {
-                write!(f, "names too many: an attached stage has at most 2 sources")
-            }
-            Why::NoPlace => write!(
-                f,
-                "is too much: stages and room are at most 4096, edges and twice the room at most 16384"
-            ),
-            Why::Unsaid => write!(f, "isn't as it has to be"),
+        match self.text() {
+            Some(text) => f.write_str(text),
+            None => in_words(f, self),
         }
+    }
+}
+
+/// Writes what is refused for a word or for JSON.
+fn in_words<W: fmt::Write>(f: &mut fmt::Formatter<W>, why: &Why) -> fmt::Result {
+    match why {
+        Why::NotJson(error) => write!(f, "{error}"),
+        Why::Missing(wanted) => write!(f, "is missing; it has to be {wanted}"),
+        Why::Wants(wanted) => write!(f, "has to be {wanted}"),
+        Why::Unknown {
+            word,
+            words,
+            nearest,
+        } => unknown(f, word.as_str(), *words, *nearest),
+        Why::FunctionMissing => write!(f, "is missing; it has to be {}", Wanted::Function),
+        _ => in_numbers(f, why),
+    }
+}
+
+/// Writes what is refused for a number, and else that it is refused.
+fn in_numbers<W: fmt::Write>(f: &mut fmt::Formatter<W>, why: &Why) -> fmt::Result {
+    match why {
+        Why::Members(count, words) => {
+            write!(
+                f,
+                "has {count} members; it has to have exactly one, {words}"
+            )
+        }
+        Why::Written(form) => write!(f, "has another number of elements; it is written {form}"),
+        Why::Sources { wanted, found } => {
+            write!(f, "names {found} stages; the form takes {wanted}")
+        }
+        Why::NotLower(k) => not_lower(f, *k),
+        Why::TooMany(most, what) => write!(f, "is one too many: there are at most {most} {what}"),
+        _ => write!(f, "isn't as it has to be"),
     }
 }
 
@@ -100,13 +118,10 @@ fn unknown<W: fmt::Write>(
     words: Words,
     nearest: Option<&'static str>,
 ) -> fmt::Result {
+    write!(f, "{word:?} is no {}; ", words.thing())?;
     match nearest {
-        Some(near) => write!(
-            f,
-            "{word:?} is no {}; did you mean {near:?}? It has to be {words}",
-            words.thing()
-        ),
-        None => write!(f, "{word:?} is no {}; it has to be {words}", words.thing()),
+        Some(near) => write!(f, "did you mean {near:?}? It has to be {words}"),
+        None => write!(f, "it has to be {words}"),
     }
 }
 

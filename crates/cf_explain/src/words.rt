@@ -101,11 +101,11 @@ impl Words {
     /// The word at this position, if there are so many.
     fn at(self, i: usize) -> Option<&'static str> {
         match self {
-            Words::Forms => Some(FORMS.get(i)?.0),
+            Words::Forms => name_at(&FORMS, i),
             Words::PlainFunctions => PLAIN_FUNCTIONS.get(i).copied(),
-            Words::Functions => Some(FUNCTIONS.get(i)?.0),
+            Words::Functions => name_at(&FUNCTIONS, i),
             Words::Steps => Some(STEPS.get(i)?.word),
-            Words::Answers => Some(ANSWERS.get(i)?.0),
+            Words::Answers => name_at(&ANSWERS, i),
             Words::Kinds => KINDS.get(i).copied(),
             Words::ScriptMembers => SCRIPT_MEMBERS.get(i).copied(),
             Words::StageMembers => STAGE_MEMBERS.get(i).copied(),
@@ -187,11 +187,16 @@ impl fmt::Display for Words {
     }
 }
 
+/// The name of the row at this position, if there are so many.
+fn name_at<T>(table: &[(&'static str, T)], i: usize) -> Option<&'static str> {
+    Some(table.get(i)?.0)
+}
+
 /// The row of this word.
-fn row_of(table: &[(&'static str, Wanted)], word: &str) -> Option<(&'static str, Wanted)> {
-    for (name, wanted) in table {
+fn row_of<T: Copy>(table: &[(&'static str, T)], word: &str) -> Option<(&'static str, T)> {
+    for (name, held) in table {
         if *name == word {
-            return Some((*name, *wanted));
+            return Some((*name, *held));
         }
     }
     None
@@ -199,20 +204,10 @@ fn row_of(table: &[(&'static str, Wanted)], word: &str) -> Option<(&'static str,
 
 /// The name of the form of this method.
 fn form_of_method(word: &str) -> Option<&'static str> {
-    for (method, name) in METHODS {
-        if method == word {
-            return Some(name);
-        }
-    }
-    None
+    Some(row_of(&METHODS, word)?.1)
 }
 
 /// The form with this name.
 pub(crate) fn form_named(word: &str) -> Option<Form> {
-    for (name, form) in FORMS {
-        if name == word {
-            return Some(form);
-        }
-    }
-    None
+    Some(row_of(&FORMS, word)?.1)
 }
