@@ -34,16 +34,21 @@ fn attach_all(graph: &mut Graph) {
     }
 }
 
+/// A round of attaching.
+fn attach_round<R: Clock>(rt: &R, alloc: Global, times: &mut Times) -> Result<()> {
+    let mut graph = half_settled(alloc)?;
+    let start = Instant::now(rt)?;
+    attach_all(&mut graph);
+    times.add_since(rt, start)
+}
+
 /// What attaching a stage took.
 pub(crate) fn measured_attach<R: Clock>(rt: &R, alloc: Global) -> Result<Shown> {
     let mut times = Times::new(alloc, ROUNDS)?;
     for _ in 0..ROUNDS {
-        let mut graph = half_settled(alloc)?;
-        let start = Instant::now(rt)?;
-        attach_all(&mut graph);
-        times.add(start.elapsed(rt)?)?;
+        attach_round(rt, alloc, &mut times)?;
     }
-    Ok(times.a_part(STAGES)?)
+    Ok(times.a_part(STAGES))
 }
 
 /// How many stages there are then, and a checksum of all outcomes once the attached ones that are ready are done.

@@ -45,29 +45,31 @@ struct Rounds {
 
 impl Rounds {
     fn new(alloc: Global) -> Result<Rounds> {
+        let (ready, claim) = two_times(alloc)?;
+        let (finish, outcome) = two_times(alloc)?;
         Ok(Rounds {
-            ready: Times::new(alloc, ROUNDS)?,
-            claim: Times::new(alloc, ROUNDS)?,
-            finish: Times::new(alloc, ROUNDS)?,
-            outcome: Times::new(alloc, ROUNDS)?,
-        })
-    }
-
-    /// What each kind of call took.
-    fn a_call(self) -> Result<Calls> {
-        let Rounds {
             ready,
             claim,
             finish,
             outcome,
-        } = self;
-        Ok(Calls {
-            ready: ready.a_part(STAGES - 1)?,
-            claim: claim.a_part(STAGES - 1)?,
-            finish: finish.a_part(STAGES - 1)?,
-            outcome: outcome.a_part(STAGES - 1)?,
         })
     }
+
+    /// What each kind of call took.
+    fn a_call(&mut self) -> Calls {
+        Calls {
+            ready: self.ready.a_part(STAGES - 1),
+            claim: self.claim.a_part(STAGES - 1),
+            finish: self.finish.a_part(STAGES - 1),
+            outcome: self.outcome.a_part(STAGES - 1),
+        }
+    }
+}
+
+fn two_times(alloc: Global) -> Result<(Times, Times)> {
+    let first = Times::new(alloc, ROUNDS)?;
+    let second = Times::new(alloc, ROUNDS)?;
+    Ok((first, second))
 }
 
 /// That as many calls were answered as there are applies.
@@ -125,28 +127,44 @@ fn outcomes_in(graph: &mut Graph) -> u16 {
     right
 }
 
+fn ready_round<R: Clock>(rt: &R, times: &mut Times, graph: &mut Graph) -> Result<()> {
+    let start = Instant::now(rt)?;
+    let ready = ready_in(graph);
+    times.add_since(rt, start)?;
+    all_right(ready)
+}
+
+fn claim_round<R: Clock>(rt: &R, times: &mut Times, graph: &mut Graph) -> Result<()> {
+    let start = Instant::now(rt)?;
+    let claimed = claimed_in(graph);
+    times.add_since(rt, start)?;
+    all_right(claimed)
+}
+
+fn finish_round<R: Clock>(rt: &R, times: &mut Times, graph: &mut Graph) -> Result<()> {
+    let start = Instant::now(rt)?;
+    let finished = finished_in(graph);
+    times.add_since(rt, start)?;
+    all_right(finished)
+}
+
+fn outcome_round<R: Clock>(rt: &R, times: &mut Times, graph: &mut Graph) -> Result<()> {
+    let start = Instant::now(rt)?;
+    let outcomes = outcomes_in(graph);
+    times.add_since(rt, start)?;
+    all_right(outcomes)
+}
+
 /// A round of each kind of call.
 fn call_graph<R: Clock>(rt: &R, rounds: &mut Rounds, graph: &mut Graph) -> Result<()> {
     graph.restart();
     if graph.has(0) {
         graph.complete(0, SOURCE);
     }
-    let start = Instant::now(rt)?;
-    let ready = ready_in(graph);
-    rounds.ready.add(start.elapsed(rt)?)?;
-    let start = Instant::now(rt)?;
-    let claimed = claimed_in(graph);
-    rounds.claim.add(start.elapsed(rt)?)?;
-    let start = Instant::now(rt)?;
-    let finished = finished_in(graph);
-    rounds.finish.add(start.elapsed(rt)?)?;
-    let start = Instant::now(rt)?;
-    let outcomes = outcomes_in(graph);
-    rounds.outcome.add(start.elapsed(rt)?)?;
-    all_right(ready)?;
-    all_right(claimed)?;
-    all_right(finished)?;
-    all_right(outcomes)
+    ready_round(rt, &mut rounds.ready, graph)?;
+    claim_round(rt, &mut rounds.claim, graph)?;
+    finish_round(rt, &mut rounds.finish, graph)?;
+    outcome_round(rt, &mut rounds.outcome, graph)
 }
 
 /// What each kind of call of a graph took.
@@ -156,7 +174,7 @@ pub(crate) fn measured_graph_calls<R: Clock>(rt: &R, alloc: Global) -> Result<Ca
     for _ in 0..ROUNDS {
         call_graph(rt, &mut rounds, &mut graph)?;
     }
-    rounds.a_call()
+    Ok(rounds.a_call())
 }
 
 fn ready_on(desk: &Desk, p: &mut Pass) -> u16
@@ -212,27 +230,55 @@ fn outcomes_on(desk: &Desk, p: &mut Pass) -> u16
     right
 }
 
+fn ready_round_on<R: Clock>(rt: &R, times: &mut Times, desk: &Desk, p: &mut Pass) -> Result<()>
+    requires { p.old.table ≡ desk.now.table }
+    ensures { p.new.table ≡ p.old.table }
+{
+    let start = Instant::now(rt)?;
+    let ready = ready_on(desk, p);
+    times.add_since(rt, start)?;
+    all_right(ready)
+}
+
+fn claim_round_on<R: Clock>(rt: &R, times: &mut Times, desk: &Desk, p: &mut Pass) -> Result<()>
+    requires { p.old.table ≡ desk.now.table }
+    ensures { p.new.table ≡ p.old.table }
+{
+    let start = Instant::now(rt)?;
+    let claimed = claimed_on(desk, p);
+    times.add_since(rt, start)?;
+    all_right(claimed)
+}
+
+fn finish_round_on<R: Clock>(rt: &R, times: &mut Times, desk: &Desk, p: &mut Pass) -> Result<()>
+    requires { p.old.table ≡ desk.now.table }
+    ensures { p.new.table ≡ p.old.table }
+{
+    let start = Instant::now(rt)?;
+    let finished = finished_on(desk, p);
+    times.add_since(rt, start)?;
+    all_right(finished)
+}
+
+fn outcome_round_on<R: Clock>(rt: &R, times: &mut Times, desk: &Desk, p: &mut Pass) -> Result<()>
+    requires { p.old.table ≡ desk.now.table }
+    ensures { p.new.table ≡ p.old.table }
+{
+    let start = Instant::now(rt)?;
+    let outcomes = outcomes_on(desk, p);
+    times.add_since(rt, start)?;
+    all_right(outcomes)
+}
+
 /// A round of each kind of call.
 fn call_desk<R: Clock>(rt: &R, rounds: &mut Rounds, desk: &Desk, p: &mut Pass) -> Result<()>
     requires { p.old.table ≡ desk.now.table }
 {
     let _ = desk.act(p, Call::Complete(0, SOURCE));
-    let start = Instant::now(rt)?;
-    let ready = ready_on(desk, p);
-    rounds.ready.add(start.elapsed(rt)?)?;
-    let start = Instant::now(rt)?;
-    let claimed = claimed_on(desk, p);
-    rounds.claim.add(start.elapsed(rt)?)?;
-    let start = Instant::now(rt)?;
-    let finished = finished_on(desk, p);
-    rounds.finish.add(start.elapsed(rt)?)?;
-    let start = Instant::now(rt)?;
-    let outcomes = outcomes_on(desk, p);
-    rounds.outcome.add(start.elapsed(rt)?)?;
-    all_right(ready)?;
-    all_right(claimed)?;
-    all_right(finished)?;
-    all_right(outcomes)
+    ready_round_on(rt, &mut rounds.ready, desk, p)?;
+    claim_round_on(rt, &mut rounds.claim, desk, p)?;
+    finish_round_on(rt, &mut rounds.finish, desk, p)?;
+    outcome_round_on(rt, &mut rounds.outcome, desk, p)
 }
 
 /// The same by the first pass.
@@ -251,17 +297,20 @@ fn open(alloc: Global) -> Result<(Desk, Vec<Pass>)>
 {
     let plan = plan_of(alloc, Shape::FanOut, STAGES);
     let plan = plan.map_err(|_| anyhow!("the plan was refused"))?;
-    Ok(Desk::open(alloc, plan, 1, 2 * STAGES, 3 * STAGES).map_err(|_| anyhow!(
-        "the desk was refused"
-    ))?)
+    Desk::open(alloc, plan, 1, 2 * STAGES, 3 * STAGES).map_err(|_| anyhow!("the desk was refused"))
+}
+
+/// The same of a desk that is opened for it.
+fn call_new_desk<R: Clock>(rt: &R, alloc: Global, rounds: &mut Rounds) -> Result<()> {
+    let (desk, mut passes) = open(alloc)?;
+    call_first(rt, rounds, &desk, passes.as_mut_slice())
 }
 
 /// What each kind of call of a desk's one caller took.
 pub(crate) fn measured_desk_calls<R: Clock>(rt: &R, alloc: Global) -> Result<Calls> {
     let mut rounds = Rounds::new(alloc)?;
     for _ in 0..ROUNDS {
-        let (desk, mut passes) = open(alloc)?;
-        call_first(rt, &mut rounds, &desk, passes.as_mut_slice())?;
+        call_new_desk(rt, alloc, &mut rounds)?;
     }
-    rounds.a_call()
+    Ok(rounds.a_call())
 }

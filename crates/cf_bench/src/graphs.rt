@@ -29,20 +29,43 @@ pub(crate) struct Sums {
 
 /// The checksums of a shape at a size.
 pub(crate) fn sums_of(alloc: Global, shape: Shape, stages: u16) -> Result<Sums> {
+    let (calls, again) = sums_before_and_after(alloc, shape, stages)?;
+    let mut graph = graph_of(alloc, shape, stages)?;
+    let work = sum_by_work(&mut graph, shape, stages);
+    Ok(Sums { calls, work, again })
+}
+
+/// The checksum of a graph that is settled by a claim and a finish for each stage, and then that after a restart.
+fn sums_before_and_after(alloc: Global, shape: Shape, stages: u16) -> Result<(u64, u64)> {
     let mut graph = graph_of(alloc, shape, stages)?;
     settle(&mut graph, shape, stages);
     let calls = checksum(&mut graph, stages);
     graph.restart();
-    settle_at_once(&mut graph, shape, stages);
-    let again = checksum(&mut graph, stages);
-    let mut graph = graph_of(alloc, shape, stages)?;
-    settle_at_once(&mut graph, shape, stages);
-    let work = checksum(&mut graph, stages);
-    Ok(Sums { calls, work, again })
+    Ok((calls, sum_by_work(&mut graph, shape, stages)))
+}
+
+/// The checksum of a graph that one call of `work` settles.
+fn sum_by_work(graph: &mut Graph, shape: Shape, stages: u16) -> u64 {
+    settle_at_once(graph, shape, stages);
+    checksum(graph, stages)
 }
 
 fn rounds_of(stages: u16) -> u32 {
     STAGES_A_SHAPE / u32::from(stages).max(1)
+}
+
+/// A round from scratch: builds a plan with its room and a graph of it, and settles all its stages.
+fn settle_from_scratch<R: Clock>(
+    rt: &R,
+    alloc: Global,
+    shape: Shape,
+    stages: u16,
+    times: &mut Times,
+) -> Result<()> {
+    let start = Instant::now(rt)?;
+    let mut graph = graph_of(alloc, shape, stages)?;
+    settle_at_once(&mut graph, shape, stages);
+    times.add_since(rt, start)
 }
 
 /// What building a plan with its room and a graph of it, and settling all its stages took, a stage. That the graph is
@@ -56,12 +79,23 @@ pub(crate) fn measured_from_scratch<R: Clock>(
     let rounds = rounds_of(stages);
     let mut times = Times::new(alloc, rounds)?;
     for _ in 0..rounds {
-        let start = Instant::now(rt)?;
-        let mut graph = graph_of(alloc, shape, stages)?;
-        settle_at_once(&mut graph, shape, stages);
-        times.add(start.elapsed(rt)?)?;
+        settle_from_scratch(rt, alloc, shape, stages, &mut times)?;
     }
-    Ok(times.a_part(stages)?)
+    Ok(times.a_part(stages))
+}
+
+/// A round of a request: restarts a graph that is there, and settles all its stages again.
+fn settle_again<R: Clock>(
+    rt: &R,
+    graph: &mut Graph,
+    shape: Shape,
+    stages: u16,
+    times: &mut Times,
+) -> Result<()> {
+    let start = Instant::now(rt)?;
+    graph.restart();
+    settle_at_once(graph, shape, stages);
+    times.add_since(rt, start)
 }
 
 /// What restarting a graph that is there and settling all its stages again took, a stage.
@@ -76,10 +110,7 @@ pub(crate) fn measured_per_request<R: Clock>(
     let mut graph = graph_of(alloc, shape, stages)?;
     settle_at_once(&mut graph, shape, stages);
     for _ in 0..rounds {
-        let start = Instant::now(rt)?;
-        graph.restart();
-        settle_at_once(&mut graph, shape, stages);
-        times.add(start.elapsed(rt)?)?;
+        settle_again(rt, &mut graph, shape, stages, &mut times)?;
     }
-    Ok(times.a_part(stages)?)
+    Ok(times.a_part(stages))
 }

@@ -44,6 +44,7 @@ use std::alloc::Global;
 use std::process::ExitCode;
 use std::thread::Threads;
 use std::time::Clock;
+use times::Shown;
 use words::{Words, read_words};
 
 const SIZES: [u16; 3] = [64, 512, 4095];
@@ -67,9 +68,19 @@ fn show_sums<R: Print>(rt: &R, alloc: Global, shape: Shape, stages: u16) -> Resu
 /// Prints how long a shape takes at a size, from scratch and per request.
 fn show_graphs<R: Clock + Print>(rt: &R, alloc: Global, shape: Shape, stages: u16) -> Result<()> {
     let took = measured_from_scratch(rt, alloc, shape, stages)?;
-    println!(rt; "from scratch {shape} {stages}: {took}")?;
+    show_graph(rt, "from scratch", shape, stages, took)?;
     let took = measured_per_request(rt, alloc, shape, stages)?;
-    println!(rt; "per request {shape} {stages}: {took}")?;
+    show_graph(rt, "per request", shape, stages, took)
+}
+
+fn show_graph<R: Print>(rt: &R, what: &str, shape: Shape, stages: u16, took: Shown) -> Result<()> {
+    println!(rt; "{what} {shape} {stages}: {took}")?;
+    Ok(())
+}
+
+/// Prints how long something takes.
+fn show_took<R: Print>(rt: &R, what: &str, took: Shown) -> Result<()> {
+    println!(rt; "{what}: {took}")?;
     Ok(())
 }
 
@@ -92,26 +103,35 @@ fn show_shape<R: Clock + Print>(
 fn show_script<R: Clock + Print>(rt: &R, alloc: Global, timed: bool) -> Result<()> {
     let text = script_text(alloc)?;
     if timed {
-        let took = measured_json(rt, alloc, &text)?;
-        println!(rt; "json: {took}")?;
-        let took = measured_script(rt, alloc, &text)?;
-        println!(rt; "script: {took}")?;
+        show_script_times(rt, alloc, &text)
     } else {
-        let sum = report_checksum(alloc, &text)?;
-        println!(rt; "script: checksum {sum}")?;
+        show_script_sum(rt, alloc, &text)
     }
+}
+
+fn show_script_times<R: Clock + Print>(rt: &R, alloc: Global, text: &str) -> Result<()> {
+    show_took(rt, "json", measured_json(rt, alloc, text)?)?;
+    show_took(rt, "script", measured_script(rt, alloc, text)?)
+}
+
+fn show_script_sum<R: Print>(rt: &R, alloc: Global, text: &str) -> Result<()> {
+    let sum = report_checksum(alloc, text)?;
+    println!(rt; "script: checksum {sum}")?;
     Ok(())
 }
 
 /// The same for stages that are attached.
 fn show_attach<R: Clock + Print>(rt: &R, alloc: Global, timed: bool) -> Result<()> {
     if timed {
-        let took = measured_attach(rt, alloc)?;
-        println!(rt; "attach: {took}")?;
+        show_took(rt, "attach", measured_attach(rt, alloc)?)
     } else {
-        let (stages, sum) = attach_checksum(alloc)?;
-        println!(rt; "attach: {stages} stages, checksum {sum}")?;
+        show_attach_sum(rt, alloc)
     }
+}
+
+fn show_attach_sum<R: Print>(rt: &R, alloc: Global) -> Result<()> {
+    let (stages, sum) = attach_checksum(alloc)?;
+    println!(rt; "attach: {stages} stages, checksum {sum}")?;
     Ok(())
 }
 
@@ -123,46 +143,49 @@ fn show_race<R: Clock + Print + Threads + Sync>(
     threads: u8,
 ) -> Result<()> {
     if timed {
-        let took = measured_race(rt, alloc, threads)?;
-        println!(rt; "race {threads}: {took}")?;
+        show_shared_time(rt, "race", threads, measured_race(rt, alloc, threads)?)
     } else {
-        let (sum, events) = race_checksum(rt, alloc, threads)?;
-        println!(rt; "race {threads}: {events} events, checksum {sum}")?;
+        show_shared_sum(rt, "race", threads, race_checksum(rt, alloc, threads)?)
     }
+}
+
+/// Prints how long something takes that so many share.
+fn show_shared_time<R: Print>(rt: &R, what: &str, count: u8, took: Shown) -> Result<()> {
+    println!(rt; "{what} {count}: {took}")?;
+    Ok(())
+}
+
+/// Prints the checksum of something that so many share, and its number of events.
+fn show_shared_sum<R: Print>(rt: &R, what: &str, count: u8, gave: (u64, usize)) -> Result<()> {
+    let (sum, events) = gave;
+    println!(rt; "{what} {count}: {events} events, checksum {sum}")?;
     Ok(())
 }
 
 /// The same for a desk over a few stages.
 fn show_desk<R: Clock + Print>(rt: &R, alloc: Global, timed: bool, callers: u8) -> Result<()> {
     if timed {
-        let took = measured_desk(rt, alloc, callers)?;
-        println!(rt; "desk {callers}: {took}")?;
+        show_shared_time(rt, "desk", callers, measured_desk(rt, alloc, callers)?)
     } else {
-        let (sum, events) = desk_checksum(alloc, callers)?;
-        println!(rt; "desk {callers}: {events} events, checksum {sum}")?;
+        show_shared_sum(rt, "desk", callers, desk_checksum(alloc, callers)?)
     }
-    Ok(())
 }
 
 /// How long a read that finds nothing new takes.
 fn show_read<R: Clock + Print>(rt: &R, alloc: Global) -> Result<()> {
-    let took = measured_read(rt, alloc)?;
-    println!(rt; "read: {took}")?;
-    Ok(())
+    show_took(rt, "read", measured_read(rt, alloc)?)
 }
 
 /// How long each kind of call takes.
 fn show_calls<R: Print>(rt: &R, of: &str, calls: Calls) -> Result<()> {
-    let Calls {
-        ready,
-        claim,
-        finish,
-        outcome,
-    } = calls;
-    println!(rt; "call {of} ready: {ready}")?;
-    println!(rt; "call {of} claim: {claim}")?;
-    println!(rt; "call {of} finish: {finish}")?;
-    println!(rt; "call {of} outcome: {outcome}")?;
+    show_call(rt, of, "ready", calls.ready)?;
+    show_call(rt, of, "claim", calls.claim)?;
+    show_call(rt, of, "finish", calls.finish)?;
+    show_call(rt, of, "outcome", calls.outcome)
+}
+
+fn show_call<R: Print>(rt: &R, of: &str, call: &str, took: Shown) -> Result<()> {
+    println!(rt; "call {of} {call}: {took}")?;
     Ok(())
 }
 
@@ -192,11 +215,16 @@ fn show_all<R: Clock + Print + Threads + Sync>(rt: &R, alloc: Global, timed: boo
     show_attach(rt, alloc, timed)?;
     show_desks(rt, alloc, timed)?;
     if timed {
-        show_read(rt, alloc)?;
-        show_calls(rt, "graph", measured_graph_calls(rt, alloc)?)?;
-        show_calls(rt, "desk", measured_desk_calls(rt, alloc)?)?;
+        show_all_calls(rt, alloc)?;
     }
     Ok(())
+}
+
+/// How long single calls take.
+fn show_all_calls<R: Clock + Print>(rt: &R, alloc: Global) -> Result<()> {
+    show_read(rt, alloc)?;
+    show_calls(rt, "graph", measured_graph_calls(rt, alloc)?)?;
+    show_calls(rt, "desk", measured_desk_calls(rt, alloc)?)
 }
 
 fn main(rt: HostRuntime) -> Result<ExitCode> {

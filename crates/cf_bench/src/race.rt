@@ -11,7 +11,7 @@ use cf_plan::{Form, Plan, PlanBuilder, PlanFault};
 use std::alloc::Global;
 use std::thread;
 use std::thread::Threads;
-use std::time::{Clock, Instant};
+use std::time::{Clock, Duration, Instant};
 
 /// How many stages are completed, each by every thread.
 const STAGES: u16 = 4095;
@@ -77,14 +77,23 @@ fn race<R: Clock + Threads + Sync>(rt: &R, gate: &Gate, desk: &Desk, passes: &mu
 
 /// What the desk holds after a race, and the gate at which its threads met.
 fn raced<R: Clock + Threads + Sync>(rt: &R, alloc: Global, callers: u8) -> Result<(Gate, Closed)> {
+    let gate = Gate::new(rt, callers)?;
+    let closed = raced_through(rt, alloc, &gate, callers)?;
+    Ok((gate, closed))
+}
+
+/// What the desk holds after a race whose threads meet at a gate.
+fn raced_through<R: Clock + Threads + Sync>(
+    rt: &R,
+    alloc: Global,
+    gate: &Gate,
+    callers: u8,
+) -> Result<Closed> {
     let log = u16::from(callers).saturating_mul(STAGES);
     let (desk, mut passes) = open(alloc, callers, log, STAGES)?;
-    let gate = Gate::new(rt, callers)?;
-    race(rt, &gate, &desk, passes.as_mut_slice());
-    let closed = desk
-        .close(passes)
-        .map_err(|_| anyhow!("the desk wasn't closed"))?;
-    Ok((gate, closed))
+    race(rt, gate, &desk, passes.as_mut_slice());
+    desk.close(passes)
+        .map_err(|_| anyhow!("the desk wasn't closed"))
 }
 
 /// A sum over the outcomes after a race, and the number of its events.
@@ -97,6 +106,12 @@ pub(crate) fn race_checksum<R: Clock + Threads + Sync>(
     Ok((checksum(&mut closed.graph, STAGES), closed.history.len()))
 }
 
+/// How long the threads of a race took together.
+fn race_time<R: Clock + Threads + Sync>(rt: &R, alloc: Global, callers: u8) -> Result<Duration> {
+    let (gate, _) = raced(rt, alloc, callers)?;
+    gate.took()
+}
+
 /// What a race took, a stage.
 pub(crate) fn measured_race<R: Clock + Threads + Sync>(
     rt: &R,
@@ -105,9 +120,9 @@ pub(crate) fn measured_race<R: Clock + Threads + Sync>(
 ) -> Result<Shown> {
     let mut times = Times::new(alloc, ROUNDS)?;
     for _ in 0..ROUNDS {
-        times.add(raced(rt, alloc, callers)?.0.took()?)?;
+        times.add(race_time(rt, alloc, callers)?)?;
     }
-    Ok(times.a_part(STAGES)?)
+    Ok(times.a_part(STAGES))
 }
 
 /// Asks so many times for the outcome of a stage.
@@ -129,14 +144,19 @@ fn read_first(desk: &Desk, passes: &mut [Pass])
     }
 }
 
+/// A round of reads.
+fn read_round<R: Clock>(rt: &R, alloc: Global, times: &mut Times) -> Result<()> {
+    let (desk, mut passes) = open(alloc, 1, 1, READS)?;
+    let start = Instant::now(rt)?;
+    read_first(&desk, passes.as_mut_slice());
+    times.add_since(rt, start)
+}
+
 /// What a read took which found nothing new.
 pub(crate) fn measured_read<R: Clock>(rt: &R, alloc: Global) -> Result<Shown> {
     let mut times = Times::new(alloc, ROUNDS)?;
     for _ in 0..ROUNDS {
-        let (desk, mut passes) = open(alloc, 1, 1, READS)?;
-        let start = Instant::now(rt)?;
-        read_first(&desk, passes.as_mut_slice());
-        times.add(start.elapsed(rt)?)?;
+        read_round(rt, alloc, &mut times)?;
     }
-    Ok(times.a_part(READS)?)
+    Ok(times.a_part(READS))
 }

@@ -58,7 +58,14 @@ fn step(alloc: Global, k: u16) -> Result<Json, AllocError> {
         json!(in alloc; ["complete", stage, k])
     } else if k == SOURCES {
         json!(in alloc; ["work"])
-    } else if k % 2 == 0 {
+    } else {
+        question(alloc, k, stage)
+    }
+}
+
+/// Step `k`, which asks for what a stage has.
+fn question(alloc: Global, k: u16, stage: u16) -> Result<Json, AllocError> {
+    if k % 2 == 0 {
         json!(in alloc; ["now", stage, -1i8])
     } else {
         json!(in alloc; ["outcome", stage])
@@ -93,29 +100,44 @@ pub(crate) fn report_checksum(alloc: Global, text: &str) -> Result<u64> {
     Ok(sum)
 }
 
+/// Reads the bytes as JSON and lets the value go again. It says whether they are JSON.
+fn is_json(alloc: Global, text: &str) -> bool {
+    let json = Json::from_slice(alloc, text.as_bytes());
+    json.is_ok()
+}
+
+/// A round of JSON.
+fn json_round<R: Clock>(rt: &R, alloc: Global, text: &str, times: &mut Times) -> Result<()> {
+    let start = Instant::now(rt)?;
+    let read = is_json(alloc, text);
+    times.add_since(rt, start)?;
+    if !read {
+        return Err(anyhow!("the bytes are no JSON"));
+    }
+    Ok(())
+}
+
 /// What reading the bytes as JSON and letting the value go again took.
 pub(crate) fn measured_json<R: Clock>(rt: &R, alloc: Global, text: &str) -> Result<Shown> {
     let mut times = Times::new(alloc, ROUNDS)?;
     for _ in 0..ROUNDS {
-        let start = Instant::now(rt)?;
-        let json = Json::from_slice(alloc, text.as_bytes());
-        let read = json.is_ok();
-        drop(json);
-        times.add(start.elapsed(rt)?)?;
-        if !read {
-            return Err(anyhow!("the bytes are no JSON"));
-        }
+        json_round(rt, alloc, text, &mut times)?;
     }
-    Ok(times.a_part(1)?)
+    Ok(times.a_part(1))
+}
+
+/// A round of the script.
+fn script_round<R: Clock>(rt: &R, alloc: Global, text: &str, times: &mut Times) -> Result<()> {
+    let start = Instant::now(rt)?;
+    report(alloc, text)?;
+    times.add_since(rt, start)
 }
 
 /// What running the script took.
 pub(crate) fn measured_script<R: Clock>(rt: &R, alloc: Global, text: &str) -> Result<Shown> {
     let mut times = Times::new(alloc, ROUNDS)?;
     for _ in 0..ROUNDS {
-        let start = Instant::now(rt)?;
-        report(alloc, text)?;
-        times.add(start.elapsed(rt)?)?;
+        script_round(rt, alloc, text, &mut times)?;
     }
-    Ok(times.a_part(1)?)
+    Ok(times.a_part(1))
 }

@@ -20,13 +20,14 @@ pub(crate) enum Shape {
 
 impl fmt::Display for Shape {
     fn fmt<W: fmt::Write>(&self, f: &mut fmt::Formatter<W>) -> fmt::Result {
-        match self {
-            Shape::Chain => write!(f, "chain"),
-            Shape::FailedChain => write!(f, "failed chain"),
-            Shape::FanOut => write!(f, "fan-out"),
-            Shape::CombineTree => write!(f, "combine tree"),
-            Shape::AllOf => write!(f, "allOf"),
-        }
+        let name = match self {
+            Shape::Chain => "chain",
+            Shape::FailedChain => "failed chain",
+            Shape::FanOut => "fan-out",
+            Shape::CombineTree => "combine tree",
+            Shape::AllOf => "allOf",
+        };
+        write!(f, "{name}")
     }
 }
 

@@ -2,7 +2,7 @@
 use anyhow::Result;
 use std::alloc::{AllocError, Global};
 use std::fmt;
-use std::time::Duration;
+use std::time::{Clock, Duration, Instant};
 
 /// How long each round took, in nanoseconds.
 #[derive(Drop)]
@@ -24,15 +24,21 @@ impl Times {
         Ok(self.rounds.push(nanos)?)
     }
 
+    /// One more round, from when it began until now.
+    pub(crate) fn add_since<R: Clock>(&mut self, rt: &R, start: Instant) -> Result<()> {
+        let took = start.elapsed(rt)?;
+        Ok(self.add(took)?)
+    }
+
     /// The best and the median of the rounds, each of which did so many parts of work.
-    pub(crate) fn a_part(mut self, parts: u16) -> Result<Shown, AllocError> {
-        self.rounds.sort()?;
+    pub(crate) fn a_part(&mut self, parts: u16) -> Shown {
+        self.rounds.sort_unstable();
         let rounds = self.rounds.len();
-        Ok(Shown {
+        Shown {
             best: self.picos(0, parts),
             median: self.picos(rounds / 2, parts),
             rounds,
-        })
+        }
     }
 
     /// The picoseconds a part of the round at this place, 0 where there is none.
