@@ -3,23 +3,14 @@ ghost use Rattle.std.specs.Prelude.{◌<◌};
 
 use crate::both::{answer, assert_alike, nudge};
 use crate::calls::{call_of, caller_of, finishing};
-use crate::plans::{FORMS, Takes, choice_of, larger_plan, numbers_of};
-use cf_core::{Attached, Event, Graph, Reply};
-use cf_outcome::Value;
+use crate::plans::{New, larger_plan, new_choice, new_of, numbers_of, two_sources};
+use cf_core::{Attached, Event, Graph, GraphFault, Reply};
 use cf_plain::Plain;
-use cf_plan::{Form, LimitKind, Of, Plan, PlanBuilder};
+use cf_plan::{Of, Plan, PlanFault};
 use rand_core::Rng;
 use std::alloc::Global;
 use std::process::Abort;
 use std::test::Fail;
-
-/// A stage to be attached.
-#[derive(Clone, Copy)]
-struct New {
-    form: Form,
-    of: Of,
-    function: Option<u16>,
-}
 
 /// How many lists of calls are run on each two attached stages, and how many calls each has.
 const LISTS: u32 = 2;
@@ -31,12 +22,23 @@ const PLANS: u32 = 2000;
 
 const LARGER_CALLS: u32 = 40;
 
-/// Both graphs of a plan, with room for so many stages.
-fn both_of(rt: &impl Abort, alloc: Global, plan: &Plan, room: u16) -> Result<(Graph, Plain), Fail> {
+/// The graph of a plan that is given away, with room for so many stages.
+fn graph_from(rt: &impl Abort, alloc: Global, plan: Plan, room: u16) -> Result<Graph, GraphFault> {
     assert!(rt; plan.stages() <= 4080 && plan.edges() <= 16352 && room <= 16);
-    let graph = Graph::new_growing(alloc, plan.copy()?, room)?;
-    let plain = Plain::start_growing(alloc, plan.copy()?, room)?;
-    Ok((graph, plain))
+    Graph::new_growing(alloc, plan, room)
+}
+
+/// The graph of a plan, with room for so many stages.
+fn graph_of(rt: &impl Abort, alloc: Global, plan: &Plan, room: u16) -> Result<Graph, Fail> {
+    let plan = plan.copy()?;
+    Ok(graph_from(rt, alloc, plan, room)?)
+}
+
+/// The plain graph of a plan, with room for so many stages.
+fn plain_of(rt: &impl Abort, alloc: Global, plan: &Plan, room: u16) -> Result<Plain, Fail> {
+    let plan = plan.copy()?;
+    assert!(rt; plan.stages() <= 4080 && plan.edges() <= 16352 && room <= 16);
+    Ok(Plain::start_growing(alloc, plan, room)?)
 }
 
 /// Attaches a stage to both, and says what was answered.
@@ -98,29 +100,104 @@ fn nudged_call(
     Ok(())
 }
 
-/// Two sources with a limit each.
-fn two_sources(alloc: Global) -> Result<Plan, Fail> {
-    let mut builder = PlanBuilder::new(alloc);
-    builder.stage(Form::Source, &[], None)?;
-    builder.stage(Form::Source, &[], None)?;
-    builder.limit(0, 1, LimitKind::Give(Value::Int(9)))?;
-    builder.limit(1, 2, LimitKind::Timeout)?;
-    Ok(builder.build()?)
+/// A stage that is attached to both before the call of this step, and what is answered.
+#[derive(Clone, Copy)]
+struct Due {
+    step: u32,
+    new: New,
+    told: Attached,
 }
 
-/// The stage of a form whose sources are the choice with this number among `k` stages, if there is such a choice.
-fn new_choice(form: usize, k: u16, choice: u16) -> Option<New> {
-    if form >= 19 {
-        return None;
+/// Attaches a stage to both, which is answered so.
+fn attach_told(
+    rt: &impl Abort,
+    alloc: Global,
+    graph: &mut Graph,
+    plain: &mut Plain,
+    due: Due,
+) -> Result<(), Fail> {
+    let told = attach_to_both(rt, alloc, graph, plain, due.new)?;
+    assert_eq!(rt; told, due.told);
+    Ok(())
+}
+
+/// Attaches the stages of this step.
+fn attach_due(
+    rt: &impl Abort,
+    alloc: Global,
+    graph: &mut Graph,
+    plain: &mut Plain,
+    dues: &[Due],
+    step: u32,
+) -> Result<(), Fail> {
+    for due in dues {
+        if due.step == step {
+            attach_told(rt, alloc, graph, plain, *due)?;
+        }
     }
-    let (form, takes, called) = FORMS[form];
-    let of = choice_of(takes, k, choice)?;
-    let function = if called { Some(0) } else { None };
-    Some(New { form, of, function })
+    Ok(())
+}
+
+/// Lets the graph take up to three turns, attaches the stages of this step, and does the call of a number.
+fn do_step(
+    rt: &impl Abort,
+    alloc: Global,
+    graph: &mut Graph,
+    plain: &mut Plain,
+    dues: &[Due],
+    step: u32,
+    x: u32,
+) -> Result<(), Fail> {
+    nudge(rt, graph, x >> 16 & 3);
+    attach_due(rt, alloc, graph, plain, dues, step)?;
+    nudged_call(rt, alloc, graph, plain, x)
+}
+
+/// The two stages, each before a step by the bits of a number, and the first once more behind all steps, when there is no
+/// room.
+fn dues_of(news: [New; 2], x: u32) -> [Due; 3] {
+    let first = x >> 29;
+    let second = first + 1 + (x >> 27 & 3);
+    let [new, other] = news;
+    [
+        Due {
+            step: first,
+            new,
+            told: Attached::At(2),
+        },
+        Due {
+            step: second,
+            new: other,
+            told: Attached::At(3),
+        },
+        Due {
+            step: CALLS,
+            new,
+            told: Attached::StagesFull,
+        },
+    ]
 }
 
 /// Does one list of calls on both, and attaches two stages in between, for which there is room, and then one for which
 /// there is none.
+fn do_steps(
+    rt: &impl Abort,
+    alloc: Global,
+    graph: &mut Graph,
+    plain: &mut Plain,
+    news: [New; 2],
+    list: u32,
+) -> Result<(), Fail> {
+    let mut numbers = numbers_of(list);
+    let dues = dues_of(news, numbers.next_u32());
+    for step in 0..CALLS {
+        let x = numbers.next_u32();
+        do_step(rt, alloc, graph, plain, &dues, step, x)?;
+    }
+    attach_due(rt, alloc, graph, plain, &dues, CALLS)
+}
+
+/// Does so on new graphs of a plan, and looks at all stages at the end.
 fn compare_attached(
     rt: &impl Abort,
     alloc: Global,
@@ -128,42 +205,40 @@ fn compare_attached(
     news: [New; 2],
     list: u32,
 ) -> Result<(), Fail> {
-    let (mut graph, mut plain) = both_of(rt, alloc, plan, 2)?;
-    let mut numbers = numbers_of(list);
-    let x = numbers.next_u32();
-    let first = x >> 29;
-    let second = first + 1 + (x >> 27 & 3);
-    for step in 0..CALLS {
-        let x = numbers.next_u32();
-        nudge(rt, &mut graph, x >> 16 & 3);
-        if step == first {
-            let told = attach_to_both(rt, alloc, &mut graph, &mut plain, news[0])?;
-            assert_eq!(rt; told, Attached::At(2));
-        } else if step == second {
-            let told = attach_to_both(rt, alloc, &mut graph, &mut plain, news[1])?;
-            assert_eq!(rt; told, Attached::At(3));
-        }
-        nudged_call(rt, alloc, &mut graph, &mut plain, x)?;
-    }
-    let told = attach_to_both(rt, alloc, &mut graph, &mut plain, news[0])?;
-    assert_eq!(rt; told, Attached::StagesFull);
+    let mut graph = graph_of(rt, alloc, plan, 2)?;
+    let mut plain = plain_of(rt, alloc, plan, 2)?;
+    do_steps(rt, alloc, &mut graph, &mut plain, news, list)?;
     assert_alike(rt, &mut graph, &plain, 4);
     Ok(())
 }
 
-/// Compares a pair of attached stages by so many lists, of which so many were done before, if there is such a second one.
+/// Compares a pair of attached stages by so many lists, of which so many were done before.
 fn compare_pair(
     rt: &impl Abort,
     alloc: Global,
     plan: &Plan,
-    first: New,
-    second: Option<New>,
+    news: [New; 2],
     mut pairs: u32,
 ) -> Result<u32, Fail> {
-    if let Some(second) = second {
-        for _ in 0..LISTS {
-            pairs = pairs.wrapping_add(1);
-            compare_attached(rt, alloc, plan, [first, second], pairs)?;
+    for _ in 0..LISTS {
+        pairs = pairs.wrapping_add(1);
+        compare_attached(rt, alloc, plan, news, pairs)?;
+    }
+    Ok(pairs)
+}
+
+/// Compares this first stage with each second one of this form.
+fn compare_second(
+    rt: &impl Abort,
+    alloc: Global,
+    plan: &Plan,
+    first: New,
+    form: usize,
+    mut pairs: u32,
+) -> Result<u32, Fail> {
+    for choice in 0..13 {
+        if let Some(second) = new_choice(form, 3, choice) {
+            pairs = compare_pair(rt, alloc, plan, [first, second], pairs)?;
         }
     }
     Ok(pairs)
@@ -177,9 +252,23 @@ fn compare_behind(
     first: New,
     mut pairs: u32,
 ) -> Result<u32, Fail> {
-    for other in 0..19 {
-        for choice in 0..13 {
-            pairs = compare_pair(rt, alloc, plan, first, new_choice(other, 3, choice), pairs)?;
+    for form in 0..19 {
+        pairs = compare_second(rt, alloc, plan, first, form, pairs)?;
+    }
+    Ok(pairs)
+}
+
+/// Compares each first stage of this form with each second one.
+fn compare_first(
+    rt: &impl Abort,
+    alloc: Global,
+    plan: &Plan,
+    form: usize,
+    mut pairs: u32,
+) -> Result<u32, Fail> {
+    for choice in 0..7 {
+        if let Some(first) = new_choice(form, 2, choice) {
+            pairs = compare_behind(rt, alloc, plan, first, pairs)?;
         }
     }
     Ok(pairs)
@@ -190,11 +279,7 @@ fn two_stages_are_attached(rt: HostRuntime) -> Result<(), Fail> {
     let plan = two_sources(rt.alloc())?;
     let mut pairs: u32 = 0;
     for form in 0..19 {
-        for choice in 0..7 {
-            if let Some(first) = new_choice(form, 2, choice) {
-                pairs = compare_behind(&rt, rt.alloc(), &plan, first, pairs)?;
-            }
-        }
+        pairs = compare_first(&rt, rt.alloc(), &plan, form, pairs)?;
     }
     assert_eq!(rt; pairs, 12198);
     Ok(())
@@ -208,29 +293,18 @@ struct Seen {
     full: u32,
 }
 
-/// The stage of a number over lower ones, and the place of its form.
-fn new_of(x: u32, stages: u16) -> (u32, New) {
-    let place = (x >> 3) % 19;
-    let (form, takes, called) = FORMS[place as usize];
-    let below = if stages == 0 { 1 } else { stages };
-    let a = (x >> 20) as u16 % below;
-    let b = (x >> 12 & 255) as u16 % below;
-    let of = of_takes(takes, a, b, x >> 10 & 3);
-    let function = if called { Some(0) } else { None };
-    (place, New { form, of, function })
-}
-
-/// As many of two sources as a form takes, or so many where it takes any.
-fn of_takes(takes: Takes, a: u16, b: u16, many: u32) -> Of {
-    match takes {
-        Takes::None => Of::None,
-        Takes::One => Of::One(a),
-        Takes::Two => Of::Two(a, b),
-        Takes::Any => match many {
-            0 => Of::None,
-            1 => Of::One(a),
-            _ => Of::Two(a, b),
-        },
+/// Keeps that a stage of the form at this place was attached, or that there was no room.
+fn see(seen: &mut Seen, told: Attached, kind: usize, place: u32)
+    requires { kind < 4 }
+{
+    match told {
+        Attached::At(_) => {
+            seen.forms[kind] |= 1 << (place % 19);
+            seen.attached = seen.attached.wrapping_add(1);
+        }
+        Attached::StagesFull => {
+            seen.full = seen.full.wrapping_add(1);
+        }
     }
 }
 
@@ -270,19 +344,62 @@ fn attach_by(
 ) -> Result<(), Fail> {
     let (place, new) = new_of(x, graph.stages());
     let kind = kind_of(plain, new.of);
-    match attach_to_both(rt, alloc, graph, plain, new)? {
-        Attached::At(_) => {
-            seen.forms[kind] |= 1 << (place % 19);
-            seen.attached = seen.attached.wrapping_add(1);
-        }
-        Attached::StagesFull => {
-            seen.full = seen.full.wrapping_add(1);
-        }
+    let told = attach_to_both(rt, alloc, graph, plain, new)?;
+    see(seen, told, kind, place);
+    Ok(())
+}
+
+/// Attaches the stages of some numbers to both.
+fn attach_at_times(
+    rt: &impl Abort,
+    alloc: Global,
+    graph: &mut Graph,
+    plain: &mut Plain,
+    seen: &mut Seen,
+    x: u32,
+) -> Result<(), Fail> {
+    if x >> 28 < 3 {
+        attach_by(rt, alloc, graph, plain, seen, x)
+    } else {
+        Ok(())
+    }
+}
+
+/// Lets the graph take up to three turns, attaches the stage of a number at times, and does the call of another.
+fn grow(
+    rt: &impl Abort,
+    alloc: Global,
+    graph: &mut Graph,
+    plain: &mut Plain,
+    seen: &mut Seen,
+    x: u32,
+    y: u32,
+) -> Result<(), Fail> {
+    nudge(rt, graph, x >> 9 & 3);
+    attach_at_times(rt, alloc, graph, plain, seen, x)?;
+    nudged_call(rt, alloc, graph, plain, y)
+}
+
+/// Does one list of calls on both, between which stages are attached.
+fn grow_all(
+    rt: &impl Abort,
+    alloc: Global,
+    graph: &mut Graph,
+    plain: &mut Plain,
+    seen: &mut Seen,
+    number: u32,
+) -> Result<(), Fail> {
+    let mut numbers = numbers_of(number);
+    for _ in 0..LARGER_CALLS {
+        let x = numbers.next_u32();
+        let y = numbers.next_u32();
+        grow(rt, alloc, graph, plain, seen, x, y)?;
     }
     Ok(())
 }
 
-/// Does one list of calls on both, between which stages are attached, more than there is room for in some.
+/// Does so on new graphs of a plan, in some of which there is less room than stages that are attached, and looks at all
+/// stages at the end.
 fn compare_growing(
     rt: &impl Abort,
     alloc: Global,
@@ -290,19 +407,30 @@ fn compare_growing(
     seen: &mut Seen,
     number: u32,
 ) -> Result<(), Fail> {
-    let (mut graph, mut plain) = both_of(rt, alloc, plan, (number % 9) as u16)?;
-    let mut numbers = numbers_of(number);
-    for _ in 0..LARGER_CALLS {
-        let x = numbers.next_u32();
-        nudge(rt, &mut graph, x >> 9 & 3);
-        if x >> 28 < 3 {
-            attach_by(rt, alloc, &mut graph, &mut plain, seen, x)?;
-        }
-        let x = numbers.next_u32();
-        nudged_call(rt, alloc, &mut graph, &mut plain, x)?;
-    }
+    let room = (number % 9) as u16;
+    let mut graph = graph_of(rt, alloc, plan, room)?;
+    let mut plain = plain_of(rt, alloc, plan, room)?;
+    grow_all(rt, alloc, &mut graph, &mut plain, seen, number)?;
     let stages = graph.stages();
     assert_alike(rt, &mut graph, &plain, stages);
+    Ok(())
+}
+
+/// Two sources, or the larger plan of an odd number.
+fn plan_by(alloc: Global, number: u32) -> Result<Plan, PlanFault> {
+    if number & 1 == 0 {
+        two_sources(alloc)
+    } else {
+        larger_plan(alloc, number)
+    }
+}
+
+/// Compares on all plans.
+fn compare_plans(rt: &impl Abort, alloc: Global, seen: &mut Seen) -> Result<(), Fail> {
+    for number in 0..PLANS {
+        let plan = plan_by(alloc, number)?;
+        compare_growing(rt, alloc, &plan, seen, number)?;
+    }
     Ok(())
 }
 
@@ -313,15 +441,7 @@ fn stages_are_attached_by_rule(rt: HostRuntime) -> Result<(), Fail> {
         attached: 0,
         full: 0,
     };
-    let small = two_sources(rt.alloc())?;
-    for number in 0..PLANS {
-        let plan = if number & 1 == 0 {
-            small.copy()?
-        } else {
-            larger_plan(rt.alloc(), number)?
-        };
-        compare_growing(&rt, rt.alloc(), &plan, &mut seen, number)?;
-    }
+    compare_plans(&rt, rt.alloc(), &mut seen)?;
     assert_eq!(rt; seen.forms, [0x30007, 0x7fff8, 0x30fc0, 0x7fff8]);
     assert_eq!(rt; (seen.attached, seen.full), (7439, 7664));
     Ok(())

@@ -1,8 +1,8 @@
 //! Graphs whose stages are all there at the opening.
 use crate::both::{answer, assert_alike, nudge};
 use crate::calls::call_of;
-use crate::plans::{larger_plan, numbers_of, plan_of};
-use cf_core::Graph;
+use crate::plans::{New, larger_plan, new_choice, numbers_of, plan_of};
+use cf_core::{Graph, GraphFault};
 use cf_plain::Plain;
 use cf_plan::Plan;
 use rand_core::Rng;
@@ -20,6 +20,60 @@ const LARGER_PLANS: u32 = 4000;
 
 const LARGER_CALLS: u32 = 32;
 
+/// The graph of a plan that is given away.
+fn graph_from(alloc: Global, plan: Plan) -> Result<Graph, GraphFault> {
+    Graph::new(alloc, plan)
+}
+
+/// The graph of a plan.
+fn graph_of(alloc: Global, plan: &Plan) -> Result<Graph, Fail> {
+    let plan = plan.copy()?;
+    Ok(graph_from(alloc, plan)?)
+}
+
+/// The plain graph of a plan.
+fn plain_of(alloc: Global, plan: &Plan) -> Result<Plain, Fail> {
+    Ok(Plain::start(alloc, plan.copy()?)?)
+}
+
+/// Lets the graph take up to three turns, does the call of a number on both, and looks at all stages now and then.
+fn call_both(
+    rt: &impl Abort,
+    alloc: Global,
+    graph: &mut Graph,
+    plain: &mut Plain,
+    x: u32,
+) -> Result<(), Fail> {
+    let stages = graph.stages();
+    nudge(rt, graph, x >> 9 & 3);
+    answer(rt, alloc, graph, plain, call_of(stages, x))?;
+    if x >> 30 == 0 {
+        assert_alike(rt, graph, plain, stages);
+    }
+    Ok(())
+}
+
+/// Does a list of calls on both.
+fn call_all(
+    rt: &impl Abort,
+    alloc: Global,
+    graph: &mut Graph,
+    plain: &mut Plain,
+    list: u32,
+    calls: u32,
+) -> Result<(), Fail> {
+    let mut numbers = numbers_of(list);
+    for _ in 0..calls {
+        call_both(rt, alloc, graph, plain, numbers.next_u32())?;
+    }
+    Ok(())
+}
+
+/// Whether the graph of a plan has taken no more turns than there may be.
+fn is_within(graph: &Graph, plan: &Plan) -> bool {
+    graph.turns() <= plan.edges() as u64 + plan.stages() as u64
+}
+
 /// Does one list of calls on both, counts the replies that were compared, and looks at all stages now and then and at the
 /// end.
 fn compare(
@@ -29,91 +83,121 @@ fn compare(
     list: u32,
     calls: u32,
 ) -> Result<u32, Fail> {
-    let stages = plan.stages();
-    let bound = plan.edges() as u64 + stages as u64;
-    let mut graph = Graph::new(alloc, plan.copy()?)?;
-    let mut plain = Plain::start(alloc, plan.copy()?)?;
-    let mut numbers = numbers_of(list);
-    for _ in 0..calls {
-        let x = numbers.next_u32();
-        nudge(rt, &mut graph, x >> 9 & 3);
-        answer(rt, alloc, &mut graph, &mut plain, call_of(stages, x))?;
-        if x >> 30 == 0 {
-            assert_alike(rt, &mut graph, &plain, stages);
-        }
-    }
-    assert_alike(rt, &mut graph, &plain, stages);
-    assert!(rt; graph.turns() <= bound);
+    let mut graph = graph_of(alloc, plan)?;
+    let mut plain = plain_of(alloc, plan)?;
+    call_all(rt, alloc, &mut graph, &mut plain, list, calls)?;
+    assert_alike(rt, &mut graph, &plain, plan.stages());
+    assert!(rt; is_within(&graph, plan));
     Ok(calls)
 }
 
-/// Runs all lists on one plan, each plan with lists of its own.
-fn compare_all(rt: &impl Abort, alloc: Global, plan: &Plan, number: u32) -> Result<u32, Fail> {
-    let mut replies: u32 = 0;
-    for list in 0..LISTS {
-        replies = replies.wrapping_add(compare(
-            rt,
-            alloc,
-            plan,
-            number.wrapping_mul(LISTS).wrapping_add(list),
-            CALLS,
-        )?);
-    }
-    Ok(replies)
-}
-
-#[test]
-fn one_stage_over_two_sources(rt: HostRuntime) -> Result<(), Fail> {
-    let mut plans: u32 = 0;
-    let mut replies: u32 = 0;
-    for form in 0..19 {
-        for choice in 0..7 {
-            if let Some(plan) = plan_of(rt.alloc(), (form, choice), None)? {
-                plans = plans.wrapping_add(1);
-                replies = replies.wrapping_add(compare_all(&rt, rt.alloc(), &plan, plans)?);
-            }
-        }
-    }
-    assert_eq!(rt; plans, 57);
-    assert_eq!(rt; replies, 3648);
-    Ok(())
-}
-
 /// How many plans there were, and how many replies were compared.
-#[derive(Clone, Copy)]
+#[derive(Clone, Copy, Debug, PartialEq, Eq)]
 struct Counts {
     plans: u32,
     replies: u32,
 }
 
-/// Runs all lists on the plan of two such stages, if there is one.
-fn compare_two(
+/// Counts one plan more, and runs all lists on it, each plan with lists of its own.
+fn compare_all(
     rt: &impl Abort,
     alloc: Global,
-    first: (usize, u16),
-    second: (usize, u16),
+    plan: &Plan,
     counts: Counts,
 ) -> Result<Counts, Fail> {
-    let Some(plan) = plan_of(alloc, first, Some(second))? else {
-        return Ok(counts);
-    };
     let plans = counts.plans.wrapping_add(1);
-    let replies = counts
-        .replies
-        .wrapping_add(compare_all(rt, alloc, &plan, plans)?);
+    let mut replies = counts.replies;
+    for list in 0..LISTS {
+        let number = plans.wrapping_mul(LISTS).wrapping_add(list);
+        replies = replies.wrapping_add(compare(rt, alloc, plan, number, CALLS)?);
+    }
     Ok(Counts { plans, replies })
+}
+
+/// Runs all lists on the plan of these stages.
+fn compare_stages(
+    rt: &impl Abort,
+    alloc: Global,
+    news: &[New],
+    counts: Counts,
+) -> Result<Counts, Fail> {
+    let plan = plan_of(alloc, news)?;
+    compare_all(rt, alloc, &plan, counts)
+}
+
+/// Runs all lists on the plans of one stage of this form.
+fn compare_form(
+    rt: &impl Abort,
+    alloc: Global,
+    form: usize,
+    mut counts: Counts,
+) -> Result<Counts, Fail> {
+    for choice in 0..7 {
+        if let Some(new) = new_choice(form, 2, choice) {
+            counts = compare_stages(rt, alloc, &[new], counts)?;
+        }
+    }
+    Ok(counts)
+}
+
+const NONE: Counts = Counts {
+    plans: 0,
+    replies: 0,
+};
+
+#[test]
+fn one_stage_over_two_sources(rt: HostRuntime) -> Result<(), Fail> {
+    let mut counts = NONE;
+    for form in 0..19 {
+        counts = compare_form(&rt, rt.alloc(), form, counts)?;
+    }
+    let wanted = Counts {
+        plans: 57,
+        replies: 3648,
+    };
+    assert_eq!(rt; counts, wanted);
+    Ok(())
+}
+
+/// Runs all lists on the plans of this first stage and each second one of this form.
+fn compare_second(
+    rt: &impl Abort,
+    alloc: Global,
+    first: New,
+    form: usize,
+    mut counts: Counts,
+) -> Result<Counts, Fail> {
+    for choice in 0..13 {
+        if let Some(second) = new_choice(form, 3, choice) {
+            counts = compare_stages(rt, alloc, &[first, second], counts)?;
+        }
+    }
+    Ok(counts)
 }
 
 /// Runs all lists on the plans of this first stage and each second one.
 fn compare_behind(
     rt: &impl Abort,
     alloc: Global,
-    first: (usize, u16),
+    first: New,
     mut counts: Counts,
 ) -> Result<Counts, Fail> {
-    for second in 0..19 {
-        for other in 0..13 {
-            counts = compare_two(rt, alloc, first, (second, other), counts)?;
+    for form in 0..19 {
+        counts = compare_second(rt, alloc, first, form, counts)?;
+    }
+    Ok(counts)
+}
+
+/// Runs all lists on the plans of a first stage of this form and each second one.
+fn compare_first(
+    rt: &impl Abort,
+    alloc: Global,
+    form: usize,
+    mut counts: Counts,
+) -> Result<Counts, Fail> {
+    for choice in 0..7 {
+        if let Some(first) = new_choice(form, 2, choice) {
+            counts = compare_behind(rt, alloc, first, counts)?;
         }
     }
     Ok(counts)
@@ -121,25 +205,28 @@ fn compare_behind(
 
 #[test]
 fn two_stages_over_two_sources(rt: HostRuntime) -> Result<(), Fail> {
-    let mut counts = Counts {
-        plans: 0,
-        replies: 0,
-    };
-    for first in 0..19 {
-        for choice in 0..7 {
-            counts = compare_behind(&rt, rt.alloc(), (first, choice), counts)?;
-        }
+    let mut counts = NONE;
+    for form in 0..19 {
+        counts = compare_first(&rt, rt.alloc(), form, counts)?;
     }
-    assert_eq!(rt; counts.plans, 6099);
-    assert_eq!(rt; counts.replies, 390336);
+    let wanted = Counts {
+        plans: 6099,
+        replies: 390336,
+    };
+    assert_eq!(rt; counts, wanted);
     Ok(())
+}
+
+/// Does a list of calls on the larger plan of a number.
+fn compare_larger(rt: &impl Abort, alloc: Global, number: u32) -> Result<u32, Fail> {
+    let plan = larger_plan(alloc, number)?;
+    compare(rt, alloc, &plan, number, LARGER_CALLS)
 }
 
 #[test]
 fn larger_plans(rt: HostRuntime) -> Result<(), Fail> {
     for number in 0..LARGER_PLANS {
-        let plan = larger_plan(rt.alloc(), number)?;
-        compare(&rt, rt.alloc(), &plan, number, LARGER_CALLS)?;
+        compare_larger(&rt, rt.alloc(), number)?;
     }
     Ok(())
 }

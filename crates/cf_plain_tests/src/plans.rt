@@ -1,10 +1,9 @@
 //! Plans that are made by rule, small ones of each choice of forms and sources, and larger ones by random numbers.
 use cf_outcome::Value;
-use cf_plan::{Form, LimitKind, Of, Plan, PlanBuilder};
+use cf_plan::{Form, LimitKind, Of, Plan, PlanBuilder, PlanFault};
 use rand_core::{Rng, SeedableRng};
 use rand_pcg::Pcg32;
 use std::alloc::Global;
-use std::test::Fail;
 
 /// How many sources a form takes.
 #[derive(Clone, Copy)]
@@ -16,7 +15,7 @@ pub(crate) enum Takes {
 }
 
 /// Each form, how many sources it takes, and whether it has a function.
-pub(crate) const FORMS: [(Form, Takes, bool); 19] = [
+const FORMS: [(Form, Takes, bool); 19] = [
     (Form::Source, Takes::None, false),
     (Form::Supply, Takes::None, true),
     (Form::RunAsync, Takes::None, true),
@@ -56,45 +55,103 @@ pub(crate) fn choice_of(takes: Takes, k: u16, choice: u16) -> Option<Of> {
     }
 }
 
-/// Adds a stage whose sources are the choice with this number among `k` lower stages, if there is such a choice.
-fn add_choice(
-    builder: &mut PlanBuilder,
-    stage: (Form, Takes, bool),
-    k: u16,
-    choice: u16,
-) -> Result<bool, Fail> {
-    let (form, takes, called) = stage;
-    let function = if called { Some(0) } else { None };
-    match choice_of(takes, k, choice) {
-        None => return Ok(false),
-        Some(Of::None) => builder.stage(form, &[], function)?,
-        Some(Of::One(a)) => builder.stage(form, &[a], function)?,
-        Some(Of::Two(a, b)) => builder.stage(form, &[a, b], function)?,
-    };
-    Ok(true)
+/// A stage that is added to a plan, or attached to a graph.
+#[derive(Clone, Copy)]
+pub(crate) struct New {
+    pub(crate) form: Form,
+    pub(crate) of: Of,
+    pub(crate) function: Option<u16>,
 }
 
-/// Two sources, a stage, maybe a second one, and three limits.
-pub(crate) fn plan_of(
-    alloc: Global,
-    first: (usize, u16),
-    second: Option<(usize, u16)>,
-) -> Result<Option<Plan>, Fail> {
+/// The function of a stage, if its form has one.
+fn function_of(called: bool) -> Option<u16> {
+    if called { Some(0) } else { None }
+}
+
+/// The stage of a form whose sources are the choice with this number among `k` stages, if there is such a choice.
+pub(crate) fn new_choice(form: usize, k: u16, choice: u16) -> Option<New> {
+    if form >= 19 {
+        return None;
+    }
+    let (form, takes, called) = FORMS[form];
+    let of = choice_of(takes, k, choice)?;
+    let function = function_of(called);
+    Some(New { form, of, function })
+}
+
+/// As many of two sources as a form takes, or so many where it takes any.
+fn of_takes(takes: Takes, a: u16, b: u16, many: u32) -> Of {
+    match takes {
+        Takes::None => Of::None,
+        Takes::One => Of::One(a),
+        Takes::Two => Of::Two(a, b),
+        Takes::Any => match many {
+            0 => Of::None,
+            1 => Of::One(a),
+            _ => Of::Two(a, b),
+        },
+    }
+}
+
+/// The stage of a number over lower ones, and the place of its form.
+pub(crate) fn new_of(x: u32, stages: u16) -> (u32, New) {
+    let place = (x >> 3) % 19;
+    let (form, takes, called) = FORMS[place as usize];
+    let below = if stages == 0 { 1 } else { stages };
+    let a = (x >> 20) as u16 % below;
+    let b = (x >> 12 & 255) as u16 % below;
+    let of = of_takes(takes, a, b, x >> 10 & 3);
+    let function = function_of(called);
+    (place, New { form, of, function })
+}
+
+/// Two sources, to which stages are added.
+fn builder_of(alloc: Global) -> Result<PlanBuilder, PlanFault> {
     let mut builder = PlanBuilder::new(alloc);
-    builder.stage(Form::Source, &[], None)?;
-    builder.stage(Form::Source, &[], None)?;
-    if first.0 >= 19 || !add_choice(&mut builder, FORMS[first.0], 2, first.1)? {
-        return Ok(None);
+    for _ in 0..2 {
+        builder.stage(Form::Source, &[], None)?;
     }
-    if let Some((form, choice)) = second {
-        if form >= 19 || !add_choice(&mut builder, FORMS[form], 3, choice)? {
-            return Ok(None);
-        }
+    Ok(builder)
+}
+
+/// The plan that was begun so, with these limits.
+fn limited(mut builder: PlanBuilder, limits: &[(u16, u32, LimitKind)]) -> Result<Plan, PlanFault> {
+    for (stage, at, kind) in limits {
+        builder.limit(*stage, *at, *kind)?;
     }
-    builder.limit(2, 2, LimitKind::Timeout)?;
-    builder.limit(0, 1, LimitKind::Give(Value::Int(9)))?;
-    builder.limit(1, 2, LimitKind::Timeout)?;
-    Ok(Some(builder.build()?))
+    builder.build()
+}
+
+/// Adds a stage.
+fn add(builder: &mut PlanBuilder, new: New) -> Result<u16, PlanFault> {
+    let New { form, of, function } = new;
+    match of {
+        Of::None => builder.stage(form, &[], function),
+        Of::One(a) => builder.stage(form, &[a], function),
+        Of::Two(a, b) => builder.stage(form, &[a, b], function),
+    }
+}
+
+const GIVE: LimitKind = LimitKind::Give(Value::Int(9));
+
+/// Two sources with a limit each.
+pub(crate) fn two_sources(alloc: Global) -> Result<Plan, PlanFault> {
+    let limits = [(0, 1, GIVE), (1, 2, LimitKind::Timeout)];
+    limited(builder_of(alloc)?, &limits)
+}
+
+/// Two sources, these stages, and three limits.
+pub(crate) fn plan_of(alloc: Global, news: &[New]) -> Result<Plan, PlanFault> {
+    let mut builder = builder_of(alloc)?;
+    for new in news {
+        add(&mut builder, *new)?;
+    }
+    let limits = [
+        (2, 2, LimitKind::Timeout),
+        (0, 1, GIVE),
+        (1, 2, LimitKind::Timeout),
+    ];
+    limited(builder, &limits)
 }
 
 /// The stream of random numbers of a list of calls or of a plan, the same each time.
@@ -102,32 +159,35 @@ pub(crate) fn numbers_of(seed: u32) -> Pcg32 {
     Pcg32::seed_from_u64(u64::from(seed))
 }
 
+/// Adds the stage of a number behind `k` lower ones, with up to three sources.
+fn add_by(builder: &mut PlanBuilder, k: u16, x: u32) -> Result<u16, PlanFault> {
+    let (form, takes, called) = FORMS[(x >> 8) as usize % 19];
+    let below = if k == 0 { 1 } else { k };
+    let of = [
+        (x >> 20) as u16 % below,
+        (x >> 24) as u16 % below,
+        (x >> 28) as u16 % below,
+    ];
+    let count = match takes {
+        Takes::None => 0,
+        Takes::One => 1,
+        Takes::Two => 2,
+        Takes::Any => 3,
+    };
+    builder.stage(form, &of[..count], function_of(called))
+}
+
 /// The larger plan of a number: two sources, 6 to 14 stages of all forms over lower ones, and three limits.
-pub(crate) fn larger_plan(alloc: Global, number: u32) -> Result<Plan, Fail> {
-    let mut builder = PlanBuilder::new(alloc);
-    builder.stage(Form::Source, &[], None)?;
-    builder.stage(Form::Source, &[], None)?;
+pub(crate) fn larger_plan(alloc: Global, number: u32) -> Result<Plan, PlanFault> {
+    let mut builder = builder_of(alloc)?;
     let mut numbers = numbers_of(number);
     for k in 2..8 + (number % 9) as u16 {
-        let x = numbers.next_u32();
-        let (form, takes, called) = FORMS[(x >> 8) as usize % 19];
-        let below = if k == 0 { 1 } else { k };
-        let of = [
-            (x >> 20) as u16 % below,
-            (x >> 24) as u16 % below,
-            (x >> 28) as u16 % below,
-        ];
-        let count = match takes {
-            Takes::None => 0,
-            Takes::One => 1,
-            Takes::Two => 2,
-            Takes::Any => 3,
-        };
-        let function = if called { Some(0) } else { None };
-        builder.stage(form, &of[..count], function)?;
+        add_by(&mut builder, k, numbers.next_u32())?;
     }
-    builder.limit(2, 2, LimitKind::Timeout)?;
-    builder.limit(0, 1, LimitKind::Give(Value::Int(9)))?;
-    builder.limit(4, 2, LimitKind::Timeout)?;
-    Ok(builder.build()?)
+    let limits = [
+        (2, 2, LimitKind::Timeout),
+        (0, 1, GIVE),
+        (4, 2, LimitKind::Timeout),
+    ];
+    limited(builder, &limits)
 }
