@@ -5,6 +5,14 @@ use std::alloc::Global;
 /// A stage: its form, its sources and the number of its function.
 pub(crate) type Row<'a> = (Form, &'a [u16], Option<u16>);
 
+/// The stages of a plan.
+#[derive(Clone, Copy)]
+pub(crate) enum Stages<'a> {
+    These(&'a [Row<'a>]),
+    /// So many supplies, each with the function of its number.
+    Supplies(u16),
+}
+
 /// The plan of these stages.
 pub(crate) fn plan_of(alloc: Global, rows: &[Row<'_>]) -> Result<Plan, PlanFault> {
     let mut builder = PlanBuilder::new(alloc);
@@ -21,6 +29,14 @@ pub(crate) fn supplies(alloc: Global, count: u16) -> Result<Plan, PlanFault> {
         builder.stage(Form::Supply, &[], Some(i))?;
     }
     builder.build()
+}
+
+/// The plan that has these stages.
+pub(crate) fn plan_with(alloc: Global, stages: Stages<'_>) -> Result<Plan, PlanFault> {
+    match stages {
+        Stages::These(rows) => plan_of(alloc, rows),
+        Stages::Supplies(count) => supplies(alloc, count),
+    }
 }
 
 /// So many sources.

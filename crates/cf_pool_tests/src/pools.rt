@@ -4,11 +4,13 @@ ghost use Rattle.cf_desk.specs.Views.{IsOf};
 ghost use Rattle.cf_plan.specs.Plans.{edges_of, with_room};
 ghost use Rattle.cf_pool.specs.Races.{AreSteps};
 
+use crate::ends::Ended;
+use crate::plans::{Stages, plan_with};
 use cf_core::{Event, Graph};
-use cf_desk::{Closed, Desk, Pass};
+use cf_desk::{Closed, Desk, DeskFault, Pass};
 use cf_outcome::Value;
 use cf_plan::{Answer, Args, Plan, StageFn};
-use cf_pool::{Gate, race, run};
+use cf_pool::{Done, Gate, PoolFault, race, run};
 use std::alloc::Global;
 use std::sync::Wait;
 use std::test::Fail;
@@ -46,21 +48,45 @@ pub(crate) const FUNCTIONS: [Fixed; 4] = [
     },
 ];
 
-/// A desk over a plan for so many workers and their caller.
-pub(crate) fn open(
-    alloc: Global,
-    plan: Plan,
-    workers: u8,
-    log: u16,
-    calls: u16,
-) -> Result<(Desk, Vec<Pass>), Fail>
-    requires { workers ≤ 32 }
-    ensures passes { IfOk result (λ r. All (IsOf r.0) r.1.items × (vec_len r.1 ≡ workers + 1)) }
-    ensures callers { IfOk result (λ r. r.0.setting.callers ≡ workers + 1) }
+/// How a desk for workers and their caller is opened.
+#[derive(Clone, Copy)]
+pub(crate) struct Opening<'a> {
+    pub(crate) stages: Stages<'a>,
+    pub(crate) workers: u8,
+    pub(crate) log: u16,
+    /// How many records each pass has room for.
+    pub(crate) calls: u16,
+    /// The room for stages that are attached, with the number of functions. Where none is given, the desk doesn't grow.
+    pub(crate) room: Option<(u16, u32)>,
+}
+
+/// A desk over so many supplies, with no room for more stages.
+pub(crate) fn over_supplies(count: u16, workers: u8, log: u16, calls: u16) -> Opening<'static>
+    ensures { result.workers ≡ workers }
 {
-    match Desk::open(alloc, plan, workers + 1, log, calls) {
-        Ok(opened) => Ok(opened),
-        Err(_) => Err(Fail::from("the desk was refused")),
+    Opening {
+        stages: Stages::Supplies(count),
+        workers,
+        log,
+        calls,
+        room: None,
+    }
+}
+
+/// The desk that is opened so, with its passes.
+pub(crate) fn open(alloc: Global, opening: Opening<'_>) -> Result<(Desk, Vec<Pass>), Fail>
+    requires { opening.workers ≤ 32 }
+    ensures passes { IfOk result (λ r. All (IsOf r.0) r.1.items × (vec_len r.1 ≡ opening.entry.workers + 1)) }
+    ensures callers { IfOk result (λ r. r.0.setting.callers ≡ opening.entry.workers + 1) }
+{
+    let Opening { log, calls, .. } = opening;
+    let callers = opening.workers + 1;
+    let plan = plan_with(alloc, opening.stages)?;
+    match opening.room {
+        None => Ok(Desk::open(alloc, plan, callers, log, calls)?),
+        Some((room, functions)) => {
+            Ok(Desk::open_growing(alloc, plan, callers, log, calls, room, functions)?)
+        }
     }
 }
 
@@ -76,7 +102,57 @@ pub(crate) fn last_of(desk: &Desk, passes: &mut Vec<Pass>) -> Result<Pass, Fail>
     }
 }
 
-/// The desk that a run of so many workers leaves, where it tells no fault.
+/// The last two passes of a desk.
+fn two_passes(desk: &Desk, mut passes: Vec<Pass>) -> Result<(Pass, Pass), Fail>
+    requires { All (IsOf desk.now) passes.items }
+    ensures { IfOk result (λ r. IsOf desk.now r.0 × IsOf desk.now r.1) }
+{
+    let second = last_of(desk, &mut passes)?;
+    let first = last_of(desk, &mut passes)?;
+    Ok((first, second))
+}
+
+/// The desk that is opened so for one worker, with the passes of the caller and the worker.
+pub(crate) fn open_two(alloc: Global, opening: Opening<'_>) -> Result<(Desk, Pass, Pass), Fail>
+    requires { opening.workers ≡ 1 }
+    ensures passes { IfOk result (λ r. IsOf r.0 r.1 × IsOf r.0 r.2) }
+    ensures callers { IfOk result (λ r. r.0.setting.callers ≡ 2) }
+{
+    let (desk, passes) = open(alloc, opening)?;
+    let (first, second) = two_passes(&desk, passes)?;
+    Ok((desk, first, second))
+}
+
+/// A desk of two callers, closed with their passes.
+fn close_two(alloc: Global, desk: Desk, a: Pass, b: Pass) -> Result<Closed, Fail>
+    requires callers { desk.setting.callers ≡ 2 }
+    requires passes { IsOf desk a × IsOf desk b }
+{
+    let passes = vec![in alloc; a, b]?;
+    Ok(desk.close(passes)?)
+}
+
+/// What work over a desk of two callers came to.
+pub(crate) fn ended_two(
+    alloc: Global,
+    desk: Desk,
+    first: Pass,
+    second: Pass,
+    fault: Option<DeskFault>,
+    done: Option<Done>,
+) -> Result<Ended, Fail>
+    requires callers { desk.setting.callers ≡ 2 }
+    requires passes { IsOf desk first × IsOf desk second }
+{
+    let closed = close_two(alloc, desk, first, second)?;
+    Ok(Ended {
+        fault,
+        done,
+        closed,
+    })
+}
+
+/// What a run of so many workers came to.
 pub(crate) fn ran<R: Threads + Wait + Sync, F: StageFn + Sync, G: Gate + Sync>(
     rt: &R,
     desk: Desk,
@@ -84,14 +160,37 @@ pub(crate) fn ran<R: Threads + Wait + Sync, F: StageFn + Sync, G: Gate + Sync>(
     fns: &[F],
     gate: &G,
     workers: u8,
-) -> Result<Closed, Fail>
+) -> Result<Ended, Fail>
     requires workers { (0 < workers) × (workers ≤ 32) × (desk.setting.callers ≡ workers + 1) }
     requires passes { All (IsOf desk) passes.items × (vec_len passes ≡ workers + 1) }
 {
     match run(rt, desk, passes, fns, gate, workers) {
-        Ok(closed) => Ok(closed),
-        Err(_) => Err(Fail::from("the run was refused")),
+        Ok(closed) => Ok(Ended {
+            fault: None,
+            done: None,
+            closed,
+        }),
+        Err(PoolFault::Desk(fault, closed)) => Ok(Ended {
+            fault: Some(fault),
+            done: None,
+            closed,
+        }),
+        Err(PoolFault::NoMemory) => Err(Fail::from("the run was refused")),
     }
+}
+
+/// What a run of all workers over the desk that is opened so came to.
+pub(crate) fn run_over<R: Threads + Wait + Sync, F: StageFn + Sync, G: Gate + Sync>(
+    rt: &R,
+    alloc: Global,
+    opening: Opening<'_>,
+    fns: &[F],
+    gate: &G,
+) -> Result<Ended, Fail>
+    requires { (0 < opening.workers) × (opening.workers ≤ 32) }
+{
+    let (desk, passes) = open(alloc, opening)?;
+    ran(rt, desk, passes, fns, gate, opening.workers)
 }
 
 /// The graph that a race leaves, where it tells no fault.

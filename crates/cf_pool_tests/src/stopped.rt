@@ -1,18 +1,16 @@
 //! Workers that a full pass or a full log stops, alone and beside others that go on.
-ghost use Rattle.std.specs.Prelude.{◌≡◌, ◌<◌, ◌≤◌};
+ghost use Rattle.std.specs.Prelude.{◌≡◌, ◌≤◌};
 ghost use Rattle.cf_desk.specs.Views.{IsOf};
 
-use crate::attached::{close_two, two_passes, wait_for, work_on};
-use crate::ends::{End, check_ends, gives};
-use crate::plans::supplies;
-use crate::pools::{FUNCTIONS, open};
-use cf_core::{Event, Graph};
-use cf_desk::{Call, Closed, Desk, DeskFault, Pass};
+use crate::attached::{wait_for, work_on};
+use crate::ends::{End, Ended, check_ends, gives};
+use crate::pools::{FUNCTIONS, ended_two, open_two, over_supplies, run_over};
+use cf_core::Event;
+use cf_desk::{Call, Desk, DeskFault, Pass};
 use cf_outcome::Value;
 use cf_plan::Answer;
-use cf_pool::{Done, Gate, NoGate, PoolFault, run, work};
+use cf_pool::{Done, Gate, NoGate, work};
 use std::alloc::Global;
-use std::sync::Wait;
 use std::sync::atomic::{AtomicBool, Ordering};
 use std::test::Fail;
 use std::thread;
@@ -26,22 +24,30 @@ fn fault_of(desk: &Desk, pass: &mut Pass) -> Option<DeskFault>
     work(desk, pass, &FUNCTIONS, &NoGate, 1).err()
 }
 
-/// The fault of caller 0, and what caller 1 did after it, over three supplies, where each pass has room for three records.
-fn work_in_turn(alloc: Global) -> Result<(Option<DeskFault>, Option<Done>, Closed), Fail> {
-    let (desk, passes) = open(alloc, supplies(alloc, 3)?, 1, 30, 3)?;
-    let (mut first, mut second) = two_passes(&desk, passes)?;
+/// Caller 0 works until it is stopped, and caller 1 after it, over three supplies, where each pass has room for three records.
+fn work_in_turn(alloc: Global) -> Result<Ended, Fail> {
+    let (desk, mut first, mut second) = open_two(alloc, over_supplies(3, 1, 30, 3))?;
     let fault = fault_of(&desk, &mut first);
     let done = work_on(&desk, &mut second, &NoGate);
-    Ok((fault, done, close_two(alloc, desk, first, second)?))
+    ended_two(alloc, desk, first, second, fault, done)
+}
+
+/// So many functions were run, and all of their finishes won.
+pub(crate) fn all_won(run: u32) -> Done {
+    Done {
+        run,
+        won: run,
+        late: 0,
+    }
 }
 
 /// A caller claims a stage.
-fn claim(who: u8, stage: u16) -> Event {
+pub(crate) fn claim(who: u8, stage: u16) -> Event {
     Event::Claim { who, stage }
 }
 
 /// A caller finishes a stage with a number.
-fn finish(who: u8, stage: u16, n: i32) -> Event {
+pub(crate) fn finish(who: u8, stage: u16, n: i32) -> Event {
     Event::Finish {
         who,
         stage,
@@ -51,11 +57,6 @@ fn finish(who: u8, stage: u16, n: i32) -> Event {
 
 #[test]
 fn the_next_does_what_a_full_pass_left(rt: HostRuntime) -> Result<(), Fail> {
-    let one = Done {
-        run: 1,
-        won: 1,
-        late: 0,
-    };
     let history = [
         claim(0, 0),
         finish(0, 0, 4),
@@ -63,55 +64,29 @@ fn the_next_does_what_a_full_pass_left(rt: HostRuntime) -> Result<(), Fail> {
         claim(1, 2),
         finish(1, 2, 6),
     ];
-    let (fault, done, mut closed) = work_in_turn(rt.alloc())?;
-    assert_eq!(rt; fault, Some(DeskFault::PassFull));
-    assert_eq!(rt; done, Some(one));
     let ends = [
+        End::Fault(Some(DeskFault::PassFull)),
+        End::Did(all_won(1)),
         End::History(&history),
         End::Has(0, gives(4)),
         End::Has(1, None),
         End::Has(2, gives(6)),
     ];
-    check_ends(&rt, &mut closed, &ends);
+    check_ends(&rt, work_in_turn(rt.alloc())?, &ends);
     Ok(())
-}
-
-/// The fault that a run of so many workers tells over so many supplies, with the closed desk.
-fn stopped_run<R: Threads + Wait + Sync>(
-    rt: &R,
-    alloc: Global,
-    stages: u16,
-    sizes: (u16, u16),
-    workers: u8,
-) -> Result<(DeskFault, Closed), Fail>
-    requires { (0 < workers) × (workers ≤ 32) }
-{
-    let (desk, passes) = open(alloc, supplies(alloc, stages)?, workers, sizes.0, sizes.1)?;
-    match run(rt, desk, passes, &FUNCTIONS, &NoGate, workers) {
-        Err(PoolFault::Desk(fault, closed)) => Ok((fault, closed)),
-        _ => Err(Fail::from("no fault of the desk was told")),
-    }
-}
-
-/// How many of these stages are settled.
-fn settled(graph: &mut Graph, stages: u16) -> u16 {
-    let mut count = 0u16;
-    for i in 0..stages {
-        if graph.has(i) && graph.outcome(i).is_some() {
-            count = count.wrapping_add(1);
-        }
-    }
-    count
 }
 
 #[test]
 fn a_full_log_stops_all_workers(rt: HostRuntime) -> Result<(), Fail> {
+    let ends = [
+        End::Fault(Some(DeskFault::LogFull)),
+        End::Events(3),
+        End::IsReady(true),
+    ];
     for workers in [1, 2, 4, 32] {
-        let (fault, mut closed) = stopped_run(&rt, rt.alloc(), 4, (3, 99), workers)?;
-        assert_eq!(rt; fault, DeskFault::LogFull);
-        assert_eq!(rt; closed.history.len(), 3);
-        let ready = closed.graph.lowest_ready().is_some();
-        assert!(rt; ready, "{workers} workers");
+        let opening = over_supplies(4, workers, 3, 99);
+        let ended = run_over(&rt, rt.alloc(), opening, &FUNCTIONS, &NoGate)?;
+        check_ends(&rt, ended, &ends);
     }
     Ok(())
 }
@@ -120,10 +95,14 @@ fn a_full_log_stops_all_workers(rt: HostRuntime) -> Result<(), Fail> {
 fn each_full_pass_has_its_one_record(rt: HostRuntime) -> Result<(), Fail> {
     for workers in [1, 2, 4, 32u8] {
         let stages = u16::from(workers) + 1;
-        let (fault, mut closed) = stopped_run(&rt, rt.alloc(), stages, (200, 1), workers)?;
-        assert_eq!(rt; fault, DeskFault::PassFull);
-        assert_eq!(rt; closed.history.len(), stages as usize);
-        assert_eq!(rt; settled(&mut closed.graph, stages), 0);
+        let opening = over_supplies(stages, workers, 200, 1);
+        let ended = run_over(&rt, rt.alloc(), opening, &FUNCTIONS, &NoGate)?;
+        let ends = [
+            End::Fault(Some(DeskFault::PassFull)),
+            End::Events(stages as usize),
+            End::Settled(stages, 0),
+        ];
+        check_ends(&rt, ended, &ends);
     }
     Ok(())
 }
@@ -182,28 +161,21 @@ fn fill(desk: &Desk, pass: &mut Pass)
 
 /// The same over four supplies. The first has room for two records: it can lose one claim to the other one, which is held behind
 /// its own first claim, and is then refused its finish, or else the claim of its second stage.
-fn stopped_beside<R: Threads + Sync>(
-    rt: &R,
-    alloc: Global,
-) -> Result<(Option<DeskFault>, Option<Done>, Closed), Fail> {
-    let (desk, passes) = open(alloc, supplies(alloc, 4)?, 1, 60, 14)?;
-    let (mut first, mut second) = two_passes(&desk, passes)?;
+fn stopped_beside<R: Threads + Sync>(rt: &R, alloc: Global) -> Result<Ended, Fail> {
+    let (desk, mut first, mut second) = open_two(alloc, over_supplies(4, 1, 60, 14))?;
     fill(&desk, &mut first);
     let (fault, done) = work_beside(rt, &desk, &mut first, &mut second);
-    Ok((fault, done, close_two(alloc, desk, first, second)?))
+    ended_two(alloc, desk, first, second, fault, done)
 }
 
 #[test]
 fn another_goes_on_beside_a_stopped_worker(rt: HostRuntime) -> Result<(), Fail> {
-    let three = Done {
-        run: 3,
-        won: 3,
-        late: 0,
-    };
-    let (fault, done, mut closed) = stopped_beside(&rt, rt.alloc())?;
-    assert_eq!(rt; fault, Some(DeskFault::PassFull));
-    assert_eq!(rt; done, Some(three));
-    assert!(rt; settled(&mut closed.graph, 4) >= 3);
-    assert_eq!(rt; closed.graph.lowest_ready(), None);
+    let ends = [
+        End::Fault(Some(DeskFault::PassFull)),
+        End::Did(all_won(3)),
+        End::SettledAtLeast(4, 3),
+        End::IsReady(false),
+    ];
+    check_ends(&rt, stopped_beside(&rt, rt.alloc())?, &ends);
     Ok(())
 }

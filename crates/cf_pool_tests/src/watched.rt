@@ -1,13 +1,15 @@
 //! Workers whose gate and functions keep what happens to them: which function ran how often, and what the gate was told.
 ghost use Rattle.std.specs.Prelude.{◌<◌, ◌≤◌};
+ghost use Rattle.cf_desk.specs.Views.{IsOf};
 
+use crate::ends::Ended;
 use crate::plans::supplies;
-use crate::pools::{last_of, open, raced, ran};
+use crate::pools::{Opening, last_of, open, over_supplies, raced, run_over};
 use cf_core::{Claimed, Reply};
-use cf_desk::{Call, DeskFault, Kept, Rec};
+use cf_desk::{Call, Desk, DeskFault, Kept, Pass, Rec};
 use cf_outcome::Value;
 use cf_plan::{Answer, Args, StageFn};
-use cf_pool::{Gate, PoolFault, run, work};
+use cf_pool::{Done, Gate, work};
 use std::alloc::{AllocError, Global};
 use std::sync::Wait;
 use std::sync::atomic::{AtomicBool, AtomicU32, Ordering};
@@ -118,6 +120,34 @@ impl Watch {
         }
         true
     }
+
+    /// Whether one worker told it of these stages, the lowest first.
+    fn saw_in_order(&self, stages: u16) -> bool {
+        for stage in 0..stages {
+            if self.turn_of(stage, 1) != u32::from(stage) + 1 {
+                return false;
+            }
+        }
+        true
+    }
+
+    /// Whether it saw all claims of a run of so many workers, which nothing stopped.
+    fn saw_run(&self, ended: &Ended, workers: u8) -> bool {
+        for kept in &ended.closed.passes {
+            if !self.saw_claims_of(kept) {
+                return false;
+            }
+        }
+        self.saw_each_once() && self.saw_workers(workers) && ended.fault.is_none()
+    }
+
+    /// Whether it saw a worker claim stage 0, and caller 0 claim stage 1 behind it, in a run that a full pass stopped.
+    fn saw_caller(&self, ended: &Ended) -> bool {
+        self.turn_of(0, 1) == 1
+            && self.turn_of(1, 0) == 2
+            && self.saw_each_once()
+            && ended.fault == Some(DeskFault::PassFull)
+    }
 }
 
 impl Gate for Watch {
@@ -170,21 +200,55 @@ fn functions(alloc: Global, watch: &Watch, stages: u16) -> Result<Vec<Watched<'_
     Ok(functions)
 }
 
+/// Works with these functions until one look finds nothing ready.
+fn work_with<F: StageFn, G: Gate>(desk: &Desk, pass: &mut Pass, fns: &[F], gate: &G) -> Option<Done>
+    requires { IsOf desk.now pass.old }
+{
+    work(desk, pass, fns, gate, 1).ok()
+}
+
+/// What one worker did with these functions over so many supplies, on the thread of its caller.
+fn worked<F: StageFn, G: Gate>(
+    alloc: Global,
+    stages: u16,
+    fns: &[F],
+    gate: &G,
+) -> Result<Option<Done>, Fail> {
+    let (desk, mut passes) = open(alloc, over_supplies(stages, 1, 99, 99))?;
+    let mut pass = last_of(&desk, &mut passes)?;
+    Ok(work_with(&desk, &mut pass, fns, gate))
+}
+
+/// Whether a worker was stopped by nothing, and ran so many functions.
+fn has_run(done: Option<Done>, count: u32) -> bool {
+    match done {
+        Some(done) => done.run == count,
+        None => false,
+    }
+}
+
 /// Whether each function was called once, after the gate was told of the claim, the lowest stage first, by one worker on
 /// the thread of its caller.
 fn watch_work(alloc: Global, stages: u16) -> Result<bool, Fail> {
-    let (desk, mut passes) = open(alloc, supplies(alloc, stages)?, 1, 99, 99)?;
     let watch = Watch::new(alloc, stages, 1)?;
     let fns = functions(alloc, &watch, stages)?;
-    let mut pass = last_of(&desk, &mut passes)?;
-    let Ok(done) = work(&desk, &mut pass, &fns, &watch, 1) else {
-        return Err(Fail::from("the worker was stopped"));
-    };
-    let mut saw = watch.saw_each_once() && done.run == u32::from(stages);
-    for stage in 0..stages {
-        saw = saw && watch.turn_of(stage, 1) == u32::from(stage) + 1;
-    }
-    Ok(saw)
+    let done = worked(alloc, stages, &fns, &watch)?;
+    let saw = watch.saw_each_once() && watch.saw_in_order(stages);
+    Ok(saw && has_run(done, u32::from(stages)))
+}
+
+/// What a run over the desk that is opened so came to, whose gate and functions of so many stages are watched.
+fn run_watched<R: Threads + Wait + Sync>(
+    rt: &R,
+    alloc: Global,
+    opening: Opening<'_>,
+    stages: u16,
+    watch: &Watch,
+) -> Result<Ended, Fail>
+    requires { (0 < opening.workers) × (opening.workers ≤ 32) }
+{
+    let fns = functions(alloc, watch, stages)?;
+    run_over(rt, alloc, opening, &fns, watch)
 }
 
 /// The same of a run of so many workers, as many stages, and a gate at which all of them meet.
@@ -192,15 +256,26 @@ fn watch_run<R: Threads + Wait + Sync>(rt: &R, alloc: Global, workers: u8) -> Re
     requires { (0 < workers) × (workers ≤ 32) }
 {
     let stages = u16::from(workers);
-    let (desk, passes) = open(alloc, supplies(alloc, stages)?, workers, 2000, 99)?;
     let watch = Watch::new(alloc, stages, workers)?;
-    let fns = functions(alloc, &watch, stages)?;
-    let closed = ran(rt, desk, passes, &fns, &watch, workers)?;
-    let mut saw = watch.saw_each_once() && watch.saw_workers(workers);
-    for kept in &closed.passes {
-        saw = saw && watch.saw_claims_of(kept);
-    }
-    Ok(saw)
+    let opening = over_supplies(stages, workers, 2000, 99);
+    let ended = run_watched(rt, alloc, opening, stages, &watch)?;
+    Ok(watch.saw_run(&ended, workers))
+}
+
+/// Races workers over so many supplies, with functions and a gate that are watched.
+fn race_watched<R: Threads + Wait + Sync>(
+    rt: &R,
+    alloc: Global,
+    stages: u16,
+    workers: u8,
+    watch: &Watch,
+) -> Result<(), Fail>
+    requires { (0 < workers) × (workers ≤ 32) }
+{
+    let fns = functions(alloc, watch, stages)?;
+    let plan = supplies(alloc, stages)?;
+    let _ = raced(rt, alloc, plan, 0, &[], &fns, watch, workers)?;
+    Ok(())
 }
 
 /// The same of a race, which keeps no records.
@@ -209,22 +284,15 @@ fn watch_race<R: Threads + Wait + Sync>(rt: &R, alloc: Global, workers: u8) -> R
 {
     let stages = u16::from(workers);
     let watch = Watch::new(alloc, stages, workers)?;
-    let fns = functions(alloc, &watch, stages)?;
-    let plan = supplies(alloc, stages)?;
-    let _ = raced(rt, alloc, plan, 0, &[], &fns, &watch, workers)?;
+    race_watched(rt, alloc, stages, workers, &watch)?;
     Ok(watch.saw_each_once() && watch.saw_workers(workers))
 }
 
 /// Whether a worker whose pass has room for one record leaves the second stage to its caller, who lets the gate know too.
 fn watch_caller<R: Threads + Wait + Sync>(rt: &R, alloc: Global) -> Result<bool, Fail> {
-    let (desk, passes) = open(alloc, supplies(alloc, 2)?, 1, 9, 1)?;
     let watch = Watch::new(alloc, 2, 1)?;
-    let fns = functions(alloc, &watch, 2)?;
-    let Err(PoolFault::Desk(fault, _)) = run(rt, desk, passes, &fns, &watch, 1) else {
-        return Err(Fail::from("no fault of the desk was told"));
-    };
-    let saw = watch.turn_of(0, 1) == 1 && watch.turn_of(1, 0) == 2;
-    Ok(saw && watch.saw_each_once() && fault == DeskFault::PassFull)
+    let ended = run_watched(rt, alloc, over_supplies(2, 1, 9, 1), 2, &watch)?;
+    Ok(watch.saw_caller(&ended))
 }
 
 #[test]
