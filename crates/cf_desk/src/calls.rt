@@ -94,6 +94,7 @@ pub struct Closed {
 }
 
 /// A caller's call as an event.
+#[inline(always)]
 pub(crate) fn event_by(who: u8, call: Call) -> Event
     ensures { result ≡ event_by who call }
 {

@@ -84,6 +84,7 @@ impl Pass {
     }
 
     /// Whether the stages that a call names are there, in what the pass has seen.
+    #[inline(always)]
     pub(crate) fn names(&self, call: Call) -> bool
         ensures { IsTrue result ↔ IsOnStage self.now (event_by self.now.known.caller call) }
     {
@@ -101,6 +102,7 @@ impl Pass {
 
     /// Whether a stage that a call attaches fits its form, and its function is one of the desk's that a word has room for.
     /// The stages that the call names are there. Where it fits, its event has a word.
+    #[inline(always)]
     #[tactic(auto, using(crate::proofs::Events::sources_small))]
     pub(crate) fn fits(&self, call: Call) -> bool
         requires { IsOnStage self.now (event_by self.now.known.caller call) }

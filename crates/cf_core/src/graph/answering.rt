@@ -10,6 +10,9 @@ use crate::graph::Graph;
 
 impl Graph {
     /// Does an event, and gives its reply. The stages that it names are there, and a stage that it attaches fits its form.
+    ///
+    /// It stands in its callers' own code, which often know the kind of the event.
+    #[inline(always)]
     pub fn answer(&mut self, e: &Event) -> Reply
         requires { EventFits (length self.old.state.plan.stages) e.now }
         ensures told { (result, self.new.state) ≡ answered self.old.state e.now }

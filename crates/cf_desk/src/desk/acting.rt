@@ -16,6 +16,10 @@ impl Desk {
     /// Does a call of the pass's caller: adds its event to the log and its record to the pass, and gives the reply. The
     /// pass is one of this desk's. Where it doesn't know a stage that the call names, it looks once before it answers. A
     /// refused call adds nothing, but the pass may have seen more events: where it looked, and where the log is full.
+    ///
+    /// It stands in its callers' own code with all that it calls: where the kind of the call is known there, nothing is
+    /// decided by the kind, and the record is written part by part.
+    #[inline(always)]
     pub fn act(&self, p: &mut Pass, c: Call) -> Result<Reply, DeskFault>
         requires { p.old.table ≡ self.now.table }
         ensures same { IsSamePass p.old p.new }
@@ -51,6 +55,7 @@ impl Desk {
 
     /// Does a call on stages that the pass knows, for whose record it has room. There is no reply where what it has then
     /// seen fills the log.
+    #[inline(always)]
     fn act_there(&self, p: &mut Pass, c: Call) -> Option<Reply>
         requires table { p.old.table ≡ self.now.table }
         requires there { IsOnStage p.old (event_by p.old.known.caller c) }

@@ -16,6 +16,7 @@ use std::mem;
 
 impl Desk {
     /// One exchange of the next word for that of the pass's call. It gives the reply where it was won.
+    #[inline(always)]
     pub(crate) fn add(&self, p: &mut Pass, call: Call) -> Option<Reply>
         requires table { p.old.table ≡ self.now.table }
         requires room { length p.old.known.seen < self.now.words }
