@@ -17,8 +17,8 @@ impl Desk {
     /// pass is one of this desk's. Where it doesn't know a stage that the call names, it looks once before it answers. A
     /// refused call adds nothing, but the pass may have seen more events: where it looked, and where the log is full.
     ///
-    /// It stands in its callers' own code with all that it calls: where the kind of the call is known there, nothing is
-    /// decided by the kind, and the record is written part by part.
+    /// It stands in its callers' own code, with the graph's answer in it: where the kind of the call is known there, nothing
+    /// is decided by the kind, and the record is written part by part.
     #[inline(always)]
     pub fn act(&self, p: &mut Pass, c: Call) -> Result<Reply, DeskFault>
         requires { p.old.table ≡ self.now.table }
