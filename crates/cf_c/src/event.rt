@@ -6,7 +6,7 @@ ghost use Rattle.cf_c.specs.Words.{as_event, bare, event_of};
 use crate::code::Code;
 use crate::plans::{as_function, event_with, form_number, form_of, parts_with, sources_with};
 use crate::value::{CfAnswer, CfValue, answer_of, as_answer, as_value, value_of};
-use cf_core::Event;
+use cf_model::Event;
 use cf_outcome::Value;
 use cf_plan::{Answer, Of};
 

@@ -2,7 +2,8 @@
 ghost use Rattle.std.specs.Prelude.{◌≡◌, false};
 ghost use Rattle.cf_desk.specs.Calls.{as_call, event_by, joined};
 
-use cf_core::{Ask, Event, Graph, Reply, Told};
+use cf_core::Graph;
+use cf_model::{Ask, Event, Reply, Told};
 use cf_outcome::{Cause, Outcome, Value};
 use cf_plan::{Answer, Form, Of};
 

@@ -11,7 +11,7 @@ pub mod laws;
 mod words;
 
 pub use applying::{apply, replay};
-pub use cf_core::{Event, Reply};
+pub use cf_model::{Event, Reply};
 
 #[cfg(test)]
 mod tests;

@@ -1,7 +1,8 @@
 mod attaching;
 
 use crate::{Event, Reply, apply, decode, encode, is_event, replay};
-use cf_core::{Claimed, Graph, Ticked};
+use cf_core::Graph;
+use cf_model::{Claimed, Ticked};
 use cf_outcome::Value;
 use cf_plan::{Answer, Args, Form, Of, PlanBuilder};
 use std::test::Fail;

@@ -1,11 +1,11 @@
 //! The word of an event, and the event of a word.
 ghost use Rattle.std.specs.Prelude.{◌≡◌, ◌<◌, ◌≤◌, ◌^◌, ◌↔◌, IfSome, IsTrue, Some};
-ghost use Rattle.cf_core.specs.declared.events.Event.{Event};
+ghost use Rattle.cf_model.specs.declared.events.Event.{Event};
 ghost use Rattle.cf_event.specs.Words.{IsEvent, answer_low, answer_tag, value_low, value_tag, word_of, word_with};
 ghost use Rattle.cf_event.specs.Decoding.{answer_with, event_of, event_with, value_with};
 
 use crate::attaching::{attach_low, attach_with, count_of, first_of, is_stage, second_of};
-use cf_core::Event;
+use cf_model::Event;
 use cf_outcome::Value;
 use cf_plan::Answer;
 

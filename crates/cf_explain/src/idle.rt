@@ -1,7 +1,7 @@
 //! The steps that never do anything.
 use crate::place::Place;
 use crate::remark::{Idle, Remark};
-use cf_core::Event;
+use cf_model::Event;
 use cf_plan::{Limit, Plan};
 use cf_reading::{Script, Step};
 use std::alloc::{AllocError, Global};

@@ -3,8 +3,8 @@ use crate::changes::{Change, judge};
 use crate::good::{
     CLAIM, COMPLETE, FINISH, GRANTED, NOT_READY, WON, did, gives, now, outcome, word,
 };
-use cf_core::{Ask, Event, Reply, Told};
 use cf_history::{Misfit, Record, Unfit, Verdict};
+use cf_model::{Ask, Event, Reply, Told};
 use cf_outcome::{Now, Value};
 use cf_plan::{Form, Of};
 use std::alloc::Global;

@@ -1,10 +1,11 @@
 //! What is done to both graphs, which must answer alike.
 ghost use Rattle.std.specs.Prelude.{◌<◌, All, length};
 ghost use Rattle.std.specs.Bool.{OnTrue};
-ghost use Rattle.cf_core.specs.Ranges.{EventFits};
+ghost use Rattle.cf_model.specs.Ranges.{EventFits};
 ghost use Rattle.cf_plan.specs.Plans.{sources_of};
 
-use cf_core::{Attached, Event, Finished, Graph, Reply, Ticked};
+use cf_core::Graph;
+use cf_model::{Attached, Event, Finished, Reply, Ticked};
 use cf_outcome::{Cause, Outcome};
 use cf_plain::Plain;
 use cf_plan::{Of, fits_form};

@@ -1,5 +1,5 @@
 //! Calls that are made by numbers.
-use cf_core::Event;
+use cf_model::Event;
 use cf_outcome::Value;
 use cf_plan::Answer;
 

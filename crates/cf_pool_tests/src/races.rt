@@ -4,7 +4,8 @@ ghost use Rattle.std.specs.Prelude.{◌≡◌, ◌<◌, ◌≤◌, IfOk, replica
 use crate::ends::{check_outcomes, gives};
 use crate::plans::{Row, plan_of, sources};
 use crate::pools::raced;
-use cf_core::{Event, Graph};
+use cf_core::Graph;
+use cf_model::Event;
 use cf_outcome::Value;
 use cf_plan::{Answer, Args, Form, Of, Plan, StageFn};
 use cf_pool::{NoGate, RaceFault, race};

@@ -12,7 +12,7 @@ use crate::parts::len;
 use crate::script::Step;
 use crate::version::Version;
 use crate::words::stage_in;
-use cf_core::Event;
+use cf_model::Event;
 use cf_plan::{Form, Of, fits_form};
 use serde_json::Value as Json;
 

@@ -4,7 +4,7 @@ ghost use Rattle.cf_reading.specs.Scripts.{extent_after};
 
 use crate::func::Func;
 use crate::script::Step;
-use cf_core::Event;
+use cf_model::Event;
 
 /// The stages that there are once these steps are done and the room that is left then, all functions so far, and the
 /// steps.

@@ -6,7 +6,7 @@ ghost use Rattle.cf_reading.specs.Steps.{NamesWithin, answer_at, answer_named, a
 
 use crate::parts::{caller, large, large_in, len, member, small, small_in, value, value_in};
 use crate::script::Step;
-use cf_core::{Ask, Event};
+use cf_model::{Ask, Event};
 use cf_outcome::Value;
 use cf_plan::Answer;
 use serde_json::Value as Json;

@@ -2,8 +2,9 @@
 use crate::graphs::Four;
 use crate::rows::source_and_apply;
 use anyhow::Result;
-use cf_core::{Event, Graph, Reply};
+use cf_core::Graph;
 use cf_event::{decode, encode, is_event};
+use cf_model::{Event, Reply};
 use cf_outcome::Value;
 use cf_plan::{Answer, Form, Of, Plan};
 use std::alloc::Global;

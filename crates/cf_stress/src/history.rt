@@ -2,9 +2,10 @@
 use crate::texts::{write_reply, write_stage, write_told};
 use crate::words::Sizes;
 use anyhow::{Result, anyhow};
-use cf_core::{Ask, Event, Graph, Reply, Told};
+use cf_core::Graph;
 use cf_desk::{Call, Closed, Kept, Rec};
 use cf_event::{encode, is_event};
+use cf_model::{Ask, Event, Reply, Told};
 use cf_outcome::Value;
 use serde_json::{Map, Value as Json, put};
 use std::alloc::{AllocError, Global};

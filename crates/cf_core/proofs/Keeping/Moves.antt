@@ -8,8 +8,8 @@ use Rattle.cf_outcome.specs.declared.outcome.Outcome.{Outcome}
 use Rattle.cf_plan.specs.declared.forms.Args.{Args}
 use Rattle.cf_plan.specs.Forms.{composes}
 use Rattle.cf_plan.specs.Plans.{PlannedStage, form_at, dependents_of}
-use Rattle.cf_core.specs.declared.stage.Stage.TheVariants.{Ready, Claimed, Linked, Settled}
-use Rattle.cf_core.specs.States.{outcome_of, outcome_in, new_states}
+use Rattle.cf_model.specs.declared.stage.Stage.TheVariants.{Ready, Claimed, Linked, Settled}
+use Rattle.cf_model.specs.States.{outcome_of, outcome_in, new_states}
 use Rattle.cf_core.specs.declared.kept.KeptStage.{KeptStage}
 use Rattle.cf_core.specs.Keeping.Late.{IsSteady, all_treated, dated_in, linked_kept, stages_of, treated}
 use Rattle.cf_core.specs.Keeping.Links.{list_at}

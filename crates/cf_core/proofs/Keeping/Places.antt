@@ -7,9 +7,9 @@ use Rattle.std.proofs.lemmas.Bool.Decides.{eqb_tells}
 use Rattle.std.proofs.lemmas.List.Quantifiers.{position-Some}
 use Rattle.std.proofs.lemmas.Option.{slice_get-get_or}
 use Rattle.cf_plan.specs.Plans.{PlannedStage}
-use Rattle.cf_core.specs.declared.stage.Stage.{Stage}
-use Rattle.cf_core.specs.declared.stage.Stage.TheVariants.{Pending, Ready, Claimed, Linked, Settled}
-use Rattle.cf_core.specs.States.{is_ready, outcome_of}
+use Rattle.cf_model.specs.declared.stage.Stage.{Stage}
+use Rattle.cf_model.specs.declared.stage.Stage.TheVariants.{Pending, Ready, Claimed, Linked, Settled}
+use Rattle.cf_model.specs.States.{is_ready, outcome_of}
 use Rattle.cf_core.specs.declared.kept.KeptStage.{KeptStage}
 use Rattle.cf_core.specs.Keeping.Late.{dated_in, dated_of, treated, treated_by}
 use Rattle.cf_core.specs.Keeping.Turns.{planned_at, turned}

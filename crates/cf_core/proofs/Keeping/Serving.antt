@@ -14,17 +14,17 @@ use Rattle.cf_plan.specs.declared.forms.Landing.TheVariants.{Settles as Lands, L
 use Rattle.cf_plan.specs.Forms.{landing}
 use Rattle.cf_plan.specs.Meanings.{Meanings, stage_answer}
 use Rattle.cf_plan.specs.Plans.{PlannedStage, form_at, sources_at}
-use Rattle.cf_core.specs.declared.stage.Stage.{Stage}
-use Rattle.cf_core.specs.declared.stage.Stage.TheVariants.{Pending, Ready, Claimed, Linked, Settled}
-use Rattle.cf_core.specs.declared.replies.Claimed.TheVariants.{Granted}
-use Rattle.cf_core.specs.declared.replies.Finished.{Finished}
-use Rattle.cf_core.specs.declared.replies.Finished.TheVariants.{Won}
-use Rattle.cf_core.specs.declared.events.Event.TheVariants.{Claim as Claims}
-use Rattle.cf_core.specs.declared.events.Reply.{Reply}
-use Rattle.cf_core.specs.declared.events.Reply.TheVariants.{Claim as ToldClaim}
-use Rattle.cf_core.specs.States.{State, is_ready, outcome_of, outcome_in, new_states}
-use Rattle.cf_core.specs.Events.{answered, claimed_by, claiming, finishing, told_as}
-use Rattle.cf_core.specs.Working.{finished_after, worked_once}
+use Rattle.cf_model.specs.declared.stage.Stage.{Stage}
+use Rattle.cf_model.specs.declared.stage.Stage.TheVariants.{Pending, Ready, Claimed, Linked, Settled}
+use Rattle.cf_model.specs.declared.replies.Claimed.TheVariants.{Granted}
+use Rattle.cf_model.specs.declared.replies.Finished.{Finished}
+use Rattle.cf_model.specs.declared.replies.Finished.TheVariants.{Won}
+use Rattle.cf_model.specs.declared.events.Event.TheVariants.{Claim as Claims}
+use Rattle.cf_model.specs.declared.events.Reply.{Reply}
+use Rattle.cf_model.specs.declared.events.Reply.TheVariants.{Claim as ToldClaim}
+use Rattle.cf_model.specs.States.{State, is_ready, outcome_of, outcome_in, new_states}
+use Rattle.cf_model.specs.Events.{answered, claimed_by, claiming, finishing, told_as}
+use Rattle.cf_model.specs.Working.{finished_after, worked_once}
 use Rattle.cf_core.specs.Keeping.Landings.{landed_stages, linked_stages}
 use Rattle.cf_core.specs.Keeping.Serving.{served, served_by}
 use Rattle.cf_core.specs.Keeping.Sound.{AreTreated, kept_at}

@@ -12,17 +12,18 @@ use Rattle.cf_plan.specs.Forms.{composes}
 use Rattle.cf_plan.specs.Meanings.{Meanings}
 use Rattle.cf_plan.specs.Plans.{PlannedStage, dependents_of, form_at}
 use Rattle.cf_plan.proofs.DependentLemmas.{dependents_above}
-use Rattle.cf_core.specs.declared.stage.Stage.{Stage}
-use Rattle.cf_core.specs.declared.stage.Stage.TheVariants.{Pending, Ready, Claimed, Linked, Settled}
+use Rattle.cf_model.specs.declared.stage.Stage.{Stage}
+use Rattle.cf_model.specs.declared.stage.Stage.TheVariants.{Pending, Ready, Claimed, Linked, Settled}
 use Rattle.cf_core.specs.declared.kept.KeptStage.{KeptStage}
-use Rattle.cf_core.specs.States.{State, is_ready, new_states, outcome_in, outcome_of}
+use Rattle.cf_model.specs.States.{State, is_ready, new_states, outcome_in, outcome_of}
 use Rattle.cf_core.specs.declared.stages.Stages.{Stages}
 use Rattle.cf_core.specs.Keeping.SoundStages.{AreSound}
 use Rattle.cf_core.specs.Keeping.Late.{IsSteady, dated_in, treated}
 use Rattle.cf_core.specs.Keeping.Links.{IsFree, list_at}
-use Rattle.cf_core.specs.Growth.{SameShape}
-use Rattle.cf_core.specs.Working.{worked_once}
-use Rattle.cf_core.specs.Keeping.Serving.{AreWorkedOn, Works, served}
+use Rattle.cf_model.specs.Growth.{SameShape}
+use Rattle.cf_model.specs.Working.{worked_once}
+use Rattle.cf_core.specs.Keeping.Serving.{served}
+use Rattle.cf_model.specs.Working.{AreWorkedOn, Works}
 use Rattle.cf_core.specs.Keeping.Sound.{AreTreated, IsSound, StayTaken, is_bound, is_waiting, kept_at, links_after, mark_all, mark_one, marks_after, outlook}
 use Rattle.cf_core.specs.Keeping.Sweeps.{AreServed, AreSwept, IsReadyWith, IsSwept, Serves, ready_with, turns_after}
 use Rattle.cf_core.specs.Keeping.Offers.{args_of}
@@ -32,7 +33,7 @@ use Rattle.cf_core.proofs.Keeping.Marking.{get-set_other, get-set_same}
 use Rattle.cf_core.proofs.Keeping.Marks.{dated_in-set}
 use Rattle.cf_core.proofs.Keeping.Moves.{claim_sound, is_steady, link_room, link_sound, outcome_there, outlook_at, settle_same, settle_sound, turn_same}
 use Rattle.cf_core.proofs.Keeping.Places.{StayTaken-set, kept_put, planned_there, ready_args, same_put, undated}
-use Rattle.cf_core.proofs.Working.{worked_once-shape}
+use Rattle.cf_model.proofs.Working.{worked_once-shape}
 use Rattle.cf_core.proofs.Keeping.Serving.{works}
 use Rattle.cf_core.proofs.Keeping.Soundness.{bound_free, idle_sound, turn_sound}
 use Rattle.cf_core.proofs.Keeping.Sums.{StepsUpTo-at, kept_there}

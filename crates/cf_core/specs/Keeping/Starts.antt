@@ -2,8 +2,8 @@
 use Rattle.std.specs.Prelude.{◌≡◌, ℕ, ◌+◌, Bool, true, List, [], ◌∷◌, replicate, slice_set, if◌then◌else◌}
 use Rattle.cf_plan.specs.Forms.{starts}
 use Rattle.cf_plan.specs.Plans.{PlannedStage}
-use Rattle.cf_core.specs.declared.stage.Stage.TheVariants.{Pending}
-use Rattle.cf_core.specs.States.{new_states}
+use Rattle.cf_model.specs.declared.stage.Stage.TheVariants.{Pending}
+use Rattle.cf_model.specs.States.{new_states}
 use Rattle.cf_core.specs.declared.kept.KeptStage.{KeptStage}
 use Rattle.cf_core.specs.Keeping.Late.{all_treated, stages_of}
 

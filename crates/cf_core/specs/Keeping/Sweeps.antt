@@ -3,11 +3,11 @@ use Rattle.std.specs.Prelude.{◌≡◌, ◌+◌, ℕ, if◌then◌else◌, Bool
 use Rattle.cf_plan.specs.Meanings.{Meanings}
 use Rattle.cf_plan.specs.Plans.{PlannedStage}
 use Rattle.cf_plan.specs.declared.forms.Args.{Args}
-use Rattle.cf_core.specs.declared.stage.Stage.{Stage}
-use Rattle.cf_core.specs.declared.stage.Stage.TheVariants.{Ready}
+use Rattle.cf_model.specs.declared.stage.Stage.{Stage}
+use Rattle.cf_model.specs.declared.stage.Stage.TheVariants.{Ready}
 use Rattle.cf_core.specs.declared.kept.KeptStage.{KeptStage}
 use Rattle.cf_core.specs.declared.stages.Stages.{Stages}
-use Rattle.cf_core.specs.States.{is_ready}
+use Rattle.cf_model.specs.States.{is_ready}
 use Rattle.cf_core.specs.Keeping.Serving.{served}
 use Rattle.cf_core.specs.Keeping.Sound.{AreTreated, IsSound, is_waiting, kept_at, outlook}
 

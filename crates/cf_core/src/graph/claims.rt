@@ -3,16 +3,15 @@ ghost use Rattle.std.specs.Prelude.{◌≡◌, ◌+◌, ◌<◌, ◌≤◌, ◌=
 ghost use Rattle.std.specs.Option.{option_map_or};
 ghost use Rattle.cf_plan.specs.Forms.{landing};
 ghost use Rattle.cf_plan.specs.Plans.{form_at, sources_at};
-ghost use Rattle.cf_core.specs.States.{outcome_in};
-ghost use Rattle.cf_core.specs.Events.{claiming, finishing};
+ghost use Rattle.cf_model.specs.States.{outcome_in};
+ghost use Rattle.cf_model.specs.Events.{claiming, finishing};
 ghost use Rattle.cf_core.specs.Keeping.SoundStages.{outlook_of};
 ghost use Rattle.cf_core.specs.Keeping.Sweeps.{AreSwept};
-ghost use Rattle.cf_core.specs.Graphs.{most_turns};
+ghost use Rattle.cf_model.specs.Graphs.{most_turns};
 
 use crate::graph::Graph;
-use crate::replies::{Claimed, Finished};
-use crate::stage::Stage;
 use crate::stages::Stages;
+use cf_model::{Claimed, Finished, Stage};
 use cf_plan::{Answer, Form, GrowingPlan, Landing, landing};
 
 impl Graph {

@@ -5,12 +5,13 @@ ghost use Rattle.cf_plan.specs.declared.forms.Landing.TheVariants.{Links as Link
 ghost use Rattle.cf_plan.specs.Forms.{composes, landing};
 ghost use Rattle.cf_plan.specs.Meanings.{meanings_of};
 ghost use Rattle.cf_plan.specs.Plans.{form_at, sources_at};
-ghost use Rattle.cf_core.specs.declared.stage.Stage.TheVariants.{Claimed as IsClaimed};
-ghost use Rattle.cf_core.specs.States.{is_ready, lowest_ready_of, outcome_in};
-ghost use Rattle.cf_core.specs.Graphs.{most_turns};
+ghost use Rattle.cf_model.specs.declared.stage.Stage.TheVariants.{Claimed as IsClaimed};
+ghost use Rattle.cf_model.specs.States.{is_ready, lowest_ready_of, outcome_in};
+ghost use Rattle.cf_model.specs.Graphs.{most_turns};
 ghost use Rattle.cf_core.specs.Keeping.Graphs.{AreClaimed};
 ghost use Rattle.cf_core.specs.Keeping.Landings.{landed_stages};
-ghost use Rattle.cf_core.specs.Keeping.Serving.{Works, served};
+ghost use Rattle.cf_core.specs.Keeping.Serving.{served};
+ghost use Rattle.cf_model.specs.Working.{Works};
 ghost use Rattle.cf_core.specs.Keeping.Sound.{StayTakenBut, kept_at};
 ghost use Rattle.cf_core.specs.Keeping.SoundStages.{AreSound, SameRoom, outlook_of};
 ghost use Rattle.cf_core.specs.Keeping.Sweeps.{AreSwept, IsReadyWith, Serves};

@@ -5,19 +5,20 @@ ghost use Rattle.cf_plan.specs.declared.forms.Landing.TheVariants.{Links as Link
 ghost use Rattle.cf_plan.specs.Forms.{composes};
 ghost use Rattle.cf_plan.specs.Meanings.{meanings_of, stage_answer};
 ghost use Rattle.cf_plan.specs.Plans.{form_at};
-ghost use Rattle.cf_core.specs.declared.stage.Stage.TheVariants.{Claimed as IsClaimed};
-ghost use Rattle.cf_core.specs.States.{is_ready, lowest_ready_of};
-ghost use Rattle.cf_core.specs.Working.{worked, worked_once};
+ghost use Rattle.cf_model.specs.declared.stage.Stage.TheVariants.{Claimed as IsClaimed};
+ghost use Rattle.cf_model.specs.States.{is_ready, lowest_ready_of};
+ghost use Rattle.cf_model.specs.Working.{worked, worked_once};
 ghost use Rattle.cf_core.specs.Keeping.Landings.{landed_stages};
-ghost use Rattle.cf_core.specs.Keeping.Serving.{Works, served};
+ghost use Rattle.cf_core.specs.Keeping.Serving.{served};
+ghost use Rattle.cf_model.specs.Working.{Works};
 ghost use Rattle.cf_core.specs.Keeping.Sound.{AreTreated, StayTakenBut, kept_at};
 ghost use Rattle.cf_core.specs.Keeping.SoundStages.{AreSound, SameRoom, outlook_of};
-ghost use Rattle.cf_core.specs.Graphs.{most_turns};
+ghost use Rattle.cf_model.specs.Graphs.{most_turns};
 
 use crate::graph::Graph;
 use crate::graph::claims::landing_of;
-use crate::stage::Stage;
 use crate::stages::Stages;
+use cf_model::Stage;
 use cf_outcome::Value;
 use cf_plan::{Answer, Args, GrowingPlan, Landing, StageFn};
 

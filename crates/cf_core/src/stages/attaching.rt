@@ -1,16 +1,16 @@
 //! The attaching of a stage.
 ghost use Rattle.std.specs.Prelude.{◌≡◌, ℕ, ◌+◌, ◌<◌, ◌≤◌, ◌∷◌, ◌++◌, [], All, Option, false, length, if◌then◌else◌};
 ghost use Rattle.cf_plan.specs.Plans.{attached_stage, edges_of, sources_of};
-ghost use Rattle.cf_core.specs.declared.stage.Stage.TheVariants.{Pending};
-ghost use Rattle.cf_core.specs.States.{is_ready, new_states};
+ghost use Rattle.cf_model.specs.declared.stage.Stage.TheVariants.{Pending};
+ghost use Rattle.cf_model.specs.States.{is_ready, new_states};
 ghost use Rattle.cf_core.specs.Keeping.Attaching.{attached_kept, takes_now};
 ghost use Rattle.cf_core.specs.Keeping.Sound.{AreTreated, StayTaken};
 ghost use Rattle.cf_core.specs.Keeping.SoundStages.{AreSound, SameRoom, outlook_of};
 
 use crate::attach::{attached, takes_now};
 use crate::kept::KeptStage;
-use crate::stage::Stage;
 use crate::stages::Stages;
+use cf_model::Stage;
 use cf_plan::{Form, GrowingPlan, Of};
 
 impl Stages {

@@ -1,7 +1,7 @@
 //! The stages of a plan that starts again.
 ghost use Rattle.std.specs.Prelude.{◌≡◌, ◌≤◌, [], length, replicate};
-ghost use Rattle.cf_core.specs.declared.stage.Stage.TheVariants.{Pending};
-ghost use Rattle.cf_core.specs.States.{new_states};
+ghost use Rattle.cf_model.specs.declared.stage.Stage.TheVariants.{Pending};
+ghost use Rattle.cf_model.specs.States.{new_states};
 ghost use Rattle.cf_core.specs.Keeping.Sound.{HasLists};
 ghost use Rattle.cf_core.specs.Keeping.SoundStages.{AreSound, SameRoom, outlook_of};
 

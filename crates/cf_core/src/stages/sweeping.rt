@@ -7,16 +7,16 @@ ghost use Rattle.std.specs.Prelude.{◌≡◌, ◌+◌, ◌<◌, ◌≤◌, [], 
 ghost use Rattle.cf_outcome.specs.declared.outcome.Outcome.TheVariants.{Value as Gives};
 ghost use Rattle.cf_plan.specs.Forms.{composes};
 ghost use Rattle.cf_plan.specs.Plans.{form_at};
-ghost use Rattle.cf_core.specs.declared.stage.Stage.TheVariants.{Linked, Ready, Settled};
-ghost use Rattle.cf_core.specs.States.{is_ready, new_states, outcome_of};
+ghost use Rattle.cf_model.specs.declared.stage.Stage.TheVariants.{Linked, Ready, Settled};
+ghost use Rattle.cf_model.specs.States.{is_ready, new_states, outcome_of};
 ghost use Rattle.cf_core.specs.Keeping.Sound.{StayTaken, StayTakenBut, is_waiting, kept_at, links_after};
 ghost use Rattle.cf_core.specs.Keeping.SoundStages.{AreSound, SameRoom, outlook_of};
 ghost use Rattle.cf_core.specs.Keeping.Sweeps.{AreSwept, IsReadyWith, turns_after};
 
 use crate::kept::KeptStage;
-use crate::stage::Stage;
 use crate::stages::Stages;
 use crate::treat::offer;
+use cf_model::Stage;
 use cf_outcome::{Outcome, Value};
 use cf_plan::{Args, GrowingPlan};
 

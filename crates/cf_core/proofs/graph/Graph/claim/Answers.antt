@@ -1,8 +1,8 @@
 use Rattle.std.proofs.Common.{◌≡◌, ◌∙◌, Some, ap, refl, sym, length-set, inl, inr}
 use Rattle.std.specs.Prelude.{is_some, slice_get}
-use Rattle.cf_core.specs.declared.stage.Stage.TheVariants.{Pending, Ready, Claimed, Linked, Settled}
-use Rattle.cf_core.specs.declared.replies.Claimed.TheVariants.{Settled as IsSettled, Taken, NotReady}
-use Rattle.cf_core.specs.States.{outcome_of}
+use Rattle.cf_model.specs.declared.stage.Stage.TheVariants.{Pending, Ready, Claimed, Linked, Settled}
+use Rattle.cf_model.specs.declared.replies.Claimed.TheVariants.{Settled as IsSettled, Taken, NotReady}
+use Rattle.cf_model.specs.States.{outcome_of}
 use Rattle.cf_core.specs.Keeping.Sound.{kept_at}
 use Rattle.cf_core.specs.Keeping.SoundStages.{outlook_of}
 use Rattle.cf_core.proofs.Keeping.GraphLemmas.{AreClaimed-set, AreClaimed-stay, claims_not, claims_now, room_stays, told_stage}

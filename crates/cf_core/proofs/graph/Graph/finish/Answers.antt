@@ -1,7 +1,7 @@
 use Rattle.std.proofs.Common.{◌≡◌, ◌+◌, ◌∙◌, ◌==◌, None, Some, ap, false, length-set, refl, sym, true}
 use Rattle.std.specs.Prelude.{slice_get, unwrap_or}
 use Rattle.std.specs.Option.{option_map_or}
-use Rattle.cf_core.specs.States.{outcome_in}
+use Rattle.cf_model.specs.States.{outcome_in}
 use Rattle.cf_core.specs.Keeping.SoundStages.{outlook_of}
 use Rattle.cf_core.proofs.Keeping.GraphLemmas.{AreClaimed-closed, AreClaimed-stay, claim_there, finishes_late, finishes_now, open_claimed, room_stays, told_outcome}
 use Rattle.cf_core.proofs.Keeping.Sweeping.{treated_swept}

@@ -1,6 +1,6 @@
 use Rattle.std.proofs.Common.{◌≡◌, ◌∙◌, None, Some, ap, refl, sym}
 use Rattle.std.specs.Prelude.{is_some}
-use Rattle.cf_core.specs.States.{outcome_in, outcome_of}
+use Rattle.cf_model.specs.States.{outcome_in, outcome_of}
 use Rattle.cf_core.specs.Keeping.Sound.{kept_at}
 use Rattle.cf_core.specs.Keeping.SoundStages.{outlook_of}
 use Rattle.cf_core.proofs.Keeping.GraphLemmas.{AreClaimed-stay, room_stays, settles_not, settles_now, told_outcome}

@@ -1,5 +1,5 @@
 use Rattle.std.proofs.Common.{◌≡◌, ◌∙◌, length, subst}
-use Rattle.cf_core.specs.Graphs.{Graph}
+use Rattle.cf_model.specs.Graphs.{Graph}
 use Rattle.cf_core.proofs.Keeping.Lowest.{length-outlook}
 use Rattle.cf_core.proofs.graph.Graph.stages.Goals as goal
 

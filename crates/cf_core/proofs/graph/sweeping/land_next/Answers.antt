@@ -3,7 +3,7 @@ use Rattle.std.specs.Prelude.{option_and_then, slice_get}
 use Rattle.cf_outcome.specs.declared.outcome.Outcome.TheVariants.{Value as Gives}
 use Rattle.cf_plan.specs.Forms.{landing}
 use Rattle.cf_plan.specs.Plans.{form_at, sources_at}
-use Rattle.cf_core.specs.States.{outcome_in}
+use Rattle.cf_model.specs.States.{outcome_in}
 use Rattle.cf_core.specs.Keeping.SoundStages.{outlook_of}
 use Rattle.cf_core.proofs.Keeping.Serving.{settles-claimed}
 use Rattle.cf_core.proofs.graph.sweeping.land_next.Goals as goal

@@ -1,6 +1,6 @@
 use Rattle.std.proofs.Common.{◌≡◌, ◌+◌, ◌∙◌, [], None, Some, ap, arith, set, sym}
-use Rattle.cf_core.specs.declared.stage.Stage.TheVariants.{Settled}
-use Rattle.cf_core.specs.States.{new_states, outcome_in}
+use Rattle.cf_model.specs.declared.stage.Stage.TheVariants.{Settled}
+use Rattle.cf_model.specs.States.{new_states, outcome_in}
 use Rattle.cf_core.specs.Keeping.SoundStages.{outlook_of}
 use Rattle.cf_core.specs.Keeping.Sound.{kept_at}
 use Rattle.cf_core.proofs.Keeping.Places.{ready_args}

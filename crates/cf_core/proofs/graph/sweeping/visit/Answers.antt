@@ -1,8 +1,8 @@
 use Rattle.std.proofs.Common.{◌≡◌, ◌∙◌, Some, ap, refl, sym}
 use Rattle.std.specs.Prelude.{position, slice_get}
 use Rattle.cf_plan.specs.Meanings.{meanings_of}
-use Rattle.cf_core.specs.declared.stage.Stage.TheVariants.{Ready}
-use Rattle.cf_core.specs.States.{is_ready}
+use Rattle.cf_model.specs.declared.stage.Stage.TheVariants.{Ready}
+use Rattle.cf_model.specs.States.{is_ready}
 use Rattle.cf_core.specs.Keeping.SoundStages.{outlook_of}
 use Rattle.cf_core.proofs.Keeping.GraphLemmas.{AreClaimed-closed, AreClaimed-stay}
 use Rattle.cf_core.proofs.Keeping.Serving.{served_ready}

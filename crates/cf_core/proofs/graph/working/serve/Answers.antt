@@ -1,7 +1,7 @@
 use Rattle.std.proofs.Common.{◌≡◌, ◌+◌, ◌∙◌, arith, Some, ap, sym}
 use Rattle.std.specs.Prelude.{slice_get}
 use Rattle.cf_plan.specs.Meanings.{meanings_of}
-use Rattle.cf_core.specs.declared.stage.Stage.TheVariants.{Ready}
+use Rattle.cf_model.specs.declared.stage.Stage.TheVariants.{Ready}
 use Rattle.cf_core.specs.Keeping.SoundStages.{outlook_of}
 use Rattle.cf_core.proofs.Keeping.GraphLemmas.{told_stage}
 use Rattle.cf_core.proofs.Keeping.Serving.{served_not, served_ready}

@@ -1,5 +1,5 @@
 use Rattle.std.proofs.Common.{◌<◌, ◌+◌, ◌≤◌, ◌∙◌, ap, arith, length, refl, subst, sym}
-use Rattle.cf_core.specs.declared.stage.Stage.TheVariants.{Claimed}
+use Rattle.cf_model.specs.declared.stage.Stage.TheVariants.{Claimed}
 use Rattle.cf_core.specs.declared.kept.KeptStage.{KeptStage}
 use Rattle.cf_core.specs.Keeping.Sound.{StayTaken, is_taken, kept_at, outlook}
 use Rattle.cf_core.proofs.Keeping.Marking.{get-set_same}

@@ -1,6 +1,6 @@
 use Rattle.std.proofs.Common.{◌≡◌, ◌∙◌, None, Some, [], ap, set, sym}
-use Rattle.cf_core.specs.declared.stage.Stage.TheVariants.{Settled}
-use Rattle.cf_core.specs.States.{new_states, outcome_in}
+use Rattle.cf_model.specs.declared.stage.Stage.TheVariants.{Settled}
+use Rattle.cf_model.specs.States.{new_states, outcome_in}
 use Rattle.cf_core.specs.Keeping.Landings.{landed_stages, linked_stages}
 use Rattle.cf_core.specs.Keeping.SoundStages.{outlook_of}
 use Rattle.cf_core.proofs.Keeping.GraphLemmas.{told_below}

@@ -1,5 +1,5 @@
 use Rattle.std.proofs.Common.{◌≡◌, ◌∷◌, length, ◌+◌, ◌∙◌, None, ap, arith, subst, sym}
-use Rattle.cf_core.specs.declared.stage.Stage.TheVariants.{Linked}
+use Rattle.cf_model.specs.declared.stage.Stage.TheVariants.{Linked}
 use Rattle.cf_core.specs.declared.kept.KeptStage.{KeptStage}
 use Rattle.cf_core.specs.Keeping.Late.{dated_in}
 use Rattle.cf_core.specs.Keeping.Links.{list_at}

@@ -1,5 +1,5 @@
 use Rattle.std.proofs.Common.{◌+◌, ◌∙◌, ap, refl, subst, sym}
-use Rattle.cf_core.specs.declared.stage.Stage.TheVariants.{Linked}
+use Rattle.cf_model.specs.declared.stage.Stage.TheVariants.{Linked}
 use Rattle.cf_core.specs.declared.kept.KeptStage.{KeptStage}
 use Rattle.cf_core.specs.Keeping.Cells.{KeptStages}
 use Rattle.cf_core.specs.Keeping.Sound.{StayTakenBut, outlook}

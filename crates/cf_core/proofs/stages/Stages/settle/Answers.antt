@@ -1,5 +1,5 @@
 use Rattle.std.proofs.Common.{◌<◌, ◌+◌, ◌∙◌, [], All, ap, arith, length, refl, set, subst, sym}
-use Rattle.cf_core.specs.declared.stage.Stage.TheVariants.{Settled}
+use Rattle.cf_model.specs.declared.stage.Stage.TheVariants.{Settled}
 use Rattle.cf_core.specs.declared.kept.KeptStage.{KeptStage}
 use Rattle.cf_core.specs.Keeping.Cells.{KeptStages}
 use Rattle.cf_core.specs.Keeping.Links.{list_at}
