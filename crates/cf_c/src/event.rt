@@ -60,7 +60,7 @@ pub(crate) fn event_of(e: CfEvent) -> Result<Event, Code>
             let answer = answer_of(e.answer);
             Ok(Event::Finish { who, stage, answer })
         }
-        5 => Ok(Event::Tick { who, now: e.now }),
+        5 => Ok(Event::Tick { who, moment: e.now }),
         6 => {
             let of = sources_with(e.sources, e.first, e.second);
             event_with(who, parts_with(form_of(e.form), of, e.function))
@@ -88,7 +88,7 @@ pub(crate) fn as_event(e: Event) -> CfEvent
             answer: as_answer(answer),
             ..bare(4, who, stage)
         },
-        Event::Tick { who, now } => CfEvent {
+        Event::Tick { who, moment } => CfEvent {
             now,
             ..bare(5, who, 0)
         },

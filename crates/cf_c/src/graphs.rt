@@ -101,7 +101,10 @@ pub extern "C" fn cf_finish(
 pub extern "C" fn cf_tick(alloc: Global, h: &mut CfHandle, now: u32, reply: &mut CfReply) -> u32
     ensures { Tells (Answers (Ok (Ticks 0 now))) h.old.inner.held h.new.inner.held result reply.old reply.new }
 {
-    let event = Event::Tick { who: 0, now };
+    let event = Event::Tick {
+        who: 0,
+        moment: now,
+    };
     tell!(alloc, h, reply, held => asking::answer(&mut held, Ok(event)))
 }
 

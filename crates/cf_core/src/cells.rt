@@ -6,7 +6,7 @@ ghost use Rattle.cf_plan.specs.Forms.{due_of_first};
 ghost use Rattle.cf_model.specs.declared.stage.Stage.TheVariants.{Pending, Ready, Settled};
 ghost use Rattle.cf_model.specs.States.{is_ready, outcome_of};
 ghost use Rattle.cf_core.specs.Keeping.Cells.{blank};
-ghost use Rattle.cf_core.specs.Keeping.Late.{dated_in, due_kept, outcome_part, step_part};
+ghost use Rattle.cf_core.specs.Keeping.Treatment.{dated_in, due_kept, outcome_part, step_part};
 ghost use Rattle.cf_core.specs.Keeping.Sound.{is_waiting, kept_at};
 ghost use Rattle.cf_core.specs.Keeping.Offers.{args_of};
 ghost use Rattle.cf_core.specs.Keeping.Starts.{untreated};

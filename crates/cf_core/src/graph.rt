@@ -46,10 +46,10 @@ impl Model for Graph {
     ghost Value = { Graph };
 
     ghost use Rattle.std.specs.Vec.{vec_capacity};
-    ghost use Rattle.cf_core.specs.Keeping.SoundStages.{outlook_of};
+    ghost use Rattle.cf_core.specs.Keeping.SoundStages.{settled_view_of};
     ghost use Rattle.cf_core.specs.Keeping.Graphs.{IsInStep};
 
-    ghost view = { λ g. record { state = record { plan = g.plan; stages = outlook_of g.plan.stages g.stages; claims = g.claims.items; moment = g.moment; used = g.used }; turns = g.stages.turns } };
+    ghost view = { λ g. record { state = record { plan = g.plan; stages = settled_view_of g.plan.stages g.stages; claims = g.claims.items; moment = g.moment; used = g.used }; turns = g.stages.turns } };
 
     ghost invariant = { λ g. IsInStep g.plan g.stages g.claims.items (vec_capacity g.claims) g.used };
 }

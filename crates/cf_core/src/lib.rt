@@ -18,7 +18,7 @@
 //! `Graph::lowest_ready` those below the lowest ready stage; `Graph::nudge` takes turns ahead of time.
 //!
 //! The marks don't matter to the meaning: the state that a contract sees is what treating every stage, in rising number,
-//! leads to (`outlook`), whether it is marked or not. A turn changes nothing of it, a stage that settles leads to what
+//! leads to (`settled_view`), whether it is marked or not. A turn changes nothing of it, a stage that settles leads to what
 //! settling it at once does, and a claim, or a link to a stage that isn't settled, changes nothing else. As sources and
 //! targets are lower, a stage whose lower stages have no mark is as it will be, so the answers of a call on it are those
 //! of the state.

@@ -31,7 +31,7 @@ pub enum Event {
     },
     Tick {
         who: u8,
-        now: u32,
+        moment: u32,
     },
     Attach {
         who: u8,

@@ -109,7 +109,7 @@ fn plain_reply(alloc: Global, plain: &mut Plain, event: &Event) -> Result<Reply,
         Event::Cancel { stage, .. } => flagged(plain.cancel(alloc, stage)),
         Event::Claim { who, stage } => Ok(Reply::Claim(plain.claim(who, stage))),
         Event::Finish { who, stage, answer } => finished(plain.finish(alloc, who, stage, answer)),
-        Event::Tick { now, .. } => ticked(plain.tick(alloc, now)),
+        Event::Tick { moment, .. } => ticked(plain.tick(alloc, moment)),
         Event::Attach {
             form,
             of,

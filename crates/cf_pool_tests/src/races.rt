@@ -157,7 +157,7 @@ fn a_race_does_what_its_steps_attach(rt: HostRuntime) -> Result<(), Fail> {
 fn ticks(alloc: Global, count: usize) -> Result<Vec<Event>, AllocError>
     ensures { IfOk result (λ v. v.items ≡ replicate count (Event.Tick 0 0)) }
 {
-    vec![in alloc; Event::Tick { who: 0, now: 0 }; count]
+    vec![in alloc; Event::Tick { who: 0, moment: 0 }; count]
 }
 
 /// Ticks so often, and then races with 32 workers.

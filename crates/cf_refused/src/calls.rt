@@ -40,7 +40,7 @@ const EVENTS: [Event; 8] = [
         stage: 1,
         answer: Answer::Give(Value::Int(8)),
     },
-    Event::Tick { who: 0, now: 5 },
+    Event::Tick { who: 0, moment: 5 },
 ];
 
 /// Prints what a graph answers to each event, whether the event's word says the event, and what the other calls answer; or
@@ -90,7 +90,7 @@ fn reply_of(graph: &mut Graph, event: &Event) -> Option<Reply> {
         Event::Finish { who, stage, answer } if graph.has(stage) => {
             Some(Reply::Finish(graph.finish(who, stage, answer)))
         }
-        Event::Tick { now, .. } => Some(Reply::Tick(graph.tick(now))),
+        Event::Tick { moment, .. } => Some(Reply::Tick(graph.tick(moment))),
         Event::Attach { .. } if graph.has(0) => {
             let attached = graph.attach(Form::ThenRun, Of::One(0), Some(0));
             Some(Reply::Attach(attached))

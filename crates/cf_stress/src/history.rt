@@ -1,6 +1,6 @@
 //! The history of a closed desk as JSON, as docs/FORMATS.md has histories.
 use crate::texts::{write_reply, write_stage, write_told};
-use crate::words::Sizes;
+use crate::args::Sizes;
 use anyhow::{Result, anyhow};
 use cf_core::Graph;
 use cf_desk::{Call, Closed, Kept, Rec};
@@ -216,7 +216,7 @@ fn event_by(who: u8, call: Call) -> Event {
         Call::Cancel(stage) => Event::Cancel { who, stage },
         Call::Claim(stage) => Event::Claim { who, stage },
         Call::Finish(stage, answer) => Event::Finish { who, stage, answer },
-        Call::Tick(now) => Event::Tick { who, now },
+        Call::Tick(moment) => Event::Tick { who, moment },
         Call::Attach(form, of, function) => Event::Attach {
             who,
             form,

@@ -16,7 +16,7 @@ use Rattle.cf_model.specs.declared.stage.Stage.{Stage}
 use Rattle.cf_model.specs.declared.stage.Stage.TheVariants.{Pending, Ready, Claimed, Linked, Settled}
 use Rattle.cf_model.specs.States.{is_ready}
 use Rattle.cf_core.specs.declared.kept.KeptStage.{KeptStage}
-use Rattle.cf_core.specs.Keeping.Late.{StepsUpTo, dated_in, dated_of, due_kept, late_due, linked_kept, treated, treated_by}
+use Rattle.cf_core.specs.Keeping.Treatment.{StepsUpTo, dated_in, dated_of, due_kept, late_due, linked_kept, treated, treated_by}
 use Rattle.cf_core.specs.Keeping.Sound.{IsSound, StayTaken, is_bound, kept_at, link_marks, marks_of, marks_from, steps_of}
 use Rattle.cf_core.specs.Keeping.Attaching.{due_now, open_one, open_count}
 use Rattle.cf_core.proofs.Keeping.Attaching.{due_again}

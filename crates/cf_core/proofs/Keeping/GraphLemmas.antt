@@ -26,23 +26,23 @@ use Rattle.cf_core.specs.declared.kept.KeptStage.{KeptStage}
 use Rattle.cf_core.specs.declared.stages.Stages.{Stages}
 use Rattle.cf_model.proofs.StateLemmas.{after-unsettled}
 use Rattle.cf_core.specs.Keeping.Sound.{AreTreated, StayTaken, StayTakenBut, is_taken, kept_at}
-use Rattle.cf_core.specs.Keeping.SoundStages.{AreSound, HasRoom, SameRoom, outlook_of}
+use Rattle.cf_core.specs.Keeping.SoundStages.{AreSound, HasRoom, SameRoom, settled_view_of}
 use Rattle.cf_core.specs.Keeping.Landings.{linked_stages, landed_stages}
 use Rattle.cf_core.specs.Keeping.Graphs.{AreClaimed, IsInStep}
 use Rattle.cf_plan.proofs.GrowingLemmas.{growing-and_stage}
 use Rattle.cf_core.proofs.Keeping.Marking.{get-set_other}
-use Rattle.cf_core.proofs.Keeping.Moves.{is_steady, outcome_there, outlook_at}
+use Rattle.cf_core.proofs.Keeping.Moves.{is_steady, outcome_there, settled_view_at}
 
 -- ---- treated stages are seen as they are kept
 
-pub told_stage : (plan : List PlannedStage) (s : Stages) (i : ℕ) → AreSound plan s → i < length plan → AreTreated (i + 1) s.marks → slice_get (outlook_of plan s) i ≡ Some ((kept_at s.kept.items i).stage)
+pub told_stage : (plan : List PlannedStage) (s : Stages) (i : ℕ) → AreSound plan s → i < length plan → AreTreated (i + 1) s.marks → slice_get (settled_view_of plan s) i ≡ Some ((kept_at s.kept.items i).stage)
 told_stage plan s i h l treated =
-    outlook_at plan s.kept.items s.marks s.ready s.links s.steps s.turns h i (i + 1) l (is_steady plan s.kept.items s.marks s.ready s.links s.steps s.turns h (i + 1) treated) (omega arith)
+    settled_view_at plan s.kept.items s.marks s.ready s.links s.steps s.turns h i (i + 1) l (is_steady plan s.kept.items s.marks s.ready s.links s.steps s.turns h (i + 1) treated) (omega arith)
 
-pub told_outcome : (plan : List PlannedStage) (s : Stages) (i : ℕ) → AreSound plan s → i < length plan → AreTreated (i + 1) s.marks → outcome_in (outlook_of plan s) i ≡ outcome_of ((kept_at s.kept.items i).stage)
+pub told_outcome : (plan : List PlannedStage) (s : Stages) (i : ℕ) → AreSound plan s → i < length plan → AreTreated (i + 1) s.marks → outcome_in (settled_view_of plan s) i ≡ outcome_of ((kept_at s.kept.items i).stage)
 told_outcome plan s i h l treated = ap (option_and_then outcome_of) (told_stage plan s i h l treated)
 
-pub told_below : (plan : List PlannedStage) (s : Stages) (i j : ℕ) → AreSound plan s → i < length plan → AreTreated (i + 1) s.marks → j < i → outcome_in (outlook_of plan s) j ≡ outcome_of ((kept_at s.kept.items j).stage)
+pub told_below : (plan : List PlannedStage) (s : Stages) (i j : ℕ) → AreSound plan s → i < length plan → AreTreated (i + 1) s.marks → j < i → outcome_in (settled_view_of plan s) j ≡ outcome_of ((kept_at s.kept.items j).stage)
 told_below plan s i j h l treated below =
     outcome_there plan s.kept.items s.marks s.ready s.links s.steps s.turns h j (i + 1) (omega arith) (is_steady plan s.kept.items s.marks s.ready s.links s.steps s.turns h (i + 1) treated) (omega arith)
 

@@ -17,7 +17,7 @@ use Rattle.cf_plan.proofs.DependentLemmas.{all_dependents}
 use Rattle.cf_model.specs.States.{is_ready}
 use Rattle.cf_model.proofs.StateLemmas.{form_at-within, sources_at-within}
 use Rattle.cf_core.specs.declared.kept.KeptStage.{KeptStage}
-use Rattle.cf_core.specs.Keeping.Late.{StepsUpTo, dated_in, due_kept, earliest, late_due, outcome_part, treated}
+use Rattle.cf_core.specs.Keeping.Treatment.{StepsUpTo, dated_in, due_kept, earliest, late_due, outcome_part, treated}
 use Rattle.cf_core.specs.Keeping.Links.{list_at}
 use Rattle.cf_core.specs.Keeping.Sound.{HasLists, IsSound, is_bound, kept_at, link_marks, marks_from, steps_of}
 use Rattle.cf_core.specs.Keeping.Starts.{mark_starts, mark_those, untreated}

@@ -7,7 +7,7 @@ use Rattle.cf_model.specs.declared.stage.Stage.{Stage}
 use Rattle.cf_model.specs.declared.stage.Stage.TheVariants.{Pending, Ready, Claimed, Linked, Settled}
 use Rattle.cf_model.specs.States.{outcome_of, outcome_in}
 use Rattle.cf_core.specs.declared.kept.KeptStage.{KeptStage}
-use Rattle.cf_core.specs.Keeping.Late.{stages_of, all_treated, treated, treated_by, due_kept, late_due, dated_in, dated_of, linked_kept}
+use Rattle.cf_core.specs.Keeping.Treatment.{stages_of, all_treated, treated, treated_by, due_kept, late_due, dated_in, dated_of, linked_kept}
 use Rattle.cf_core.specs.Keeping.Writes.{ClaimingIsAlone, LinkingIsAlone}
 
 -- stage by stage the same outcomes

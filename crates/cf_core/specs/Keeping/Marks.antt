@@ -3,7 +3,7 @@ use Rattle.std.specs.Prelude.{◌≡◌, ◌≢◌, ℕ, ◌<◌, Some, List, []
 use Rattle.cf_plan.specs.Plans.{PlannedStage}
 use Rattle.cf_model.specs.declared.stage.Stage.TheVariants.{Linked}
 use Rattle.cf_core.specs.declared.kept.KeptStage.{KeptStage}
-use Rattle.cf_core.specs.Keeping.Late.{treated, IsSteady}
+use Rattle.cf_core.specs.Keeping.Treatment.{treated, IsSteady}
 
 -- a stage stays as it is when it is treated by what all stages have now
 abbrev pub WaitsNow : List KeptStage → PlannedStage → KeptStage → Type 0

@@ -24,7 +24,7 @@ impl Graph {
             Event::Cancel { stage, .. } => Reply::Flag(self.cancel(stage)),
             Event::Claim { who, stage } => Reply::Claim(self.claim(who, stage)),
             Event::Finish { who, stage, answer } => Reply::Finish(self.finish(who, stage, answer)),
-            Event::Tick { now, .. } => Reply::Tick(self.tick(now)),
+            Event::Tick { moment, .. } => Reply::Tick(self.tick(moment)),
             Event::Attach {
                 form,
                 of,

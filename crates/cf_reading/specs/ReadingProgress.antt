@@ -8,17 +8,17 @@ use Rattle.cf_reading.specs.Scripts.{Extent, extent_after, StepFits, StepsFit, S
 use Rattle.cf_reading.specs.Stages.{with_function}
 
 -- the stages and the room that these steps leave, all functions so far, and the steps
-pub record Course : Type 0 where
+pub record Progress : Type 0 where
   pub extent : Extent
   pub functions : List Func
   pub steps : List Step
 
 -- with one step more, and its function, if it has one
-abbrev pub with_step : Course → Step × Option Func → Course
-with_step course said = record {
-  extent = extent_after said.0 course.extent;
-  functions = with_function course.functions said.1;
-  steps = course.steps ++ said.0 ∷ [];
+abbrev pub with_step : Progress → Step × Option Func → Progress
+with_step progress said = record {
+  extent = extent_after said.0 progress.extent;
+  functions = with_function progress.functions said.1;
+  steps = progress.steps ++ said.0 ∷ [];
 }
 
 -- what is so of a step behind so many stages and these functions: it fits, and the functions that it names are there with its own,
@@ -33,18 +33,18 @@ abbrev pub extents_after : List Step → Extent → Extent
 extents_after [] x = x
 extents_after (step ∷ steps) x = extents_after steps (extent_after step x)
 
--- one course is another with one step more, which fits and is taken
-pub record GoesOn (purpose : Purpose) (old new : Course) : Type 0 where
+-- one progress is another with one step more, which fits and is taken
+pub record GoesOn (purpose : Purpose) (old new : Progress) : Type 0 where
   pub said : Step × Option Func
   pub grown : new ≡ with_step old said
   pub fits : FitsNext old.extent.stages old.functions said
   pub taken : IsTaken purpose said.0
 
--- What is true of a course that began at an extent with so many functions: its steps fit and lead to where it is, and the
+-- What is true of a progress that began at an extent with so many functions: its steps fit and lead to where it is, and the
 -- functions that they name are there.
-pub record IsCourse (purpose : Purpose) (start : Extent) (known : ℕ) (course : Course) : Type 0 where
-  pub fits : StepsFit start course.steps
-  pub reached : course.extent ≡ extents_after course.steps start
-  pub calls : All (StepCalls (length course.functions)) course.steps
-  pub taken : All (IsTaken purpose) course.steps
-  pub kept : known ≤ length course.functions
+pub record IsProgress (purpose : Purpose) (start : Extent) (known : ℕ) (progress : Progress) : Type 0 where
+  pub fits : StepsFit start progress.steps
+  pub reached : progress.extent ≡ extents_after progress.steps start
+  pub calls : All (StepCalls (length progress.functions)) progress.steps
+  pub taken : All (IsTaken purpose) progress.steps
+  pub kept : known ≤ length progress.functions

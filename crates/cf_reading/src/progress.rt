@@ -9,7 +9,7 @@ use cf_model::Event;
 /// The stages that there are once these steps are done and the room that is left then, all functions so far, and the
 /// steps.
 #[derive(Drop)]
-pub(crate) struct Course {
+pub(crate) struct Progress {
     pub(crate) stages: u16,
     pub(crate) room: u16,
     pub(crate) functions: Vec<Func>,
@@ -20,7 +20,7 @@ pub(crate) struct Course {
 }
 
 /// The stages and the room once a step is done.
-#[tactic(auto, using(crate::proofs::Courses::no_more, crate::proofs::Courses::one_more))]
+#[tactic(auto, using(crate::proofs::ReadingProgress::no_more, crate::proofs::ReadingProgress::one_more))]
 pub(crate) fn extent_after(step: Step, stages: u16, room: u16) -> (u16, u16)
     requires { stages + room ≤ 4096 }
     ensures leads { record { stages = result.0; room = result.1 }

@@ -1,7 +1,7 @@
 use Rattle.std.proofs.Common.{◌≡◌, drop}
 use Rattle.cf_reading.specs.Scripts.{StepsFit, extent_of}
 use Rattle.cf_script.specs.Reports.{after_steps}
-use Rattle.cf_picture.proofs.course.do_steps.Given as goal
+use Rattle.cf_picture.proofs.run.do_steps.Given as goal
 
 abbrev pub invariant-steps : goal.invariant-steps
 invariant-steps l = record {

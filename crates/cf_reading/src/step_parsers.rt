@@ -114,7 +114,10 @@ pub(crate) fn tick(json: &Json) -> Option<Step>
         return None;
     }
     let now = large_in(json, 1)?;
-    Some(Step::Does(Event::Tick { who: 0, now }))
+    Some(Step::Does(Event::Tick {
+        who: 0,
+        moment: now,
+    }))
 }
 
 /// `["claim",who,i]`

@@ -15,7 +15,7 @@ const WORKER: u8 = 63;
 
 /// A script whose steps are done.
 #[derive(Drop)]
-pub(crate) struct Course {
+pub(crate) struct RunScript {
     /// The plan that it begins with.
     pub(crate) plan: Plan,
     /// The graph as the steps leave it.
@@ -26,7 +26,7 @@ pub(crate) struct Course {
 }
 
 /// Does the steps of a script. It fails only where a growth was refused.
-pub(crate) fn course_of(alloc: Global, script: Script) -> Result<Course, AllocError>
+pub(crate) fn run_of(alloc: Global, script: Script) -> Result<RunScript, AllocError>
     ensures { IfOk result (λ c. c.graph.state ≡ after_script script) }
 {
     let (opening, room, functions, steps) = script.into_parts();
@@ -39,7 +39,7 @@ pub(crate) fn course_of(alloc: Global, script: Script) -> Result<Course, AllocEr
         Err(_) => return Err(AllocError),
     };
     do_steps(&mut graph, &functions, &mut notes, &steps);
-    Ok(Course {
+    Ok(RunScript {
         plan,
         graph,
         functions,

@@ -67,7 +67,7 @@ pub fn encode(e: &Event) -> u64
         Event::Finish { who, stage, answer } => {
             word(5, who, stage, answer_tag(answer), answer_low(answer))
         }
-        Event::Tick { who, now } => word(6, who, 0, 0, now),
+        Event::Tick { who, moment } => word(6, who, 0, 0, moment),
         Event::Attach {
             who,
             form,
@@ -114,7 +114,7 @@ pub fn decode(w: u64) -> Option<Event>
             stage,
             answer: answer_with(tag, low)?,
         }),
-        6 if tag == 0 && stage == 0 => Some(Event::Tick { who, now: low }),
+        6 if tag == 0 && stage == 0 => Some(Event::Tick { who, moment: low }),
         7 => attach_with(who, stage, tag, low),
         _ => None,
     }

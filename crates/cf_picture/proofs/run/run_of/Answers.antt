@@ -1,6 +1,6 @@
 use Rattle.std.proofs.Common.{◌∙◌, ap}
 use Rattle.cf_script.proofs.ReportLemmas.{opening_fits}
-use Rattle.cf_picture.proofs.course.course_of.Goals as goal
+use Rattle.cf_picture.proofs.run.run_of.Goals as goal
 
 pub do_steps-requires : goal.do_steps-requires
 do_steps-requires c =

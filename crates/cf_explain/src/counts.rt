@@ -4,7 +4,7 @@ use serde_json::Value as Json;
 
 /// What there is before a step, where all steps before it are right.
 #[derive(Clone, Copy)]
-pub(crate) struct Course {
+pub(crate) struct Counts {
     /// The version of the script.
     pub(crate) version: i64,
     /// How many stages there are.
@@ -14,7 +14,7 @@ pub(crate) struct Course {
 }
 
 /// What there is before step k.
-pub(crate) fn course_before(json: &Json, k: usize) -> Course {
+pub(crate) fn counts_before(json: &Json, k: usize) -> Counts {
     let version = version_of(json);
     let (stages, mut functions) = match json.get("stages").and_then(Json::as_array) {
         Some(list) => (list.len(), with_function(list.as_slice())),
@@ -33,7 +33,7 @@ pub(crate) fn course_before(json: &Json, k: usize) -> Course {
         }
     }
     let grown = if version == 2 { attached.min(room) } else { 0 };
-    Course {
+    Counts {
         version,
         stages: u32::try_from(stages)
             .unwrap_or(0)

@@ -1,5 +1,5 @@
 use Rattle.cf_script.proofs.ReportLemmas.{first_fits, rest_fits, state_goes_on}
-use Rattle.cf_picture.proofs.course.do_steps.Goals as goal
+use Rattle.cf_picture.proofs.run.do_steps.Goals as goal
 
 pub do_step-requires : goal.do_step-requires
 do_step-requires c = first_fits _ _ _ c.steps.graph.state c.steps-test.true c.steps.invariant.fit

@@ -7,7 +7,7 @@ use Rattle.cf_reading.specs.declared.func.Func.{Func}
 use Rattle.cf_reading.specs.declared.purpose.Purpose.{Purpose}
 use Rattle.cf_reading.specs.declared.script.Step.{Step}
 use Rattle.cf_reading.specs.declared.script.Step.TheVariants.{Does, Asks, Work, Nudge}
-use Rattle.cf_reading.specs.Courses.{Course, FitsNext, GoesOn, IsCourse, extents_after, with_step}
+use Rattle.cf_reading.specs.ReadingProgress.{Progress, FitsNext, GoesOn, IsProgress, extents_after, with_step}
 use Rattle.cf_reading.specs.Purposes.{IsTaken}
 use Rattle.cf_reading.specs.Scripts.{Extent, StepCalls, StepFits, StepsFit, attached_by, extent_after}
 use Rattle.cf_reading.specs.Stages.{with_function}
@@ -79,20 +79,20 @@ calls_more n m h (Asks a) calls = tt
 calls_more n m h Work calls = tt
 calls_more n m h (Nudge k) calls = tt
 
-with_step_is : (purpose : Purpose) (start : Extent) (known : ℕ) (course : Course) (said : Step × Option Func) → FitsNext course.extent.stages course.functions said → IsTaken purpose said.0
-    → IsCourse purpose start known course → IsCourse purpose start known (with_step course said)
-with_step_is purpose start known course said next taken is =
-    let more = length_after course.functions said.1 in
+with_step_is : (purpose : Purpose) (start : Extent) (known : ℕ) (progress : Progress) (said : Step × Option Func) → FitsNext progress.extent.stages progress.functions said → IsTaken purpose said.0
+    → IsProgress purpose start known progress → IsProgress purpose start known (with_step progress said)
+with_step_is purpose start known progress said next taken is =
+    let more = length_after progress.functions said.1 in
     let all = is.kept in
-    let m = length (with_function course.functions said.1) in
+    let m = length (with_function progress.functions said.1) in
     record {
-      fits = steps_fit-push course.steps start said.0 is.fits (subst (λ (x : Extent). StepFits x.stages said.0) is.reached next.fits);
-      reached = ap (extent_after said.0) is.reached ∙ sym (extents_after-push course.steps start said.0);
-      calls = All-push (StepCalls m) course.steps said.0 (All-weaker (StepCalls (length course.functions)) (StepCalls m) (calls_more (length course.functions) m more) course.steps is.calls) next.calls;
-      taken = All-push (IsTaken purpose) course.steps said.0 is.taken taken;
+      fits = steps_fit-push progress.steps start said.0 is.fits (subst (λ (x : Extent). StepFits x.stages said.0) is.reached next.fits);
+      reached = ap (extent_after said.0) is.reached ∙ sym (extents_after-push progress.steps start said.0);
+      calls = All-push (StepCalls m) progress.steps said.0 (All-weaker (StepCalls (length progress.functions)) (StepCalls m) (calls_more (length progress.functions) m more) progress.steps is.calls) next.calls;
+      taken = All-push (IsTaken purpose) progress.steps said.0 is.taken taken;
       kept = omega arith;
     }
 
-pub goes_on_is : (purpose : Purpose) (start : Extent) (known : ℕ) (old new : Course) → GoesOn purpose old new → IsCourse purpose start known old → IsCourse purpose start known new
+pub goes_on_is : (purpose : Purpose) (start : Extent) (known : ℕ) (old new : Progress) → GoesOn purpose old new → IsProgress purpose start known old → IsProgress purpose start known new
 goes_on_is purpose start known old new next is =
-    subst (IsCourse purpose start known) (sym next.grown) (with_step_is purpose start known old next.said next.fits next.taken is)
+    subst (IsProgress purpose start known) (sym next.grown) (with_step_is purpose start known old next.said next.fits next.taken is)
