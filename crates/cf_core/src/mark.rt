@@ -6,7 +6,7 @@ ghost use Rattle.cf_core.specs.Keeping.Sound.{mark_all, mark_one};
 use crate::cells::Cells;
 use crate::links::Links;
 use cf_bits::BitSet;
-use cf_plan::Later;
+use cf_plan::AttachedDependents;
 
 /// Marks a stage, if it waits.
 pub fn mark(kept: &Cells, marks: &mut BitSet, i: u16)
@@ -32,7 +32,7 @@ pub fn mark_each(kept: &Cells, marks: &mut BitSet, stages: &[u16])
 }
 
 /// Marks those of these stages that wait, one after another.
-pub fn mark_later(kept: &Cells, marks: &mut BitSet, stages: Later<'_>)
+pub fn mark_attached(kept: &Cells, marks: &mut BitSet, stages: AttachedDependents<'_>)
     requires stages { All (λ i. i < length kept.now.items) stages }
     requires all { length marks.old ≡ length kept.now.items }
     ensures marks { marks.new ≡ mark_all kept.now.items stages.entry marks.old }

@@ -9,15 +9,15 @@ use Rattle.cf_plan.specs.declared.forms.Form.{Form}
 use Rattle.cf_plan.specs.declared.forms.Of.{Of}
 use Rattle.cf_plan.specs.declared.forms.Of.TheVariants.{None as NoSource, One, Two}
 use Rattle.cf_plan.specs.declared.growing.AttachedRow.{AttachedRow}
-use Rattle.cf_plan.specs.declared.threads.Cell.{Cell}
-use Rattle.cf_plan.specs.declared.threads.Head.{Head}
-use Rattle.cf_plan.specs.Growing.{AreGrowing, attached_of, grown_of, later_of}
+use Rattle.cf_plan.specs.declared.attached_lists.Cell.{Cell}
+use Rattle.cf_plan.specs.declared.attached_lists.Head.{Head}
+use Rattle.cf_plan.specs.Growing.{AreGrowing, attached_of, grown_of, attached_dependents_of}
 use Rattle.cf_plan.specs.Plans.{HasLowerSources, IsBuilt, IsGrowing, Planned, PlannedStage, and_stage, attached_stage, calls_function, dependents_from, dependents_of, edges_of, fits_count, fits_form, mentions, plan_of, sources_of, with_stage}
 use Rattle.cf_plan.specs.Rows.{all_sources}
-use Rattle.cf_plan.specs.Threads.{AreThreads, IsThread, head_at, list_of}
+use Rattle.cf_plan.specs.AttachedLists.{AreAttachedLists, IsAttachedList, head_at, list_of}
 use Rattle.cf_plan.proofs.DependentLemmas.{dependents_above, dependents_below, dependents_there, length-dependents_from, mentions-cons, one_where}
 use Rattle.cf_plan.proofs.PlanLemmas.{IsBuilt-with_stage, MayAdd}
-use Rattle.cf_plan.proofs.ThreadLemmas.{AreThreads-same, count_is}
+use Rattle.cf_plan.proofs.AttachedListLemmas.{AreAttachedLists-same, count_is}
 use Rattle.std.proofs.lemmas.List.Concat.{length-flat_map}
 
 -- ---- dependents of more stages
@@ -37,9 +37,9 @@ reverse-replicate (suc n) k =
     ∙ replicate-append-replicate n 1 k ∙ ap (λ m. replicate m k) e
 
 -- an attached stage stands before those attached earlier
-pub later_of-push : (opening : Planned) (rows : List AttachedRow) (row : AttachedRow) (i : ℕ) →
-    later_of opening (rows ++ row ∷ []) i ≡ replicate (mentions i ((attached_of row).sources)) (length opening.stages + length rows) ++ later_of opening rows i
-later_of-push opening rows row i =
+pub attached_dependents_of-push : (opening : Planned) (rows : List AttachedRow) (row : AttachedRow) (i : ℕ) →
+    attached_dependents_of opening (rows ++ row ∷ []) i ≡ replicate (mentions i ((attached_of row).sources)) (length opening.stages + length rows) ++ attached_dependents_of opening rows i
+attached_dependents_of-push opening rows row i =
     let n = length opening.stages in
     let s = attached_of row in
     let old = map attached_of rows in
@@ -51,9 +51,9 @@ later_of-push opening rows row i =
     ∙ ap (λ xs. reverse xs ++ reverse (dependents_from n old i)) (append-nil (replicate (mentions i s.sources) (n + length old)) ∙ ap (λ m. replicate (mentions i s.sources) m) k)
     ∙ ap (λ xs. xs ++ reverse (dependents_from n old i)) (reverse-replicate (mentions i s.sources) (n + length rows))
 
--- what the opening has, and then the later ones the other way round
+-- what the opening has, and then the attached ones the other way round
 pub dependents_split : (opening : Planned) (rows : List AttachedRow) (i : ℕ) →
-    dependents_of (opening.stages ++ map attached_of rows) i ≡ dependents_of opening.stages i ++ reverse (later_of opening rows i)
+    dependents_of (opening.stages ++ map attached_of rows) i ≡ dependents_of opening.stages i ++ reverse (attached_dependents_of opening rows i)
 dependents_split opening rows i =
     let n = length opening.stages in
     let old = map attached_of rows in
@@ -70,14 +70,14 @@ HasLowerSources-behind : (k : ℕ) (xs ys : List PlannedStage) → HasLowerSourc
 HasLowerSources-behind k [] ys h = let e : k + 0 ≡ k = omega arith in subst (λ m. HasLowerSources m ys) (sym e) h
 HasLowerSources-behind k (x ∷ xs) ys h = let e : k + 1 + length xs ≡ k + suc (length xs) = omega arith in subst (λ m. HasLowerSources m ys) e (HasLowerSources-behind (k + 1) xs ys h.1)
 
-pub later_above : (opening : Planned) (rows : List AttachedRow) (i : ℕ) → HasLowerSources 0 (opening.stages ++ map attached_of rows) → All (λ k. i < k) (later_of opening rows i)
-later_above opening rows i h =
+pub attached_above : (opening : Planned) (rows : List AttachedRow) (i : ℕ) → HasLowerSources 0 (opening.stages ++ map attached_of rows) → All (λ k. i < k) (attached_dependents_of opening rows i)
+attached_above opening rows i h =
     let n = length opening.stages in
     let old = map attached_of rows in
     All-reverse (λ k. i < k) (dependents_from n old i) (dependents_above n old i (subst (λ m. HasLowerSources m old) (zero-add n) (HasLowerSources-behind 0 opening.stages old h)))
 
-pub later_below : (opening : Planned) (rows : List AttachedRow) (i : ℕ) → All (λ k. k < length (opening.stages ++ map attached_of rows)) (later_of opening rows i)
-later_below opening rows i =
+pub attached_below : (opening : Planned) (rows : List AttachedRow) (i : ℕ) → All (λ k. k < length (opening.stages ++ map attached_of rows)) (attached_dependents_of opening rows i)
+attached_below opening rows i =
     let n = length opening.stages in
     let old = map attached_of rows in
     let long = length-append opening.stages old in
@@ -140,13 +140,13 @@ may_attach plan new h room short fits lower =
 
 -- ---- the rows and lists
 
-no_threads : (n : ℕ) (part : ℕ → List ℕ) → ((i : ℕ) → part i ≡ []) → AreThreads (replicate n (record { first = 0; count = 0 })) [] part
-no_threads n part none =
+no_lists : (n : ℕ) (part : ℕ → List ℕ) → ((i : ℕ) → part i ≡ []) → AreAttachedLists (replicate n (record { first = 0; count = 0 })) [] part
+no_lists n part none =
     let empty : Head = record { first = 0; count = 0 } in
     let count = length-replicate n empty in
     let at : (i : ℕ) → i < length (replicate n empty) → head_at (replicate n empty) i ≡ empty = λ i l. get_or-replicate n i empty (record { first = 0; count = 0 }) (omega arith) in
     record {
-      threads = λ i l. subst (λ (x : Head). IsThread x.count [] x.first) (sym (at i l)) tt;
+      there = λ i l. subst (λ (x : Head). IsAttachedList x.count [] x.first) (sym (at i l)) tt;
       parts = λ i l. ap (list_of []) (at i l) ∙ sym (none i);
     }
 
@@ -174,16 +174,16 @@ AreGrowing-start opening room lists row_room cell_room is built stages edges row
       edges_again = (let no_rows : length {A = AttachedRow} [] ≡ 0 = refl in omega (arith, no_rows));
       all_cells = refl;
       all_heads = λ some. (let no_rows : length {A = AttachedRow} [] ≡ 0 = refl in omega (arith, no_rows, length-replicate lists empty, all (omega (arith, no_rows))));
-      threads = no_threads lists (later_of opening []) (λ i. refl);
+      lists = no_lists lists (attached_dependents_of opening []) (λ i. refl);
     }
 
 -- one more stage is attached
 pub AreGrowing-attach : (opening : Planned) (rows : List AttachedRow) (row : AttachedRow) (heads new_heads : List Head) (cells new_cells : List Cell) (room row_room cell_room : ℕ) →
     AreGrowing opening rows heads cells room row_room cell_room → 0 < room → row.count ≤ 2 → length ((attached_of row).sources) ≤ 2 →
     fits_form row.form (length ((attached_of row).sources)) (is_some row.function) ≡ true → All (λ j. j < length (opening.stages ++ map attached_of rows)) ((attached_of row).sources) →
-    length new_heads ≡ length heads → length new_cells ≡ length cells + length ((attached_of row).sources) → AreThreads new_heads new_cells (later_of opening (rows ++ row ∷ [])) →
+    length new_heads ≡ length heads → length new_cells ≡ length cells + length ((attached_of row).sources) → AreAttachedLists new_heads new_cells (attached_dependents_of opening (rows ++ row ∷ [])) →
     AreGrowing opening (rows ++ row ∷ []) new_heads new_cells (room - 1) row_room cell_room
-AreGrowing-attach opening rows row heads new_heads cells new_cells room row_room cell_room h some count short fits lower all_heads all_cells threads =
+AreGrowing-attach opening rows row heads new_heads cells new_cells room row_room cell_room h some count short fits lower all_heads all_cells lists =
     let plan = grown_of opening rows room in
     let s = attached_of row in
     let old = map attached_of rows in
@@ -212,7 +212,7 @@ AreGrowing-attach opening rows row heads new_heads cells new_cells room row_room
       edges_again = omega (arith, h.edges_again, rows_more);
       all_cells = omega (arith, h.all_cells, all_cells, new_edges);
       all_heads = λ again. (let old_heads = h.all_heads (omega arith) in omega (arith, old_heads, all_heads, rows_more));
-      threads = threads;
+      lists = lists;
     }
 
 sources_few : (of : Of) → length (sources_of of) ≤ 2
@@ -223,52 +223,52 @@ sources_few (Two a b) = omega arith
 pub AreGrowing-attached : (opening : Planned) (rows : List AttachedRow) (row : AttachedRow) (form : Form) (of : Of) (function : Option ℕ) (heads new_heads : List Head) (cells new_cells : List Cell) (room row_room cell_room : ℕ) →
     AreGrowing opening rows heads cells room row_room cell_room → 0 < room → attached_of row ≡ attached_stage form of function → row.count ≡ length (sources_of of) →
     fits_form form (length (sources_of of)) (is_some function) ≡ true → All (λ j. j < length (opening.stages ++ map attached_of rows)) (sources_of of) →
-    length new_heads ≡ length heads → length new_cells ≡ length cells + length (sources_of of) → AreThreads new_heads new_cells (later_of opening (rows ++ row ∷ [])) →
+    length new_heads ≡ length heads → length new_cells ≡ length cells + length (sources_of of) → AreAttachedLists new_heads new_cells (attached_dependents_of opening (rows ++ row ∷ [])) →
     AreGrowing opening (rows ++ row ∷ []) new_heads new_cells (room - 1) row_room cell_room
-AreGrowing-attached opening rows row form of function heads new_heads cells new_cells room row_room cell_room h some is count fits lower all_heads all_cells threads =
+AreGrowing-attached opening rows row form of function heads new_heads cells new_cells room row_room cell_room h some is count fits lower all_heads all_cells lists =
     let few = sources_few of in
     let Fits : PlannedStage → Type 0 = λ s. fits_form s.form (length s.sources) (is_some s.function) ≡ true in
     let Lower : PlannedStage → Type 0 = λ s. All (λ j. j < length (opening.stages ++ map attached_of rows)) s.sources in
     let Few : PlannedStage → Type 0 = λ s. length s.sources ≤ 2 in
     let Counts : PlannedStage → Type 0 = λ s. length new_cells ≡ length cells + length s.sources in
     AreGrowing-attach opening rows row heads new_heads cells new_cells room row_room cell_room h some (omega arith) (subst Few (sym is) few) (subst Fits (sym is) fits) (subst Lower (sym is) lower)
-    all_heads (subst Counts (sym is) all_cells) threads
+    all_heads (subst Counts (sym is) all_cells) lists
 
 -- what a stage is named by, after one that names it by these sources
-later_after : (opening : Planned) (rows : List AttachedRow) (row : AttachedRow) (sources : List ℕ) (part : ℕ → List ℕ) → (attached_of row).sources ≡ sources →
-    ((i : ℕ) → part i ≡ replicate (mentions i sources) (length opening.stages + length rows) ++ later_of opening rows i) → (i : ℕ) → part i ≡ later_of opening (rows ++ row ∷ []) i
-later_after opening rows row sources part is same i =
-    same i ∙ ap (λ xs. replicate (mentions i xs) (length opening.stages + length rows) ++ later_of opening rows i) (sym is) ∙ sym (later_of-push opening rows row i)
+attached_after : (opening : Planned) (rows : List AttachedRow) (row : AttachedRow) (sources : List ℕ) (part : ℕ → List ℕ) → (attached_of row).sources ≡ sources →
+    ((i : ℕ) → part i ≡ replicate (mentions i sources) (length opening.stages + length rows) ++ attached_dependents_of opening rows i) → (i : ℕ) → part i ≡ attached_dependents_of opening (rows ++ row ∷ []) i
+attached_after opening rows row sources part is same i =
+    same i ∙ ap (λ xs. replicate (mentions i xs) (length opening.stages + length rows) ++ attached_dependents_of opening rows i) (sym is) ∙ sym (attached_dependents_of-push opening rows row i)
 
-pub threads_none : (opening : Planned) (rows : List AttachedRow) (row : AttachedRow) (heads : List Head) (cells : List Cell) → (attached_of row).sources ≡ [] →
-    AreThreads heads cells (later_of opening rows) → AreThreads heads cells (later_of opening (rows ++ row ∷ []))
-threads_none opening rows row heads cells is h =
-    AreThreads-same heads cells (later_of opening rows) (later_of opening (rows ++ row ∷ [])) h (later_after opening rows row [] (later_of opening rows) is (λ i. refl))
+pub lists_none : (opening : Planned) (rows : List AttachedRow) (row : AttachedRow) (heads : List Head) (cells : List Cell) → (attached_of row).sources ≡ [] →
+    AreAttachedLists heads cells (attached_dependents_of opening rows) → AreAttachedLists heads cells (attached_dependents_of opening (rows ++ row ∷ []))
+lists_none opening rows row heads cells is h =
+    AreAttachedLists-same heads cells (attached_dependents_of opening rows) (attached_dependents_of opening (rows ++ row ∷ [])) h (attached_after opening rows row [] (attached_dependents_of opening rows) is (λ i. refl))
 
-pub threads_one : (opening : Planned) (rows : List AttachedRow) (row : AttachedRow) (heads : List Head) (cells : List Cell) (a : ℕ) → (attached_of row).sources ≡ a ∷ [] →
-    AreThreads heads cells (λ i. replicate (one_where i a) (length opening.stages + length rows) ++ later_of opening rows i) → AreThreads heads cells (later_of opening (rows ++ row ∷ []))
-threads_one opening rows row heads cells a is h =
+pub lists_one : (opening : Planned) (rows : List AttachedRow) (row : AttachedRow) (heads : List Head) (cells : List Cell) (a : ℕ) → (attached_of row).sources ≡ a ∷ [] →
+    AreAttachedLists heads cells (λ i. replicate (one_where i a) (length opening.stages + length rows) ++ attached_dependents_of opening rows i) → AreAttachedLists heads cells (attached_dependents_of opening (rows ++ row ∷ []))
+lists_one opening rows row heads cells a is h =
     let k = length opening.stages + length rows in
-    let part : ℕ → List ℕ = λ i. replicate (one_where i a) k ++ later_of opening rows i in
+    let part : ℕ → List ℕ = λ i. replicate (one_where i a) k ++ attached_dependents_of opening rows i in
     let one : (i : ℕ) → one_where i a ≡ mentions i (a ∷ []) = λ i. omega (arith, mentions-cons i a []) in
-    AreThreads-same heads cells part (later_of opening (rows ++ row ∷ [])) h
-    (later_after opening rows row (a ∷ []) part is (λ i. ap (λ n. replicate n k ++ later_of opening rows i) (one i)))
+    AreAttachedLists-same heads cells part (attached_dependents_of opening (rows ++ row ∷ [])) h
+    (attached_after opening rows row (a ∷ []) part is (λ i. ap (λ n. replicate n k ++ attached_dependents_of opening rows i) (one i)))
 
-pub threads_two : (opening : Planned) (rows : List AttachedRow) (row : AttachedRow) (heads : List Head) (cells : List Cell) (a b : ℕ) → (attached_of row).sources ≡ a ∷ b ∷ [] →
-    AreThreads heads cells (λ i. replicate (one_where i b) (length opening.stages + length rows) ++ (replicate (one_where i a) (length opening.stages + length rows) ++ later_of opening rows i)) →
-    AreThreads heads cells (later_of opening (rows ++ row ∷ []))
-threads_two opening rows row heads cells a b is h =
+pub lists_two : (opening : Planned) (rows : List AttachedRow) (row : AttachedRow) (heads : List Head) (cells : List Cell) (a b : ℕ) → (attached_of row).sources ≡ a ∷ b ∷ [] →
+    AreAttachedLists heads cells (λ i. replicate (one_where i b) (length opening.stages + length rows) ++ (replicate (one_where i a) (length opening.stages + length rows) ++ attached_dependents_of opening rows i)) →
+    AreAttachedLists heads cells (attached_dependents_of opening (rows ++ row ∷ []))
+lists_two opening rows row heads cells a b is h =
     let k = length opening.stages + length rows in
-    let part : ℕ → List ℕ = λ i. replicate (one_where i b) k ++ (replicate (one_where i a) k ++ later_of opening rows i) in
+    let part : ℕ → List ℕ = λ i. replicate (one_where i b) k ++ (replicate (one_where i a) k ++ attached_dependents_of opening rows i) in
     let both : (i : ℕ) → one_where i b + one_where i a ≡ mentions i (a ∷ b ∷ []) = λ i. omega (arith, mentions-cons i a (b ∷ []), mentions-cons i b []) in
-    AreThreads-same heads cells part (later_of opening (rows ++ row ∷ [])) h
-    (later_after opening rows row (a ∷ b ∷ []) part is
-    (λ i. sym (append_assoc (replicate (one_where i b) k) (replicate (one_where i a) k) (later_of opening rows i))
-    ∙ ap (λ xs. xs ++ later_of opening rows i) (replicate-append-replicate (one_where i b) (one_where i a) k ∙ ap (λ n. replicate n k) (both i))))
+    AreAttachedLists-same heads cells part (attached_dependents_of opening (rows ++ row ∷ [])) h
+    (attached_after opening rows row (a ∷ b ∷ []) part is
+    (λ i. sym (append_assoc (replicate (one_where i b) k) (replicate (one_where i a) k) (attached_dependents_of opening rows i))
+    ∙ ap (λ xs. xs ++ attached_dependents_of opening rows i) (replicate-append-replicate (one_where i b) (one_where i a) k ∙ ap (λ n. replicate n k) (both i))))
 
 -- a list has no more stages than there are edges
-pub later_few : (opening : Planned) (rows : List AttachedRow) (i : ℕ) → edges_of (opening.stages ++ map attached_of rows) ≤ 16384 → length (later_of opening rows i) ≤ 16384
-later_few opening rows i few =
+pub attached_few : (opening : Planned) (rows : List AttachedRow) (i : ℕ) → edges_of (opening.stages ++ map attached_of rows) ≤ 16384 → length (attached_dependents_of opening rows i) ≤ 16384
+attached_few opening rows i few =
     let n = length opening.stages in
     let old = map attached_of rows in
     omega (
@@ -298,32 +298,4 @@ listed opening rows heads cells room row_room cell_room i h some there =
 pub short_list : (opening : Planned) (rows : List AttachedRow) (heads : List Head) (cells : List Cell) (room row_room cell_room i : ℕ) → AreGrowing opening rows heads cells room row_room cell_room →
     i < length heads → (head_at heads i).count ≤ 16384
 short_list opening rows heads cells room row_room cell_room i h there =
-    omega (arith, count_is heads cells (later_of opening rows) i h.threads there, later_few opening rows i h.growing.built.few_edges)
-
--- an attached stage has at most two sources
-pub few_sources : (of : Of) → length (sources_of of) ≤ 2
-few_sources NoSource = omega arith
-few_sources (One a) = omega arith
-few_sources (Two a b) = omega arith
-
--- a plan that grows still does with the stage
-pub growing-and_stage : (plan : Planned) (form : Form) (of : Of) (function : Option ℕ) → IsGrowing plan → 0 < plan.room → fits_form form (length (sources_of of)) (is_some function) ≡ true →
-    All (λ j. j < length plan.stages) (sources_of of) → IsGrowing (and_stage plan (attached_stage form of function))
-growing-and_stage plan form of function h room fits lower =
-    let new = attached_stage form of function in
-    let few = few_sources of in
-    let may = may_attach plan new h room few fits lower in
-    let longer = length-append plan.stages (new ∷ []) in
-    let one : length (new ∷ []) ≡ 1 = refl in
-    let edges = sum_by-append (λ (s : PlannedStage). length s.sources) plan.stages (new ∷ []) in
-    let one_edge = sum_by-cons (λ (s : PlannedStage). length s.sources) new [] in
-    let no_edge : sum_by (λ (s : PlannedStage). length s.sources) [] ≡ 0 = refl in
-    let opened = h.opened in
-    let stages = h.few_stages in
-    let all_edges = h.few_edges in
-    record {
-      built = IsBuilt-as (with_stage plan new) (and_stage plan new) refl refl (IsBuilt-with_stage plan new h.built may);
-      opened = omega (arith, longer, one, opened);
-      few_stages = omega (arith, longer, one, stages);
-      few_edges = omega (arith, edges, one_edge, no_edge, few, all_edges);
-    }
+    omega (arith, count_is heads cells (attached_dependents_of opening rows) i h.lists there, attached_few opening rows i h.growing.built.few_edges)

@@ -4,6 +4,7 @@ pub mod RowLemmas
 pub mod DependentLemmas
 pub mod Filling
 pub mod FillingRows
-pub mod ThreadLemmas
+pub mod AttachedListLemmas
 pub mod GrowingLemmas
 pub mod StartLemmas
+pub mod NamingLemmas

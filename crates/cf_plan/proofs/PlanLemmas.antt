@@ -1,6 +1,6 @@
 -- What is true of every plan that is built, kept by one more stage and by one more limit.
-use Rattle.std.proofs.Common.{◌≡◌, ℕ, ◌+◌, ◌<◌, ◌≤◌, ◌∷◌, ◌++◌, [], List, All, Option, Some, None, length, suc, zero, arith, subst, refl, Bool, true, false, length-append}
-use Rattle.std.specs.Prelude.{slice_get, nat_lt, nat_le, is_some, is_none, not, ◌||◌}
+use Rattle.std.proofs.Common.{◌≡◌, ℕ, ◌+◌, ◌*◌, ◌<◌, ◌≤◌, ◌∷◌, ◌++◌, [], List, All, Option, Some, None, length, suc, zero, arith, subst, refl, Bool, true, false, length-append}
+use Rattle.std.specs.Prelude.{slice_get, nat_lt, nat_le, is_some, is_none, not, ◌&&◌, ◌||◌}
 use Rattle.std.specs.List.{list_all}
 use Rattle.std.proofs.lemmas.List.Elements.{All-push}
 use Rattle.std.proofs.lemmas.List.Sums.{sum_by-append, AllPass-from_list_all}
@@ -8,7 +8,7 @@ use Rattle.std.proofs.lemmas.Bool.{ltb-true, leb-true}
 use Rattle.cf_plan.specs.declared.faults.PlanFault.{PlanFault}
 use Rattle.cf_plan.specs.declared.faults.PlanFault.TheVariants.{TooManyStages, SourceNotLower, WrongSourceCount, FunctionMissing, FunctionUnwanted, TooManyEdges, NoSuchStage, TooManyLimits}
 use Rattle.cf_plan.specs.declared.limits.Limit.{Limit}
-use Rattle.cf_plan.specs.Plans.{Planned, PlannedStage, HasLowerSources, IsBuilt, unless, stage_fault, fits_count, calls_function, edges_of, with_stage, limit_fault, with_limit}
+use Rattle.cf_plan.specs.Plans.{Planned, PlannedStage, HasLowerSources, IsBuilt, unless, stage_fault, fits_count, calls_function, edges_of, has_place, with_stage, limit_fault, with_limit}
 use Rattle.cf_plan.proofs.LimitLemmas.{All-with_limit_in_order, IsInFiringOrder-with_limit_in_order, length-with_limit_in_order}
 
 -- the sources of the stage at k
@@ -111,3 +111,13 @@ IsBuilt-with_limit plan new h may =
       named = All-with_limit_in_order Names plan.limits new h.named may.there;
       in_order = IsInFiringOrder-with_limit_in_order plan.limits new h.in_order;
     }
+
+-- what it is that there is place
+both : (a b : Bool) → (a && b) ≡ true → (a ≡ true) × (b ≡ true)
+both true b e = (refl, e)
+both false b e = cc
+
+pub place_is : (stages : List PlannedStage) (room : ℕ) → has_place stages room ≡ true → (length stages + room ≤ 4096) × (edges_of stages + 2 * room ≤ 16384)
+place_is stages room e =
+    let parts = both (nat_le (length stages + room) 4096) (nat_le (edges_of stages + 2 * room) 16384) e in
+    (leb-true (length stages + room) 4096 parts.0, leb-true (edges_of stages + 2 * room) 16384 parts.1)

@@ -1,10 +1,10 @@
 -- How a growing plan is kept: a row for each attached stage, and for each stage the attached ones that name it.
 use Rattle.std.specs.Prelude.{◌≡◌, ℕ, ◌+◌, ◌*◌, ◌<◌, ◌≤◌, List, ◌++◌, length, map, reverse, take, All}
 use Rattle.cf_plan.specs.declared.growing.AttachedRow.{AttachedRow}
-use Rattle.cf_plan.specs.declared.threads.Cell.{Cell}
-use Rattle.cf_plan.specs.declared.threads.Head.{Head}
+use Rattle.cf_plan.specs.declared.attached_lists.Cell.{Cell}
+use Rattle.cf_plan.specs.declared.attached_lists.Head.{Head}
 use Rattle.cf_plan.specs.Plans.{IsGrowing, Planned, PlannedStage, dependents_from, edges_of, plan_of}
-use Rattle.cf_plan.specs.Threads.{AreThreads}
+use Rattle.cf_plan.specs.AttachedLists.{AreAttachedLists}
 
 -- the stage that a row stands for
 abbrev pub attached_of : AttachedRow → PlannedStage
@@ -20,8 +20,8 @@ grown_of opening rows room = record {
 }
 
 -- the attached stages that name stage i, the newest first
-abbrev pub later_of : Planned → List AttachedRow → ℕ → List ℕ
-later_of opening rows i = reverse (dependents_from (length opening.stages) (map attached_of rows) i)
+abbrev pub attached_dependents_of : Planned → List AttachedRow → ℕ → List ℕ
+attached_dependents_of opening rows i = reverse (dependents_from (length opening.stages) (map attached_of rows) i)
 
 -- The rows and lists are those of a plan that grows, and there is room for the rows and cells of all that may be attached, and a list for each stage where one may be. Without its attached stages the plan has room for as many more.
 pub record AreGrowing (opening : Planned) (rows : List AttachedRow) (heads : List Head) (cells : List Cell) (room row_room cell_room : ℕ) : Type 0 where
@@ -34,4 +34,4 @@ pub record AreGrowing (opening : Planned) (rows : List AttachedRow) (heads : Lis
   pub edges_again : edges_of opening.stages + 2 * (length rows + room) ≤ 16384
   pub all_cells : length cells ≡ edges_of (map attached_of rows)
   pub all_heads : 0 < length rows + room → length heads ≡ length opening.stages + length rows + room
-  pub threads : AreThreads heads cells (later_of opening rows)
+  pub lists : AreAttachedLists heads cells (attached_dependents_of opening rows)

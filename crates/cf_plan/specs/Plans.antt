@@ -58,6 +58,10 @@ function_at stages i = option_map_or (λ (s : PlannedStage). s.function) (slice_
 abbrev pub edges_of : List PlannedStage → ℕ
 edges_of stages = sum_by (λ s. length s.sources) stages
 
+-- whether there is place for so much room: so many stages more, of two sources each
+abbrev pub has_place : List PlannedStage → ℕ → Bool
+has_place stages room = nat_le (length stages + room) 4096 && nat_le (edges_of stages + 2 * room) 16384
+
 -- each source is below the stage that names it, the first stage here being stage i
 abbrev pub HasLowerSources : ℕ → List PlannedStage → Type 0
 HasLowerSources i [] = Unit {0}
@@ -95,6 +99,10 @@ abbrev pub sources_of : Of → List ℕ
 sources_of NoSource = []
 sources_of (One a) = a ∷ []
 sources_of (Two a b) = a ∷ b ∷ []
+
+-- a plan with so many stages has these sources
+abbrev pub AreBelow : ℕ → Of → Type 0
+AreBelow stages of = All (λ j. j < stages) (sources_of of)
 
 -- a stage as it is attached
 abbrev pub attached_stage : Form → Of → Option ℕ → PlannedStage

@@ -2,7 +2,7 @@
 ghost use Rattle.std.specs.Prelude.{◌≡◌};
 ghost use Rattle.cf_plan.specs.declared.faults.PlanFault.TheVariants.{NoMemory};
 
-use std::alloc::AllocError;
+use std::alloc::{AllocError, AllocFailed};
 use thiserror::Error;
 
 /// Why a stage or a limit can't be added to a plan, or a plan can't be made. The faults are numbered 1 to 9, in the
@@ -43,6 +43,14 @@ impl From<AllocError> for PlanFault {
     ghost from_gives = { λ _ fault. fault ≡ NoMemory };
 
     fn from(_refused: AllocError) -> PlanFault {
+        PlanFault::NoMemory
+    }
+}
+
+impl<T: Drop> From<AllocFailed<T>> for PlanFault {
+    ghost from_gives = { λ _ fault. fault ≡ NoMemory };
+
+    fn from(_refused: AllocFailed<T>) -> PlanFault {
         PlanFault::NoMemory
     }
 }

@@ -1,6 +1,6 @@
 //! Forms of stages, and what their functions take and answer.
-ghost use Rattle.std.specs.Prelude.{◌≡◌, length};
-ghost use Rattle.cf_plan.specs.Plans.{sources_of};
+ghost use Rattle.std.specs.Prelude.{◌≡◌, ◌↔◌, IsTrue, length};
+ghost use Rattle.cf_plan.specs.Plans.{AreBelow, sources_of};
 
 use cf_outcome::{Outcome, Value};
 
@@ -69,6 +69,17 @@ impl Of {
             Of::None => 0,
             Of::One(_) => 1,
             Of::Two(_, _) => 2,
+        }
+    }
+
+    /// Whether a plan with so many stages has them all.
+    pub fn are_below(self, stages: u16) -> bool
+        ensures { IsTrue result ↔ AreBelow stages self }
+    {
+        match self {
+            Of::None => true,
+            Of::One(a) => a < stages,
+            Of::Two(a, b) => a < stages && b < stages,
         }
     }
 }

@@ -1,12 +1,12 @@
 //! Plans to which stages are attached.
 ghost use Rattle.std.specs.Prelude.{◌≡◌, ℕ, ◌+◌, ◌*◌, ◌<◌, ◌≤◌, ◌++◌, true, All, IfOk, is_some, length, reverse};
 ghost use Rattle.cf_plan.specs.Growing.{attached_of};
-ghost use Rattle.cf_plan.specs.Plans.{IsGrowing, and_stage, attached_stage, dependents_of, edges_of, fits_form, form_at, function_at, opening_of, reopened, sources_at, sources_of, with_room};
+ghost use Rattle.cf_plan.specs.Plans.{AreBelow, IsGrowing, and_stage, attached_stage, dependents_of, edges_of, fits_form, form_at, function_at, has_place, opening_of, reopened, sources_at, sources_of, with_room};
 
+use crate::attached_lists::{AttachedDependents, AttachedLists};
 use crate::forms::{Form, Of};
 use crate::limits::Limit;
 use crate::plan::Plan;
-use crate::threads::{Later, Threads};
 use std::alloc::{AllocError, Global};
 use std::marker::Model;
 
@@ -29,7 +29,7 @@ pub(crate) struct AttachedRow {
 pub struct GrowingPlan {
     opening: Plan,
     rows: Vec<AttachedRow>,
-    threads: Threads,
+    lists: AttachedLists,
     room: u16,
 }
 
@@ -44,28 +44,27 @@ impl Model for GrowingPlan {
     ghost view = { λ p. grown_of p.opening p.rows.items p.room };
 
     ghost invariant = { λ p.
-        AreGrowing p.opening p.rows.items p.threads.heads.items p.threads.cells.items p.room (vec_capacity p.rows) (vec_capacity p.threads.cells) };
+        AreGrowing p.opening p.rows.items p.lists.heads.items p.lists.cells.items p.room (vec_capacity p.rows) (vec_capacity p.lists.cells) };
 }
 
 impl GrowingPlan {
     /// The plan with room for so many stages, which together with its own are at most `MAX_STAGES`; with two edges for
     /// each, its edges are at most `MAX_EDGES`. It fails only where there is no memory.
     pub fn new(alloc: Global, opening: Plan, room: u16) -> Result<GrowingPlan, AllocError>
-        requires stages { length opening.stages + room ≤ 4096 }
-        requires edges { edges_of opening.stages + 2 * room ≤ 16384 }
+        requires place { has_place opening.stages room ≡ true }
         ensures { IfOk result (λ plan. plan ≡ with_room opening room) }
     {
         let stages = opening.stages() as usize;
-        let lists = match room {
+        let count = match room {
             0 => 0,
             _ => stages + room as usize,
         };
         let rows = Vec::with_capacity(alloc, room as usize)?;
-        let threads = Threads::new(alloc, lists, 2 * room as usize)?;
+        let lists = AttachedLists::new(alloc, count, 2 * room as usize)?;
         Ok(GrowingPlan {
             opening,
             rows,
-            threads,
+            lists,
             room,
         })
     }
@@ -144,7 +143,7 @@ impl GrowingPlan {
     pub fn edges(&self) -> u32
         ensures { result ≡ edges_of self.now.stages }
     {
-        self.opening.edges() + self.threads.cells() as u32
+        self.opening.edges() + self.lists.cells() as u32
     }
 
     /// The stages of the opening that name stage i as a source, in rising order, once for each mention.
@@ -163,16 +162,16 @@ impl GrowingPlan {
 
     /// The attached stages that name stage i as a source, the newest first, once for each mention: behind those of the
     /// opening they are, the other way round, the rest of its dependents.
-    pub fn later(&self, i: u16) -> Later<'_>
+    pub fn attached_dependents(&self, i: u16) -> AttachedDependents<'_>
         requires { i < length self.now.stages }
         ensures rest { dependents_of self.now.stages i ≡ dependents_of (opening_of self.now).stages i ++ reverse result }
         ensures above { All (λ k. i < k) result }
         ensures below { All (λ k. k < length self.now.stages) result }
     {
         if self.rows.is_empty() {
-            self.threads.none()
+            self.lists.none()
         } else {
-            self.threads.list(i)
+            self.lists.list(i)
         }
     }
 
@@ -180,7 +179,7 @@ impl GrowingPlan {
     pub fn attach(&mut self, form: Form, of: Of, function: Option<u16>)
         requires room { 0 < self.old.room }
         requires fits { fits_form form (length (sources_of of)) (is_some function) ≡ true }
-        requires sources { All (λ j. j < length self.old.stages) (sources_of of) }
+        requires sources { AreBelow (length self.old.stages) of }
         ensures { self.new ≡ and_stage self.old (attached_stage form of function) }
     {
         let number = self.opening.stages() + self.rows.len() as u16;
@@ -188,10 +187,10 @@ impl GrowingPlan {
         self.room -= 1;
         match of {
             Of::None => {}
-            Of::One(a) => self.threads.push(a, number),
+            Of::One(a) => self.lists.push(a, number),
             Of::Two(a, b) => {
-                self.threads.push(a, number);
-                self.threads.push(b, number);
+                self.lists.push(a, number);
+                self.lists.push(b, number);
             }
         }
     }
@@ -207,7 +206,7 @@ impl GrowingPlan {
             let _stages = self.opening.stages();
             self.room += attached as u16;
             self.rows.clear();
-            self.threads.clear();
+            self.lists.clear();
         }
     }
 }

@@ -12,6 +12,7 @@
 //! attached stages that name it. A restart takes them all out again.
 #![tactic(auto)]
 
+mod attached_lists;
 mod builder;
 mod dependents;
 mod faults;
@@ -21,12 +22,13 @@ mod functions;
 mod growing;
 pub mod laws;
 mod limits;
+mod naming;
 mod plan;
 mod rows;
 mod starting;
 mod tables;
-mod threads;
 
+pub use attached_lists::AttachedDependents;
 pub use builder::{MAX_EDGES, MAX_LIMITS, MAX_STAGES, PlanBuilder};
 pub use faults::PlanFault;
 pub use fitting::fits_form;
@@ -37,4 +39,3 @@ pub use limits::{Limit, LimitKind};
 pub use plan::Plan;
 pub use starting::starts;
 pub use tables::{composes, due_one, due_two, landing};
-pub use threads::Later;

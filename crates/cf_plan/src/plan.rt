@@ -1,8 +1,9 @@
 //! Plans, and what is asked of them.
 ghost use Rattle.std.specs.Prelude.{◌≡◌, ℕ, ◌<◌, ◌≤◌, All, IfOk, IsOkUnless, length};
-ghost use Rattle.cf_plan.specs.Plans.{IsBuilt, IsRising, dependents_of, edges_of, form_at, function_at, mentions, plan_of, sources_at, starts_of};
+ghost use Rattle.cf_plan.specs.Plans.{IsBuilt, IsRising, dependents_of, edges_of, form_at, function_at, has_place, mentions, plan_of, sources_at, starts_of};
 ghost use Rattle.cf_plan.specs.Rows.{ArePlanned, planned_of};
 
+use crate::builder::{MAX_EDGES, MAX_STAGES};
 use crate::dependents::Dependents;
 use crate::faults::PlanFault;
 use crate::forms::Form;
@@ -78,10 +79,8 @@ impl Plan {
             dependents,
             starts,
         };
-        match Arc::new(alloc, blocks) {
-            Ok(blocks) => Ok(Plan { blocks }),
-            Err(_) => Err(PlanFault::NoMemory),
-        }
+        let blocks = Arc::new(alloc, blocks)?;
+        Ok(Plan { blocks })
     }
 
     /// How many stages it has, at most `MAX_STAGES`. They are numbered from 0 on.
@@ -159,15 +158,22 @@ impl Plan {
         self.blocks.sources.len() as u32
     }
 
+    /// Whether there is place for so much room: with so many stages more, of two sources each, it has at most `MAX_STAGES`
+    /// stages and `MAX_EDGES` edges.
+    pub fn has_place(&self, room: u16) -> bool
+        ensures { result ≡ has_place self.now.stages room }
+    {
+        self.stages() as usize + room as usize <= MAX_STAGES
+            && self.edges() as usize + 2 * room as usize <= MAX_EDGES
+    }
+
     /// The same plan again, over the same memory: it takes none. It fails only where more copies than a memory holds are
     /// there at the same time.
     pub fn copy(&self) -> Result<Plan, PlanFault>
         ensures same { IfOk result (λ plan. plan ≡ self.now) }
         ensures refused { IsOkUnless result PlanFault.NoMemory }
     {
-        match Arc::try_clone(&self.blocks) {
-            Ok(blocks) => Ok(Plan { blocks }),
-            Err(_) => Err(PlanFault::NoMemory),
-        }
+        let blocks = Arc::try_clone(&self.blocks)?;
+        Ok(Plan { blocks })
     }
 }

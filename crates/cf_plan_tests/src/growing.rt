@@ -1,32 +1,16 @@
 //! Plans to which stages are attached, beside plans that were built whole.
-ghost use Rattle.std.specs.Prelude.{◌≡◌, nat_lt};
-ghost use Rattle.std.specs.List.{list_all};
-ghost use Rattle.cf_plan.specs.Plans.{sources_of};
-
 use cf_plan::{
-    Form, GrowingPlan, LimitKind, MAX_EDGES, MAX_STAGES, Of, Plan, PlanBuilder, PlanFault,
-    fits_form,
+    Form, GrowingPlan, LimitKind, MAX_STAGES, Of, Plan, PlanBuilder, PlanFault, fits_form,
 };
 use std::alloc::{AllocError, Global};
 use std::process::Abort;
 use std::test::Fail;
 
-/// Whether all sources are there.
-fn are_there(of: Of, stages: u16) -> bool
-    ensures { result ≡ list_all (λ j. nat_lt j stages) (sources_of of) }
-{
-    match of {
-        Of::None => true,
-        Of::One(a) => a < stages,
-        Of::Two(a, b) => a < stages && b < stages,
-    }
-}
-
 /// Attaches a stage that fits, for which there is room.
 fn attach(rt: &impl Abort, plan: &mut GrowingPlan, form: Form, of: Of, function: Option<u16>) {
     assert!(rt; plan.room() > 0);
     assert!(rt; fits_form(form, of.count(), function.is_some()));
-    assert!(rt; are_there(of, plan.stages()));
+    assert!(rt; of.are_below(plan.stages()));
     plan.attach(form, of, function);
 }
 
@@ -40,7 +24,7 @@ fn dependents(
     assert!(rt; i < plan.stages());
     let mut all = Vec::from_slice(alloc, plan.dependents(i))?;
     let first = all.len();
-    let mut later = plan.later(i);
+    let mut later = plan.attached_dependents(i);
     for _ in 0..plan.edges() {
         let Some(k) = later.pop() else {
             break;
@@ -89,8 +73,7 @@ fn with_room(
     plan: Plan,
     room: u16,
 ) -> Result<GrowingPlan, AllocError> {
-    assert!(rt; plan.stages() as usize + room as usize <= MAX_STAGES);
-    assert!(rt; plan.edges() as usize + 2 * room as usize <= MAX_EDGES);
+    assert!(rt; plan.has_place(room));
     GrowingPlan::new(alloc, plan, room)
 }
 
@@ -137,7 +120,7 @@ fn the_newest_comes_first(rt: HostRuntime) -> Result<(), Fail> {
     attach(&rt, &mut plan, Form::AllOf, Of::Two(1, 1), None);
     assert!(rt; plan.stages() == 5);
     assert!(rt; plan.dependents(1).is_empty());
-    let mut later = plan.later(1);
+    let mut later = plan.attached_dependents(1);
     assert_eq!(rt; later.pop(), Some(4));
     assert_eq!(rt; later.pop(), Some(4));
     assert_eq!(rt; later.pop(), Some(3));

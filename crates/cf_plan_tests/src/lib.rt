@@ -7,4 +7,8 @@ mod composing;
 #[cfg(test)]
 mod growing;
 #[cfg(test)]
+mod naming;
+#[cfg(test)]
+mod place;
+#[cfg(test)]
 mod plans;

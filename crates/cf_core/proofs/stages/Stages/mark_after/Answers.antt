@@ -11,9 +11,9 @@ returns-clause-marks c =
     let kept = c.args.self.now.kept.items in
     let marks = c.args.self.now.marks in
     let first : c.mark_each.new.marks ≡ mark_all kept (dependents_of (opening_of plan).stages c.args.d) marks = search rules in
-    let later : c.mark_later.new.marks ≡ mark_all kept c.later.result c.mark_each.new.marks = search rules in
-    let linked : c.mark_linked.new.marks ≡ mark_all kept (list_at c.args.self.now.links c.args.d) c.mark_later.new.marks = search rules in
+    let attached : c.mark_attached.new.marks ≡ mark_all kept c.attached_dependents.result c.mark_each.new.marks = search rules in
+    let linked : c.mark_linked.new.marks ≡ mark_all kept (list_at c.args.self.now.links c.args.d) c.mark_attached.new.marks = search rules in
     linked
     ∙ ap (mark_all kept (list_at c.args.self.now.links c.args.d))
-    (later ∙ ap (mark_all kept c.later.result) first
-    ∙ mark_all-both kept (dependents_of (opening_of plan).stages c.args.d) c.later.result (dependents_of plan.stages c.args.d) marks c.later.ensures.rest)
+    (attached ∙ ap (mark_all kept c.attached_dependents.result) first
+    ∙ mark_all-both kept (dependents_of (opening_of plan).stages c.args.d) c.attached_dependents.result (dependents_of plan.stages c.args.d) marks c.attached_dependents.ensures.rest)

@@ -1,8 +1,8 @@
--- Lists of stages threaded through one block of cells, where each cell names the one behind it.
+-- Linked lists of stages in one block of cells, where each cell names the one behind it.
 use Rattle.std.specs.Prelude.{◌≡◌, ℕ, ◌<◌, List, [], ◌∷◌, length, slice_index_or}
 use Rattle.std.proofs.Common.{zero, suc}
-use Rattle.cf_plan.specs.declared.threads.Cell.{Cell}
-use Rattle.cf_plan.specs.declared.threads.Head.{Head}
+use Rattle.cf_plan.specs.declared.attached_lists.Cell.{Cell}
+use Rattle.cf_plan.specs.declared.attached_lists.Head.{Head}
 
 -- the cell at a place, and the head of a stage's list
 abbrev pub cell_at : List Cell → ℕ → Cell
@@ -20,11 +20,11 @@ abbrev pub list_of : List Cell → Head → List ℕ
 list_of cells head = walk head.count cells head.first
 
 -- so many cells, from one on, are there
-abbrev pub IsThread : ℕ → List Cell → ℕ → Type 0
-IsThread zero cells c = Unit {0}
-IsThread (suc count) cells c = (c < length cells) × IsThread count cells (cell_at cells c).next
+abbrev pub IsAttachedList : ℕ → List Cell → ℕ → Type 0
+IsAttachedList zero cells c = Unit {0}
+IsAttachedList (suc count) cells c = (c < length cells) × IsAttachedList count cells (cell_at cells c).next
 
 -- each list is there, and has the stages of its part
-pub record AreThreads (heads : List Head) (cells : List Cell) (part : ℕ → List ℕ) : Type 0 where
-  pub threads : (i : ℕ) → i < length heads → IsThread (head_at heads i).count cells (head_at heads i).first
+pub record AreAttachedLists (heads : List Head) (cells : List Cell) (part : ℕ → List ℕ) : Type 0 where
+  pub there : (i : ℕ) → i < length heads → IsAttachedList (head_at heads i).count cells (head_at heads i).first
   pub parts : (i : ℕ) → i < length heads → list_of cells (head_at heads i) ≡ part i

@@ -1,7 +1,7 @@
-//! Lists of attached stages, one for each stage, threaded through one block of cells.
+//! Lists of attached stages, one for each stage, linked through one block of cells.
 ghost use Rattle.std.specs.Prelude.{◌≡◌, ◌+◌, ◌<◌, ◌≤◌, [], ◌∷◌, ◌++◌, IfOk, IfSome, drop, length, replicate, slice_get, slice_set};
 ghost use Rattle.std.specs.Vec.{vec_capacity};
-ghost use Rattle.cf_plan.specs.Threads.{IsThread, head_at, list_of};
+ghost use Rattle.cf_plan.specs.AttachedLists.{IsAttachedList, head_at, list_of};
 
 use std::alloc::{AllocError, Global};
 use std::marker::Model;
@@ -22,21 +22,25 @@ pub(crate) struct Cell {
 
 /// For each stage a list of stages. No call but `new` takes memory.
 #[derive(Drop)]
-pub(crate) struct Threads {
+pub(crate) struct AttachedLists {
     heads: Vec<Head>,
     cells: Vec<Cell>,
 }
 
-impl Threads {
+impl AttachedLists {
     /// An empty list for each of so many stages, with room for so many cells in all.
-    pub(crate) fn new(alloc: Global, stages: usize, cells: usize) -> Result<Threads, AllocError>
+    pub(crate) fn new(
+        alloc: Global,
+        stages: usize,
+        cells: usize,
+    ) -> Result<AttachedLists, AllocError>
         ensures heads { IfOk result (λ made. made.heads.items ≡ replicate stages (record { first = 0; count = 0 })) }
         ensures cells { IfOk result (λ made. made.cells.items ≡ []) }
         ensures room { IfOk result (λ made. vec_capacity made.cells ≡ cells) }
     {
         let heads = vec![in alloc; Head { first: 0, count: 0 }; stages]?;
         let cells = Vec::with_capacity(alloc, cells)?;
-        Ok(Threads { heads, cells })
+        Ok(AttachedLists { heads, cells })
     }
 
     /// Puts a stage at the head of the list of `target`.
@@ -79,22 +83,22 @@ impl Threads {
     }
 
     /// A list of no stages.
-    pub(crate) fn none(&self) -> Later<'_>
+    pub(crate) fn none(&self) -> AttachedDependents<'_>
         ensures { result ≡ [] }
     {
-        Later {
+        AttachedDependents {
             cells: &self.cells,
             head: Head { first: 0, count: 0 },
         }
     }
 
     /// The list of a stage.
-    pub(crate) fn list(&self, i: u16) -> Later<'_>
+    pub(crate) fn list(&self, i: u16) -> AttachedDependents<'_>
         requires stage { i < length self.now.heads.items }
-        requires thread { IsThread (head_at self.now.heads.items i).count self.now.cells.items (head_at self.now.heads.items i).first }
+        requires list { IsAttachedList (head_at self.now.heads.items i).count self.now.cells.items (head_at self.now.heads.items i).first }
         ensures { result ≡ list_of self.now.cells.items (head_at self.now.heads.items i) }
     {
-        Later {
+        AttachedDependents {
             cells: &self.cells,
             head: self.heads[i as usize],
         }
@@ -103,24 +107,24 @@ impl Threads {
 
 /// The attached stages that name a stage as a source, one after another: the newest first, once for each mention.
 #[derive(Drop)]
-pub struct Later<'a> {
+pub struct AttachedDependents<'a> {
     cells: &'a [Cell],
     head: Head,
 }
 
-impl<'a> Model for Later<'a> {
+impl<'a> Model for AttachedDependents<'a> {
     ghost use Rattle.std.specs.Prelude.{List, ℕ};
 
     ghost Value = { List ℕ };
 
-    ghost use Rattle.cf_plan.specs.Threads.{IsThread, list_of};
+    ghost use Rattle.cf_plan.specs.AttachedLists.{IsAttachedList, list_of};
 
     ghost view = { λ s. list_of s.cells.now s.head };
 
-    ghost invariant = { λ s. IsThread s.head.count s.cells.now s.head.first };
+    ghost invariant = { λ s. IsAttachedList s.head.count s.cells.now s.head.first };
 }
 
-impl<'a> Later<'a> {
+impl<'a> AttachedDependents<'a> {
     /// Takes the first one.
     pub fn pop(&mut self) -> Option<u16>
         ensures first { result ≡ slice_get self.old 0 }
