@@ -32,7 +32,7 @@ pub fn mark_each(kept: &Cells, marks: &mut BitSet, stages: &[u16])
 }
 
 /// Marks those of these stages that wait, one after another.
-pub fn mark_attached(kept: &Cells, marks: &mut BitSet, stages: AttachedDependents<'_>)
+pub fn mark_attached_dependents(kept: &Cells, marks: &mut BitSet, stages: AttachedDependents<'_>)
     requires stages { All (λ i. i < length kept.now.items) stages }
     requires all { length marks.old ≡ length kept.now.items }
     ensures marks { marks.new ≡ mark_all kept.now.items stages.entry marks.old }

@@ -20,7 +20,7 @@ ghost use Rattle.cf_core.specs.Keeping.Starts.{mark_starts, mark_those, untreate
 use crate::cells::Cells;
 use crate::kept::KeptStage;
 use crate::links::Links;
-use crate::mark::{mark_attached, mark_each, mark_linked};
+use crate::mark::{mark_attached_dependents, mark_each, mark_linked};
 use crate::treat::treat;
 use cf_bits::BitSet;
 use cf_model::Stage;
@@ -130,7 +130,7 @@ impl Stages {
         ensures turns { self.new.turns ≡ self.old.turns }
     {
         mark_each(&self.kept, &mut self.marks, plan.dependents(d));
-        mark_attached(&self.kept, &mut self.marks, plan.attached_dependents(d));
+        mark_attached_dependents(&self.kept, &mut self.marks, plan.attached_dependents(d));
         mark_linked(&self.kept, &mut self.marks, &mut self.links, d);
     }
 

@@ -11,8 +11,8 @@ returns-clause-marks c =
     let kept = c.args.self.now.kept.items in
     let marks = c.args.self.now.marks in
     let first : c.mark_each.new.marks ≡ mark_all kept (dependents_of (opening_of plan).stages c.args.d) marks = search rules in
-    let attached : c.mark_attached.new.marks ≡ mark_all kept c.attached_dependents.result c.mark_each.new.marks = search rules in
-    let linked : c.mark_linked.new.marks ≡ mark_all kept (list_at c.args.self.now.links c.args.d) c.mark_attached.new.marks = search rules in
+    let attached : c.mark_attached_dependents.new.marks ≡ mark_all kept c.attached_dependents.result c.mark_each.new.marks = search rules in
+    let linked : c.mark_linked.new.marks ≡ mark_all kept (list_at c.args.self.now.links c.args.d) c.mark_attached_dependents.new.marks = search rules in
     linked
     ∙ ap (mark_all kept (list_at c.args.self.now.links c.args.d))
     (attached ∙ ap (mark_all kept c.attached_dependents.result) first

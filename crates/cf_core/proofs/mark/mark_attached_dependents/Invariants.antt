@@ -1,6 +1,6 @@
 use Rattle.std.proofs.Common.{◌≡◌, ◌<◌, All, length}
 use Rattle.cf_core.specs.Keeping.Sound.{mark_all}
-use Rattle.cf_core.proofs.mark.mark_attached.Given as goal
+use Rattle.cf_core.proofs.mark.mark_attached_dependents.Given as goal
 
 -- those that are left lead to what all lead to
 abbrev pub invariant-loop-i : goal.invariant-loop-i
