@@ -18,7 +18,8 @@ use Rattle.cf_desk.specs.declared.row.Setting.{Setting}
 use Rattle.cf_desk.specs.declared.row.Terms.{Terms}
 use Rattle.cf_desk.specs.declared.row.Known.{Known}
 use Rattle.cf_model.specs.States.{State as Copy, start}
-use Rattle.cf_event.specs.Words.{IsEvent, who_of, word_of}
+use Rattle.cf_model.specs.Calls.{who_of}
+use Rattle.cf_event.specs.Words.{IsEvent, word_of}
 use Rattle.cf_event.specs.Decoding.{decoded, decoded_with, event_of}
 use Rattle.cf_event.proofs.WordLemmas.{decoded_words}
 use Rattle.cf_desk.specs.Log.{own, AreEventsOf, AreLogged, Catches, state_from}

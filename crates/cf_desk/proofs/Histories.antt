@@ -15,7 +15,7 @@ use Rattle.cf_expr.specs.Expressions.{expr}
 use Rattle.cf_expr.specs.Histories.{IsPlain, IsPlainPlan, IsQuiet, nothing_granted}
 use Rattle.cf_expr.proofs.Runs.{quiet_is_expression}
 use Rattle.cf_model.specs.Events.{answered}
-use Rattle.cf_event.specs.Words.{who_of}
+use Rattle.cf_model.specs.Calls.{who_of}
 use Rattle.cf_model.specs.Events.{state_after, state_at}
 use Rattle.cf_desk.specs.Log.{own, placed}
 use Rattle.cf_desk.specs.Records.{dids, IsAnswered, Fits}

@@ -15,7 +15,8 @@ use Rattle.cf_desk.proofs.Lists.{none_of_both, one_of}
 use Rattle.cf_desk.specs.declared.row.Setting.{Setting}
 use Rattle.cf_desk.specs.declared.row.Terms.{Terms}
 use Rattle.cf_desk.specs.declared.row.Known.{Known}
-use Rattle.cf_event.specs.Words.{who_of, word_of}
+use Rattle.cf_model.specs.Calls.{who_of}
+use Rattle.cf_event.specs.Words.{word_of}
 use Rattle.cf_event.specs.Decoding.{event_of}
 use Rattle.cf_event.proofs.WordLemmas.{event_of_own_word, event_of_zero, word_of_filled}
 use Rattle.cf_model.specs.States.{start}

@@ -26,7 +26,8 @@ use Rattle.cf_model.specs.States.{State, lowest_ready_of, outcome_at, start}
 use Rattle.cf_model.specs.Events.{answered, told}
 use Rattle.cf_model.specs.Ranges.{AskFits, EventFits}
 use Rattle.cf_model.proofs.LowestReady.{lowest_ready-within}
-use Rattle.cf_event.specs.Words.{who_of, word_of}
+use Rattle.cf_model.specs.Calls.{who_of}
+use Rattle.cf_event.specs.Words.{word_of}
 use Rattle.cf_desk.specs.Log.{own, IsEventOf, AreLogged, state_from, Catches}
 use Rattle.cf_desk.specs.Faults.{AsksStage, AttachFits, IsFitting, IsOnStage}
 use Rattle.cf_model.proofs.Closed.{reached_length}

@@ -15,7 +15,7 @@ use Rattle.cf_desk.specs.declared.calls.Rec.{Rec}
 use Rattle.cf_desk.specs.declared.calls.Rec.TheVariants.{Did, Saw}
 use Rattle.cf_model.specs.States.{State}
 use Rattle.cf_model.specs.Events.{answered, told}
-use Rattle.cf_event.specs.Words.{who_of}
+use Rattle.cf_model.specs.Calls.{who_of}
 use Rattle.cf_model.specs.Events.{state_after, state_at}
 use Rattle.cf_desk.specs.Log.{own, state_from, placed, events_of, Catches}
 use Rattle.cf_desk.specs.Calls.{event_by}

@@ -8,7 +8,7 @@ use Rattle.cf_model.specs.declared.events.Event.{Event}
 use Rattle.cf_model.specs.declared.events.Reply.{Reply}
 use Rattle.cf_model.specs.Events.{answered, state_at, told}
 use Rattle.cf_model.specs.Laws.{grants_of}
-use Rattle.cf_event.specs.Words.{who_of}
+use Rattle.cf_model.specs.Calls.{who_of}
 use Rattle.cf_plan.specs.Meanings.{Meanings}
 use Rattle.cf_expr.specs.Expressions.{expr}
 use Rattle.cf_expr.specs.Histories.{IsPlain, IsPlainPlan, IsQuiet, nothing_granted}

@@ -7,7 +7,8 @@ use Rattle.cf_model.specs.declared.events.Event.{Event}
 use Rattle.cf_model.specs.declared.events.Event.TheVariants.{Attach as Attaches}
 use Rattle.cf_model.specs.Events.{answered, state_after}
 use Rattle.cf_model.specs.Ranges.{EventFits}
-use Rattle.cf_event.specs.Words.{IsEvent, who_of}
+use Rattle.cf_model.specs.Calls.{who_of}
+use Rattle.cf_event.specs.Words.{IsEvent}
 use Rattle.cf_desk.specs.declared.row.Setting.{Setting}
 
 -- the events of one caller, in order

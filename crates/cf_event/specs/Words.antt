@@ -109,12 +109,3 @@ IsEvent (Ticks who now) = (who ≤ 63) × (now < 2 ^ 32)
 IsEvent (Attaches who form of function) =
     (who ≤ 63) × (first_of of ≤ 4095) × (second_of of ≤ 4095) × (unwrap_or function 0 ≤ 4095) × (fits_form form (count_of of) (is_some function) ≡ true)
 
--- the caller of an event
-abbrev pub who_of : Event → ℕ
-who_of (Completes who i v) = who
-who_of (Fails who i code) = who
-who_of (Cancels who i) = who
-who_of (Claims who i) = who
-who_of (Finishes who i answer) = who
-who_of (Ticks who now) = who
-who_of (Attaches who form of function) = who

@@ -11,7 +11,8 @@ use Rattle.cf_model.specs.declared.events.Reply.{Reply}
 use Rattle.cf_model.specs.States.{State}
 use Rattle.cf_model.specs.Events.{answered, told}
 use Rattle.cf_model.specs.Ranges.{AskFits, EventFits, EventsFit}
-use Rattle.cf_event.specs.Words.{IsEvent, who_of}
+use Rattle.cf_model.specs.Calls.{who_of}
+use Rattle.cf_event.specs.Words.{IsEvent}
 use Rattle.cf_history.specs.declared.record.Record.{Record}
 use Rattle.cf_history.specs.declared.record.Record.TheVariants.{Did, Saw}
 use Rattle.cf_history.specs.declared.verdict.Misfit.{Misfit}

@@ -6,7 +6,7 @@ use Rattle.cf_model.specs.declared.events.Event.{Event}
 use Rattle.cf_model.specs.declared.events.Event.TheVariants.{Attach as Attaches}
 use Rattle.cf_model.specs.Events.{answered}
 use Rattle.cf_model.specs.Ranges.{EventFits}
-use Rattle.cf_event.specs.Words.{who_of}
+use Rattle.cf_model.specs.Calls.{who_of}
 
 -- the events of one caller among these, in order
 abbrev pub own : ℕ → List Event → List Event

@@ -6,7 +6,8 @@ use Rattle.cf_model.specs.declared.events.Event.{Event}
 use Rattle.cf_model.specs.States.{State, outcome_at, start}
 use Rattle.cf_model.specs.Events.{answered, state_after, told}
 use Rattle.cf_model.specs.Ranges.{AskFits, EventFits}
-use Rattle.cf_event.specs.Words.{IsEvent, who_of}
+use Rattle.cf_model.specs.Calls.{who_of}
+use Rattle.cf_event.specs.Words.{IsEvent}
 use Rattle.cf_event.specs.Decoding.{decoded}
 use Rattle.cf_history.specs.declared.history.History.{History}
 use Rattle.cf_history.specs.declared.record.Caller.{Caller}

@@ -1,6 +1,6 @@
 //! What a caller keeps of its calls.
 ghost use Rattle.std.specs.Prelude.{◌≡◌};
-ghost use Rattle.cf_event.specs.Words.{who_of};
+ghost use Rattle.cf_model.specs.Calls.{who_of};
 ghost use Rattle.cf_history.specs.Records.{place_of};
 
 use cf_model::{Ask, Event, Reply, Told};

@@ -5,7 +5,7 @@ use Rattle.std.specs.List.{AllZip, Contains, insert}
 use Rattle.std.proofs.lemmas.List.Elements.{All-head, All-tail, All-nil, All-cons, All-contains, Contains-append_cases, Contains-append_left, Contains-append_right}
 use Rattle.cf_model.specs.declared.events.Event.{Event}
 use Rattle.cf_model.specs.States.{State, lowest_ready_of, start}
-use Rattle.cf_event.specs.Words.{who_of}
+use Rattle.cf_model.specs.Calls.{who_of}
 use Rattle.cf_desk.specs.declared.calls.Call.{Call}
 use Rattle.cf_desk.specs.declared.calls.Closed.{Closed}
 use Rattle.cf_desk.specs.declared.calls.Kept.{Kept}

@@ -6,10 +6,9 @@ use Rattle.cf_model.specs.declared.events.Event.{Event}
 use Rattle.cf_model.specs.declared.events.Event.TheVariants.{Claim as Claims, Finish as Finishes}
 use Rattle.cf_model.specs.States.{State, start, outcome_at}
 use Rattle.cf_model.specs.Events.{answered, state_after}
-use Rattle.cf_model.specs.Calls.{is_from_outside}
+use Rattle.cf_model.specs.Calls.{is_from_outside, who_of}
 use Rattle.cf_model.specs.Ranges.{EventsFit}
 use Rattle.cf_desk.specs.Faults.{AttachFits}
-use Rattle.cf_event.specs.Words.{who_of}
 use Rattle.cf_plan.specs.declared.forms.Args.{Args}
 use Rattle.cf_pool.specs.declared.races.RaceFault.{RaceFault}
 use Rattle.cf_pool.specs.declared.races.RaceFault.TheVariants.{Size, NoMemory}

@@ -3,7 +3,7 @@ use Rattle.std.specs.Prelude.{ℕ, suc, eqb, List, [], ◌∷◌, if◌then◌el
 use Rattle.cf_model.specs.declared.events.Event.{Event}
 use Rattle.cf_model.specs.States.{State}
 use Rattle.cf_model.specs.Events.{answered}
-use Rattle.cf_event.specs.Words.{who_of}
+use Rattle.cf_model.specs.Calls.{who_of}
 use Rattle.cf_desk.specs.declared.calls.Rec.{Rec}
 use Rattle.cf_desk.specs.declared.calls.Rec.TheVariants.{Did}
 use Rattle.cf_desk.specs.Calls.{as_call}

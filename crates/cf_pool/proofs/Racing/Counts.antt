@@ -15,7 +15,7 @@ use Rattle.cf_model.specs.Claims.{claimable_count}
 use Rattle.cf_model.specs.Events.{answered, claiming, state_after}
 use Rattle.cf_model.proofs.Claimable.{answered-claimable, claiming-claimable}
 use Rattle.cf_model.proofs.Shape.{answered-shape}
-use Rattle.cf_event.specs.Words.{who_of}
+use Rattle.cf_model.specs.Calls.{who_of}
 use Rattle.cf_plan.specs.Meanings.{Meanings}
 use Rattle.cf_desk.specs.declared.calls.Call.TheVariants.{Complete, Fail, Cancel, Claim, Finish, Tick, Attach}
 use Rattle.cf_desk.specs.declared.calls.Rec.{Rec}

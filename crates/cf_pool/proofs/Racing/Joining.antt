@@ -11,7 +11,7 @@ use Rattle.cf_model.specs.Events.{answered, state_after}
 use Rattle.cf_model.specs.Growth.{Grows}
 use Rattle.cf_model.proofs.Histories.{state_after-append}
 use Rattle.cf_model.proofs.Shape.{state_after-grows}
-use Rattle.cf_event.specs.Words.{who_of}
+use Rattle.cf_model.specs.Calls.{who_of}
 use Rattle.cf_plan.specs.Meanings.{Meanings}
 use Rattle.cf_desk.specs.declared.calls.Rec.{Rec}
 use Rattle.cf_desk.specs.declared.row.Setting.{Setting}

@@ -12,10 +12,9 @@ use Rattle.cf_model.specs.declared.events.Event.TheVariants.{Complete as Complet
 use Rattle.cf_model.specs.declared.events.Reply.{Reply}
 use Rattle.cf_model.specs.declared.events.Reply.TheVariants.{Claim as ToldClaim, Flag as ToldFlag, Finish as ToldFinish, Tick as ToldTick, Attach as ToldAttach}
 use Rattle.cf_model.specs.States.{State}
-use Rattle.cf_model.specs.Calls.{is_attach}
+use Rattle.cf_model.specs.Calls.{is_attach, who_of}
 use Rattle.cf_model.specs.Events.{answered, state_after}
 use Rattle.cf_model.proofs.Shape.{answered-shape}
-use Rattle.cf_event.specs.Words.{who_of}
 use Rattle.cf_plan.specs.Meanings.{Meanings, stage_answer}
 use Rattle.cf_expr.specs.Histories.{Grants, granted_with}
 use Rattle.cf_expr.proofs.Parts.{granted_with-other}

@@ -23,7 +23,7 @@ use Rattle.cf_model.specs.Events.{answered, state_after, claimed_by, finished_by
 use Rattle.cf_core.proofs.Keeping.Marking.{get-set_same}
 use Rattle.cf_model.proofs.Shape.{answered-shape}
 use Rattle.cf_model.proofs.StateLemmas.{slice_get-set_other}
-use Rattle.cf_event.specs.Words.{who_of}
+use Rattle.cf_model.specs.Calls.{who_of}
 use Rattle.cf_plan.specs.Meanings.{Meanings}
 use Rattle.cf_desk.specs.declared.calls.Rec.{Rec}
 use Rattle.cf_pool.specs.Works.{Owed, owed_by, owed_after, IsNext}

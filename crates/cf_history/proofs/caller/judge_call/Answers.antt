@@ -2,7 +2,8 @@ use Rattle.std.proofs.Common.{◌≡◌, ◌-◌, Some, ap, ◌∙◌, subst, sy
 use Rattle.std.specs.Prelude.{slice_get}
 use Rattle.cf_model.specs.Events.{answered}
 use Rattle.cf_event.specs.Decoding.{event_of}
-use Rattle.cf_event.specs.Words.{IsEvent, who_of, word_of}
+use Rattle.cf_model.specs.Calls.{who_of}
+use Rattle.cf_event.specs.Words.{IsEvent, word_of}
 use Rattle.cf_history.specs.Records.{state_in}
 use Rattle.cf_history.proofs.Walks.{called_on, some_same, there_fits}
 use Rattle.cf_history.proofs.caller.judge_call.Goals as goal

@@ -4,7 +4,7 @@ use Rattle.cf_model.specs.declared.events.Event.{Event}
 use Rattle.cf_model.specs.declared.events.Reply.{Reply}
 use Rattle.cf_model.specs.States.{State}
 use Rattle.cf_model.specs.Events.{answered}
-use Rattle.cf_event.specs.Words.{who_of}
+use Rattle.cf_model.specs.Calls.{who_of}
 use Rattle.cf_desk.specs.declared.row.Known.{Known}
 use Rattle.cf_desk.specs.Calls.{event_by}
 use Rattle.cf_desk.specs.Log.{IsEventOf}
