@@ -1,8 +1,7 @@
 -- How many stages may still be claimed: the measure by which serving all ready stages ends.
-use Rattle.std.proofs.Common.{◌≡◌, ℕ, ◌+◌, ◌<◌, ◌≤◌, ◌∷◌, ◌++◌, [], List, Bool, true, false, cond, Option, Some, None, suc, zero, arith, ap, ◌∙◌, refl, set}
-use Rattle.std.specs.Prelude.{count_by, slice_get, unwrap_or}
+use Rattle.std.proofs.Common.{◌≡◌, ℕ, ◌+◌, ◌<◌, ◌≤◌, ◌∷◌, ◌++◌, [], List, Bool, true, false, cond, Some, suc, zero, arith, ap, ◌∙◌, refl, set}
+use Rattle.std.specs.Prelude.{count_by, slice_get}
 use Rattle.std.proofs.lemmas.List.Sums.{sum_by-cons, sum_by-append}
-use Rattle.cf_outcome.specs.declared.outcome.Outcome.{Outcome}
 use Rattle.cf_plan.specs.declared.forms.Args.{Args}
 use Rattle.cf_plan.specs.declared.forms.Form.{Form}
 use Rattle.cf_plan.specs.Plans.{Planned, PlannedStage}
@@ -10,11 +9,12 @@ use Rattle.cf_model.specs.declared.stage.Stage.{Stage}
 use Rattle.cf_model.specs.declared.stage.Stage.TheVariants.{Pending, Ready, Claimed, Linked, Settled}
 use Rattle.cf_model.specs.declared.replies.Claimed.TheVariants.{Granted}
 use Rattle.cf_model.specs.declared.events.Event.{Event}
-use Rattle.cf_model.specs.States.{State, outcome_in, stage_at, linked_state, next_of, new_states, is_ready}
+use Rattle.cf_model.specs.States.{State, outcome_in, stage_at, next_of, new_states, is_ready}
 use Rattle.cf_model.specs.Events.{answered, claimed_by, claiming, state_after}
 use Rattle.cf_model.specs.Claims.{is_claimable, claimable_count}
 use Rattle.cf_model.specs.Laws.{NeverMoreClaimable, GrantsLeaveFewer, NeverReadyAgain}
-use Rattle.cf_model.proofs.Moves.{IsKept, answered-kept, state_after-kept, there}
+use Rattle.cf_model.proofs.Lost.{IsLostForGood, linked_state-fails, state_after-fails}
+use Rattle.cf_model.proofs.Moves.{IsKept, answered-kept, there}
 use Rattle.cf_model.proofs.Shape.{answered-frame}
 use Rattle.cf_model.specs.Calls.{is_attach}
 
@@ -41,15 +41,14 @@ at_most_one : (b : Bool) → cond b 1 0 ≤ 1
 at_most_one true = omega arith
 at_most_one false = omega arith
 
-linked_state-not_claimable : (j : ℕ) (x : Option Outcome) → is_claimable (linked_state j x) ≡ false
-linked_state-not_claimable j None = refl
-linked_state-not_claimable j (Some o) = refl
+claimable_lost : IsLostForGood is_claimable
+claimable_lost = record { pending = refl; claimed = refl; linked = λ j. refl; settled = λ o. refl }
 
 next_of-count : (below : List Stage) (form : Form) (sources : List ℕ) (x : Stage) → cond (is_claimable (next_of below form sources x)) 1 0 ≤ cond (is_claimable x) 1 0
 next_of-count below form sources Pending = at_most_one (is_claimable (next_of below form sources Pending))
 next_of-count below form sources (Ready args) = omega arith
 next_of-count below form sources Claimed = omega arith
-next_of-count below form sources (Linked j) = rw (linked_state-not_claimable j (outcome_in below j)) (omega arith)
+next_of-count below form sources (Linked j) = rw (linked_state-fails is_claimable claimable_lost j (outcome_in below j)) (omega arith)
 next_of-count below form sources (Settled o) = omega arith
 
 pub new_states-count : (below : List Stage) (plan : List PlannedStage) (xs : List Stage) → count_by is_claimable (new_states below plan xs) ≤ count_by is_claimable xs
@@ -107,49 +106,9 @@ claiming-claimable s who i args g = claimed_by-claimable (stage_at s i) s who i 
 
 -- ---- a stage that can't be claimed any more
 
-set-not_claimable : (xs : List Stage) (d i : ℕ) (y : Stage) → is_claimable y ≡ false → is_claimable (unwrap_or (slice_get xs i) Pending) ≡ false → is_claimable (unwrap_or (slice_get (set xs d y) i) Pending) ≡ false
-set-not_claimable [] d i y new e = e
-set-not_claimable (x ∷ xs) zero zero y new e = new
-set-not_claimable (x ∷ xs) zero (suc i) y new e = e
-set-not_claimable (x ∷ xs) (suc d) zero y new e = e
-set-not_claimable (x ∷ xs) (suc d) (suc i) y new e = set-not_claimable xs d i y new e
-
-next_of-not_claimable : (below : List Stage) (form : Form) (sources : List ℕ) (x : Stage) → is_claimable x ≡ false → is_claimable (next_of below form sources x) ≡ false
-next_of-not_claimable below form sources Pending e = cc
-next_of-not_claimable below form sources (Ready args) e = cc
-next_of-not_claimable below form sources Claimed e = e
-next_of-not_claimable below form sources (Linked j) e = linked_state-not_claimable j (outcome_in below j)
-next_of-not_claimable below form sources (Settled o) e = e
-
-new_states-not_claimable : (below : List Stage) (plan : List PlannedStage) (xs : List Stage) (i : ℕ) → is_claimable (unwrap_or (slice_get xs i) Pending) ≡ false → is_claimable (unwrap_or (slice_get (new_states below plan xs) i) Pending) ≡ false
-new_states-not_claimable below [] xs i e = e
-new_states-not_claimable below (p ∷ plan) [] i e = e
-new_states-not_claimable below (p ∷ plan) (x ∷ xs) zero e = next_of-not_claimable below p.form p.sources x e
-new_states-not_claimable below (p ∷ plan) (x ∷ xs) (suc i) e = new_states-not_claimable (below ++ next_of below p.form p.sources x ∷ []) plan xs i e
-
-push-not_claimable : (xs : List Stage) (i : ℕ) → is_claimable (unwrap_or (slice_get xs i) Pending) ≡ false → is_claimable (unwrap_or (slice_get (xs ++ Pending ∷ []) i) Pending) ≡ false
-push-not_claimable [] i e = cc
-push-not_claimable (x ∷ xs) zero e = e
-push-not_claimable (x ∷ xs) (suc i) e = push-not_claimable xs i e
-
-StaysUnclaimable : ℕ → List Stage → ℕ → List Stage → ℕ → Type 0
-StaysUnclaimable i xs a ys b = is_claimable (unwrap_or (slice_get xs i) Pending) ≡ false → is_claimable (unwrap_or (slice_get ys i) Pending) ≡ false
-
-stays_unclaimable-kept : (i : ℕ) → IsKept (StaysUnclaimable i)
-unfolding StaysUnclaimable
-stays_unclaimable-kept i = record {
-  same = λ xs a e. e;
-  then = λ xs a ys b zs c f g e. g (f e);
-  settles = λ plan xs a d o unsettled e. new_states-not_claimable [] plan (set xs d (Settled o)) i (set-not_claimable xs d i (Settled o) refl e);
-  claims = λ xs a d args ready e. set-not_claimable xs d i Claimed refl e;
-  links = λ xs a d j unsettled e. set-not_claimable xs d i (Linked j) refl e;
-  attaches = λ plan xs a e. new_states-not_claimable [] plan (xs ++ Pending ∷ []) i (push-not_claimable xs i e);
-}
-
 -- it stays so, whatever events come
 pub state_after-not_claimable : (s : State) (events : List Event) (i : ℕ) → is_claimable (stage_at s i) ≡ false → is_claimable (stage_at (state_after s events) i) ≡ false
-unfolding StaysUnclaimable
-state_after-not_claimable s events i e = state_after-kept (StaysUnclaimable i) (stays_unclaimable-kept i) events s e
+state_after-not_claimable s events i e = state_after-fails is_claimable claimable_lost s events i e
 
 pub not_claimable-not_ready : (x : Stage) → is_claimable x ≡ false → is_ready x ≡ false
 not_claimable-not_ready Pending e = refl

@@ -1,5 +1,6 @@
 pub mod StateLemmas
 pub mod Moves
+pub mod Lost
 pub mod Claimable
 pub mod Shape
 pub mod Growing

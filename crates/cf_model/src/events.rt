@@ -1,7 +1,11 @@
 //! What callers do to a graph, and what it replies.
+ghost use Rattle.std.specs.Prelude.{◌≡◌, ◌↔◌, IsTrue};
+ghost use Rattle.cf_model.specs.Calls.{who_of};
+ghost use Rattle.cf_model.specs.Ranges.{EventFits};
+
 use crate::replies::{Attached, Claimed, Finished, Ticked};
 use cf_outcome::Value;
-use cf_plan::{Answer, Form, Of};
+use cf_plan::{Answer, Form, Of, fits_form};
 
 /// One changing call of one caller.
 #[derive(Clone, Copy, Debug, PartialEq, Eq)]
@@ -39,6 +43,44 @@ pub enum Event {
         of: Of,
         function: Option<u16>,
     },
+}
+
+impl Event {
+    /// Whose call it is.
+    pub fn who(&self) -> u8
+        ensures { result ≡ who_of self.now }
+    {
+        match *self {
+            Event::Complete { who, .. } => who,
+            Event::Fail { who, .. } => who,
+            Event::Cancel { who, .. } => who,
+            Event::Claim { who, .. } => who,
+            Event::Finish { who, .. } => who,
+            Event::Tick { who, .. } => who,
+            Event::Attach { who, .. } => who,
+        }
+    }
+
+    /// Whether a graph of so many stages takes it: the stages that it names are there, and one that it attaches fits its
+    /// form.
+    pub fn fits(&self, stages: u16) -> bool
+        ensures { IsTrue result ↔ EventFits stages self.now }
+    {
+        match *self {
+            Event::Complete { stage, .. } => stage < stages,
+            Event::Fail { stage, .. } => stage < stages,
+            Event::Cancel { stage, .. } => stage < stages,
+            Event::Claim { stage, .. } => stage < stages,
+            Event::Finish { stage, .. } => stage < stages,
+            Event::Tick { .. } => true,
+            Event::Attach {
+                form,
+                of,
+                function,
+                ..
+            } => fits_form(form, of.count(), function.is_some()) && of.are_below(stages),
+        }
+    }
 }
 
 /// What an event is answered.

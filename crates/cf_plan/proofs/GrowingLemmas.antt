@@ -299,3 +299,31 @@ pub short_list : (opening : Planned) (rows : List AttachedRow) (heads : List Hea
     i < length heads → (head_at heads i).count ≤ 16384
 short_list opening rows heads cells room row_room cell_room i h there =
     omega (arith, count_is heads cells (attached_dependents_of opening rows) i h.lists there, attached_few opening rows i h.growing.built.few_edges)
+
+-- an attached stage has at most two sources
+pub few_sources : (of : Of) → length (sources_of of) ≤ 2
+few_sources NoSource = omega arith
+few_sources (One a) = omega arith
+few_sources (Two a b) = omega arith
+
+-- a plan that grows still does with the stage
+pub growing-and_stage : (plan : Planned) (form : Form) (of : Of) (function : Option ℕ) → IsGrowing plan → 0 < plan.room → fits_form form (length (sources_of of)) (is_some function) ≡ true →
+    All (λ j. j < length plan.stages) (sources_of of) → IsGrowing (and_stage plan (attached_stage form of function))
+growing-and_stage plan form of function h room fits lower =
+    let new = attached_stage form of function in
+    let few = few_sources of in
+    let may = may_attach plan new h room few fits lower in
+    let longer = length-append plan.stages (new ∷ []) in
+    let one : length (new ∷ []) ≡ 1 = refl in
+    let edges = sum_by-append (λ (s : PlannedStage). length s.sources) plan.stages (new ∷ []) in
+    let one_edge = sum_by-cons (λ (s : PlannedStage). length s.sources) new [] in
+    let no_edge : sum_by (λ (s : PlannedStage). length s.sources) [] ≡ 0 = refl in
+    let opened = h.opened in
+    let stages = h.few_stages in
+    let all_edges = h.few_edges in
+    record {
+      built = IsBuilt-as (with_stage plan new) (and_stage plan new) refl refl (IsBuilt-with_stage plan new h.built may);
+      opened = omega (arith, longer, one, opened);
+      few_stages = omega (arith, longer, one, stages);
+      few_edges = omega (arith, edges, one_edge, no_edge, few, all_edges);
+    }

@@ -1,5 +1,5 @@
 //! Any call, as an event that is answered or a question that is told.
-ghost use Rattle.std.specs.Prelude.{◌≡◌, ◌≤◌, length};
+ghost use Rattle.std.specs.Prelude.{◌≡◌, ◌≤◌, ◌↔◌, IsTrue, length};
 ghost use Rattle.cf_model.specs.Events.{answered, told};
 ghost use Rattle.cf_model.specs.Graphs.{most_turns};
 ghost use Rattle.cf_model.specs.Ranges.{AskFits, EventFits};
@@ -32,6 +32,13 @@ impl Graph {
                 ..
             } => { Reply::Attach(self.attach(form, of, function)) }
         }
+    }
+
+    /// Whether it takes an event: the stages that it names are there, and one that it attaches fits its form.
+    pub fn takes(&self, e: &Event) -> bool
+        ensures { IsTrue result ↔ EventFits (length self.now.state.plan.stages) e.now }
+    {
+        e.fits(self.stages())
     }
 
     /// Tells what is asked. The stage that is asked about is in the plan.
