@@ -27,6 +27,16 @@ pub enum GraphFault {
     NoMemory,
 }
 
+impl From<AllocError> for GraphFault {
+    ghost use Rattle.cf_core.specs.declared.graph.GraphFault.TheVariants.{NoMemory};
+
+    ghost from_gives = { λ _ fault. fault ≡ NoMemory };
+
+    fn from(_refused: AllocError) -> GraphFault {
+        GraphFault::NoMemory
+    }
+}
+
 /// A graph of stages, of which each is pending, ready, claimed, linked or settled.
 ///
 /// A contract sees it as its state, in which all consequences have come to pass, whether they were worked out yet or not,
@@ -72,10 +82,7 @@ impl Graph {
         requires edges { edges_of plan.stages + 2 * room ≤ 16384 }
         ensures { IfOk result (λ graph. graph ≡ record { state = start (with_room plan room); turns = 0 }) }
     {
-        match graph_of(alloc, plan, room) {
-            Ok(graph) => Ok(graph),
-            Err(_) => Err(GraphFault::NoMemory),
-        }
+        Ok(graph_of(alloc, plan, room)?)
     }
 
     /// The plan that it was opened with.

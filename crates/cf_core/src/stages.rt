@@ -54,7 +54,7 @@ impl Stages {
         let kept = Cells::new(alloc, count, room)?;
         let mut marks = BitSet::new(alloc, count)?;
         let ready = BitSet::new(alloc, count)?;
-        let links = Links::new(alloc, lists_of(plan) as usize)?;
+        let links = Links::new(alloc, list_count(plan) as usize)?;
         mark_starts(plan, &mut marks);
         Ok(Stages {
             kept,
@@ -413,7 +413,7 @@ impl Stages {
 }
 
 /// How many lists of linked stages are made: one for each stage that there may be, or none where no stage ever links.
-fn lists_of(plan: &GrowingPlan) -> u16
+fn list_count(plan: &GrowingPlan) -> u16
     ensures composing { HasLists plan.now.stages result }
     ensures room { plan.now.opened < length plan.now.stages + plan.now.room → length plan.now.stages + plan.now.room ≤ result }
 {

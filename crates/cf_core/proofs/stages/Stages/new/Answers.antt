@@ -23,4 +23,4 @@ returns-clause-sound c =
     (c.in_ok-ready.ensures ∙ ap (λ n. replicate n false) count)
     c.in_ok-links.ensures
     refl refl
-    (start_sound plan c.lists_of.result c.lists_of.ensures.composing built.few_stages built.few_edges built.lower)
+    (start_sound plan c.list_count.result c.list_count.ensures.composing built.few_stages built.few_edges built.lower)
