@@ -8,7 +8,7 @@ Values are None (nil) or an int. An outcome is ("value", v) or ("fault", cause, 
 ("give", v), ("throw", code) or ("link", j). An event is (kind, who, ...): complete who i v, fail who i code, cancel who i,
 claim who i, finish who i answer, tick who now, attach who form sources function. A function is its number.
 
-bench/reading.py says which scripts are right.
+conformance/reading.py says which scripts are right.
 """
 from collections import namedtuple
 

@@ -1,33 +1,12 @@
-#!/usr/bin/env python3
-"""Runs random scripts of both versions, right ones, spoilt ones and hostile ones, and checks that each prints what
-bench/reading.py says.
-
-    bench/scripts [FIRST [COUNT [PROCESSES]]]
-
-First come scripts at the bounds of sizes, then each seed from FIRST on (0 if not given) makes one script, COUNT of them
-(4,000), runs it, and races it with one worker. So many processes (1) share the seeds. It says on standard error how far it is: what
-was stopped goes on from there as `bench/scripts NEXT REST`. The program is the one that `./build` built, in whose memory each script
-begins anew (bench/many.c). It needs gcc. Not a part of the gate.
-"""
+"""Random scripts of both versions by a seed, right ones, spoilt ones and hostile ones, and scripts at the bounds of sizes."""
 import copy
 import json
-import os
 import random
-import sys
-import tempfile
-from collections import Counter
 
-TOP = os.path.dirname(os.path.dirname(os.path.abspath(__file__)))
-sys.path.insert(0, os.path.join(TOP, "bench"))
-import batches  # noqa: E402
-import hostility  # noqa: E402
-import many  # noqa: E402
-import model  # noqa: E402
-import program  # noqa: E402
-import siblings  # noqa: E402
-import reading  # noqa: E402
-
-stress = siblings.load("stress")
+import hostility
+import model
+import random_runs
+import reading
 
 SOURCE = {"form": "source"}
 APPLY = {"form": "apply", "of": [0], "fn": {"add": 5}}
@@ -44,7 +23,7 @@ MEMBERS = ["cf", "room", "stages", "limits", "steps", "form", "of", "fn", "stage
 def random_attach(rng, count):
     """An attach that is right where there are so many stages, or seldom one that may not be."""
     while True:
-        stage = stress.random_stage(rng, count, model.FORMS)
+        stage = random_runs.random_stage(rng, count, model.FORMS)
         if len(stage.get("of", [])) <= 2:
             break
     if stage.get("of") and rng.random() < 0.01:
@@ -60,24 +39,24 @@ def random_step(rng, count, version):
     if kind == "attach":
         return random_attach(rng, count)
     i = rng.randrange(count) if count else 0
-    values = {"complete": [i, rng.choice(stress.VALUES)], "fail": [i, rng.choice(stress.CODES)], "cancel": [i],
-              "tick": [rng.choice(stress.MOMENTS[:-1])], "work": [], "outcome": [i], "claim": [rng.choice([0, 1, 63]), i],
-              "now": rng.choice([[i], [i, rng.choice(stress.VALUES)]]), "nudge": [rng.choice([0, 1, 2, 2**32 - 1])]}
+    values = {"complete": [i, rng.choice(random_runs.VALUES)], "fail": [i, rng.choice(random_runs.CODES)], "cancel": [i],
+              "tick": [rng.choice(random_runs.MOMENTS[:-1])], "work": [], "outcome": [i], "claim": [rng.choice([0, 1, 63]), i],
+              "now": rng.choice([[i], [i, rng.choice(random_runs.VALUES)]]), "nudge": [rng.choice([0, 1, 2, 2**32 - 1])]}
     if kind == "finish":
-        answer = rng.choice([{"give": rng.choice(stress.VALUES)}, {"throw": rng.choice(stress.CODES)}, {"link": rng.randrange(i + 2)}])
+        answer = rng.choice([{"give": rng.choice(random_runs.VALUES)}, {"throw": rng.choice(random_runs.CODES)}, {"link": rng.randrange(i + 2)}])
         return [kind, rng.choice([0, 1, 63]), i, answer]
     return [kind] + values[kind]
 
 
 def random_script(rng):
     version = rng.choice([1, 2, 2])
-    forms = stress.SCRIPT_FORMS if version == 1 else model.FORMS
-    stages = [stress.random_stage(rng, i, forms) for i in range(rng.randrange(16))]
+    forms = random_runs.SCRIPT_FORMS if version == 1 else model.FORMS
+    stages = [random_runs.random_stage(rng, i, forms) for i in range(rng.randrange(16))]
     script = {"cf": version, "stages": stages, "steps": []}
     if rng.random() < 0.8:
         script["room"] = rng.choice([0, 1, 1, 2, 4, 8, 16])
     if stages and rng.random() < 0.3:
-        script["limits"] = [stress.random_limit(rng, len(stages)) for _ in range(rng.choice([1, 3]))]
+        script["limits"] = [random_runs.random_limit(rng, len(stages)) for _ in range(rng.choice([1, 3]))]
     room, attaches = model.room_of(script), 0
     raced = rng.random() < 0.3
     while len(script["steps"]) < 1 or rng.random() < 0.96:
@@ -178,54 +157,3 @@ def at_bounds():
     yield written(1, [SOURCE, {"form": "exceptionallyCompose", "of": [0], "fn": {"goto": 0}}])
     for version in (0, 3, 2.0, "2", None):
         yield written(version, [SOURCE], room="x")
-
-
-def kind_of(data, status, text):
-    """What sort of answer it is, for the count."""
-    if status:
-        words = text.split()
-        return " ".join(words[:3] if words[0] == "fault" and words[1] in ("3", "4") else words[:2])
-    return "reports with attaches" if "\nattached " in "\n" + text else "reports"
-
-
-WAYS = [(["run"], None), (["race", "--workers", "1"], 1)]
-
-
-def judge(inputs, shim, path):
-    """Counts what sorts of answers the inputs had, each under its name, if all had those of the model."""
-    count = Counter()
-    with many.Many(shim, path, WAYS[0][0]) as run, many.Many(shim, path, WAYS[1][0]) as race:
-        for name, data in inputs:
-            run.ask(data)
-            race.ask(data)
-            wanted = reading.answers(data, [workers for _, workers in WAYS])
-            for of, (words, _), want in zip((run, race), WAYS, wanted):
-                gave = of.told()
-                if gave != (want[0], want[1].encode(), b""):
-                    raise batches.Differs(f"{name}, {words[0]}:\n{data[:4_000]}\ngave {gave}\nwanted {want}")
-                count[f"{words[0]}: {kind_of(data, *want)}"] += 1
-    return count
-
-
-def judge_seeds(seeds, shim, path):
-    return judge([(f"seed {seed}", bytes_of(seed)) for seed in seeds], shim, path)
-
-
-def main():
-    first, runs, processes = batches.numbers(sys.argv[1:], [0, 4_000, 1])
-    path = program.needed("cf")
-    bounds = [(f"bound {k}", data) for k, data in enumerate(at_bounds())]
-    with tempfile.TemporaryDirectory() as folder:
-        shim = many.built_shim(folder)
-        try:
-            count = judge(bounds, shim, path) + batches.count(judge_seeds, first, runs, processes, (shim, path))
-        except batches.Differs as found:
-            print(found)
-            return 1
-    print(f"{len(bounds)} scripts at bounds and {runs} from seed {first} on, each as the model has it")
-    print(", ".join(f"{name} {n}" for name, n in sorted(count.items())))
-    return 0
-
-
-if __name__ == "__main__":
-    sys.exit(main())

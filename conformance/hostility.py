@@ -1,5 +1,5 @@
 """Scripts that are meant to trip a reader of JSON: their tokens are doubled, lost and changed for ones at the edges of what JSON
-is, and so are their bytes for ones at the edges of UTF-8. bench/reading.py says what each is."""
+is, and so are their bytes for ones at the edges of UTF-8. conformance/reading.py says what each is."""
 import json
 import re
 

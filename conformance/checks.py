@@ -1,4 +1,4 @@
-"""Reads what crates/cf_stress printed, and checks it against bench/model.py."""
+"""Reads what crates/cf_stress printed, and checks it against conformance/model.py."""
 from collections import namedtuple
 
 import model

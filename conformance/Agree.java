@@ -29,7 +29,7 @@ import java.util.function.Function;
 
 /**
  * Runs scripts as java.util.concurrent.CompletableFutures, many in one run, and prints of each what `cf run` prints.
- * docs/JDK.md says which part of each line is the JDK's and which this program keeps count of; bench/agree-jdk writes the
+ * docs/JDK.md says which part of each line is the JDK's and which this program keeps count of; conformance/agree-jdk writes the
  * scripts and compares.
  *
  * A script comes as lines of words: `script WAY ROOM`, then `stage FORM SOURCE.. [: FUNCTION]`, `limit STAGE MOMENT

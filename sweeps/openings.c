@@ -1,6 +1,6 @@
 /* Opens what the library for C opens, one after another, each with a line that says what it gave, or that memory was refused it and
  * what the same opening gave then. Before them stand a graph and a desk whose calls take no memory once they are opened; to close a
- * desk takes some where that begins, and a script where it is run. bench/refused runs this with each allocation refused in turn, and
+ * desk takes some where that begins, and a script where it is run. sweeps/refused runs this with each allocation refused in turn, and
  * with all refused from one on.
  *
  * A row of OPENINGS is a name and a function, which frees all that it opened, answers a code of the library, and where that is 0

@@ -1,5 +1,5 @@
 """Random calls by eight threads through the module in clients/python, each by its own caller of one desk, which is then closed and
-judged by bench/model.py.
+judged by conformance/model.py.
 
 The threads call freely, or in rounds with a barrier behind each, at which callers meet, or in turn. Every call is noted with
 the number of events that its caller had seen behind it. Closed, the desk has to hold what was noted: the model replays its

@@ -1,4 +1,4 @@
-"""A program under test that answers many inputs: bench/many.c keeps it loaded, and each input has a process of its own."""
+"""A program under test that answers many inputs: conformance/many.c keeps it loaded, and each input has a process of its own."""
 import os
 import struct
 import subprocess
@@ -7,9 +7,9 @@ TOP = os.path.dirname(os.path.dirname(os.path.abspath(__file__)))
 
 
 def built_shim(folder):
-    """bench/many.c, built into a folder."""
+    """conformance/many.c, built into a folder."""
     shim = os.path.join(folder, "many.so")
-    subprocess.run(["gcc", "-shared", "-fPIC", "-O2", "-o", shim, f"{TOP}/bench/many.c", "-ldl"], check=True)
+    subprocess.run(["gcc", "-shared", "-fPIC", "-O2", "-o", shim, f"{TOP}/conformance/many.c", "-ldl"], check=True)
     return shim
 
 

@@ -1,4 +1,4 @@
-"""What the module in clients/python tells, as bench/model.py writes it, and how the two are compared."""
+"""What the module in clients/python tells, as conformance/model.py writes it, and how the two are compared."""
 import os
 import re
 import sys

@@ -1,4 +1,5 @@
 """The programs under test, cf and cf_look: where they stand, and how they are run."""
+import json
 import os
 import subprocess
 import sys
@@ -29,3 +30,11 @@ def run(program, words, input, **streams):
         streams.setdefault(name, subprocess.PIPE)
     ran = subprocess.run([program, *words], input=input, timeout=60, **streams)
     return ran.returncode, (ran.stdout or b"").decode(), (ran.stderr or b"").decode()
+
+
+def judged(program, histories):
+    """The lines of the program on these histories, in one run of it."""
+    text = "".join(json.dumps(h) + "\n" for h in histories)
+    ran = subprocess.run([program, "check", "--lines"], input=text, capture_output=True, text=True, timeout=600)
+    assert ran.returncode in (0, 1, 2), ran.stderr
+    return ran.stdout.splitlines()

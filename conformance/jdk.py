@@ -1,4 +1,4 @@
-"""What the JDK's futures may print of a script: bench/model.py with the JDK's own rules, in the places where these are known
+"""What the JDK's futures may print of a script: conformance/model.py with the JDK's own rules, in the places where these are known
 to differ from the profile's. So a report that differs is either one that these rules allow, or it isn't explained.
 
 TIE: of several sources of an either form or anyOf that settle in one step, any one may decide.

@@ -3,7 +3,7 @@
  *
  * MANY has the numbers of two descriptors. An input comes on the first, a length of 4 bytes and then so many; its answer goes
  * to the second: the status as wait tells it, the lengths of standard output and standard error, 4 bytes each, and both. A
- * process that takes longer than a minute is ended. Where the first descriptor ends, so does this. bench/many.py is the other
+ * process that takes longer than a minute is ended. Where the first descriptor ends, so does this. conformance/many.py is the other
  * side. */
 #define _GNU_SOURCE
 #include <dlfcn.h>
