@@ -1,7 +1,7 @@
 //! Calls that take memory, one after another, each with a line that says what it gave, or that memory was refused it and
 //! what the same call gave then. Before them stand calls that take none, on what was opened at the start.
 //!
-//! `bench/refused` runs it with each allocation refused in turn, and with all refused from one on, and compares the lines.
+//! `sweeps/refused` runs it with each allocation refused in turn, and with all refused from one on, and compares the lines.
 //! With all memory there, they are those that the gate has stored.
 #![tactic(auto)]
 

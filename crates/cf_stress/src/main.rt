@@ -16,9 +16,9 @@
 //!
 //! They are dealt out to the callers in turn. Each caller does its own on a thread of its own, or with `--turns` one thread
 //! does them all in their order, and then the desk is closed. What is printed is the history, each pass's records and
-//! refusals in their order, and the stages' outcomes: `bench/stress` makes what is read, and checks what comes against a
+//! refusals in their order, and the stages' outcomes: `conformance/stress` makes what is read, and checks what comes against a
 //! model of its own. With `--history` it is one line of JSON, the history with each caller's records as `cf_look check`
-//! reads it (docs/FORMATS.md), which `bench/closed` has judged.
+//! reads it (docs/FORMATS.md), which `conformance/closed` has judged.
 //!
 //! It ends with status 2 where the words are no run's, and 1 where there is no such run.
 #![tactic(auto)]

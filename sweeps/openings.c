@@ -1,0 +1,331 @@
+/* Opens what the library for C opens, one after another, each with a line that says what it gave, or that memory was refused it and
+ * what the same opening gave then. Before them stand a graph and a desk whose calls take no memory once they are opened; to close a
+ * desk takes some where that begins, and a script where it is run. sweeps/refused runs this with each allocation refused in turn, and
+ * with all refused from one on.
+ *
+ * A row of OPENINGS is a name and a function, which frees all that it opened, answers a code of the library, and where that is 0
+ * has set three numbers, of which the last is how often a builder's refused call was made again. */
+#include "cf.h"
+#include <stdarg.h>
+#include <stdio.h>
+#include <unistd.h>
+
+typedef uint32_t opening(long numbers[3]);
+
+/* Prints a line without a buffer of the C library's, which would take memory. */
+static void say(const char *how, ...) {
+    char line[200];
+    va_list rest;
+    va_start(rest, how);
+    int size = vsnprintf(line, sizeof line, how, rest);
+    va_end(rest);
+    if (size < 0 || size >= (int)sizeof line || write(1, line, (size_t)size) != size)
+        _exit(125);
+}
+
+static cf_answer four(void) { return (cf_answer){.kind = CF_GIVE, .value = {CF_INT, 4}}; }
+
+/* Adds a stage, and where memory was refused it the same once more. */
+static uint32_t add(cf_handle *builder, uint32_t form, size_t n, uint32_t function, long *again) {
+    static const uint16_t sources[] = {0, 1};
+    uint16_t stage = 0;
+    uint32_t code = cf_builder_stage(builder, form, sources, n, function, &stage);
+    if (code == CF_NO_MEMORY) {
+        ++*again;
+        code = cf_builder_stage(builder, form, sources, n, function, &stage);
+    }
+    return code;
+}
+
+/* Gives a stage a limit, in the same way. */
+static uint32_t limit(cf_handle *builder, long *again) {
+    uint32_t code = cf_builder_limit(builder, 2, 10, CF_TIMEOUT, (cf_value){CF_NIL, 0});
+    if (code == CF_NO_MEMORY) {
+        ++*again;
+        code = cf_builder_limit(builder, 2, 10, CF_TIMEOUT, (cf_value){CF_NIL, 0});
+    }
+    return code;
+}
+
+/* A builder with a source, a function over it, one over both, and a limit. */
+static uint32_t begin(cf_handle *builder, uint16_t stages, uint16_t edges, long *again) {
+    uint32_t code = cf_builder_new(builder, stages, edges);
+    if (code == CF_OK)
+        code = add(builder, CF_SOURCE, 0, CF_NO_FUNCTION, again);
+    if (code == CF_OK)
+        code = add(builder, CF_APPLY, 1, 0, again);
+    if (code == CF_OK)
+        code = add(builder, CF_COMBINE, 2, 1, again);
+    return code == CF_OK ? limit(builder, again) : code;
+}
+
+/* How many stages and limits a builder took. */
+static uint32_t begun(long numbers[3], uint16_t stages, uint16_t edges) {
+    cf_handle builder = {0};
+    numbers[0] = 3;
+    numbers[1] = 1;
+    numbers[2] = 0;
+    uint32_t code = begin(&builder, stages, edges, &numbers[2]);
+    cf_free(&builder);
+    return code;
+}
+
+static uint32_t small_builder(long numbers[3]) { return begun(numbers, 0, 0); }
+
+static uint32_t roomy_builder(long numbers[3]) { return begun(numbers, 3, 3); }
+
+static uint32_t make_plan(cf_handle *plan, long *again) {
+    uint32_t code = begin(plan, 0, 0, again);
+    return code == CF_OK ? cf_build(plan) : code;
+}
+
+/* What a plan answers where it is built once more, and where it is asked for a stage. */
+static uint32_t plan(long numbers[3]) {
+    cf_handle plan = {0};
+    numbers[2] = 0;
+    uint32_t code = make_plan(&plan, &numbers[2]);
+    if (code == CF_OK) {
+        cf_outcome outcome;
+        numbers[0] = cf_build(&plan);
+        numbers[1] = cf_get(&plan, 0, &outcome);
+    }
+    cf_free(&plan);
+    return code;
+}
+
+/* Calls the functions of all stages that are ready. */
+static long work(cf_handle *graph) {
+    long won = 0;
+    uint16_t stage;
+    cf_reply reply;
+    while (cf_lowest_ready(graph, &stage) == CF_OK && cf_claim(graph, 1, stage, &reply) == CF_OK)
+        won += cf_finish(graph, 1, stage, four(), &reply) == CF_OK && reply.answer == CF_WON;
+    return won;
+}
+
+/* How many stages a graph has in the end, and how many functions were called. */
+static uint32_t graph_with(long numbers[3], uint16_t room) {
+    static const uint16_t first[] = {0};
+    cf_handle plan = {0}, graph = {0};
+    numbers[2] = 0;
+    uint32_t code = make_plan(&plan, &numbers[2]);
+    if (code == CF_OK)
+        code = cf_graph_new(&plan, room, &graph);
+    if (code == CF_OK) {
+        cf_reply reply;
+        uint16_t stages = 0;
+        cf_attach(&graph, CF_THEN_RUN, first, 1, 0, &reply);
+        cf_complete(&graph, 0, (cf_value){CF_INT, 3}, &reply);
+        numbers[1] = work(&graph);
+        cf_stages(&graph, &stages);
+        numbers[0] = stages;
+    }
+    cf_free(&graph);
+    cf_free(&plan);
+    return code;
+}
+
+static uint32_t graph(long numbers[3]) { return graph_with(numbers, 0); }
+
+static uint32_t growing_graph(long numbers[3]) { return graph_with(numbers, 2); }
+
+enum { CALLERS = 3, LOG = 20, CALLS = 10, FUNCTIONS = 2 };
+
+/* A plan, and the callers of a desk of it. */
+static uint32_t make_desk(cf_handle *plan, cf_handle callers[CALLERS], uint16_t room, long *again) {
+    uint32_t code = make_plan(plan, again);
+    if (code == CF_OK && room == 0)
+        code = cf_desk_open(plan, callers, CALLERS, LOG, CALLS);
+    else if (code == CF_OK)
+        code = cf_desk_open_growing(plan, callers, CALLERS, LOG, CALLS, room, FUNCTIONS);
+    return code;
+}
+
+static void free_desk(cf_handle *plan, cf_handle callers[CALLERS]) {
+    for (size_t k = 0; k < CALLERS; k++)
+        cf_free(&callers[k]);
+    cf_free(plan);
+}
+
+/* Closes a desk, and tells how many events and how many records there are. */
+static uint32_t close_desk(cf_handle callers[CALLERS], long numbers[3]) {
+    uint16_t events = 0, records = 0;
+    uint32_t code = cf_close_begin(&callers[0]);
+    for (size_t k = 1; k < CALLERS && code == CF_OK; k++)
+        code = cf_close_add(&callers[0], &callers[k]);
+    if (code == CF_OK)
+        code = cf_close_end(&callers[0]);
+    if (code == CF_OK)
+        code = cf_closed_events(&callers[0], &events);
+    numbers[0] = events;
+    numbers[1] = 0;
+    for (uint8_t k = 0; k < CALLERS && code == CF_OK; k++) {
+        code = cf_closed_records(&callers[0], k, &records);
+        numbers[1] += records;
+    }
+    return code == CF_OK ? cf_closed_graph(&callers[0]) : code;
+}
+
+static uint32_t desk_with(long numbers[3], uint16_t room) {
+    static const uint16_t first[] = {0};
+    cf_handle plan = {0}, callers[CALLERS] = {{0}, {0}, {0}};
+    numbers[2] = 0;
+    uint32_t code = make_desk(&plan, callers, room, &numbers[2]);
+    if (code == CF_OK) {
+        cf_reply reply;
+        cf_outcome outcome;
+        cf_desk_attach(&callers[0], CF_THEN_RUN, first, 1, 0, &reply);
+        cf_desk_complete(&callers[1], 0, (cf_value){CF_INT, 3}, &reply);
+        cf_desk_claim(&callers[2], 1, &reply);
+        cf_desk_finish(&callers[2], 1, four(), &reply);
+        cf_desk_read(&callers[0], 1, &outcome);
+        code = close_desk(callers, numbers);
+    }
+    free_desk(&plan, callers);
+    return code;
+}
+
+static uint32_t desk(long numbers[3]) { return desk_with(numbers, 0); }
+
+static uint32_t growing_desk(long numbers[3]) { return desk_with(numbers, 2); }
+
+/* The code of a script's run, and how long what it prints is. */
+static uint32_t script_of(const char *text, uint32_t wanted, long numbers[3]) {
+    uint8_t report[100];
+    size_t size = 0, length = 0;
+    while (text[size] != 0)
+        size++;
+    uint32_t code = cf_run_script((const uint8_t *)text, size, report, sizeof report, &length);
+    numbers[0] = code;
+    numbers[1] = (long)length;
+    numbers[2] = 0;
+    return code == wanted ? CF_OK : code;
+}
+
+static uint32_t script(long numbers[3]) {
+    return script_of("{\"cf\": 1, \"stages\": [{\"form\": \"source\"}], \"steps\": [[\"complete\", 0, 3]]}", CF_OK, numbers);
+}
+
+static uint32_t wrong_script(long numbers[3]) { return script_of("{\"cf\": 1, \"stages\": 5}", CF_BAD_SCRIPT, numbers); }
+
+static const struct {
+    const char *name;
+    opening *open;
+} OPENINGS[] = {
+    {"C builder", small_builder}, {"C builder with room", roomy_builder}, {"C plan", plan}, {"C graph", graph},
+    {"C growing graph", growing_graph}, {"C desk", desk}, {"C growing desk", growing_desk}, {"C script", script},
+    {"C wrong script", wrong_script},
+};
+
+static void show(const char *name, opening *open) {
+    long numbers[3] = {0};
+    uint32_t code = open(numbers);
+    if (code == CF_NO_MEMORY) {
+        say("%s: no memory\n", name);
+        code = open(numbers);
+    }
+    if (code == CF_OK)
+        say("%s: %ld, %ld, %ld\n", name, numbers[0], numbers[1], numbers[2]);
+    else
+        say("%s: refused\n", name);
+}
+
+/* A line of what a changing call answered. */
+static void tell(uint32_t code, const cf_reply *reply) {
+    say("  code %u: %u, %u, first %u %d\n", code, reply->answer, reply->number, reply->args.first.kind, reply->args.first.number);
+}
+
+/* Each call of a graph, of which none takes memory. */
+static void call_each(cf_handle *graph) {
+    static const uint16_t first[] = {0};
+    cf_reply reply = {0};
+    cf_outcome outcome = {0};
+    cf_now now = {0};
+    uint16_t stage = 0, function = 0, stages = 0;
+    uint64_t turns = 0;
+    tell(cf_attach(graph, CF_THEN_RUN, first, 1, 0, &reply), &reply);
+    tell(cf_attach(graph, CF_THEN_RUN, first, 1, 0, &reply), &reply);
+    tell(cf_complete(graph, 0, (cf_value){CF_INT, 3}, &reply), &reply);
+    tell(cf_fail(graph, 0, 7, &reply), &reply);
+    uint32_t ready = cf_lowest_ready(graph, &stage);
+    tell(cf_claim(graph, 1, 1, &reply), &reply);
+    tell(cf_cancel(graph, 1, &reply), &reply);
+    tell(cf_finish(graph, 1, 1, four(), &reply), &reply);
+    tell(cf_tick(graph, 5, &reply), &reply);
+    uint32_t got = cf_get(graph, 0, &outcome), told = cf_get_now(graph, 1, (cf_value){CF_NIL, 0}, &now);
+    say("  ready %u %u, outcome %u %d, now %u %u\n", ready, stage, got, outcome.value.number, told, now.kind);
+    uint32_t named = cf_function(graph, 1, &function), restarted = cf_restart(graph);
+    cf_stages(graph, &stages);
+    cf_turns(graph, &turns);
+    say("  function %u %u, restarted %u: %u stages, %lu turns\n", named, function, restarted, stages, turns);
+}
+
+static void show_calls(void) {
+    cf_handle plan = {0}, graph = {0};
+    long again = 0;
+    uint32_t code = make_plan(&plan, &again);
+    if (code == CF_OK)
+        code = cf_graph_new(&plan, 1, &graph);
+    if (code == CF_OK && again == 0) {
+        say("C calls:\n");
+        call_each(&graph);
+    } else {
+        say("C calls: no memory\n");
+    }
+    cf_free(&graph);
+    cf_free(&plan);
+}
+
+/* Each call of a desk's callers, of which none takes memory, and the words and texts that C gets. */
+static void call_desk(cf_handle callers[CALLERS]) {
+    static const uint16_t first[] = {0};
+    cf_handle *a = &callers[0], *b = &callers[1];
+    cf_reply reply = {0};
+    cf_outcome outcome = {0};
+    cf_now now = {0}, joined = {0};
+    cf_event event = {0};
+    uint16_t stage = 0, function = 0, seen = 0, left = 0;
+    uint8_t number = 0, text[32];
+    uint64_t word = 0;
+    size_t length = 0;
+    tell(cf_desk_attach(a, CF_THEN_RUN, first, 1, 0, &reply), &reply);
+    tell(cf_desk_attach(b, CF_THEN_RUN, first, 1, 0, &reply), &reply);
+    tell(cf_desk_complete(a, 0, (cf_value){CF_INT, 3}, &reply), &reply);
+    tell(cf_desk_fail(b, 0, 7, &reply), &reply);
+    uint32_t ready = cf_desk_ready(a, &stage);
+    tell(cf_desk_claim(b, 1, &reply), &reply);
+    tell(cf_desk_cancel(a, 1, &reply), &reply);
+    tell(cf_desk_finish(b, 1, four(), &reply), &reply);
+    tell(cf_desk_tick(a, 5, &reply), &reply);
+    uint32_t read = cf_desk_read(b, 0, &outcome), told = cf_desk_read_now(a, 1, (cf_value){CF_NIL, 0}, &now);
+    say("  ready %u %u, outcome %u %d, now %u %u\n", ready, stage, read, outcome.value.number, told, now.kind);
+    uint32_t join = cf_desk_join(a, 0, 2, &joined), met = cf_desk_meet(a, &callers[2]);
+    uint32_t named = cf_desk_function(a, 1, &function), counted = cf_desk_seen(&callers[2], &seen);
+    say("  joined %u %u, met %u, function %u %u, seen %u %u\n", join, joined.kind, met, named, function, counted, seen);
+    uint32_t room = cf_desk_left(a, &left), who = cf_desk_caller(b, &number);
+    say("  left %u %u, caller %u %u\n", room, left, who, number);
+    uint32_t decoded = cf_event_of(0x0100000100000003, &event), encoded = cf_word_of(event, &word);
+    uint32_t written = cf_outcome_text(outcome, text, sizeof text, &length);
+    say("  event %u %u, word %u %lx, text %u %zu\n", decoded, event.call, encoded, word, written, length);
+}
+
+static void show_desk_calls(void) {
+    cf_handle plan = {0}, callers[CALLERS] = {{0}, {0}, {0}};
+    long again = 0;
+    uint32_t code = make_desk(&plan, callers, 1, &again);
+    if (code == CF_OK && again == 0) {
+        say("C desk calls:\n");
+        call_desk(callers);
+    } else {
+        say("C desk calls: no memory\n");
+    }
+    free_desk(&plan, callers);
+}
+
+int main(void) {
+    show_calls();
+    show_desk_calls();
+    for (size_t k = 0; k < sizeof OPENINGS / sizeof *OPENINGS; k++)
+        show(OPENINGS[k].name, OPENINGS[k].open);
+    return 0;
+}
