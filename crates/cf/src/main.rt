@@ -10,7 +10,7 @@
 #![tactic(auto)]
 
 mod commands;
-mod words;
+mod args;
 
 ghost use Rattle.std.specs.Prelude.{◌≡◌};
 ghost use Rattle.std.specs.Process.{exit_status};
@@ -24,7 +24,7 @@ use std::process::ExitCode;
 mod tests;
 
 fn main(rt: HostRuntime) -> ExitCode {
-    match words::command(&rt) {
+    match args::command(&rt) {
         Ok(command) => carry_out(
             &rt,
             rt.alloc(),

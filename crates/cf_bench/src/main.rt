@@ -29,7 +29,7 @@ mod race;
 mod script;
 mod shape;
 mod times;
-mod words;
+mod args;
 mod work;
 
 use anyhow::Result;
@@ -45,7 +45,7 @@ use std::process::ExitCode;
 use std::thread::Threads;
 use std::time::Clock;
 use times::Shown;
-use words::{Words, read_words};
+use args::{Words, read_words};
 
 const SIZES: [u16; 3] = [64, 512, 4095];
 

@@ -3,7 +3,8 @@ ghost use Rattle.std.specs.Prelude.{◌≡◌};
 ghost use Rattle.cf_bench.specs.Answers.{number_of, one_more, sum_of};
 
 use crate::shape::{Shape, sources_of};
-use cf_core::{Claimed, Graph};
+use cf_core::Graph;
+use cf_model::Claimed;
 use cf_outcome::{Cause, Outcome, Value};
 use cf_plan::{Answer, Args, StageFn};
 

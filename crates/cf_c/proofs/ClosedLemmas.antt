@@ -4,8 +4,8 @@ use Rattle.std.specs.Prelude.{Option, Some, cond, slice_get}
 use Rattle.std.specs.List.{All}
 use Rattle.std.proofs.lemmas.List.Elements.{All-append, All-nil, All-cons, All-head, All-tail, All-filter}
 use Rattle.cf_plan.specs.Plans.{Planned}
-use Rattle.cf_core.specs.declared.events.Event.{Event}
-use Rattle.cf_core.specs.States.{start}
+use Rattle.cf_model.specs.declared.events.Event.{Event}
+use Rattle.cf_model.specs.States.{start}
 use Rattle.cf_event.specs.Words.{IsEvent, who_of, word_of}
 use Rattle.cf_event.proofs.WordLemmas.{event_of_is, event_of_own_word}
 use Rattle.cf_desk.specs.declared.calls.Kept.{Kept as KeptPass}

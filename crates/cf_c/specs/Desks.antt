@@ -3,12 +3,12 @@ use Rattle.std.specs.Prelude.{◌≡◌, ℕ, ◌+◌, ◌==◌, None, Result, O
 use Rattle.std.specs.Arc.{arc_value}
 use Rattle.cf_outcome.specs.declared.now.Now.TheVariants.{Got, Completion, Cancellation}
 use Rattle.cf_plan.specs.Plans.{function_at}
-use Rattle.cf_core.specs.declared.asks.Ask.{Ask}
-use Rattle.cf_core.specs.declared.asks.Ask.TheVariants.{Outcome as AsksOutcome}
-use Rattle.cf_core.specs.declared.asks.Told.{Told}
-use Rattle.cf_core.specs.declared.asks.Told.TheVariants.{Outcome as ToldOutcome, Now as ToldNow}
-use Rattle.cf_core.specs.declared.events.Reply.{Reply}
-use Rattle.cf_core.specs.States.{lowest_ready_of}
+use Rattle.cf_model.specs.declared.asks.Ask.{Ask}
+use Rattle.cf_model.specs.declared.asks.Ask.TheVariants.{Outcome as AsksOutcome}
+use Rattle.cf_model.specs.declared.asks.Told.{Told}
+use Rattle.cf_model.specs.declared.asks.Told.TheVariants.{Outcome as ToldOutcome, Now as ToldNow}
+use Rattle.cf_model.specs.declared.events.Reply.{Reply}
+use Rattle.cf_model.specs.States.{lowest_ready_of}
 use Rattle.cf_desk.specs.declared.calls.Call.{Call}
 use Rattle.cf_desk.specs.declared.calls.Call.TheVariants.{Attach}
 use Rattle.cf_desk.specs.declared.calls.Joined.{Joined}

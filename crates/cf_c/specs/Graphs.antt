@@ -3,12 +3,12 @@ use Rattle.std.specs.Prelude.{◌≡◌, ℕ, Option, Some, None, Result, Ok, Er
 use Rattle.cf_outcome.specs.declared.outcome.Value.{Value}
 use Rattle.cf_outcome.specs.Outcomes.{now_of}
 use Rattle.cf_plan.specs.Plans.{function_at, reopened}
-use Rattle.cf_core.specs.declared.events.Event.{Event}
-use Rattle.cf_core.specs.declared.events.Reply.{Reply}
-use Rattle.cf_core.specs.Events.{answered}
-use Rattle.cf_core.specs.Graphs.{Graph as Graph'}
-use Rattle.cf_core.specs.Ranges.{EventFits}
-use Rattle.cf_core.specs.States.{State, lowest_ready_of, outcome_at, start}
+use Rattle.cf_model.specs.declared.events.Event.{Event}
+use Rattle.cf_model.specs.declared.events.Reply.{Reply}
+use Rattle.cf_model.specs.Events.{answered}
+use Rattle.cf_model.specs.Graphs.{Graph as Graph'}
+use Rattle.cf_model.specs.Ranges.{EventFits}
+use Rattle.cf_model.specs.States.{State, lowest_ready_of, outcome_at, start}
 use Rattle.cf_desk.specs.Faults.{EventNames}
 use Rattle.cf_c.specs.Replies.{as_reply}
 use Rattle.cf_c.specs.Values.{as_now, as_outcome}

@@ -3,8 +3,8 @@ use Rattle.std.specs.Prelude.{ℕ, Option, Some, None, Result, Ok, Err, List, []
 use Rattle.cf_plan.specs.declared.forms.Form.{Form}
 use Rattle.cf_plan.specs.declared.forms.Of.{Of}
 use Rattle.cf_plan.specs.declared.forms.Of.TheVariants.{None as NoSource, One, Two}
-use Rattle.cf_core.specs.declared.events.Event.{Event}
-use Rattle.cf_core.specs.declared.events.Event.TheVariants.{Attach as Attaches}
+use Rattle.cf_model.specs.declared.events.Event.{Event}
+use Rattle.cf_model.specs.declared.events.Event.TheVariants.{Attach as Attaches}
 use Rattle.cf_event.specs.Decoding.{forms}
 use Rattle.cf_c.specs.declared.plans.AttachParts.{AttachParts}
 use Rattle.cf_c.specs.declared.code.Code.{Code}

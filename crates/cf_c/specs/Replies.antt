@@ -2,12 +2,12 @@
 use Rattle.std.specs.Prelude.{ℕ}
 use Rattle.cf_plan.specs.declared.forms.Args.{Args}
 use Rattle.cf_plan.specs.declared.forms.Args.TheVariants.{None as NoArgs}
-use Rattle.cf_core.specs.declared.events.Reply.{Reply}
-use Rattle.cf_core.specs.declared.events.Reply.TheVariants.{Flag, Claim, Finish, Tick, Attach}
-use Rattle.cf_core.specs.declared.replies.Claimed.TheVariants.{Granted, Settled, Taken, NotReady}
-use Rattle.cf_core.specs.declared.replies.Finished.TheVariants.{Won, Late, NotYours}
-use Rattle.cf_core.specs.declared.replies.Ticked.TheVariants.{Fired, Past}
-use Rattle.cf_core.specs.declared.replies.Attached.TheVariants.{At, StagesFull}
+use Rattle.cf_model.specs.declared.events.Reply.{Reply}
+use Rattle.cf_model.specs.declared.events.Reply.TheVariants.{Flag, Claim, Finish, Tick, Attach}
+use Rattle.cf_model.specs.declared.replies.Claimed.TheVariants.{Granted, Settled, Taken, NotReady}
+use Rattle.cf_model.specs.declared.replies.Finished.TheVariants.{Won, Late, NotYours}
+use Rattle.cf_model.specs.declared.replies.Ticked.TheVariants.{Fired, Past}
+use Rattle.cf_model.specs.declared.replies.Attached.TheVariants.{At, StagesFull}
 use Rattle.cf_c.specs.Values.{as_args, bit}
 use Rattle.cf_c.specs.declared.reply.CfReply.{CfReply}
 

@@ -2,14 +2,14 @@
 ghost use Rattle.std.specs.Prelude.{◌≡◌, ◌<◌, ◌↔◌, All, IsTrue, MatchOption, None, Some, if◌then◌else◌};
 ghost use Rattle.cf_plan.specs.Plans.{sources_of};
 ghost use Rattle.cf_c.specs.declared.code.Code.TheVariants.{NoStage};
-ghost use Rattle.cf_core.specs.Ranges.{EventFits};
+ghost use Rattle.cf_model.specs.Ranges.{EventFits};
 ghost use Rattle.cf_c.specs.Graphs.{Answers, Asked, IsRefused, Restarts, function_told, now_told, outcome_told, ready_told, stages_told, turns_told};
 
 use crate::code::Code;
 use crate::held::Held;
 use crate::reply::{CfReply, as_reply};
 use crate::value::{CfNow, CfOutcome, as_now, as_outcome};
-use cf_core::Event;
+use cf_model::Event;
 use cf_outcome::Value;
 use cf_plan::{Of, fits_form};
 

@@ -1,6 +1,6 @@
 //! What the caller of a desk behind a handle is asked.
 ghost use Rattle.std.specs.Prelude.{◌≡◌};
-ghost use Rattle.cf_core.specs.declared.asks.Ask.TheVariants.{Now as AsksNow, Outcome as AsksOutcome};
+ghost use Rattle.cf_model.specs.declared.asks.Ask.TheVariants.{Now as AsksNow, Outcome as AsksOutcome};
 ghost use Rattle.cf_c.specs.Desks.{Acts, ByCaller, FindsReady, IsLeft, Joins, Knows, Reads, function_known, number_told, seen_told, told_now, told_outcome};
 
 use crate::code::Code;

@@ -1,6 +1,6 @@
 //! What a caller of a desk is asked.
 ghost use Rattle.std.specs.Prelude.{◌≡◌, ◌<◌};
-ghost use Rattle.cf_core.specs.declared.asks.Ask.TheVariants.{Now as AsksNow, Outcome as AsksOutcome};
+ghost use Rattle.cf_model.specs.declared.asks.Ask.TheVariants.{Now as AsksNow, Outcome as AsksOutcome};
 ghost use Rattle.cf_c.specs.Values.{as_outcome};
 ghost use Rattle.cf_c.specs.Desks.{Acts, FindsReady, IsLeft, IsSameCaller, Joins, Knows, Reads, as_joined, function_known, looks_of, number_told, seen_told, told_now, told_outcome};
 
@@ -8,8 +8,8 @@ use crate::caller::Caller;
 use crate::code::{Code, desk_code};
 use crate::reply::{CfReply, as_reply};
 use crate::value::{CfNow, CfOutcome, as_now, as_outcome};
-use cf_core::{Ask, Told};
 use cf_desk::{Call, Joined};
+use cf_model::{Ask, Told};
 use cf_outcome::{Now, Outcome, Value};
 
 impl Caller {

@@ -1,6 +1,6 @@
 //! The calls of a desk's callers.
 ghost use Rattle.std.specs.Prelude.{◌≡◌, Ok};
-ghost use Rattle.cf_core.specs.declared.asks.Ask.TheVariants.{Now as AsksNow, Outcome as AsksOutcome};
+ghost use Rattle.cf_model.specs.declared.asks.Ask.TheVariants.{Now as AsksNow, Outcome as AsksOutcome};
 ghost use Rattle.cf_desk.specs.declared.calls.Call.TheVariants.{Complete as Completes, Fail as Fails, Cancel as Cancels, Claim as Claims, Finish as Finishes, Tick as Ticks};
 ghost use Rattle.cf_c.specs.Answers.{Tells};
 ghost use Rattle.cf_c.specs.Desks.{Acts, ByCaller, FindsReady, IsLeft, Joins, Knows, Reads, call_with, function_known, number_told, seen_told, told_now, told_outcome};

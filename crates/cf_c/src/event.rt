@@ -6,7 +6,7 @@ ghost use Rattle.cf_c.specs.Words.{as_event, bare, event_of};
 use crate::code::Code;
 use crate::plans::{as_function, event_with, form_number, form_of, parts_with, sources_with};
 use crate::value::{CfAnswer, CfValue, answer_of, as_answer, as_value, value_of};
-use cf_core::Event;
+use cf_model::Event;
 use cf_outcome::Value;
 use cf_plan::{Answer, Of};
 
@@ -60,7 +60,7 @@ pub(crate) fn event_of(e: CfEvent) -> Result<Event, Code>
             let answer = answer_of(e.answer);
             Ok(Event::Finish { who, stage, answer })
         }
-        5 => Ok(Event::Tick { who, now: e.now }),
+        5 => Ok(Event::Tick { who, moment: e.now }),
         6 => {
             let of = sources_with(e.sources, e.first, e.second);
             event_with(who, parts_with(form_of(e.form), of, e.function))
@@ -88,7 +88,7 @@ pub(crate) fn as_event(e: Event) -> CfEvent
             answer: as_answer(answer),
             ..bare(4, who, stage)
         },
-        Event::Tick { who, now } => CfEvent {
+        Event::Tick { who, moment } => CfEvent {
             now,
             ..bare(5, who, 0)
         },

@@ -1,6 +1,6 @@
 //! A graph that one caller has alone.
 ghost use Rattle.std.specs.Prelude.{Ok};
-ghost use Rattle.cf_core.specs.declared.events.Event.TheVariants.{Complete as Completes, Fail as Fails, Cancel as Cancels, Claim as Claims, Finish as Finishes, Tick as Ticks};
+ghost use Rattle.cf_model.specs.declared.events.Event.TheVariants.{Complete as Completes, Fail as Fails, Cancel as Cancels, Claim as Claims, Finish as Finishes, Tick as Ticks};
 ghost use Rattle.cf_c.specs.Answers.{Does, Tells};
 ghost use Rattle.cf_c.specs.Graphs.{Answers, Asked, Restarts, function_told, now_told, outcome_told, ready_told, stages_told, turns_told};
 ghost use Rattle.cf_c.specs.Plans.{attach_event};
@@ -13,7 +13,7 @@ use crate::looking::{ask, code_of, give, tell};
 use crate::plans::attach_event;
 use crate::reply::CfReply;
 use crate::value::{CfAnswer, CfNow, CfOutcome, CfValue, answer_of, value_of};
-use cf_core::Event;
+use cf_model::Event;
 use std::alloc::Global;
 
 /// Completes a stage with a value.
@@ -101,7 +101,10 @@ pub extern "C" fn cf_finish(
 pub extern "C" fn cf_tick(alloc: Global, h: &mut CfHandle, now: u32, reply: &mut CfReply) -> u32
     ensures { Tells (Answers (Ok (Ticks 0 now))) h.old.inner.held h.new.inner.held result reply.old reply.new }
 {
-    let event = Event::Tick { who: 0, now };
+    let event = Event::Tick {
+        who: 0,
+        moment: now,
+    };
     tell!(alloc, h, reply, held => asking::answer(&mut held, Ok(event)))
 }
 

@@ -5,8 +5,8 @@ ghost use Rattle.cf_c.specs.Desks.{call_with};
 ghost use Rattle.cf_c.specs.Plans.{as_function, attach_event, event_with, form_of, function_of, parts_of, parts_with, sources_as, sources_with};
 
 use crate::code::Code;
-use cf_core::Event;
 use cf_desk::Call;
+use cf_model::Event;
 use cf_plan::{Form, Of};
 
 /// All forms, by their numbers.

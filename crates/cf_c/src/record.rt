@@ -110,7 +110,7 @@ fn event_by(who: u8, call: Call) -> Event
         Call::Cancel(stage) => Event::Cancel { who, stage },
         Call::Claim(stage) => Event::Claim { who, stage },
         Call::Finish(stage, answer) => Event::Finish { who, stage, answer },
-        Call::Tick(now) => Event::Tick { who, now },
+        Call::Tick(moment) => Event::Tick { who, moment },
         Call::Attach(form, of, function) => Event::Attach {
             who,
             form,

@@ -4,7 +4,7 @@ ghost use Rattle.cf_plan.specs.declared.forms.Args.TheVariants.{None as NoArgs};
 ghost use Rattle.cf_c.specs.Replies.{as_reply, reply_with};
 
 use crate::value::{CfArgs, as_args};
-use cf_core::{Attached, Claimed, Finished, Reply, Ticked};
+use cf_model::{Attached, Claimed, Finished, Reply, Ticked};
 use cf_plan::Args;
 
 /// What a changing call is answered.

@@ -10,8 +10,8 @@ use crate::event::{CfEvent, as_event, event_of};
 use crate::handle::CfHandle;
 use crate::looking::{give, tell};
 use crate::reply::CfReply;
-use cf_core::Event;
 use cf_event::{decode, encode, is_event};
+use cf_model::Event;
 use std::alloc::Global;
 
 /// The word of an event.

@@ -1,5 +1,5 @@
 pub mod Cells
-pub mod Late
+pub mod Treatment
 pub mod Starts
 pub mod Offers
 pub mod Sweeps

@@ -3,7 +3,7 @@ ghost use Rattle.std.specs.Prelude.{◌≡◌, ◌<◌, All, is_some, length, ma
 ghost use Rattle.std.specs.List.{list_any};
 ghost use Rattle.cf_plan.specs.Forms.{first_there, follows};
 ghost use Rattle.cf_core.specs.Keeping.Attaching.{attached_kept, takes_now};
-ghost use Rattle.cf_core.specs.Keeping.Late.{dated_in, outcome_part};
+ghost use Rattle.cf_core.specs.Keeping.Treatment.{dated_in, outcome_part};
 
 use crate::cells::Cells;
 use crate::kept::KeptStage;

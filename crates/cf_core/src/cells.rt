@@ -3,17 +3,17 @@ ghost use Rattle.std.specs.Prelude.{◌≡◌, ℕ, ◌+◌, ◌<◌, ◌≤◌,
 ghost use Rattle.cf_outcome.specs.declared.outcome.Outcome.TheVariants.{Value as Gives};
 ghost use Rattle.cf_plan.specs.declared.forms.Due.TheVariants.{Needs};
 ghost use Rattle.cf_plan.specs.Forms.{due_of_first};
-ghost use Rattle.cf_core.specs.declared.stage.Stage.TheVariants.{Pending, Ready, Settled};
-ghost use Rattle.cf_core.specs.States.{is_ready, outcome_of};
+ghost use Rattle.cf_model.specs.declared.stage.Stage.TheVariants.{Pending, Ready, Settled};
+ghost use Rattle.cf_model.specs.States.{is_ready, outcome_of};
 ghost use Rattle.cf_core.specs.Keeping.Cells.{blank};
-ghost use Rattle.cf_core.specs.Keeping.Late.{dated_in, due_kept, outcome_part, step_part};
+ghost use Rattle.cf_core.specs.Keeping.Treatment.{dated_in, due_kept, outcome_part, step_part};
 ghost use Rattle.cf_core.specs.Keeping.Sound.{is_waiting, kept_at};
 ghost use Rattle.cf_core.specs.Keeping.Offers.{args_of};
 ghost use Rattle.cf_core.specs.Keeping.Starts.{untreated};
 
 use crate::cell::{Cell, Detail, Kind};
 use crate::kept::KeptStage;
-use crate::stage::Stage;
+use cf_model::Stage;
 use cf_outcome::{Outcome, Value};
 use cf_plan::{Args, Form};
 use std::alloc::{AllocError, Global};

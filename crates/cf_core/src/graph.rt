@@ -11,8 +11,8 @@ mod working;
 ghost use Rattle.std.specs.Prelude.{◌≡◌, ◌+◌, ◌*◌, ◌<◌, ◌≤◌, ◌↔◌, IfOk, IsTrue, None, length, nat_lt, replicate, vec_capacity};
 ghost use Rattle.cf_outcome.specs.Outcomes.{now_of};
 ghost use Rattle.cf_plan.specs.Plans.{IsGrowing, edges_of, function_at, opening_of, with_room};
-ghost use Rattle.cf_core.specs.States.{lowest_ready_of, outcome_at, start};
-ghost use Rattle.cf_core.specs.Graphs.{most_turns};
+ghost use Rattle.cf_model.specs.States.{lowest_ready_of, outcome_at, start};
+ghost use Rattle.cf_model.specs.Graphs.{most_turns};
 
 use crate::stages::Stages;
 use cf_outcome::{Now, Outcome, Value, now_of};
@@ -41,15 +41,15 @@ pub struct Graph {
 }
 
 impl Model for Graph {
-    ghost use Rattle.cf_core.specs.Graphs.{Graph};
+    ghost use Rattle.cf_model.specs.Graphs.{Graph};
 
     ghost Value = { Graph };
 
     ghost use Rattle.std.specs.Vec.{vec_capacity};
-    ghost use Rattle.cf_core.specs.Keeping.SoundStages.{outlook_of};
+    ghost use Rattle.cf_core.specs.Keeping.SoundStages.{settled_view_of};
     ghost use Rattle.cf_core.specs.Keeping.Graphs.{IsInStep};
 
-    ghost view = { λ g. record { state = record { plan = g.plan; stages = outlook_of g.plan.stages g.stages; claims = g.claims.items; moment = g.moment; used = g.used }; turns = g.stages.turns } };
+    ghost view = { λ g. record { state = record { plan = g.plan; stages = settled_view_of g.plan.stages g.stages; claims = g.claims.items; moment = g.moment; used = g.used }; turns = g.stages.turns } };
 
     ghost invariant = { λ g. IsInStep g.plan g.stages g.claims.items (vec_capacity g.claims) g.used };
 }

@@ -1,21 +1,9 @@
-//! The graph of a plan: what it answers to each call, and what it is then.
+//! The graph of a plan, kept so that it answers as it means.
 //!
-//! Each stage of a `Graph` is pending, ready with its arguments, claimed, linked to a lower stage, or settled. A stage
-//! with a function isn't run here: it becomes ready, a caller claims it and is handed the arguments, and later finishes it
-//! with the function's answer. In between any other call may settle the stage; the late finish then closes the claim and
-//! changes nothing. Once settled, a stage keeps its outcome. `Graph::answer` does any call, as an `Event`, and
-//! `Graph::tell` answers any question, as an `Ask`. `Graph::work` claims and finishes ready stages until there is none, by
-//! the functions that it is given. A graph that was opened with room takes more stages by `Graph::attach`; its plan then
-//! has grown. The forms and their rules are those of Java SE 17's
-//! `CompletableFuture` and `CompletionStage`.
-//!
-//! # What it means
-//!
-//! A contract sees a graph as its `State`, in which all consequences have come to pass: `start` is the state at the
-//! opening, `after` that once a stage is settled and each stage, in rising number, has taken what its sources then give,
-//! and `answered` the reply and the state of one event. These definitions know no marks and no work that waits. They
-//! stand first in `specs/` (`States`, `Events`, `Laws`), and a reader can stop there. `laws` has what is true of all runs
-//! of events, by these very definitions.
+//! `cf_model` says what a graph means. A contract sees a `Graph` as the `State` of that crate, in which all consequences have
+//! come to pass, and the turns that were taken. `Graph::answer` does any call, as an `Event`, and `Graph::tell` answers any
+//! question, as an `Ask`. `Graph::work` claims and finishes ready stages until there is none, by the functions that it is
+//! given. A graph that was opened with room takes more stages by `Graph::attach`; its plan then has grown.
 //!
 //! # How it is kept
 //!
@@ -30,7 +18,7 @@
 //! `Graph::lowest_ready` those below the lowest ready stage; `Graph::nudge` takes turns ahead of time.
 //!
 //! The marks don't matter to the meaning: the state that a contract sees is what treating every stage, in rising number,
-//! leads to (`outlook`), whether it is marked or not. A turn changes nothing of it, a stage that settles leads to what
+//! leads to (`settled_view`), whether it is marked or not. A turn changes nothing of it, a stage that settles leads to what
 //! settling it at once does, and a claim, or a link to a stage that isn't settled, changes nothing else. As sources and
 //! targets are lower, a stage whose lower stages have no mark is as it will be, so the answers of a call on it are those
 //! of the state.
@@ -39,7 +27,7 @@
 //! settled. Steps are counted by the calls that settle or link a stage, and a consequence takes the step of what it comes
 //! from: the later of two, the latest of all of an allOf, the earliest of an either form or an anyOf. Of sources that
 //! settled in one step the first in argument order is taken. That a pending either form has no settled source, so that
-//! the first to settle decides it, is a law (`laws::pending_stages_have_no_settled_source`).
+//! the first to settle decides it, is a law (`cf_model::laws::pending_stages_have_no_settled_source`).
 //!
 //! How `Graph::work` finds what is to be done: the first few stages by the marks, as a caller would. Where there are more,
 //! it goes up through all stages once, treats each that waits and serves each that is ready then (a sweep,
@@ -56,7 +44,7 @@
 //! edges and itself, so the bound above counts the plan as it has grown.
 //!
 //! How a graph starts again (`Graph::restart`): the attached stages are taken out, the stages of the opening are kept as ones
-//! that were never treated, and sets and lists are emptied, all of it in place. By `laws::grown_plans_reopen_as_they_were`
+//! that were never treated, and sets and lists are emptied, all of it in place. By `cf_model::laws::grown_plans_reopen_as_they_were`
 //! the graph is then what it was at its opening, with all of its room.
 //!
 //! No call but `Graph::new` and `Graph::new_growing` takes memory: the marks and the ready stages are sets of bits
@@ -64,24 +52,15 @@
 //! and each stage that may be attached has its place reserved.
 #![tactic(auto)]
 
-mod asks;
 mod attach;
 mod cell;
 mod cells;
-mod events;
 mod graph;
 mod kept;
-pub mod laws;
 mod links;
 mod mark;
 pub mod propagation;
-mod replies;
-mod stage;
 mod stages;
 mod treat;
 
-pub use asks::{Ask, Told};
-pub use events::{Event, Reply};
 pub use graph::{Graph, GraphFault};
-pub use replies::{Attached, Claimed, Finished, Ticked};
-pub use stage::Stage;

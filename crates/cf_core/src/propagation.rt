@@ -1,6 +1,6 @@
 //! The laws of late propagation: what may be left for later, and that nobody can tell.
 ghost use Rattle.cf_core.specs.Keeping.Attaching.{AttachingIsAfter};
-ghost use Rattle.cf_core.specs.Keeping.Late.{SettlingIsAfter, TurnsChangeNothing};
+ghost use Rattle.cf_core.specs.Keeping.Treatment.{SettlingIsAfter, TurnsChangeNothing};
 ghost use Rattle.cf_core.specs.Keeping.Marks.{OthersWait, SteadyByStage};
 ghost use Rattle.cf_core.specs.Keeping.Writes.{ClaimingIsAlone, LinkingIsAlone};
 

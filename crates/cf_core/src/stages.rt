@@ -7,12 +7,12 @@ ghost use Rattle.std.specs.Prelude.{◌≡◌, ℕ, ◌+◌, ◌<◌, ◌≤◌,
 ghost use Rattle.cf_plan.specs.declared.forms.Landing.TheVariants.{Links as LinksTo};
 ghost use Rattle.cf_plan.specs.Forms.{composes, starts};
 ghost use Rattle.cf_plan.specs.Plans.{dependents_of, form_at, sources_at};
-ghost use Rattle.cf_core.specs.declared.stage.Stage.TheVariants.{Claimed, Linked, Pending, Settled};
-ghost use Rattle.cf_core.specs.States.{is_ready, new_states, outcome_in, outcome_of};
+ghost use Rattle.cf_model.specs.declared.stage.Stage.TheVariants.{Claimed, Linked, Pending, Settled};
+ghost use Rattle.cf_model.specs.States.{is_ready, new_states, outcome_in, outcome_of};
 ghost use Rattle.cf_core.specs.Keeping.Landings.{landed_stages};
 ghost use Rattle.cf_core.specs.Keeping.Links.{list_at};
 ghost use Rattle.cf_core.specs.Keeping.Sound.{AreTreated, HasLists, ReadyIsTreated, StayTaken, StayTakenBut, is_taken, kept_at, links_after, mark_all, marks_after};
-ghost use Rattle.cf_core.specs.Keeping.SoundStages.{AreSound, HasRoom, SameRoom, outlook_of};
+ghost use Rattle.cf_core.specs.Keeping.SoundStages.{AreSound, HasRoom, SameRoom, settled_view_of};
 ghost use Rattle.cf_core.specs.Keeping.Sweeps.{AreSwept};
 ghost use Rattle.cf_core.specs.Keeping.Turns.{TurnsBelowReady, TurnsUpTo, turned};
 ghost use Rattle.cf_core.specs.Keeping.Starts.{mark_starts, mark_those, untreated};
@@ -21,9 +21,9 @@ use crate::cells::Cells;
 use crate::kept::KeptStage;
 use crate::links::Links;
 use crate::mark::{mark_each, mark_later, mark_linked};
-use crate::stage::Stage;
 use crate::treat::treat;
 use cf_bits::BitSet;
+use cf_model::Stage;
 use cf_outcome::{Outcome, wrap};
 use cf_plan::{Form, GrowingPlan, Landing, Plan, composes, starts};
 use std::alloc::{AllocError, Global};
@@ -44,7 +44,7 @@ impl Stages {
     /// The stages of a plan, none of which was treated, with room for all that may be attached. Those that have something to
     /// take from the start on are marked.
     pub fn new(alloc: Global, plan: &GrowingPlan) -> Result<Stages, AllocError>
-        ensures start { IfOk result (λ s. outlook_of plan.now.stages s ≡ new_states [] plan.now.stages (replicate (length plan.now.stages) Pending)) }
+        ensures start { IfOk result (λ s. settled_view_of plan.now.stages s ≡ new_states [] plan.now.stages (replicate (length plan.now.stages) Pending)) }
         ensures turns { IfOk result (λ s. s.turns ≡ 0) }
         ensures sound { IfOk result (λ s. AreSound plan.now.stages s) }
         ensures room { IfOk result (λ s. HasRoom plan.now.opened (length plan.now.stages + plan.now.room) s) }
@@ -143,7 +143,7 @@ impl Stages {
         ensures counted { self.new.turns ≡ self.old.turns + 1 }
         ensures ready { result ≡ true → self.new.ready ≡ slice_set self.old.ready m true }
         ensures marks { result ≡ true → self.new.marks ≡ slice_set self.old.marks m false }
-        ensures same { outlook_of plan.now.stages self.new ≡ outlook_of plan.now.stages self.old }
+        ensures same { settled_view_of plan.now.stages self.new ≡ settled_view_of plan.now.stages self.old }
         ensures taken { StayTaken self.old.kept.items self.new.kept.items }
         ensures room { SameRoom self.old self.new }
         ensures sound { AreSound plan.now.stages self.new }
@@ -164,7 +164,7 @@ impl Stages {
         requires sound { AreSound plan.now.stages self.old }
         requires stage { d < length plan.now.stages }
         ensures treated { AreTreated (d + 1) self.new.marks }
-        ensures same { outlook_of plan.now.stages self.new ≡ outlook_of plan.now.stages self.old }
+        ensures same { settled_view_of plan.now.stages self.new ≡ settled_view_of plan.now.stages self.old }
         ensures taken { StayTaken self.old.kept.items self.new.kept.items }
         ensures turns { TurnsUpTo plan.now.stages d self.old self.new }
         ensures room { SameRoom self.old self.new }
@@ -179,7 +179,7 @@ impl Stages {
     pub fn treat_all(&mut self, plan: &GrowingPlan)
         requires sound { AreSound plan.now.stages self.old }
         ensures treated { AreTreated (length plan.now.stages) self.new.marks }
-        ensures same { outlook_of plan.now.stages self.new ≡ outlook_of plan.now.stages self.old }
+        ensures same { settled_view_of plan.now.stages self.new ≡ settled_view_of plan.now.stages self.old }
         ensures taken { StayTaken self.old.kept.items self.new.kept.items }
         ensures counted { self.old.turns ≤ self.new.turns }
         ensures room { SameRoom self.old self.new }
@@ -207,8 +207,8 @@ impl Stages {
     /// The lowest ready stage. All marked stages below it are treated.
     pub fn lowest_ready(&mut self, plan: &GrowingPlan) -> Option<u16>
         requires sound { AreSound plan.now.stages self.old }
-        ensures told { result ≡ position is_ready (outlook_of plan.now.stages self.old) }
-        ensures same { outlook_of plan.now.stages self.new ≡ outlook_of plan.now.stages self.old }
+        ensures told { result ≡ position is_ready (settled_view_of plan.now.stages self.old) }
+        ensures same { settled_view_of plan.now.stages self.new ≡ settled_view_of plan.now.stages self.old }
         ensures taken { StayTaken self.old.kept.items self.new.kept.items }
         ensures turns { TurnsBelowReady plan.now.stages self.old self.new }
         ensures room { SameRoom self.old self.new }
@@ -245,7 +245,7 @@ impl Stages {
         ensures few { result ≤ k }
         ensures counted { self.new.turns ≡ self.old.turns + result }
         ensures all { result < k → position (λ b. b) self.new.marks ≡ None }
-        ensures same { outlook_of plan.now.stages self.new ≡ outlook_of plan.now.stages self.old }
+        ensures same { settled_view_of plan.now.stages self.new ≡ settled_view_of plan.now.stages self.old }
         ensures taken { StayTaken self.old.kept.items self.new.kept.items }
         ensures room { SameRoom self.old self.new }
         ensures sound { AreSound plan.now.stages self.new }
@@ -285,7 +285,7 @@ impl Stages {
         requires stage { d < length plan.now.stages }
         requires treated { AreTreated (d + 1) self.old.marks }
         requires unsettled { outcome_of ((kept_at self.old.kept.items d).stage) ≡ None }
-        ensures after { outlook_of plan.now.stages self.new ≡ new_states [] plan.now.stages (slice_set (outlook_of plan.now.stages self.old) d (Settled o)) }
+        ensures after { settled_view_of plan.now.stages self.new ≡ new_states [] plan.now.stages (slice_set (settled_view_of plan.now.stages self.old) d (Settled o)) }
         ensures taken { StayTaken self.old.kept.items self.new.kept.items }
         ensures turns { self.new.turns ≡ self.old.turns }
         ensures room { SameRoom self.old self.new }
@@ -321,7 +321,7 @@ impl Stages {
         requires stage { d < length plan.now.stages }
         requires treated { AreTreated (d + 1) self.old.marks }
         requires ready { is_ready ((kept_at self.old.kept.items d).stage) ≡ true }
-        ensures claimed { outlook_of plan.now.stages self.new ≡ slice_set (outlook_of plan.now.stages self.old) d Claimed }
+        ensures claimed { settled_view_of plan.now.stages self.new ≡ slice_set (settled_view_of plan.now.stages self.old) d Claimed }
         ensures here { is_taken ((kept_at self.new.kept.items d).stage) ≡ true }
         ensures taken { StayTaken self.old.kept.items self.new.kept.items }
         ensures turns { self.new.turns ≡ self.old.turns }
@@ -349,7 +349,7 @@ impl Stages {
         requires claimed { (kept_at self.old.kept.items d).stage ≡ Claimed }
         requires composes { composes (form_at plan.now.stages d) ≡ true }
         requires unsettled { outcome_of ((kept_at self.old.kept.items j).stage) ≡ None }
-        ensures linked { outlook_of plan.now.stages self.new ≡ slice_set (outlook_of plan.now.stages self.old) d (Linked j) }
+        ensures linked { settled_view_of plan.now.stages self.new ≡ slice_set (settled_view_of plan.now.stages self.old) d (Linked j) }
         ensures taken { StayTakenBut d self.old.kept.items self.new.kept.items }
         ensures turns { self.new.turns ≡ self.old.turns }
         ensures room { SameRoom self.old self.new }
@@ -380,7 +380,7 @@ impl Stages {
     pub fn source(&self, plan: &GrowingPlan, i: u16) -> Option<Outcome>
         requires treated { AreSwept plan.now.stages (i + 1) 0 self.now }
         requires stage { i < length plan.now.stages }
-        ensures { result ≡ option_and_then (outcome_in (outlook_of plan.now.stages self.now)) (slice_get (sources_at plan.now.stages i) 0) }
+        ensures { result ≡ option_and_then (outcome_in (settled_view_of plan.now.stages self.now)) (slice_get (sources_at plan.now.stages i) 0) }
     {
         match plan.sources(i).first() {
             Some(j) => self.outcome(*j),
@@ -396,7 +396,7 @@ impl Stages {
         requires claimed { (kept_at self.old.kept.items d).stage ≡ Claimed }
         requires target { (j : ℕ) → at ≡ LinksTo j → j < d }
         requires composes { (j : ℕ) → at ≡ LinksTo j → composes (form_at plan.now.stages d) ≡ true }
-        ensures landed { outlook_of plan.now.stages self.new ≡ landed_stages plan.now.stages (outlook_of plan.now.stages self.old) d at }
+        ensures landed { settled_view_of plan.now.stages self.new ≡ landed_stages plan.now.stages (settled_view_of plan.now.stages self.old) d at }
         ensures taken { StayTakenBut d self.old.kept.items self.new.kept.items }
         ensures turns { self.new.turns ≡ self.old.turns }
         ensures room { SameRoom self.old self.new }

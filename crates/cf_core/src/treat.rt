@@ -4,15 +4,15 @@ ghost use Rattle.std.specs.List.{list_all};
 ghost use Rattle.cf_outcome.specs.declared.outcome.Outcome.TheVariants.{Value as Gives};
 ghost use Rattle.cf_plan.specs.declared.forms.Due.TheVariants.{Needs};
 ghost use Rattle.cf_plan.specs.Forms.{first_fault, due_of_both};
-ghost use Rattle.cf_core.specs.declared.stage.Stage.TheVariants.{Linked, Pending, Ready};
-ghost use Rattle.cf_core.specs.Laws.{is_decided_by_first};
+ghost use Rattle.cf_model.specs.declared.stage.Stage.TheVariants.{Linked, Pending, Ready};
+ghost use Rattle.cf_model.specs.Laws.{is_decided_by_first};
 ghost use Rattle.cf_core.specs.Keeping.Sound.{kept_at};
-ghost use Rattle.cf_core.specs.Keeping.Late.{dated_in, due_kept, earlier, earliest, late_due, latest, linked_kept, outcome_part, treated};
+ghost use Rattle.cf_core.specs.Keeping.Treatment.{dated_in, due_kept, earlier, earliest, late_due, latest, linked_kept, outcome_part, treated};
 ghost use Rattle.cf_core.specs.Keeping.Offers.{takes_values, two_values};
 
 use crate::cells::Cells;
 use crate::kept::KeptStage;
-use crate::stage::Stage;
+use cf_model::Stage;
 use cf_outcome::{Outcome, Value, is_exceptional, wrap};
 use cf_plan::{Args, Due, Form, due_one, due_two};
 

@@ -1,7 +1,8 @@
 //! Stages that are attached: what they take at once, and what they wait for.
 use crate::plans::{Row, SOURCE, plan_of};
 use crate::steps::{Step, fault, gives, granted, play_growing, take, with_room};
-use cf_core::{Attached, Claimed, Event, Finished, Graph, GraphFault, Reply};
+use cf_core::{Graph, GraphFault};
+use cf_model::{Attached, Claimed, Event, Finished, Reply};
 use cf_outcome::{Cause, Outcome, Value};
 use cf_plan::{Answer, Args, Form, Of, Plan};
 use std::alloc::Global;

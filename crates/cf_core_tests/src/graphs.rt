@@ -1,7 +1,8 @@
 //! Worked examples, each call once, graphs of each size, and a graph whose memory is refused.
 use crate::plans::{Row, SOURCE, limited, longest_chain, plan_of, supplies};
 use crate::steps::{Step, fault, give, gives, granted, play, take};
-use cf_core::{Claimed, Finished, Graph, GraphFault, Ticked};
+use cf_core::{Graph, GraphFault};
+use cf_model::{Claimed, Finished, Ticked};
 use cf_outcome::{Cause, Now, Outcome, Value};
 use cf_plan::{Answer, Args, Form, Limit, LimitKind, Plan, PlanBuilder, PlanFault};
 use std::alloc::Global;

@@ -1,7 +1,8 @@
 //! Graphs that start again, beside new ones.
 use crate::plans::{SOURCE, limited, supplies};
 use crate::steps::{Step, fault, gives, granted, play, take, with_room};
-use cf_core::{Attached, Claimed, Finished, Graph, Ticked};
+use cf_core::Graph;
+use cf_model::{Attached, Claimed, Finished, Ticked};
 use cf_outcome::Cause;
 use cf_plan::{Answer, Args, Form, Limit, LimitKind, Of, Plan, PlanFault};
 use std::alloc::Global;

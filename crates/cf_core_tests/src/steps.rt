@@ -4,7 +4,8 @@ ghost use Rattle.std.specs.Bool.{OnTrue};
 ghost use Rattle.cf_plan.specs.Plans.{sources_of};
 
 use crate::plans::{Row, plan_of};
-use cf_core::{Attached, Claimed, Finished, Graph, Ticked};
+use cf_core::Graph;
+use cf_model::{Attached, Claimed, Finished, Ticked};
 use cf_outcome::{Cause, Now, Outcome, Value};
 use cf_plan::{Answer, Args, Form, Of, Plan, fits_form};
 use std::alloc::Global;

@@ -5,7 +5,8 @@ ghost use Rattle.cf_outcome.specs.declared.outcome.Value.TheVariants.{Int};
 
 use crate::plans::{Row, SOURCE, longest_chain, plan_of};
 use crate::steps::{Step, fault, give, gives, granted, take};
-use cf_core::{Claimed, Finished, Graph};
+use cf_core::Graph;
+use cf_model::{Claimed, Finished};
 use cf_outcome::{Cause, Outcome, Value};
 use cf_plan::{Answer, Args, Form, StageFn};
 use std::alloc::Global;

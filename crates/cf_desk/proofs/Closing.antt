@@ -13,11 +13,11 @@ use Rattle.atomic_table.specs.Seated.{TableId}
 use mathlib.Core.List.{map-append}
 use Rattle.cf_desk.proofs.Lists.{same_rest}
 use Rattle.cf_desk.specs.declared.calls.Rec.{Rec}
-use Rattle.cf_core.specs.declared.events.Event.{Event}
+use Rattle.cf_model.specs.declared.events.Event.{Event}
 use Rattle.cf_desk.specs.declared.row.Setting.{Setting}
 use Rattle.cf_desk.specs.declared.row.Terms.{Terms}
 use Rattle.cf_desk.specs.declared.row.Known.{Known}
-use Rattle.cf_core.specs.States.{State as Copy, start}
+use Rattle.cf_model.specs.States.{State as Copy, start}
 use Rattle.cf_event.specs.Words.{IsEvent, who_of, word_of}
 use Rattle.cf_event.specs.Decoding.{decoded, decoded_with, event_of}
 use Rattle.cf_event.proofs.WordLemmas.{decoded_words}

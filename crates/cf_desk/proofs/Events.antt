@@ -3,19 +3,19 @@ use Rattle.std.proofs.Common.{◌≡◌, ℕ, zero, suc, ◌<◌, ◌≤◌, Boo
 use Rattle.std.proofs.lemmas.List.Elements.{All-nil, All-cons, All-head, All-tail}
 use Rattle.std.proofs.lemmas.Option.{none-some}
 use Rattle.cf_plan.specs.Plans.{PlannedStage}
-use Rattle.cf_core.specs.declared.asks.Ask.{Ask}
-use Rattle.cf_core.specs.declared.asks.Ask.TheVariants.{Now as AsksNow, Outcome as AsksOutcome}
-use Rattle.cf_core.specs.declared.events.Event.{Event}
-use Rattle.cf_core.specs.declared.events.Event.TheVariants.{Complete as Completes, Fail as Fails, Cancel as Cancels, Claim as Claims, Finish as Finishes, Tick as Ticks, Attach as Attaches}
-use Rattle.cf_core.specs.States.{State}
-use Rattle.cf_core.specs.Events.{answered, state_after}
-use Rattle.cf_core.specs.Ranges.{AskFits, EventFits}
+use Rattle.cf_model.specs.declared.asks.Ask.{Ask}
+use Rattle.cf_model.specs.declared.asks.Ask.TheVariants.{Now as AsksNow, Outcome as AsksOutcome}
+use Rattle.cf_model.specs.declared.events.Event.{Event}
+use Rattle.cf_model.specs.declared.events.Event.TheVariants.{Complete as Completes, Fail as Fails, Cancel as Cancels, Claim as Claims, Finish as Finishes, Tick as Ticks, Attach as Attaches}
+use Rattle.cf_model.specs.States.{State}
+use Rattle.cf_model.specs.Events.{answered, state_after}
+use Rattle.cf_model.specs.Ranges.{AskFits, EventFits}
 use Rattle.cf_plan.specs.declared.forms.Of.{Of}
 use Rattle.cf_plan.specs.declared.forms.Of.TheVariants.{None as NoSource, One, Two}
 use Rattle.cf_event.specs.Words.{first_of, second_of}
 use Rattle.cf_desk.specs.Faults.{EventNames}
-use Rattle.cf_core.proofs.Histories.{state_after-append}
-use Rattle.cf_core.proofs.Shape.{state_after-grows}
+use Rattle.cf_model.proofs.Histories.{state_after-append}
+use Rattle.cf_model.proofs.Shape.{state_after-grows}
 use Rattle.cf_plan.specs.Plans.{sources_of}
 use Rattle.std.proofs.lemmas.List.Elements.{All-weaker}
 use Rattle.cf_desk.specs.declared.row.Setting.{Setting}

@@ -5,11 +5,11 @@ use Rattle.std.specs.Prelude.{MatchOption, unwrap_or}
 use mathlib.Core.List.{map-append}
 use Rattle.std.proofs.lemmas.List.Elements.{All-head, All-tail}
 use Rattle.atomic_table.specs.Table.{Me}
-use Rattle.cf_core.specs.declared.events.Event.{Event}
+use Rattle.cf_model.specs.declared.events.Event.{Event}
 use Rattle.cf_desk.specs.declared.row.Known.{Known}
 use Rattle.cf_desk.specs.declared.calls.Kept.{Kept}
-use Rattle.cf_core.specs.Graphs.{Graph}
-use Rattle.cf_core.specs.States.{State}
+use Rattle.cf_model.specs.Graphs.{Graph}
+use Rattle.cf_model.specs.States.{State}
 use Rattle.cf_desk.specs.Rule.{AllShort}
 use Rattle.cf_desk.specs.Views.{Pass, knowns, state_of, IsOneOf, IsLatest}
 use Rattle.cf_desk.proofs.Meets.{short_more}

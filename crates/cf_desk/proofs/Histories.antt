@@ -4,19 +4,19 @@ use Rattle.std.proofs.Common.{◌≡◌, ℕ, zero, suc, ◌-◌, ◌<◌, ◌�
 use Rattle.std.specs.List.{filter}
 use Rattle.std.proofs.lemmas.Option.{none-some}
 use Rattle.std.proofs.lemmas.List.Elements.{All-nil, All-cons, All-head, All-tail}
-use Rattle.cf_core.specs.declared.events.Event.{Event}
-use Rattle.cf_core.specs.declared.events.Reply.{Reply}
+use Rattle.cf_model.specs.declared.events.Event.{Event}
+use Rattle.cf_model.specs.declared.events.Reply.{Reply}
 use Rattle.cf_desk.specs.Calls.{event_by}
 use Rattle.cf_desk.specs.declared.calls.Rec.{Rec}
 use Rattle.cf_desk.specs.declared.calls.Rec.TheVariants.{Did, Saw}
-use Rattle.cf_core.specs.States.{State, outcome_at, start}
-use Rattle.cf_core.proofs.Moves.{grants_once, keeps_outcomes}
+use Rattle.cf_model.specs.States.{State, outcome_at, start}
+use Rattle.cf_model.proofs.Moves.{grants_once, keeps_outcomes}
 use Rattle.cf_expr.specs.Expressions.{expr}
 use Rattle.cf_expr.specs.Histories.{IsPlain, IsPlainPlan, IsQuiet, nothing_granted}
 use Rattle.cf_expr.proofs.Runs.{quiet_is_expression}
-use Rattle.cf_core.specs.Events.{answered}
+use Rattle.cf_model.specs.Events.{answered}
 use Rattle.cf_event.specs.Words.{who_of}
-use Rattle.cf_core.specs.Events.{state_after, state_at}
+use Rattle.cf_model.specs.Events.{state_after, state_at}
 use Rattle.cf_desk.specs.Log.{own, placed}
 use Rattle.cf_desk.specs.Records.{dids, IsAnswered, Fits}
 use Rattle.cf_desk.specs.Keepings.{IsKeptFit}

@@ -10,7 +10,7 @@ use prog.Atomic.{either}
 use lib.ListN.{get_elem?}
 use Rattle.atomic_table.specs.Table.{State, Step, Me, step, stepped, keeps, Allows, Splits, Joins}
 use Rattle.atomic_table.proofs.Lists.{at_set, exchanged}
-use Rattle.cf_core.specs.declared.events.Event.{Event}
+use Rattle.cf_model.specs.declared.events.Event.{Event}
 use Rattle.cf_desk.proofs.Lists.{none_of_both, one_of}
 use Rattle.cf_desk.specs.declared.row.Setting.{Setting}
 use Rattle.cf_desk.specs.declared.row.Terms.{Terms}
@@ -18,7 +18,7 @@ use Rattle.cf_desk.specs.declared.row.Known.{Known}
 use Rattle.cf_event.specs.Words.{who_of, word_of}
 use Rattle.cf_event.specs.Decoding.{event_of}
 use Rattle.cf_event.proofs.WordLemmas.{event_of_own_word, event_of_zero, word_of_filled}
-use Rattle.cf_core.specs.States.{start}
+use Rattle.cf_model.specs.States.{start}
 use Rattle.cf_desk.specs.Log.{own, IsEventOf, AreLogged, state_from}
 use Rattle.cf_desk.proofs.Events.{event_behind, events_push}
 use Rattle.cf_desk.specs.Rule.{Stands, AllStand, weight, count_in, count_all, IsRow, RowKept, holds, saw, looked, LooksNext, AddsNext, looks_next, adds_next, SeesOther}

@@ -7,7 +7,7 @@ use mathlib.Core.Option.{some, none}
 use lib.ListN.{get_elem?}
 use Rattle.atomic_table.specs.Table.{Me, step, keeps, Allows, Splits, Joins, Enters}
 use Rattle.atomic_table.proofs.Lists.{at_set, at_snoc}
-use Rattle.cf_core.specs.declared.events.Event.{Event}
+use Rattle.cf_model.specs.declared.events.Event.{Event}
 use Rattle.cf_desk.proofs.Lists.{none_of_both, one_of}
 use Rattle.cf_desk.specs.declared.row.Setting.{Setting}
 use Rattle.cf_desk.specs.declared.row.Terms.{Terms}
@@ -15,7 +15,7 @@ use Rattle.cf_desk.specs.declared.row.Known.{Known}
 use Rattle.cf_event.specs.Words.{who_of, word_of}
 use Rattle.cf_event.specs.Decoding.{event_of}
 use Rattle.cf_event.proofs.WordLemmas.{event_of_own_word}
-use Rattle.cf_core.specs.States.{start}
+use Rattle.cf_model.specs.States.{start}
 use Rattle.cf_desk.specs.Log.{own, AreLogged}
 use Rattle.cf_desk.proofs.Events.{event_at, events_front}
 use Rattle.cf_desk.specs.Rule.{AllStand, count_in, count_all, RowKept, holds, longer_if, longest, with_seen, level, AllCatch, AllLogged, AllShort, levels, finds, FindsSeen, head_of, rest_of}

@@ -9,27 +9,27 @@ use mathlib.Core.Option.{none}
 use prog.Atomic.{either}
 use Rattle.atomic_table.specs.Table.{Me, step, Allows}
 use Rattle.atomic_table.specs.Seated.{TableId}
-use Rattle.cf_core.specs.declared.events.Event.{Event}
+use Rattle.cf_model.specs.declared.events.Event.{Event}
 use Rattle.cf_desk.specs.declared.row.Terms.{Terms}
 use Rattle.cf_desk.specs.declared.row.Known.{Known}
-use Rattle.cf_core.specs.declared.asks.Ask.{Ask}
-use Rattle.cf_core.specs.declared.asks.Told.{Told}
-use Rattle.cf_core.specs.declared.events.Reply.{Reply}
-use Rattle.cf_core.specs.declared.asks.Ask.TheVariants.{Outcome as AsksOutcome}
-use Rattle.cf_core.specs.declared.asks.Told.TheVariants.{Outcome as ToldOutcome}
+use Rattle.cf_model.specs.declared.asks.Ask.{Ask}
+use Rattle.cf_model.specs.declared.asks.Told.{Told}
+use Rattle.cf_model.specs.declared.events.Reply.{Reply}
+use Rattle.cf_model.specs.declared.asks.Ask.TheVariants.{Outcome as AsksOutcome}
+use Rattle.cf_model.specs.declared.asks.Told.TheVariants.{Outcome as ToldOutcome}
 use Rattle.cf_outcome.specs.declared.outcome.Outcome.{Outcome}
 use Rattle.cf_desk.specs.declared.calls.Call.{Call}
 use Rattle.cf_desk.specs.declared.calls.Joined.{Joined}
 use Rattle.cf_desk.specs.declared.calls.Rec.{Rec}
 use Rattle.cf_desk.specs.declared.calls.Rec.TheVariants.{Did, Saw}
-use Rattle.cf_core.specs.States.{State, lowest_ready_of, outcome_at, start}
-use Rattle.cf_core.specs.Events.{answered, told}
-use Rattle.cf_core.specs.Ranges.{AskFits, EventFits}
-use Rattle.cf_core.proofs.LowestReady.{lowest_ready-within}
+use Rattle.cf_model.specs.States.{State, lowest_ready_of, outcome_at, start}
+use Rattle.cf_model.specs.Events.{answered, told}
+use Rattle.cf_model.specs.Ranges.{AskFits, EventFits}
+use Rattle.cf_model.proofs.LowestReady.{lowest_ready-within}
 use Rattle.cf_event.specs.Words.{who_of, word_of}
 use Rattle.cf_desk.specs.Log.{own, IsEventOf, AreLogged, state_from, Catches}
 use Rattle.cf_desk.specs.Faults.{AsksStage, AttachFits, IsFitting, IsOnStage}
-use Rattle.cf_core.proofs.Closed.{reached_length}
+use Rattle.cf_model.proofs.Closed.{reached_length}
 use Rattle.cf_desk.proofs.Events.{asks_more, event_at, events_push, fits_more as event_fits_more, names_more, stages_grow_on}
 use Rattle.cf_desk.specs.Calls.{event_by, joined}
 use Rattle.cf_desk.specs.Records.{Fits}

@@ -5,18 +5,18 @@ use Rattle.std.proofs.lemmas.List.{take-append-le}
 use Rattle.std.proofs.Math.Seq.{take-append_seam}
 use Rattle.std.specs.List.{filter}
 use Rattle.std.proofs.lemmas.List.Elements.{All-nil, All-cons, All-head, All-tail, All-push, filter-append}
-use Rattle.cf_core.specs.declared.asks.Ask.{Ask}
-use Rattle.cf_core.specs.declared.asks.Told.{Told}
-use Rattle.cf_core.specs.declared.events.Event.{Event}
-use Rattle.cf_core.specs.declared.events.Reply.{Reply}
+use Rattle.cf_model.specs.declared.asks.Ask.{Ask}
+use Rattle.cf_model.specs.declared.asks.Told.{Told}
+use Rattle.cf_model.specs.declared.events.Event.{Event}
+use Rattle.cf_model.specs.declared.events.Reply.{Reply}
 use Rattle.cf_desk.specs.declared.calls.Call.{Call}
 use Rattle.cf_desk.specs.declared.calls.Call.TheVariants.{Complete, Fail, Cancel, Claim, Finish, Tick, Attach}
 use Rattle.cf_desk.specs.declared.calls.Rec.{Rec}
 use Rattle.cf_desk.specs.declared.calls.Rec.TheVariants.{Did, Saw}
-use Rattle.cf_core.specs.States.{State}
-use Rattle.cf_core.specs.Events.{answered, told}
+use Rattle.cf_model.specs.States.{State}
+use Rattle.cf_model.specs.Events.{answered, told}
 use Rattle.cf_event.specs.Words.{who_of}
-use Rattle.cf_core.specs.Events.{state_after, state_at}
+use Rattle.cf_model.specs.Events.{state_after, state_at}
 use Rattle.cf_desk.specs.Log.{own, state_from, placed, events_of, Catches}
 use Rattle.cf_desk.specs.Calls.{event_by}
 use Rattle.cf_desk.specs.Records.{dids, IsAnswered, InOrder, Fits}

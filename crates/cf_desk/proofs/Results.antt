@@ -1,7 +1,7 @@
 -- What calls do, once their pass has caught up.
 use Rattle.std.proofs.Common.{◌≡◌, ◌⊎◌, ◌<◌, inl, inr, Bool, true, false, rules, List, length, sym, ap, subst}
 use Rattle.std.specs.Bool.{IsTrue}
-use Rattle.cf_core.specs.declared.events.Reply.{Reply}
+use Rattle.cf_model.specs.declared.events.Reply.{Reply}
 use Rattle.cf_desk.specs.declared.calls.Call.{Call}
 use Rattle.cf_desk.specs.declared.calls.Rec.{Rec}
 use Rattle.cf_desk.specs.declared.faults.DeskFault.{DeskFault}

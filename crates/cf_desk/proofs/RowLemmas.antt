@@ -3,7 +3,7 @@ use Rattle.std.proofs.Common.{◌≡◌, ℕ, zero, suc, ◌+◌, ◌<◌, ◌�
 use Rattle.std.specs.List.{Contains}
 use Rattle.std.proofs.lemmas.Option.{none-some}
 use Rattle.std.proofs.lemmas.List.Elements.{All-nil, All-cons, All-contains, Contains-append_cases, filter-append}
-use Rattle.cf_core.specs.declared.events.Event.{Event}
+use Rattle.cf_model.specs.declared.events.Event.{Event}
 use Rattle.cf_event.specs.Words.{who_of}
 use Rattle.cf_desk.proofs.Lists.{none_of_both, same_rest}
 use Rattle.cf_desk.specs.declared.row.Setting.{Setting}

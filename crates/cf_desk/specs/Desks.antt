@@ -4,7 +4,7 @@ use Rattle.cf_desk.specs.declared.pass.Pass.TheInside.{Inside as InPass}
 use Rattle.cf_desk.specs.declared.desk.Desk.TheInside.{Inside as InDesk}
 use Rattle.cf_desk.specs.declared.calls.Rec.{Rec}
 use Rattle.cf_desk.specs.declared.row.Known.{Known}
-use Rattle.cf_core.specs.States.{State}
+use Rattle.cf_model.specs.States.{State}
 use Rattle.cf_desk.specs.Log.{AreLogged}
 use Rattle.cf_desk.specs.Records.{Fits}
 use Rattle.cf_desk.specs.Views.{known_of, state_of}

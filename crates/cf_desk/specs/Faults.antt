@@ -1,10 +1,10 @@
 -- When a fault is told.
 use Rattle.std.specs.Prelude.{◌≡◌, ℕ, ◌+◌, ◌*◌, ◌<◌, ◌≤◌, ◌⊎◌, true, is_some, unwrap_or, length, List, All}
 use Rattle.cf_plan.specs.Plans.{PlannedStage, edges_of, fits_form, sources_of}
-use Rattle.cf_core.specs.declared.asks.Ask.{Ask}
-use Rattle.cf_core.specs.declared.events.Event.{Event}
-use Rattle.cf_core.specs.declared.events.Event.TheVariants.{Attach as Attaches}
-use Rattle.cf_core.specs.Ranges.{AskFits, EventFits}
+use Rattle.cf_model.specs.declared.asks.Ask.{Ask}
+use Rattle.cf_model.specs.declared.events.Event.{Event}
+use Rattle.cf_model.specs.declared.events.Event.TheVariants.{Attach as Attaches}
+use Rattle.cf_model.specs.Ranges.{AskFits, EventFits}
 use Rattle.cf_desk.specs.declared.faults.DeskFault.{DeskFault}
 use Rattle.cf_desk.specs.declared.faults.DeskFault.TheVariants.{NoStage, BadAttach, LogFull, PassFull}
 use Rattle.cf_desk.specs.declared.faults.OpenFault.{OpenFault}

@@ -4,7 +4,7 @@ use Rattle.std.specs.Prelude.{◌≡◌, ℕ, List, map}
 use Rattle.std.specs.List.{All, Contains}
 use Rattle.cf_desk.specs.declared.calls.Kept.{Kept as KeptPass}
 use Rattle.cf_desk.specs.declared.calls.Rec.{Rec}
-use Rattle.cf_core.specs.declared.events.Event.{Event}
+use Rattle.cf_model.specs.declared.events.Event.{Event}
 use Rattle.cf_event.specs.Words.{who_of}
 use Rattle.cf_desk.specs.Records.{Fits}
 use Rattle.cf_desk.specs.Views.{Pass}

@@ -3,11 +3,11 @@ use Rattle.std.specs.Prelude.{◌≡◌, ℕ, ◌-◌, ◌<◌, ◌≤◌, Some,
 use Rattle.std.specs.List.{All, Contains}
 use Rattle.cf_outcome.specs.declared.outcome.Outcome.{Outcome}
 use Rattle.cf_plan.specs.Plans.{IsBuilt, Planned}
-use Rattle.cf_core.specs.States.{State, outcome_at, start}
-use Rattle.cf_core.specs.declared.events.Event.{Event}
-use Rattle.cf_core.specs.declared.events.Reply.{Reply}
-use Rattle.cf_core.specs.Events.{answered, state_at, told}
-use Rattle.cf_core.specs.Laws.{grants_of}
+use Rattle.cf_model.specs.States.{State, outcome_at, start}
+use Rattle.cf_model.specs.declared.events.Event.{Event}
+use Rattle.cf_model.specs.declared.events.Reply.{Reply}
+use Rattle.cf_model.specs.Events.{answered, state_at, told}
+use Rattle.cf_model.specs.Laws.{grants_of}
 use Rattle.cf_event.specs.Words.{who_of}
 use Rattle.cf_plan.specs.Meanings.{Meanings}
 use Rattle.cf_expr.specs.Expressions.{expr}

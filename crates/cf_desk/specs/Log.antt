@@ -2,11 +2,11 @@
 use Rattle.std.specs.Prelude.{◌≡◌, ℕ, suc, ◌<◌, eqb, Option, None, Some, List, [], ◌∷◌, ◌++◌, length}
 use Rattle.std.specs.List.{filter}
 use Rattle.cf_plan.specs.Plans.{Planned}
-use Rattle.cf_core.specs.States.{State, start}
-use Rattle.cf_core.specs.declared.events.Event.{Event}
-use Rattle.cf_core.specs.declared.events.Event.TheVariants.{Attach as Attaches}
-use Rattle.cf_core.specs.Events.{answered, state_after}
-use Rattle.cf_core.specs.Ranges.{EventFits}
+use Rattle.cf_model.specs.States.{State, start}
+use Rattle.cf_model.specs.declared.events.Event.{Event}
+use Rattle.cf_model.specs.declared.events.Event.TheVariants.{Attach as Attaches}
+use Rattle.cf_model.specs.Events.{answered, state_after}
+use Rattle.cf_model.specs.Ranges.{EventFits}
 use Rattle.cf_event.specs.Words.{IsEvent, who_of}
 use Rattle.cf_desk.specs.declared.row.Setting.{Setting}
 

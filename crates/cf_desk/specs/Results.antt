@@ -1,9 +1,9 @@
 -- What a call does: the pass first catches up, where it doesn't know a stage that the call names, and is then answered or refused.
 use Rattle.std.specs.Prelude.{◌≡◌, ◌⊎◌, ℕ}
-use Rattle.cf_core.specs.declared.asks.Ask.{Ask}
-use Rattle.cf_core.specs.declared.asks.Ask.TheVariants.{Outcome as AsksOutcome}
-use Rattle.cf_core.specs.declared.asks.Told.{Told}
-use Rattle.cf_core.specs.declared.events.Reply.{Reply}
+use Rattle.cf_model.specs.declared.asks.Ask.{Ask}
+use Rattle.cf_model.specs.declared.asks.Ask.TheVariants.{Outcome as AsksOutcome}
+use Rattle.cf_model.specs.declared.asks.Told.{Told}
+use Rattle.cf_model.specs.declared.events.Reply.{Reply}
 use Rattle.cf_desk.specs.declared.calls.Call.{Call}
 use Rattle.cf_desk.specs.declared.calls.Joined.{Joined}
 use Rattle.cf_desk.specs.declared.faults.DeskFault.{DeskFault}

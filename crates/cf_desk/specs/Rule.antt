@@ -3,7 +3,7 @@ use Rattle.std.specs.Prelude.{◌≡◌, ℕ, zero, suc, ◌+◌, ◌<◌, ◌�
 use mathlib.Core.Option.{some}
 use lib.ListN.{get_elem?}
 use Rattle.atomic_table.specs.Table.{State, Step, Me}
-use Rattle.cf_core.specs.declared.events.Event.{Event}
+use Rattle.cf_model.specs.declared.events.Event.{Event}
 use Rattle.cf_event.specs.Words.{word_of}
 use Rattle.cf_event.specs.Decoding.{event_of}
 use Rattle.cf_desk.specs.declared.row.Setting.{Setting}

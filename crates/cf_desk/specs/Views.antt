@@ -3,14 +3,14 @@ use Rattle.cf_plan.specs.Plans.{Planned, plan_of}
 use Rattle.std.specs.Prelude.{◌≡◌, ◌<◌, ◌≤◌, ◌+◌, Option, None, ◌⊎◌, length, map, ℕ, List, [], ◌∷◌, ◌++◌}
 use Rattle.atomic_table.specs.Seated.{TableId}
 use Rattle.cf_outcome.specs.declared.outcome.Outcome.{Outcome}
-use Rattle.cf_core.specs.declared.asks.Ask.{Ask}
-use Rattle.cf_core.specs.declared.asks.Ask.TheVariants.{Outcome as AsksOutcome}
-use Rattle.cf_core.specs.declared.asks.Told.{Told}
-use Rattle.cf_core.specs.declared.asks.Told.TheVariants.{Outcome as ToldOutcome}
-use Rattle.cf_core.specs.declared.events.Event.{Event}
-use Rattle.cf_core.specs.declared.events.Reply.{Reply}
-use Rattle.cf_core.specs.States.{State, outcome_at}
-use Rattle.cf_core.specs.Events.{answered, state_at, told}
+use Rattle.cf_model.specs.declared.asks.Ask.{Ask}
+use Rattle.cf_model.specs.declared.asks.Ask.TheVariants.{Outcome as AsksOutcome}
+use Rattle.cf_model.specs.declared.asks.Told.{Told}
+use Rattle.cf_model.specs.declared.asks.Told.TheVariants.{Outcome as ToldOutcome}
+use Rattle.cf_model.specs.declared.events.Event.{Event}
+use Rattle.cf_model.specs.declared.events.Reply.{Reply}
+use Rattle.cf_model.specs.States.{State, outcome_at}
+use Rattle.cf_model.specs.Events.{answered, state_at, told}
 use Rattle.cf_desk.specs.declared.calls.Call.{Call}
 use Rattle.cf_desk.specs.declared.calls.Joined.{Joined}
 use Rattle.cf_desk.specs.declared.calls.Rec.{Rec}

@@ -2,7 +2,8 @@
 ghost use Rattle.std.specs.Prelude.{◌≡◌, false};
 ghost use Rattle.cf_desk.specs.Calls.{as_call, event_by, joined};
 
-use cf_core::{Ask, Event, Graph, Reply, Told};
+use cf_core::Graph;
+use cf_model::{Ask, Event, Reply, Told};
 use cf_outcome::{Cause, Outcome, Value};
 use cf_plan::{Answer, Form, Of};
 
@@ -36,7 +37,7 @@ impl Call {
             Event::Cancel { stage, .. } => Call::Cancel(stage),
             Event::Claim { stage, .. } => Call::Claim(stage),
             Event::Finish { stage, answer, .. } => Call::Finish(stage, answer),
-            Event::Tick { now, .. } => Call::Tick(now),
+            Event::Tick { moment, .. } => Call::Tick(moment),
             Event::Attach {
                 form,
                 of,
@@ -104,7 +105,7 @@ pub(crate) fn event_by(who: u8, call: Call) -> Event
         Call::Cancel(stage) => Event::Cancel { who, stage },
         Call::Claim(stage) => Event::Claim { who, stage },
         Call::Finish(stage, answer) => Event::Finish { who, stage, answer },
-        Call::Tick(now) => Event::Tick { who, now },
+        Call::Tick(moment) => Event::Tick { who, moment },
         Call::Attach(form, of, function) => Event::Attach {
             who,
             form,

@@ -6,7 +6,7 @@ mod steps;
 
 ghost use Rattle.std.specs.Prelude.{◌≡◌, ◌≢◌, ◌<◌, ◌≤◌, ◌↔◌, All, IfErr, IfOk, IsTrue, MatchOption, [], length, vec_capacity, vec_len};
 ghost use Rattle.cf_plan.specs.Plans.{function_at, with_room};
-ghost use Rattle.cf_core.specs.States.{start};
+ghost use Rattle.cf_model.specs.States.{start};
 ghost use Rattle.cf_desk.specs.declared.faults.OpenFault.TheVariants.{NoMemory};
 ghost use Rattle.cf_desk.specs.Faults.{AreCounts, IsDueToGrow, IsDueToOpen, IsOverfull};
 ghost use Rattle.cf_desk.specs.Functions.{function_bound};
@@ -18,7 +18,8 @@ use crate::functions::function_bound;
 use crate::pass::Pass;
 use crate::row::{GivesFirst, RowRule, Setting, Terms, View};
 use atomic_table::Table;
-use cf_core::{Ask, Event, Graph, Told};
+use cf_core::Graph;
+use cf_model::{Ask, Event, Told};
 use cf_plan::{GrowingPlan, MAX_EDGES, MAX_STAGES, Plan};
 use std::alloc::{AllocError, Global};
 use std::marker::Model;

@@ -31,7 +31,7 @@ mod pass;
 mod row;
 
 pub use calls::{Call, Closed, Joined, Kept, Rec};
-pub use cf_core::{Ask, Told};
+pub use cf_model::{Ask, Told};
 pub use desk::Desk;
 pub use faults::{CloseFault, DeskFault, OpenFault};
 pub use pass::Pass;

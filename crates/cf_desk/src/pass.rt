@@ -2,7 +2,7 @@
 ghost use Rattle.std.specs.Prelude.{◌≡◌, ◌<◌, ◌≤◌, ◌+◌, ◌↔◌, All, IfSome, IsTrue, length, unwrap_or};
 ghost use Rattle.std.specs.Bool.{OnTrue};
 ghost use Rattle.cf_plan.specs.Plans.{function_at, sources_of};
-ghost use Rattle.cf_core.specs.States.{lowest_ready_of, outcome_at};
+ghost use Rattle.cf_model.specs.States.{lowest_ready_of, outcome_at};
 ghost use Rattle.cf_desk.specs.Calls.{event_by};
 ghost use Rattle.cf_desk.specs.Faults.{AsksStage, IsFitting, IsOnStage};
 ghost use Rattle.cf_desk.specs.Log.{IsEventOf, IsFunctionBelow};
@@ -11,7 +11,8 @@ ghost use Rattle.cf_desk.specs.Views.{Joins, Reads, state_of};
 use crate::calls::{Call, Joined, Rec, joined_as};
 use crate::row::View;
 use atomic_table::Seat;
-use cf_core::{Ask, Graph, Told};
+use cf_core::Graph;
+use cf_model::{Ask, Told};
 use cf_outcome::Outcome;
 use cf_plan::{Of, fits_form};
 use std::marker::Model;

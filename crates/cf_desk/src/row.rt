@@ -1,6 +1,6 @@
 //! The row of words, its rule, and what each step tells.
 use atomic_table::{Join, Play, Split, TableRule};
-use cf_core::Event;
+use cf_model::Event;
 use cf_plan::GrowingPlan;
 use std::collections::LinkedList;
 

@@ -3,8 +3,8 @@ ghost use Rattle.std.specs.Prelude.{◌≡◌, All, OnOk, vec_len};
 
 use crate::desks::last_of;
 use crate::plans::{SOURCE_AND_SUPPLY, plan_of};
-use cf_core::Event;
 use cf_desk::{Call, Closed, Desk, DeskFault, OpenFault, Pass};
+use cf_model::Event;
 use cf_outcome::Value;
 use cf_plan::{Form, Plan, PlanBuilder, PlanFault};
 use std::alloc::Global;

@@ -1,6 +1,6 @@
 //! What a closed desk has, as rows.
-use cf_core::{Event, Reply};
 use cf_desk::{Call, Closed, Kept, Rec};
+use cf_model::{Event, Reply};
 use std::process::Abort;
 
 /// What a desk has once it is closed.

@@ -1,8 +1,9 @@
 //! The listing of README.md, which shows what stands here from `source_and_apply` on: keep both the same text.
 ghost use Rattle.std.specs.Prelude.{◌≡◌, All, length};
 
-use cf_core::{Claimed, Finished, Graph};
+use cf_core::Graph;
 use cf_desk::{Call, Desk, Pass};
+use cf_model::{Claimed, Finished};
 use cf_outcome::{Outcome, Value};
 use cf_plan::{Answer, Args, Form, Plan, PlanBuilder, PlanFault};
 use std::alloc::Global;

@@ -2,8 +2,8 @@
 use crate::desks::small;
 use crate::ends::End;
 use crate::steps::{Step, Turn, play};
-use cf_core::{Claimed, Event, Finished, Reply, Ticked};
 use cf_desk::{Ask, Call, DeskFault, Joined, Rec, Told};
+use cf_model::{Claimed, Event, Finished, Reply, Ticked};
 use cf_outcome::{Now, Outcome, Value};
 use cf_plan::{Answer, Args};
 use std::test::Fail;

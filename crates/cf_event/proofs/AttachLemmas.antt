@@ -9,8 +9,8 @@ use Rattle.cf_plan.specs.declared.forms.Form.TheVariants.{Source, Supply, RunAsy
 use Rattle.cf_plan.specs.declared.forms.Of.{Of}
 use Rattle.cf_plan.specs.declared.forms.Of.TheVariants.{None as NoSource, One, Two}
 use Rattle.cf_plan.specs.Plans.{calls_function, fits_count, fits_form}
-use Rattle.cf_core.specs.declared.events.Event.{Event}
-use Rattle.cf_core.specs.declared.events.Event.TheVariants.{Attach as Attaches}
+use Rattle.cf_model.specs.declared.events.Event.{Event}
+use Rattle.cf_model.specs.declared.events.Event.TheVariants.{Attach as Attaches}
 use Rattle.cf_event.specs.Words.{IsEvent, attach_low, count_of, first_of, form_number, second_of, word_of, word_with}
 use Rattle.cf_event.specs.Decoding.{attach_of, attach_with, forms, of_with}
 

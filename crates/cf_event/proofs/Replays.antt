@@ -2,11 +2,11 @@
 use Rattle.std.proofs.Common.{◌≡◌, ℕ, ◌+◌, ◌<◌, ◌≤◌, ◌∷◌, [], List, drop, length, get_or, ap, ◌∙◌, add-one, drop-cons, subst, suc, sym, zero, refl}
 use Rattle.std.specs.Prelude.{slice_get, unwrap_or}
 use Rattle.std.proofs.lemmas.List.{drop_all}
-use Rattle.cf_core.specs.declared.events.Event.{Event}
-use Rattle.cf_core.specs.States.{State}
-use Rattle.cf_core.specs.Graphs.{Graph}
-use Rattle.cf_core.specs.Events.{answered, state_after}
-use Rattle.cf_core.specs.Ranges.{EventFits, EventsFit}
+use Rattle.cf_model.specs.declared.events.Event.{Event}
+use Rattle.cf_model.specs.States.{State}
+use Rattle.cf_model.specs.Graphs.{Graph}
+use Rattle.cf_model.specs.Events.{answered, state_after}
+use Rattle.cf_model.specs.Ranges.{EventFits, EventsFit}
 use Rattle.cf_event.specs.Replays.{Answers, Nudges, Replays}
 
 first_of_rest : (nudges : List ℕ) (i : ℕ) → slice_get (drop i nudges) 0 ≡ slice_get nudges i

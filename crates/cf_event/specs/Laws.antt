@@ -1,6 +1,6 @@
 -- Laws of events and their words.
 use Rattle.std.specs.Prelude.{◌≡◌}
-use Rattle.cf_core.specs.declared.events.Event.{Event}
+use Rattle.cf_model.specs.declared.events.Event.{Event}
 use Rattle.cf_event.specs.Words.{IsEvent, word_of}
 
 -- two events with one word are one event

@@ -1,9 +1,9 @@
 -- Events done one after another, with turns taken between them.
 use Rattle.std.specs.Prelude.{◌≡◌, ◌≤◌, ◌+◌, ℕ, List, [], ◌∷◌, drop, slice_get, unwrap_or}
-use Rattle.cf_core.specs.declared.events.Event.{Event}
-use Rattle.cf_core.specs.declared.events.Reply.{Reply}
-use Rattle.cf_core.specs.Events.{answered}
-use Rattle.cf_core.specs.Graphs.{Graph}
+use Rattle.cf_model.specs.declared.events.Event.{Event}
+use Rattle.cf_model.specs.declared.events.Reply.{Reply}
+use Rattle.cf_model.specs.Events.{answered}
+use Rattle.cf_model.specs.Graphs.{Graph}
 
 -- a graph takes at most k turns, and nothing else
 pub record Nudges (k : ℕ) (old new : Graph) : Type 0 where

@@ -1,11 +1,12 @@
 //! What events do to a graph.
 ghost use Rattle.std.specs.Prelude.{◌≡◌, ◌≤◌, length, slice_get, unwrap_or};
-ghost use Rattle.cf_core.specs.Events.{answered, state_after};
-ghost use Rattle.cf_core.specs.Graphs.{most_turns};
-ghost use Rattle.cf_core.specs.Ranges.{EventFits, EventsFit};
+ghost use Rattle.cf_model.specs.Events.{answered, state_after};
+ghost use Rattle.cf_model.specs.Graphs.{most_turns};
+ghost use Rattle.cf_model.specs.Ranges.{EventFits, EventsFit};
 ghost use Rattle.cf_event.specs.Replays.{Replays};
 
-use cf_core::{Event, Graph, Reply};
+use cf_core::Graph;
+use cf_model::{Event, Reply};
 
 /// Does an event to a graph, and gives its reply. The stages that it names are there, and a stage that it attaches fits its
 /// form.

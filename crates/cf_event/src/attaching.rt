@@ -4,7 +4,7 @@ ghost use Rattle.cf_plan.specs.Plans.{fits_form};
 ghost use Rattle.cf_event.specs.Words.{attach_low, count_of, first_of, form_number, second_of};
 ghost use Rattle.cf_event.specs.Decoding.{attach_of, attach_with, forms, of_with};
 
-use cf_core::Event;
+use cf_model::Event;
 use cf_plan::{Form, Of, fits_form};
 
 /// The greatest function's number that a word has room for.

@@ -7,13 +7,13 @@
 
 mod applying;
 mod attaching;
+mod codec;
 pub mod laws;
-mod words;
 
 pub use applying::{apply, replay};
-pub use cf_core::{Event, Reply};
+pub use cf_model::{Event, Reply};
 
 #[cfg(test)]
 mod tests;
 
-pub use words::{decode, encode, is_event};
+pub use codec::{decode, encode, is_event};

@@ -1,7 +1,8 @@
 mod attaching;
 
 use crate::{Event, Reply, apply, decode, encode, is_event, replay};
-use cf_core::{Claimed, Graph, Ticked};
+use cf_core::Graph;
+use cf_model::{Claimed, Ticked};
 use cf_outcome::Value;
 use cf_plan::{Answer, Args, Form, Of, PlanBuilder};
 use std::test::Fail;
@@ -58,7 +59,7 @@ const ROWS: [(Event, u64); 14] = [
         },
         0x0500003300000001,
     ),
-    (Event::Tick { who: 0, now: 20 }, 0x0600000000000014),
+    (Event::Tick { who: 0, moment: 20 }, 0x0600000000000014),
     (
         Event::Attach {
             who: 0,
@@ -173,8 +174,8 @@ fn events_are_done_to_a_graph(rt: HostRuntime) -> Result<(), Fail> {
         apply(&mut graph, &claim),
         Reply::Claim(Claimed::Granted(Args::None))
     );
-    replay(&mut graph, &[Event::Tick { who: 0, now: 5 }], &[2, 3]);
-    let earlier = Event::Tick { who: 1, now: 4 };
+    replay(&mut graph, &[Event::Tick { who: 0, moment: 5 }], &[2, 3]);
+    let earlier = Event::Tick { who: 1, moment: 4 };
     assert_eq!(rt; apply(&mut graph, &earlier), Reply::Tick(Ticked::Past));
     Ok(())
 }

@@ -13,8 +13,8 @@ ghost use Rattle.cf_desk.specs.Keepings.{pass_kept};
 ghost use Rattle.cf_desk.specs.Laws.{IsOneHistory};
 ghost use Rattle.cf_plan.specs.Plans.{with_room};
 
-use cf_core::Ask;
 use cf_desk::{Call, Closed, Desk, DeskFault, Pass};
+use cf_model::Ask;
 use cf_outcome::Value;
 use cf_plan::{Form, Of, Plan};
 pub use fault::Fault;

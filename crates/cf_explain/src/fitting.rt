@@ -4,9 +4,9 @@ ghost use Rattle.cf_explain.specs.Places.{IsIn};
 
 use crate::place::Place;
 use crate::refusing::{Wrong, wrong_at};
+use crate::vocabulary::Words;
 use crate::wanted::Wanted;
 use crate::why::Why;
-use crate::words::Words;
 use serde_json::Value as Json;
 use std::alloc::{AllocError, Global};
 

@@ -1,7 +1,7 @@
 //! The steps that never do anything.
 use crate::place::Place;
 use crate::remark::{Idle, Remark};
-use cf_core::Event;
+use cf_model::Event;
 use cf_plan::{Limit, Plan};
 use cf_reading::{Script, Step};
 use std::alloc::{AllocError, Global};
@@ -103,7 +103,7 @@ impl Seen {
                 Some(Idle::NotClaimed)
             }
             Event::Finish { .. } => None,
-            Event::Tick { now, .. } => self.idle_tick(now),
+            Event::Tick { moment, .. } => self.idle_tick(moment),
             Event::Attach { .. } if self.room == 0 => Some(Idle::NoRoom),
             Event::Attach { .. } => None,
         }
@@ -124,7 +124,7 @@ impl Seen {
             | Event::Cancel { stage, .. } => self.settle(stage, k),
             Event::Claim { who, stage } => self.claim(stage, bit(who), true),
             Event::Finish { who, stage, .. } => self.claim(stage, bit(who), false),
-            Event::Tick { now, .. } => self.tick(limits, now, k),
+            Event::Tick { moment, .. } => self.tick(limits, moment, k),
             Event::Attach { function, .. } => self.attach(function.is_some())?,
         }
         Ok(())

@@ -11,7 +11,7 @@
 #![tactic(auto)]
 
 mod behind;
-mod course;
+mod counts;
 mod explaining;
 mod fitting;
 mod functions;
@@ -26,14 +26,14 @@ mod steps;
 mod twice;
 mod unread;
 mod verdict;
+mod vocabulary;
 mod wanted;
 mod why;
-mod words;
 
 pub use explaining::explain;
 pub use place::{Area, Hop, Place};
 pub use remark::{Idle, Remark};
 pub use verdict::{Explanation, Refusal, Verdict};
+pub use vocabulary::Words;
 pub use wanted::Wanted;
 pub use why::Why;
-pub use words::Words;

@@ -2,15 +2,15 @@
 ghost use Rattle.std.specs.Prelude.{IfOk};
 ghost use Rattle.cf_explain.specs.Places.{IsIn};
 
-use crate::course::{Course, course_before};
+use crate::counts::{Counts, counts_before};
 use crate::fitting::{lone_wrong, taken, word_wrong};
 use crate::functions::function_wrong;
 use crate::place::Place;
 use crate::refusing::{Wrong, wrong_at};
 use crate::stages::{misfit, source_count, stage_wrong};
+use crate::vocabulary::Words;
 use crate::wanted::Wanted;
 use crate::why::Why;
-use crate::words::Words;
 use cf_reading::MAX_STEPS;
 use serde_json::Value as Json;
 use std::alloc::{AllocError, Global};
@@ -132,10 +132,10 @@ pub(crate) fn step_wrong(
     if let Some(found) = word_wrong(alloc, place.item(0), word, Words::Steps)? {
         return Ok(Some(found));
     }
-    let course = course_before(json, k);
+    let counts = counts_before(json, k);
     match word.and_then(Json::as_str) {
-        Some("attach") if course.version == 1 => Ok(wrong_at(place.item(0), Why::NotInVersionOne)),
-        Some(word) => written_wrong(alloc, place, word, step, course),
+        Some("attach") if counts.version == 1 => Ok(wrong_at(place.item(0), Why::NotInVersionOne)),
+        Some(word) => written_wrong(alloc, place, word, step, counts),
         None => Ok(None),
     }
 }
@@ -146,13 +146,13 @@ fn written_wrong(
     place: Place,
     word: &str,
     step: &Json,
-    course: Course,
+    counts: Counts,
 ) -> Result<Option<Wrong>, AllocError>
     ensures { IfOk result (IsIn place.area) }
 {
     for shape in &STEPS {
         if shape.word == word {
-            return elements_wrong(alloc, place, shape, step, course);
+            return elements_wrong(alloc, place, shape, step, counts);
         }
     }
     Ok(None)
@@ -164,7 +164,7 @@ fn elements_wrong(
     place: Place,
     shape: &StepShape,
     step: &Json,
-    course: Course,
+    counts: Counts,
 ) -> Result<Option<Wrong>, AllocError>
     ensures { IfOk result (IsIn place.area) }
 {
@@ -177,7 +177,7 @@ fn elements_wrong(
     }
     for (i, (element, json)) in shape.elements.iter().zip(list.iter().skip(1)).enumerate() {
         let place = place.item(i.saturating_add(1));
-        if let Some(found) = element_wrong(alloc, place, *element, json, course)? {
+        if let Some(found) = element_wrong(alloc, place, *element, json, counts)? {
             return Ok(Some(found));
         }
     }
@@ -190,17 +190,17 @@ fn element_wrong(
     place: Place,
     element: Element,
     json: &Json,
-    course: Course,
+    counts: Counts,
 ) -> Result<Option<Wrong>, AllocError>
     ensures { IfOk result (IsIn place.area) }
 {
     match element {
-        Element::Stage => Ok(taken(place, json, Wanted::Stage(course.stages))),
+        Element::Stage => Ok(taken(place, json, Wanted::Stage(counts.stages))),
         Element::Value => Ok(taken(place, json, Wanted::Value)),
         Element::Number => Ok(taken(place, json, Wanted::UpTo(u32::MAX))),
         Element::Caller => Ok(taken(place, json, Wanted::UpTo(63))),
         Element::Answer => lone_wrong(alloc, place, json, Words::Answers),
-        Element::NewStage => attached_wrong(alloc, place, json, course),
+        Element::NewStage => attached_wrong(alloc, place, json, counts),
     }
 }
 
@@ -209,12 +209,12 @@ fn attached_wrong(
     alloc: Global,
     place: Place,
     json: &Json,
-    course: Course,
+    counts: Counts,
 ) -> Result<Option<Wrong>, AllocError>
     ensures { IfOk result (IsIn place.area) }
 {
-    let source = Wanted::Stage(course.stages);
-    if let Some(found) = stage_wrong(alloc, place, json, course.version, source)? {
+    let source = Wanted::Stage(counts.stages);
+    if let Some(found) = stage_wrong(alloc, place, json, counts.version, source)? {
         return Ok(Some(found));
     }
     let function = json.get("fn");
@@ -227,7 +227,7 @@ fn attached_wrong(
     if source_count(json) > 2 {
         return Ok(wrong_at(place.member("of"), Why::TooManySources));
     }
-    if function.is_some() && course.functions > 4_095 {
+    if function.is_some() && counts.functions > 4_095 {
         return Ok(wrong_at(place.member("fn"), Why::TooMany(4_096, "functions")));
     }
     Ok(None)

@@ -1,9 +1,9 @@
 //! The members that nobody reads.
-use crate::course::attach_of;
+use crate::counts::attach_of;
 use crate::place::Place;
 use crate::remark::Remark;
 use crate::shapes::version_of;
-use crate::words::Words;
+use crate::vocabulary::Words;
 use serde_json::Value as Json;
 use std::alloc::{AllocError, Global};
 

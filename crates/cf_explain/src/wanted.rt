@@ -1,5 +1,5 @@
 //! What is to stand in some place.
-use crate::words::Words;
+use crate::vocabulary::Words;
 use serde_json::Value as Json;
 use std::fmt;
 

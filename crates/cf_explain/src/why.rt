@@ -1,6 +1,6 @@
 //! Why a part of a script is refused.
+use crate::vocabulary::Words;
 use crate::wanted::Wanted;
-use crate::words::Words;
 use std::fmt;
 
 /// Why a part of a script is refused, which its place names.

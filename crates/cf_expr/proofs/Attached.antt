@@ -5,12 +5,12 @@ use Rattle.std.proofs.lemmas.Option.{slice_get_within}
 use Rattle.cf_outcome.specs.declared.outcome.Outcome.{Outcome}
 use Rattle.cf_plan.specs.Meanings.{Meanings}
 use Rattle.cf_plan.specs.Plans.{PlannedStage, HasLowerSources}
-use Rattle.cf_core.specs.declared.stage.Stage.TheVariants.{Pending}
-use Rattle.cf_core.specs.declared.events.Event.{Event}
-use Rattle.cf_core.specs.States.{State, outcome_at}
-use Rattle.cf_core.specs.Events.{attached_by, state_after}
-use Rattle.cf_core.proofs.Moves.{new_states-settled, push-settled}
-use Rattle.cf_core.proofs.Shape.{state_after-grows}
+use Rattle.cf_model.specs.declared.stage.Stage.TheVariants.{Pending}
+use Rattle.cf_model.specs.declared.events.Event.{Event}
+use Rattle.cf_model.specs.States.{State, outcome_at}
+use Rattle.cf_model.specs.Events.{attached_by, state_after}
+use Rattle.cf_model.proofs.Moves.{new_states-settled, push-settled}
+use Rattle.cf_model.proofs.Shape.{state_after-grows}
 use Rattle.cf_expr.specs.Histories.{Grants}
 use Rattle.cf_expr.proofs.Settles.{IsSet, Owes, all_sound}
 use Rattle.cf_expr.proofs.Writes.{Stands}

@@ -8,13 +8,13 @@ use Rattle.cf_outcome.specs.declared.outcome.Outcome.{Outcome}
 use Rattle.cf_outcome.specs.declared.outcome.Outcome.TheVariants.{Value as Gives, Fault}
 use Rattle.cf_outcome.specs.declared.outcome.Cause.TheVariants.{Thrown, Cancelled}
 use Rattle.cf_plan.specs.Meanings.{Meanings}
-use Rattle.cf_core.specs.declared.stage.Stage.{Stage}
-use Rattle.cf_core.specs.declared.stage.Stage.TheVariants.{Pending, Settled}
-use Rattle.cf_core.specs.States.{State, outcome_in, outcome_at}
-use Rattle.cf_core.specs.declared.events.Event.{Event}
-use Rattle.cf_core.specs.declared.events.Event.TheVariants.{Complete as Completes, Fail as Fails, Cancel as Cancels, Claim as Claims, Finish as Finishes, Tick as Ticks, Attach as Attaches}
-use Rattle.cf_core.specs.Events.{answered, settled_by, cancelled_by}
-use Rattle.cf_core.proofs.Moves.{new_states-settled, keeps_outcomes}
+use Rattle.cf_model.specs.declared.stage.Stage.{Stage}
+use Rattle.cf_model.specs.declared.stage.Stage.TheVariants.{Pending, Settled}
+use Rattle.cf_model.specs.States.{State, outcome_in, outcome_at}
+use Rattle.cf_model.specs.declared.events.Event.{Event}
+use Rattle.cf_model.specs.declared.events.Event.TheVariants.{Complete as Completes, Fail as Fails, Cancel as Cancels, Claim as Claims, Finish as Finishes, Tick as Ticks, Attach as Attaches}
+use Rattle.cf_model.specs.Events.{answered, settled_by, cancelled_by}
+use Rattle.cf_model.proofs.Moves.{new_states-settled, keeps_outcomes}
 use Rattle.cf_expr.specs.Expressions.{named_for}
 use Rattle.cf_expr.specs.Histories.{Grants, IsPlainEvent}
 

@@ -5,13 +5,13 @@ use Rattle.std.specs.Prelude.{◌&&◌}
 use Rattle.std.specs.Option.{option_or}
 use Rattle.std.proofs.lemmas.Bool.Decides.{nat_tests}
 use Rattle.cf_plan.specs.declared.forms.Args.{Args}
-use Rattle.cf_core.specs.declared.replies.Claimed.TheVariants.{Granted, Settled, Taken, NotReady}
-use Rattle.cf_core.specs.declared.events.Reply.{Reply}
-use Rattle.cf_core.specs.declared.events.Reply.TheVariants.{Claim as ToldClaim, Flag as ToldFlag, Finish as ToldFinish, Tick as ToldTick, Attach as ToldAttach}
+use Rattle.cf_model.specs.declared.replies.Claimed.TheVariants.{Granted, Settled, Taken, NotReady}
+use Rattle.cf_model.specs.declared.events.Reply.{Reply}
+use Rattle.cf_model.specs.declared.events.Reply.TheVariants.{Claim as ToldClaim, Flag as ToldFlag, Finish as ToldFinish, Tick as ToldTick, Attach as ToldAttach}
 use Rattle.std.proofs.lemmas.List.Elements.{All-head, All-tail}
-use Rattle.cf_core.specs.declared.events.Event.{Event}
-use Rattle.cf_core.specs.declared.events.Event.TheVariants.{Complete as Completes, Fail as Fails, Cancel as Cancels, Claim as Claims, Finish as Finishes, Tick as Ticks, Attach as Attaches}
-use Rattle.cf_core.specs.Events.{answered}
+use Rattle.cf_model.specs.declared.events.Event.{Event}
+use Rattle.cf_model.specs.declared.events.Event.TheVariants.{Complete as Completes, Fail as Fails, Cancel as Cancels, Claim as Claims, Finish as Finishes, Tick as Ticks, Attach as Attaches}
+use Rattle.cf_model.specs.Events.{answered}
 use Rattle.cf_expr.specs.Expressions.{named_for, first_named, expr_in, exprs_from}
 use Rattle.cf_expr.specs.Histories.{Grants, granted_with, is_work, without_work}
 use Rattle.cf_expr.specs.Laws.{PlainPartsJoin, WorkKeepsExpressions}

@@ -2,10 +2,10 @@
 use Rattle.std.proofs.Common.{◌≡◌, ℕ, suc, ◌∷◌, [], List, true, false, refl}
 use Rattle.std.specs.List.{All}
 use Rattle.std.proofs.lemmas.List.Elements.{All-nil, All-cons}
-use Rattle.cf_core.specs.declared.stage.Stage.{Stage}
-use Rattle.cf_core.specs.declared.stage.Stage.TheVariants.{Pending, Ready, Claimed, Linked, Settled}
-use Rattle.cf_core.specs.States.{State, stage_at, is_ready}
-use Rattle.cf_core.proofs.ClaimedStages.{at, is_claimed}
+use Rattle.cf_model.specs.declared.stage.Stage.{Stage}
+use Rattle.cf_model.specs.declared.stage.Stage.TheVariants.{Pending, Ready, Claimed, Linked, Settled}
+use Rattle.cf_model.specs.States.{State, stage_at, is_ready}
+use Rattle.cf_model.proofs.ClaimedStages.{at, is_claimed}
 use Rattle.cf_expr.specs.Histories.{IsQuiet, is_at_rest}
 
 at_rest : (x : Stage) → is_ready x ≡ false → is_claimed x ≡ false → is_at_rest x ≡ true

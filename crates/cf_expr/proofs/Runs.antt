@@ -18,17 +18,17 @@ use Rattle.cf_plan.specs.declared.limits.Limit.{Limit}
 use Rattle.cf_plan.specs.Forms.{follows, landing}
 use Rattle.cf_plan.specs.Meanings.{Meanings, stage_answer}
 use Rattle.cf_plan.specs.Plans.{Planned, PlannedStage, attached_stage, form_at, sources_at, fits_count}
-use Rattle.cf_core.specs.declared.stage.Stage.{Stage}
-use Rattle.cf_core.specs.declared.stage.Stage.TheVariants.{Pending, Ready, Claimed, Linked, Settled}
-use Rattle.cf_core.specs.declared.replies.Finished.TheVariants.{Won, NotYours}
-use Rattle.cf_core.specs.declared.replies.Ticked.{Ticked}
-use Rattle.cf_core.specs.declared.replies.Ticked.TheVariants.{Fired, Past}
-use Rattle.cf_core.specs.States.{State, outcome_of, outcome_in, outcome_at, stage_at, claim_at, start}
-use Rattle.cf_core.specs.declared.events.Event.{Event}
-use Rattle.cf_core.specs.declared.events.Event.TheVariants.{Complete as Completes, Fail as Fails, Cancel as Cancels, Claim as Claims, Finish as Finishes, Tick as Ticks, Attach as Attaches}
-use Rattle.cf_core.specs.declared.events.Reply.TheVariants.{Claim as ToldClaim}
-use Rattle.cf_core.specs.Events.{answered, state_after, settled_by, claimed_by, finished_by, firing, due_limits, source_outcome}
-use Rattle.cf_core.proofs.Shape.{answered-grows, length-new_states}
+use Rattle.cf_model.specs.declared.stage.Stage.{Stage}
+use Rattle.cf_model.specs.declared.stage.Stage.TheVariants.{Pending, Ready, Claimed, Linked, Settled}
+use Rattle.cf_model.specs.declared.replies.Finished.TheVariants.{Won, NotYours}
+use Rattle.cf_model.specs.declared.replies.Ticked.{Ticked}
+use Rattle.cf_model.specs.declared.replies.Ticked.TheVariants.{Fired, Past}
+use Rattle.cf_model.specs.States.{State, outcome_of, outcome_in, outcome_at, stage_at, claim_at, start}
+use Rattle.cf_model.specs.declared.events.Event.{Event}
+use Rattle.cf_model.specs.declared.events.Event.TheVariants.{Complete as Completes, Fail as Fails, Cancel as Cancels, Claim as Claims, Finish as Finishes, Tick as Ticks, Attach as Attaches}
+use Rattle.cf_model.specs.declared.events.Reply.TheVariants.{Claim as ToldClaim}
+use Rattle.cf_model.specs.Events.{answered, state_after, settled_by, claimed_by, finished_by, firing, due_limits, source_outcome}
+use Rattle.cf_model.proofs.Shape.{answered-grows, length-new_states}
 use Rattle.cf_plan.specs.Plans.{IsBuilt}
 use Rattle.cf_expr.specs.Expressions.{named_for, first_named, landing_expr, due_expr, is_source, expr}
 use Rattle.cf_expr.specs.Histories.{Grants, is_plain_form, IsPlainPlan, granted_with, IsPlainEvent, IsPlain, nothing_granted, is_at_rest, IsQuiet}

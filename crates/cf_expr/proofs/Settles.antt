@@ -11,9 +11,9 @@ use Rattle.cf_plan.specs.declared.forms.Due.TheVariants.{Waits, Settles, Needs}
 use Rattle.cf_plan.specs.Forms.{follows}
 use Rattle.cf_plan.specs.Plans.{PlannedStage, HasLowerSources, fits_count}
 use Rattle.cf_plan.proofs.PlanLemmas.{lower_at}
-use Rattle.cf_core.specs.declared.stage.Stage.{Stage}
-use Rattle.cf_core.specs.declared.stage.Stage.TheVariants.{Pending, Ready, Claimed, Linked, Settled}
-use Rattle.cf_core.specs.States.{outcome_of, outcome_in, due_state, linked_state, next_of, new_states}
+use Rattle.cf_model.specs.declared.stage.Stage.{Stage}
+use Rattle.cf_model.specs.declared.stage.Stage.TheVariants.{Pending, Ready, Claimed, Linked, Settled}
+use Rattle.cf_model.specs.States.{outcome_of, outcome_in, due_state, linked_state, next_of, new_states}
 use Rattle.cf_expr.proofs.Stagewise.{new_states_by_stage}
 use Rattle.cf_plan.specs.Meanings.{Meanings}
 use Rattle.cf_expr.specs.Expressions.{stage_expr, due_expr}

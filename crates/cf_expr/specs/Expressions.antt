@@ -16,8 +16,8 @@ use Rattle.cf_plan.specs.declared.forms.Landing.TheVariants.{Settles as Lands, L
 use Rattle.cf_plan.specs.Forms.{follows, landing}
 use Rattle.cf_plan.specs.Meanings.{Meanings}
 use Rattle.cf_plan.specs.Plans.{Planned, PlannedStage}
-use Rattle.cf_core.specs.declared.events.Event.{Event}
-use Rattle.cf_core.specs.declared.events.Event.TheVariants.{Complete as Completes, Fail as Fails, Cancel as Cancels}
+use Rattle.cf_model.specs.declared.events.Event.{Event}
+use Rattle.cf_model.specs.declared.events.Event.TheVariants.{Complete as Completes, Fail as Fails, Cancel as Cancels}
 
 -- the outcome that an event names for stage i: those of complete, fail and cancel do
 abbrev pub named_for : ℕ → Event → Option Outcome

@@ -1,7 +1,7 @@
 -- The events of one caller among a front of others.
 use Rattle.std.proofs.Common.{◌≡◌, ℕ, zero, suc, ◌<◌, List, [], ◌∷◌, take, refl, ap, ◌∙◌, eq-eqb, arith}
 use Rattle.std.specs.Prelude.{Some, Bool, true, false, cond, eqb, slice_get}
-use Rattle.cf_core.specs.declared.events.Event.{Event}
+use Rattle.cf_model.specs.declared.events.Event.{Event}
 use Rattle.cf_event.specs.Words.{who_of}
 use Rattle.cf_history.specs.Events.{own}
 use Rattle.cf_history.specs.Verdicts.{IsSkipped}

@@ -4,13 +4,13 @@ use Rattle.std.specs.Prelude.{Some, false, cond, eqb, slice_get}
 use Rattle.std.proofs.lemmas.List.{drop_more, drop_all, drop-drop}
 use Rattle.std.proofs.lemmas.List.Elements.{filter_more}
 use Rattle.std.proofs.lemmas.Option.{slice_get_within, slice_get-get_or}
-use Rattle.cf_core.specs.declared.asks.Ask.{Ask}
-use Rattle.cf_core.specs.declared.asks.Told.{Told}
-use Rattle.cf_core.specs.declared.events.Event.{Event}
-use Rattle.cf_core.specs.declared.events.Reply.{Reply}
-use Rattle.cf_core.specs.States.{State}
-use Rattle.cf_core.specs.Events.{answered, told}
-use Rattle.cf_core.specs.Ranges.{AskFits, EventFits, EventsFit}
+use Rattle.cf_model.specs.declared.asks.Ask.{Ask}
+use Rattle.cf_model.specs.declared.asks.Told.{Told}
+use Rattle.cf_model.specs.declared.events.Event.{Event}
+use Rattle.cf_model.specs.declared.events.Reply.{Reply}
+use Rattle.cf_model.specs.States.{State}
+use Rattle.cf_model.specs.Events.{answered, told}
+use Rattle.cf_model.specs.Ranges.{AskFits, EventFits, EventsFit}
 use Rattle.cf_event.specs.Words.{IsEvent, who_of}
 use Rattle.cf_history.specs.declared.record.Record.{Record}
 use Rattle.cf_history.specs.declared.record.Record.TheVariants.{Did, Saw}

@@ -3,9 +3,9 @@ use Rattle.std.proofs.Common.{◌≡◌, ℕ, zero, suc, ◌+◌, List, [], ◌�
 use Rattle.std.specs.Prelude.{Option, Some, None, slice_get, ◌↔◌}
 use Rattle.cf_plan.specs.Plans.{Planned}
 use Rattle.cf_outcome.specs.declared.outcome.Outcome.{Outcome}
-use Rattle.cf_core.specs.declared.events.Event.{Event}
-use Rattle.cf_core.specs.States.{State, start}
-use Rattle.cf_core.specs.Events.{state_after}
+use Rattle.cf_model.specs.declared.events.Event.{Event}
+use Rattle.cf_model.specs.States.{State, start}
+use Rattle.cf_model.specs.Events.{state_after}
 use Rattle.cf_history.specs.declared.history.History.{History}
 use Rattle.cf_history.specs.declared.record.Caller.{Caller}
 use Rattle.cf_history.specs.declared.verdict.Misfit.{Misfit}

@@ -1,11 +1,11 @@
 -- Which events can stand in a history.
 use Rattle.std.specs.Prelude.{ℕ, ◌<◌, eqb, Option, None, Some, List, [], ◌∷◌, length}
 use Rattle.std.specs.List.{filter}
-use Rattle.cf_core.specs.States.{State}
-use Rattle.cf_core.specs.declared.events.Event.{Event}
-use Rattle.cf_core.specs.declared.events.Event.TheVariants.{Attach as Attaches}
-use Rattle.cf_core.specs.Events.{answered}
-use Rattle.cf_core.specs.Ranges.{EventFits}
+use Rattle.cf_model.specs.States.{State}
+use Rattle.cf_model.specs.declared.events.Event.{Event}
+use Rattle.cf_model.specs.declared.events.Event.TheVariants.{Attach as Attaches}
+use Rattle.cf_model.specs.Events.{answered}
+use Rattle.cf_model.specs.Ranges.{EventFits}
 use Rattle.cf_event.specs.Words.{who_of}
 
 -- the events of one caller among these, in order

@@ -2,9 +2,9 @@
 use Rattle.std.specs.Prelude.{◌≡◌, ℕ, ◌+◌, Option, Some, None, List, [], ◌∷◌, ◌<◌, length, slice_get, option_map}
 use Rattle.cf_plan.specs.Plans.{Planned}
 use Rattle.cf_outcome.specs.declared.outcome.Outcome.{Outcome}
-use Rattle.cf_core.specs.declared.events.Event.{Event}
-use Rattle.cf_core.specs.States.{State, outcome_at, start}
-use Rattle.cf_core.specs.Events.{state_after}
+use Rattle.cf_model.specs.declared.events.Event.{Event}
+use Rattle.cf_model.specs.States.{State, outcome_at, start}
+use Rattle.cf_model.specs.Events.{state_after}
 use Rattle.cf_event.specs.Decoding.{decoded}
 use Rattle.cf_history.specs.declared.history.History.{History}
 use Rattle.cf_history.specs.declared.record.Caller.{Caller}

@@ -1,12 +1,12 @@
 -- When the records of a caller fit a history. `at` events have come and left the graph in state s, and `rest` are still to come.
 use Rattle.std.specs.Prelude.{◌≡◌, ℕ, ◌-◌, ◌<◌, ◌≤◌, Some, List, [], ◌∷◌, length, take, drop, slice_get}
-use Rattle.cf_core.specs.declared.asks.Ask.{Ask}
-use Rattle.cf_core.specs.declared.asks.Told.{Told}
-use Rattle.cf_core.specs.declared.events.Event.{Event}
-use Rattle.cf_core.specs.declared.events.Reply.{Reply}
-use Rattle.cf_core.specs.States.{State}
-use Rattle.cf_core.specs.Events.{answered, state_after, told}
-use Rattle.cf_core.specs.Ranges.{AskFits}
+use Rattle.cf_model.specs.declared.asks.Ask.{Ask}
+use Rattle.cf_model.specs.declared.asks.Told.{Told}
+use Rattle.cf_model.specs.declared.events.Event.{Event}
+use Rattle.cf_model.specs.declared.events.Reply.{Reply}
+use Rattle.cf_model.specs.States.{State}
+use Rattle.cf_model.specs.Events.{answered, state_after, told}
+use Rattle.cf_model.specs.Ranges.{AskFits}
 use Rattle.cf_event.specs.Words.{IsEvent, who_of}
 use Rattle.cf_history.specs.declared.record.Record.{Record}
 use Rattle.cf_history.specs.declared.record.Record.TheVariants.{Did, Saw}

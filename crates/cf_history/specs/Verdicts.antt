@@ -2,10 +2,10 @@
 use Rattle.std.specs.Prelude.{◌≡◌, ◌≢◌, ℕ, zero, suc, ◌+◌, ◌-◌, ◌<◌, ◌≤◌, Option, Some, None, List, [], ◌∷◌, length, take, drop, slice_get}
 use Rattle.cf_plan.specs.Plans.{Planned}
 use Rattle.cf_outcome.specs.declared.outcome.Outcome.{Outcome}
-use Rattle.cf_core.specs.declared.events.Event.{Event}
-use Rattle.cf_core.specs.States.{State, outcome_at, start}
-use Rattle.cf_core.specs.Events.{answered, state_after, told}
-use Rattle.cf_core.specs.Ranges.{AskFits, EventFits}
+use Rattle.cf_model.specs.declared.events.Event.{Event}
+use Rattle.cf_model.specs.States.{State, outcome_at, start}
+use Rattle.cf_model.specs.Events.{answered, state_after, told}
+use Rattle.cf_model.specs.Ranges.{AskFits, EventFits}
 use Rattle.cf_event.specs.Words.{IsEvent, who_of}
 use Rattle.cf_event.specs.Decoding.{decoded}
 use Rattle.cf_history.specs.declared.history.History.{History}

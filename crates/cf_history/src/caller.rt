@@ -1,6 +1,6 @@
 //! One caller's records, read along a history.
 ghost use Rattle.std.specs.Prelude.{◌≡◌, ◌<◌, ◌≤◌, ◌↔◌, [], IsTrue, MatchResult, Some, length, slice_get, take, drop};
-ghost use Rattle.cf_core.specs.Ranges.{AskFits, EventsFit};
+ghost use Rattle.cf_model.specs.Ranges.{AskFits, EventsFit};
 ghost use Rattle.cf_history.specs.Events.{own};
 ghost use Rattle.cf_history.specs.Records.{GoesOn, state_in};
 ghost use Rattle.cf_history.specs.Callers.{IsJudged};
@@ -9,8 +9,9 @@ ghost use Rattle.cf_history.specs.declared.record.Record.TheVariants.{Did, Saw};
 
 use crate::record::{Record, caller_of};
 use crate::verdict::Misfit;
-use cf_core::{Ask, Event, Graph, Reply, Told};
+use cf_core::Graph;
 use cf_event::{encode, is_event};
+use cf_model::{Ask, Event, Reply, Told};
 
 /// What is found of one caller.
 #[derive(Clone, Copy)]

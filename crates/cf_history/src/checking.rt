@@ -1,9 +1,9 @@
 //! The verdict over a whole history.
 ghost use Rattle.std.specs.Prelude.{◌≡◌, ◌+◌, ◌*◌, ◌≤◌, ◌↔◌, IfNone, IfOk, MatchOption, Some, length};
 ghost use Rattle.cf_plan.specs.Plans.{edges_of, with_room};
-ghost use Rattle.cf_core.specs.States.{start};
-ghost use Rattle.cf_core.specs.Events.{state_after};
-ghost use Rattle.cf_core.specs.Ranges.{EventsFit};
+ghost use Rattle.cf_model.specs.States.{start};
+ghost use Rattle.cf_model.specs.Events.{state_after};
+ghost use Rattle.cf_model.specs.Ranges.{EventsFit};
 ghost use Rattle.cf_event.specs.Decoding.{decoded};
 ghost use Rattle.cf_history.specs.Callers.{IsJudged};
 ghost use Rattle.cf_history.specs.declared.verdict.Verdict.TheVariants.{Fits};
@@ -16,7 +16,8 @@ use crate::history::History;
 use crate::outcomes::first_other;
 use crate::record::{Caller, Record};
 use crate::verdict::{Unfit, Verdict};
-use cf_core::{Event, Graph};
+use cf_core::Graph;
+use cf_model::Event;
 use cf_outcome::Outcome;
 use cf_plan::Plan;
 use std::alloc::{AllocError, Global};

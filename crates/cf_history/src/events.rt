@@ -1,7 +1,7 @@
 //! The words of a history as events that the graph takes.
 ghost use Rattle.std.specs.Prelude.{◌≡◌, ◌<◌, ◌↔◌, All, IfNone, IfOk, IfSome, IsTrue, MatchOption, length};
-ghost use Rattle.cf_core.specs.Events.{state_after};
-ghost use Rattle.cf_core.specs.Ranges.{EventFits};
+ghost use Rattle.cf_model.specs.Events.{state_after};
+ghost use Rattle.cf_model.specs.Ranges.{EventFits};
 ghost use Rattle.cf_plan.specs.Plans.{sources_of};
 ghost use Rattle.cf_event.specs.Decoding.{decoded};
 ghost use Rattle.cf_history.specs.Events.{AreEventsOf, IsEventOf, IsFunctionBelow, NamesFunction};
@@ -9,8 +9,9 @@ ghost use Rattle.cf_history.specs.Verdicts.{IsFirstUnfit, IsUnfit};
 
 use crate::record::caller_of;
 use crate::verdict::Unfit;
-use cf_core::{Event, Graph};
+use cf_core::Graph;
 use cf_event::decode;
+use cf_model::Event;
 use cf_plan::{Of, fits_form};
 use std::alloc::{AllocError, Global};
 

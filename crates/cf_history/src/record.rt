@@ -3,7 +3,7 @@ ghost use Rattle.std.specs.Prelude.{◌≡◌};
 ghost use Rattle.cf_event.specs.Words.{who_of};
 ghost use Rattle.cf_history.specs.Records.{place_of};
 
-use cf_core::{Ask, Event, Reply, Told};
+use cf_model::{Ask, Event, Reply, Told};
 
 /// One call of a caller, and what it was answered.
 #[derive(Clone, Copy, Debug, Drop, PartialEq, Eq)]

@@ -1,5 +1,5 @@
 //! What is found of a history.
-use cf_core::{Reply, Told};
+use cf_model::{Reply, Told};
 use cf_outcome::Outcome;
 
 /// Whether a history fits, or the first thing in it that doesn't.

@@ -1,7 +1,7 @@
 //! The good history, and its plan.
-use cf_core::{Ask, Claimed, Event, Finished, Reply, Told};
 use cf_event::{encode, is_event};
 use cf_history::{Caller, History, Record};
+use cf_model::{Ask, Claimed, Event, Finished, Reply, Told};
 use cf_outcome::{Now, Outcome, Value};
 use cf_plan::{Answer, Args, Form, Plan, PlanBuilder};
 use std::alloc::Global;

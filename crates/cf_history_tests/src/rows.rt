@@ -3,8 +3,8 @@ use crate::changes::{Change, judge};
 use crate::good::{
     CLAIM, COMPLETE, FINISH, GRANTED, NOT_READY, WON, did, gives, now, outcome, word,
 };
-use cf_core::{Ask, Event, Reply, Told};
 use cf_history::{Misfit, Record, Unfit, Verdict};
+use cf_model::{Ask, Event, Reply, Told};
 use cf_outcome::{Now, Value};
 use cf_plan::{Form, Of};
 use std::alloc::Global;
@@ -118,7 +118,7 @@ fn what_is_left_out_is_judged(rt: HostRuntime) -> Result<(), Fail> {
         (Change::NoWord(3), at(0, 3, Misfit::Behind)),
         (Change::NoWord(1), at(0, 1, Misfit::Skips(2))),
         (
-            Change::Word(1, word(Event::Tick { who: 1, now: 5 })),
+            Change::Word(1, word(Event::Tick { who: 1, moment: 5 })),
             replied,
         ),
         (

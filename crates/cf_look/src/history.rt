@@ -1,9 +1,9 @@
 //! A history as JSON.
 use crate::texts::{now, reply, settled};
 use anyhow::{Result, anyhow};
-use cf_core::{Ask, Told};
 use cf_event::decode;
 use cf_history::{Caller, History, Record, Verdict, check};
+use cf_model::{Ask, Told};
 use cf_outcome::{Outcome, Value};
 use cf_plan::Plan;
 use cf_reading::read_script;

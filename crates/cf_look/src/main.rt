@@ -22,7 +22,7 @@ mod history;
 mod script;
 mod show;
 mod texts;
-mod words;
+mod args;
 
 use anyhow::Result;
 use cf_explain::Verdict as Said;
@@ -32,7 +32,7 @@ use script::{draw, explain_script, script_in};
 use show::line_of;
 use std::process::ExitCode;
 use std::rt::Env;
-use words::{Look, read_words};
+use args::{Look, read_words};
 
 /// All histories fit.
 const FITS: u8 = 0;

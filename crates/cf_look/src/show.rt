@@ -1,6 +1,6 @@
 //! The line of a verdict.
-use cf_core::{Attached, Claimed, Finished, Reply, Ticked, Told};
 use cf_history::{Misfit, Unfit, Verdict};
+use cf_model::{Attached, Claimed, Finished, Reply, Ticked, Told};
 use cf_outcome::Outcome;
 use cf_plan::Args;
 use std::alloc::{AllocError, Global};

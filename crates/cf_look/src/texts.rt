@@ -1,5 +1,5 @@
 //! What the texts of replies and outcomes mean: those of a script's report.
-use cf_core::{Attached, Claimed, Finished, Reply, Ticked};
+use cf_model::{Attached, Claimed, Finished, Reply, Ticked};
 use cf_outcome::{Cause, Now, Outcome, Value};
 use cf_plan::Args;
 

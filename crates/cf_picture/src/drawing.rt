@@ -2,8 +2,8 @@
 ghost use Rattle.cf_reading.specs.Reading.{reading};
 ghost use Rattle.cf_picture.specs.Pictures.{Draws};
 
-use crate::course::{Course, course_of};
 use crate::limits::write_limits;
+use crate::run::{RunScript, run_of};
 use crate::stages::{write_attached, write_opening};
 use cf_reading::{Script, read_script};
 use cf_script::ScriptFault;
@@ -23,21 +23,21 @@ pub fn draw_script(alloc: Global, bytes: &[u8]) -> Result<String, ScriptFault>
 
 /// The picture of a script.
 fn drawing_of(alloc: Global, script: Script) -> Result<String, AllocError> {
-    let course = course_of(alloc, script)?;
+    let run = run_of(alloc, script)?;
     let mut text = String::new(alloc);
-    write_picture(&mut text, course)?;
+    write_picture(&mut text, run)?;
     Ok(text)
 }
 
 /// Adds the picture of a script whose steps are done.
-fn write_picture(text: &mut String, course: Course) -> Result<(), AllocError> {
-    let Course {
+fn write_picture(text: &mut String, run: RunScript) -> Result<(), AllocError> {
+    let RunScript {
         plan,
         mut graph,
         functions,
         notes,
         steps,
-    } = course;
+    } = run;
     write_head(text)?;
     write_opening(text, &mut graph, &functions, &notes, &plan)?;
     write_attached(text, &mut graph, &functions, &notes, plan.stages(), &steps)?;

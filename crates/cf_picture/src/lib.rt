@@ -2,7 +2,7 @@
 //! what became of it after the steps.
 //!
 //! A script is read as `cf run` reads it, and refused for the same fault, which is proved. Its steps are done over a
-//! `Graph`, as the report does them, which is proved too (`course.rt`). Then each stage is a node: its shape says what kind
+//! `Graph`, as the report does them, which is proved too (`run.rt`). Then each stage is a node: its shape says what kind
 //! of form it has (`kinds.rt`), its line and colour what became of it (`standing.rt`), so that it reads without colours too.
 //! Edges go from sources to those that name them (`edges.rt`), and limits stand beside their stages (`limits.rt`).
 //!
@@ -10,13 +10,13 @@
 //! so nothing has to be quoted.
 #![tactic(auto)]
 
-mod course;
 mod drawing;
 mod edges;
 mod functions;
 mod kinds;
 mod limits;
 mod notes;
+mod run;
 mod stages;
 mod standing;
 

@@ -1,5 +1,5 @@
 //! What the steps did to claims, stage by stage.
-use cf_core::{Claimed, Event, Finished, Reply};
+use cf_model::{Claimed, Event, Finished, Reply};
 use cf_plan::Answer;
 use std::alloc::{AllocError, Global};
 

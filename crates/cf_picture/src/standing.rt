@@ -2,7 +2,8 @@
 ghost use Rattle.std.specs.Prelude.{◌<◌, length};
 
 use crate::notes::Note;
-use cf_core::{Claimed, Graph};
+use cf_core::Graph;
+use cf_model::Claimed;
 use cf_outcome::{Cause, Outcome};
 use std::alloc::AllocError;
 

@@ -4,9 +4,9 @@ use Rattle.std.specs.Prelude.{is_some}
 use Rattle.cf_plan.specs.declared.forms.Form.{Form}
 use Rattle.cf_plan.specs.declared.forms.Of.{Of}
 use Rattle.cf_plan.specs.Plans.{Planned, PlannedStage, and_stage, attached_stage, fits_form, form_at, function_at, sources_at, sources_of}
-use Rattle.cf_core.specs.declared.stage.Stage.{Stage}
-use Rattle.cf_core.specs.declared.stage.Stage.TheVariants.{Pending}
-use Rattle.cf_core.proofs.Keeping.GraphLemmas.{growing-and_stage}
+use Rattle.cf_model.specs.declared.stage.Stage.{Stage}
+use Rattle.cf_model.specs.declared.stage.Stage.TheVariants.{Pending}
+use Rattle.cf_plan.proofs.GrowingLemmas.{growing-and_stage}
 use Rattle.cf_plain.specs.Plains.{IsInStep}
 
 -- one more of a plan's stages

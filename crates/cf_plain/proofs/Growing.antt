@@ -2,8 +2,8 @@
 use Rattle.std.proofs.Common.{◌≡◌, ℕ, ◌+◌, ◌<◌, ◌∷◌, ◌++◌, [], List, length, refl, drop, get_or, add-one, append_assoc}
 use Rattle.std.proofs.Math.Seq.{drop-cons}
 use Rattle.cf_plan.specs.Plans.{PlannedStage}
-use Rattle.cf_core.specs.declared.stage.Stage.{Stage}
-use Rattle.cf_core.specs.States.{next_of, new_states}
+use Rattle.cf_model.specs.declared.stage.Stage.{Stage}
+use Rattle.cf_model.specs.States.{next_of, new_states}
 
 -- one more stage
 pub new_states-grow : (plan : List PlannedStage) (stages below : List Stage) (i : ℕ) (new : Stage) (p : PlannedStage) (s : Stage) → i < length plan → i < length stages →

@@ -1,7 +1,7 @@
 -- The plain graph.
 use Rattle.std.specs.Prelude.{◌≡◌, ◌≤◌, ℕ, Option, List, length}
 use Rattle.cf_plan.specs.Plans.{IsGrowing, Planned, PlannedStage}
-use Rattle.cf_core.specs.declared.stage.Stage.{Stage}
+use Rattle.cf_model.specs.declared.stage.Stage.{Stage}
 
 -- the plan of an opening once it has these stages, and room for so many more
 abbrev pub grown : Planned → List PlannedStage → ℕ → Planned

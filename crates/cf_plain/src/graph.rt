@@ -5,12 +5,12 @@ mod limits;
 
 ghost use Rattle.std.specs.Prelude.{◌≡◌, ◌+◌, ◌*◌, ◌<◌, ◌≤◌, ◌↔◌, IfOk, IsTrue, None, length, position, replicate};
 ghost use Rattle.cf_plan.specs.Plans.{edges_of, with_room};
-ghost use Rattle.cf_core.specs.declared.stage.Stage.TheVariants.{Pending};
-ghost use Rattle.cf_core.specs.States.{is_ready, lowest_ready_of, outcome_at, start};
+ghost use Rattle.cf_model.specs.declared.stage.Stage.TheVariants.{Pending};
+ghost use Rattle.cf_model.specs.States.{is_ready, lowest_ready_of, outcome_at, start};
 
 use crate::plan::PlainPlan;
 use crate::stages::{new_stages, outcome};
-use cf_core::Stage;
+use cf_model::Stage;
 use cf_outcome::Outcome;
 use cf_plan::Plan;
 use std::alloc::{AllocError, Global};
@@ -27,7 +27,7 @@ pub struct Plain {
 }
 
 impl Model for Plain {
-    ghost use Rattle.cf_core.specs.States.{State};
+    ghost use Rattle.cf_model.specs.States.{State};
 
     ghost Value = { State };
 

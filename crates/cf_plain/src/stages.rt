@@ -1,10 +1,10 @@
 //! What all stages become by what their sources give.
 ghost use Rattle.std.specs.Prelude.{◌≡◌, ◌<◌, [], All, IfOk, length, map};
-ghost use Rattle.cf_core.specs.States.{due_state, new_states, next_of, outcome_in, outcome_of};
+ghost use Rattle.cf_model.specs.States.{due_state, new_states, next_of, outcome_in, outcome_of};
 
 use crate::forms::follows;
 use crate::plan::PlainPlan;
-use cf_core::Stage;
+use cf_model::Stage;
 use cf_outcome::{Outcome, wrap};
 use cf_plan::{Due, Form};
 use std::alloc::{AllocError, Global};

@@ -1,10 +1,11 @@
 //! What is done to both graphs, which must answer alike.
 ghost use Rattle.std.specs.Prelude.{◌<◌, All, length};
 ghost use Rattle.std.specs.Bool.{OnTrue};
-ghost use Rattle.cf_core.specs.Ranges.{EventFits};
+ghost use Rattle.cf_model.specs.Ranges.{EventFits};
 ghost use Rattle.cf_plan.specs.Plans.{sources_of};
 
-use cf_core::{Attached, Event, Finished, Graph, Reply, Ticked};
+use cf_core::Graph;
+use cf_model::{Attached, Event, Finished, Reply, Ticked};
 use cf_outcome::{Cause, Outcome};
 use cf_plain::Plain;
 use cf_plan::{Of, fits_form};
@@ -108,7 +109,7 @@ fn plain_reply(alloc: Global, plain: &mut Plain, event: &Event) -> Result<Reply,
         Event::Cancel { stage, .. } => flagged(plain.cancel(alloc, stage)),
         Event::Claim { who, stage } => Ok(Reply::Claim(plain.claim(who, stage))),
         Event::Finish { who, stage, answer } => finished(plain.finish(alloc, who, stage, answer)),
-        Event::Tick { now, .. } => ticked(plain.tick(alloc, now)),
+        Event::Tick { moment, .. } => ticked(plain.tick(alloc, moment)),
         Event::Attach {
             form,
             of,

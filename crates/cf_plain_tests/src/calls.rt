@@ -1,5 +1,5 @@
 //! Calls that are made by numbers.
-use cf_core::Event;
+use cf_model::Event;
 use cf_outcome::Value;
 use cf_plan::Answer;
 
@@ -13,7 +13,7 @@ fn settling(who: u8, stage: u16, x: u32) -> Event {
         }
         1 => Event::Fail { who, stage, code },
         2 => Event::Cancel { who, stage },
-        _ => Event::Tick { who, now: code },
+        _ => Event::Tick { who, moment: code },
     }
 }
 

@@ -3,7 +3,8 @@ use Rattle.std.proofs.Common.{◌≡◌, ℕ, ◌+◌, ◌-◌, ◌*◌, ◌<◌
 use Rattle.std.specs.Prelude.{is_some, not, ◌==◌, ◌||◌, ◌&&◌, reverse, slice_get}
 use Rattle.std.proofs.lemmas.List.{get_or-replicate, length-map, length-replicate, length-reverse, map-append, replicate-append-replicate, reverse-append, reverse-reverse}
 use Rattle.std.proofs.lemmas.List.Elements.{All-head, All-nil, All-push, All-tail}
-use Rattle.std.proofs.lemmas.List.Sums.{sum_by-append, count_by-le-length}
+use Rattle.std.specs.List.{sum_by}
+use Rattle.std.proofs.lemmas.List.Sums.{sum_by-append, sum_by-cons, count_by-le-length}
 use Rattle.cf_plan.specs.declared.forms.Form.{Form}
 use Rattle.cf_plan.specs.declared.forms.Of.{Of}
 use Rattle.cf_plan.specs.declared.forms.Of.TheVariants.{None as NoSource, One, Two}
@@ -11,7 +12,7 @@ use Rattle.cf_plan.specs.declared.growing.AttachedRow.{AttachedRow}
 use Rattle.cf_plan.specs.declared.threads.Cell.{Cell}
 use Rattle.cf_plan.specs.declared.threads.Head.{Head}
 use Rattle.cf_plan.specs.Growing.{AreGrowing, attached_of, grown_of, later_of}
-use Rattle.cf_plan.specs.Plans.{HasLowerSources, IsBuilt, IsGrowing, Planned, PlannedStage, attached_stage, calls_function, dependents_from, dependents_of, edges_of, fits_count, fits_form, mentions, plan_of, sources_of, with_stage}
+use Rattle.cf_plan.specs.Plans.{HasLowerSources, IsBuilt, IsGrowing, Planned, PlannedStage, and_stage, attached_stage, calls_function, dependents_from, dependents_of, edges_of, fits_count, fits_form, mentions, plan_of, sources_of, with_stage}
 use Rattle.cf_plan.specs.Rows.{all_sources}
 use Rattle.cf_plan.specs.Threads.{AreThreads, IsThread, head_at, list_of}
 use Rattle.cf_plan.proofs.DependentLemmas.{dependents_above, dependents_below, dependents_there, length-dependents_from, mentions-cons, one_where}
@@ -298,3 +299,31 @@ pub short_list : (opening : Planned) (rows : List AttachedRow) (heads : List Hea
     i < length heads → (head_at heads i).count ≤ 16384
 short_list opening rows heads cells room row_room cell_room i h there =
     omega (arith, count_is heads cells (later_of opening rows) i h.threads there, later_few opening rows i h.growing.built.few_edges)
+
+-- an attached stage has at most two sources
+pub few_sources : (of : Of) → length (sources_of of) ≤ 2
+few_sources NoSource = omega arith
+few_sources (One a) = omega arith
+few_sources (Two a b) = omega arith
+
+-- a plan that grows still does with the stage
+pub growing-and_stage : (plan : Planned) (form : Form) (of : Of) (function : Option ℕ) → IsGrowing plan → 0 < plan.room → fits_form form (length (sources_of of)) (is_some function) ≡ true →
+    All (λ j. j < length plan.stages) (sources_of of) → IsGrowing (and_stage plan (attached_stage form of function))
+growing-and_stage plan form of function h room fits lower =
+    let new = attached_stage form of function in
+    let few = few_sources of in
+    let may = may_attach plan new h room few fits lower in
+    let longer = length-append plan.stages (new ∷ []) in
+    let one : length (new ∷ []) ≡ 1 = refl in
+    let edges = sum_by-append (λ (s : PlannedStage). length s.sources) plan.stages (new ∷ []) in
+    let one_edge = sum_by-cons (λ (s : PlannedStage). length s.sources) new [] in
+    let no_edge : sum_by (λ (s : PlannedStage). length s.sources) [] ≡ 0 = refl in
+    let opened = h.opened in
+    let stages = h.few_stages in
+    let all_edges = h.few_edges in
+    record {
+      built = IsBuilt-as (with_stage plan new) (and_stage plan new) refl refl (IsBuilt-with_stage plan new h.built may);
+      opened = omega (arith, longer, one, opened);
+      few_stages = omega (arith, longer, one, stages);
+      few_edges = omega (arith, edges, one_edge, no_edge, few, all_edges);
+    }

@@ -4,19 +4,19 @@ use Rattle.std.specs.Prelude.{◌==◌}
 use Rattle.std.proofs.lemmas.Bool.{cases_lt, eqb-true}
 use Rattle.cf_plan.specs.declared.forms.Args.{Args}
 use Rattle.cf_plan.specs.Plans.{Planned}
-use Rattle.cf_core.specs.declared.events.Event.{Event}
-use Rattle.cf_core.specs.declared.events.Event.TheVariants.{Claim as Claims}
-use Rattle.cf_core.specs.declared.events.Reply.{Reply}
-use Rattle.cf_core.specs.declared.events.Reply.TheVariants.{Flag as ToldFlag, Claim as ToldClaim, Finish as ToldFinish, Tick as ToldTick, Attach as ToldAttach}
-use Rattle.cf_core.specs.declared.replies.Claimed.TheVariants.{Granted, Settled as IsSettled, Taken, NotReady}
-use Rattle.cf_core.specs.declared.replies.Finished.TheVariants.{Won, Late, NotYours}
-use Rattle.cf_core.specs.States.{State, stage_at, is_ready, lowest_ready_of}
-use Rattle.cf_core.specs.Events.{answered, state_after}
-use Rattle.cf_core.specs.Claims.{is_claimable}
-use Rattle.cf_core.specs.Growth.{Grows}
-use Rattle.cf_core.proofs.Claimable.{state_after-not_claimable}
-use Rattle.cf_core.proofs.Histories.{claiming-not_claimable, is_pending, ready-claimable, ready-not_pending, state_after-append, state_after-not_pending}
-use Rattle.cf_core.proofs.LowestReady.{lowest_ready-is_ready}
+use Rattle.cf_model.specs.declared.events.Event.{Event}
+use Rattle.cf_model.specs.declared.events.Event.TheVariants.{Claim as Claims}
+use Rattle.cf_model.specs.declared.events.Reply.{Reply}
+use Rattle.cf_model.specs.declared.events.Reply.TheVariants.{Flag as ToldFlag, Claim as ToldClaim, Finish as ToldFinish, Tick as ToldTick, Attach as ToldAttach}
+use Rattle.cf_model.specs.declared.replies.Claimed.TheVariants.{Granted, Settled as IsSettled, Taken, NotReady}
+use Rattle.cf_model.specs.declared.replies.Finished.TheVariants.{Won, Late, NotYours}
+use Rattle.cf_model.specs.States.{State, stage_at, is_ready, lowest_ready_of}
+use Rattle.cf_model.specs.Events.{answered, state_after}
+use Rattle.cf_model.specs.Claims.{is_claimable}
+use Rattle.cf_model.specs.Growth.{Grows}
+use Rattle.cf_model.proofs.Claimable.{state_after-not_claimable}
+use Rattle.cf_model.proofs.Histories.{claiming-not_claimable, is_pending, ready-claimable, ready-not_pending, state_after-append, state_after-not_pending}
+use Rattle.cf_model.proofs.LowestReady.{lowest_ready-is_ready}
 use Rattle.cf_plan.specs.Meanings.{Meanings, stage_answer}
 use Rattle.cf_desk.specs.declared.calls.Call.{Call}
 use Rattle.cf_desk.specs.declared.calls.Call.TheVariants.{Claim, Finish}

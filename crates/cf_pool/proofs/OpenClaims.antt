@@ -15,17 +15,17 @@ use Rattle.cf_plan.specs.declared.limits.Limit.{Limit}
 use Rattle.cf_plan.specs.Forms.{landing}
 use Rattle.cf_plan.specs.Plans.{Planned, PlannedStage, attached_stage, form_at}
 use Rattle.cf_plan.specs.Meanings.{Meanings}
-use Rattle.cf_core.specs.declared.stage.Stage.{Stage}
-use Rattle.cf_core.specs.declared.stage.Stage.TheVariants.{Pending, Ready, Claimed, Linked, Settled}
-use Rattle.cf_core.specs.declared.replies.Claimed.TheVariants.{Granted, Settled as IsSettled, Taken, NotReady}
-use Rattle.cf_core.specs.declared.replies.Finished.TheVariants.{NotYours}
-use Rattle.cf_core.specs.declared.replies.Ticked.TheVariants.{Fired, Past}
-use Rattle.cf_core.specs.declared.events.Event.{Event}
-use Rattle.cf_core.specs.declared.events.Event.TheVariants.{Complete as Completes, Fail as Fails, Cancel as Cancels, Claim as Claims, Finish as Finishes, Tick as Ticks, Attach as Attaches}
-use Rattle.cf_core.specs.declared.events.Reply.{Reply}
-use Rattle.cf_core.specs.declared.events.Reply.TheVariants.{Flag as ToldFlag, Claim as ToldClaim, Finish as ToldFinish, Tick as ToldTick, Attach as ToldAttach}
-use Rattle.cf_core.specs.States.{State, start, stage_at, claim_at, outcome_at}
-use Rattle.cf_core.specs.Events.{answered, state_after, claimed_by, finished_by, settled_by, settling, cancelled_by, firing, due_limits, limit_outcome, source_outcome, attached_by}
+use Rattle.cf_model.specs.declared.stage.Stage.{Stage}
+use Rattle.cf_model.specs.declared.stage.Stage.TheVariants.{Pending, Ready, Claimed, Linked, Settled}
+use Rattle.cf_model.specs.declared.replies.Claimed.TheVariants.{Granted, Settled as IsSettled, Taken, NotReady}
+use Rattle.cf_model.specs.declared.replies.Finished.TheVariants.{NotYours}
+use Rattle.cf_model.specs.declared.replies.Ticked.TheVariants.{Fired, Past}
+use Rattle.cf_model.specs.declared.events.Event.{Event}
+use Rattle.cf_model.specs.declared.events.Event.TheVariants.{Complete as Completes, Fail as Fails, Cancel as Cancels, Claim as Claims, Finish as Finishes, Tick as Ticks, Attach as Attaches}
+use Rattle.cf_model.specs.declared.events.Reply.{Reply}
+use Rattle.cf_model.specs.declared.events.Reply.TheVariants.{Flag as ToldFlag, Claim as ToldClaim, Finish as ToldFinish, Tick as ToldTick, Attach as ToldAttach}
+use Rattle.cf_model.specs.States.{State, start, stage_at, claim_at, outcome_at}
+use Rattle.cf_model.specs.Events.{answered, state_after, claimed_by, finished_by, settled_by, settling, cancelled_by, firing, due_limits, limit_outcome, source_outcome, attached_by}
 use Rattle.cf_event.specs.Words.{who_of}
 use Rattle.cf_desk.specs.declared.calls.Call.TheVariants.{Claim, Finish}
 use Rattle.cf_desk.specs.declared.calls.Rec.{Rec}

@@ -9,7 +9,7 @@ use mathlib.Core.List.{map-append}
 use Rattle.cf_plan.specs.declared.forms.Answer.{Answer}
 use Rattle.cf_plan.specs.declared.forms.Args.{Args}
 use Rattle.cf_desk.specs.declared.faults.DeskFault.{DeskFault}
-use Rattle.cf_core.specs.declared.events.Event.{Event}
+use Rattle.cf_model.specs.declared.events.Event.{Event}
 use Rattle.cf_event.specs.Words.{who_of}
 use Rattle.cf_desk.specs.Log.{Catches}
 use Rattle.cf_desk.specs.Rule.{AllShort}

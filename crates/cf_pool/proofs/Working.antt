@@ -6,15 +6,15 @@ use Rattle.cf_plan.specs.declared.forms.Answer.{Answer}
 use Rattle.cf_plan.specs.declared.forms.Args.{Args}
 use Rattle.cf_plan.specs.Meanings.{Meanings, stage_answer}
 use Rattle.cf_plan.specs.Plans.{Planned, PlannedStage}
-use Rattle.cf_core.specs.declared.events.Event.{Event}
-use Rattle.cf_core.specs.declared.events.Reply.{Reply}
-use Rattle.cf_core.specs.declared.events.Reply.TheVariants.{Flag as ToldFlag, Claim as ToldClaim, Finish as ToldFinish, Tick as ToldTick, Attach as ToldAttach}
-use Rattle.cf_core.specs.declared.replies.Claimed.TheVariants.{Granted, Settled as IsSettled, Taken, NotReady}
-use Rattle.cf_core.specs.States.{State, start}
-use Rattle.cf_core.specs.Events.{state_after}
-use Rattle.cf_core.specs.Growth.{Grows}
-use Rattle.cf_core.proofs.Histories.{state_after-append}
-use Rattle.cf_core.proofs.Shape.{state_after-grows}
+use Rattle.cf_model.specs.declared.events.Event.{Event}
+use Rattle.cf_model.specs.declared.events.Reply.{Reply}
+use Rattle.cf_model.specs.declared.events.Reply.TheVariants.{Flag as ToldFlag, Claim as ToldClaim, Finish as ToldFinish, Tick as ToldTick, Attach as ToldAttach}
+use Rattle.cf_model.specs.declared.replies.Claimed.TheVariants.{Granted, Settled as IsSettled, Taken, NotReady}
+use Rattle.cf_model.specs.States.{State, start}
+use Rattle.cf_model.specs.Events.{state_after}
+use Rattle.cf_model.specs.Growth.{Grows}
+use Rattle.cf_model.proofs.Histories.{state_after-append}
+use Rattle.cf_model.proofs.Shape.{state_after-grows}
 use Rattle.cf_desk.specs.declared.calls.Call.{Call}
 use Rattle.cf_desk.specs.declared.calls.Call.TheVariants.{Complete, Fail, Cancel, Claim, Finish, Tick, Attach}
 use Rattle.cf_desk.specs.declared.calls.Rec.{Rec}

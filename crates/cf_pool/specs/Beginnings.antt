@@ -1,7 +1,7 @@
 -- What the passes of a race hold before its workers begin.
 use Rattle.std.specs.Prelude.{◌≡◌, ℕ, ◌<◌, ◌≤◌, ◌⊎◌, List, [], ◌∷◌, get_or, length, map, take}
 use Rattle.std.specs.List.{All}
-use Rattle.cf_core.specs.declared.events.Event.{Event}
+use Rattle.cf_model.specs.declared.events.Event.{Event}
 use Rattle.cf_desk.specs.declared.faults.DeskFault.{DeskFault}
 use Rattle.cf_desk.specs.Faults.{IsDue}
 use Rattle.cf_desk.specs.Keepings.{IsFit}

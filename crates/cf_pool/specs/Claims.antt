@@ -1,9 +1,9 @@
 -- Claims that are open.
 use Rattle.std.specs.Prelude.{◌≡◌, ℕ, ◌==◌, Bool, true, false, Some, List, [], ◌∷◌, if◌then◌else◌}
 use Rattle.std.specs.List.{Contains}
-use Rattle.cf_core.specs.declared.events.Reply.TheVariants.{Claim as ToldClaim}
-use Rattle.cf_core.specs.declared.replies.Claimed.TheVariants.{Granted}
-use Rattle.cf_core.specs.States.{State, claim_at}
+use Rattle.cf_model.specs.declared.events.Reply.TheVariants.{Claim as ToldClaim}
+use Rattle.cf_model.specs.declared.replies.Claimed.TheVariants.{Granted}
+use Rattle.cf_model.specs.States.{State, claim_at}
 use Rattle.cf_desk.specs.declared.calls.Call.TheVariants.{Claim, Finish}
 use Rattle.cf_desk.specs.declared.calls.Rec.{Rec}
 use Rattle.cf_desk.specs.declared.calls.Rec.TheVariants.{Did}

@@ -1,8 +1,8 @@
 -- What a run of workers leaves, and what it tells.
 use Rattle.std.specs.Prelude.{◌≡◌, ℕ, None, List, length, map}
 use Rattle.std.specs.List.{AllZip, Contains}
-use Rattle.cf_core.specs.declared.events.Event.{Event}
-use Rattle.cf_core.specs.States.{State, lowest_ready_of}
+use Rattle.cf_model.specs.declared.events.Event.{Event}
+use Rattle.cf_model.specs.States.{State, lowest_ready_of}
 use Rattle.cf_plan.specs.Meanings.{Meanings}
 use Rattle.cf_desk.specs.declared.calls.Closed.{Closed}
 use Rattle.cf_desk.specs.declared.calls.Kept.{Kept}

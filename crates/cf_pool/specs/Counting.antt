@@ -1,9 +1,9 @@
 -- What a worker counts.
 use Rattle.std.specs.Prelude.{◌≡◌, ℕ, ◌+◌, List, [], ◌∷◌}
-use Rattle.cf_core.specs.declared.events.Reply.{Reply}
-use Rattle.cf_core.specs.declared.events.Reply.TheVariants.{Claim as ToldClaim, Finish as ToldFinish}
-use Rattle.cf_core.specs.declared.replies.Claimed.TheVariants.{Granted}
-use Rattle.cf_core.specs.declared.replies.Finished.TheVariants.{Won, Late}
+use Rattle.cf_model.specs.declared.events.Reply.{Reply}
+use Rattle.cf_model.specs.declared.events.Reply.TheVariants.{Claim as ToldClaim, Finish as ToldFinish}
+use Rattle.cf_model.specs.declared.replies.Claimed.TheVariants.{Granted}
+use Rattle.cf_model.specs.declared.replies.Finished.TheVariants.{Won, Late}
 use Rattle.cf_desk.specs.declared.calls.Call.TheVariants.{Claim, Finish}
 use Rattle.cf_desk.specs.declared.calls.Rec.{Rec}
 use Rattle.cf_desk.specs.declared.calls.Rec.TheVariants.{Did}

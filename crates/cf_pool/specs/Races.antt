@@ -2,12 +2,12 @@
 use Rattle.std.specs.Prelude.{◌≡◌, ℕ, ◌+◌, ◌*◌, ◌<◌, ◌≤◌, true, Some, List, [], ◌∷◌, ◌++◌, length}
 use Rattle.cf_plan.specs.Plans.{Planned, IsBuilt}
 use Rattle.std.specs.List.{All}
-use Rattle.cf_core.specs.declared.events.Event.{Event}
-use Rattle.cf_core.specs.declared.events.Event.TheVariants.{Claim as Claims, Finish as Finishes}
-use Rattle.cf_core.specs.States.{State, start, outcome_at}
-use Rattle.cf_core.specs.Events.{answered, state_after}
-use Rattle.cf_core.specs.Calls.{is_from_outside}
-use Rattle.cf_core.specs.Ranges.{EventsFit}
+use Rattle.cf_model.specs.declared.events.Event.{Event}
+use Rattle.cf_model.specs.declared.events.Event.TheVariants.{Claim as Claims, Finish as Finishes}
+use Rattle.cf_model.specs.States.{State, start, outcome_at}
+use Rattle.cf_model.specs.Events.{answered, state_after}
+use Rattle.cf_model.specs.Calls.{is_from_outside}
+use Rattle.cf_model.specs.Ranges.{EventsFit}
 use Rattle.cf_desk.specs.Faults.{AttachFits}
 use Rattle.cf_event.specs.Words.{who_of}
 use Rattle.cf_plan.specs.declared.forms.Args.{Args}

@@ -1,8 +1,8 @@
 -- What the pass of each caller records of a history.
 use Rattle.std.specs.Prelude.{ℕ, suc, eqb, List, [], ◌∷◌, if◌then◌else◌}
-use Rattle.cf_core.specs.declared.events.Event.{Event}
-use Rattle.cf_core.specs.States.{State}
-use Rattle.cf_core.specs.Events.{answered}
+use Rattle.cf_model.specs.declared.events.Event.{Event}
+use Rattle.cf_model.specs.States.{State}
+use Rattle.cf_model.specs.Events.{answered}
 use Rattle.cf_event.specs.Words.{who_of}
 use Rattle.cf_desk.specs.declared.calls.Rec.{Rec}
 use Rattle.cf_desk.specs.declared.calls.Rec.TheVariants.{Did}

@@ -1,8 +1,8 @@
 -- How a worker waits before it ends.
 use Rattle.std.specs.Prelude.{◌≡◌, ℕ, ◌<◌, ◌≤◌, ◌⊎◌, None, List, [], ◌∷◌, ◌++◌, length}
 use Rattle.std.specs.List.{All}
-use Rattle.cf_core.specs.States.{lowest_ready_of}
-use Rattle.cf_core.specs.Events.{state_at}
+use Rattle.cf_model.specs.States.{lowest_ready_of}
+use Rattle.cf_model.specs.Events.{state_at}
 use Rattle.cf_plan.specs.Meanings.{Meanings}
 use Rattle.cf_desk.specs.declared.calls.Rec.{Rec}
 use Rattle.cf_desk.specs.declared.calls.Rec.TheVariants.{Did, Saw}

@@ -1,6 +1,6 @@
 //! What one worker does with its pass.
 ghost use Rattle.std.specs.Prelude.{◌≡◌, ◌<◌, IfErr, IfOk, IfSome, None, OnOk, Some, length};
-ghost use Rattle.cf_core.specs.States.{lowest_ready_of};
+ghost use Rattle.cf_model.specs.States.{lowest_ready_of};
 ghost use Rattle.cf_desk.specs.declared.calls.Call.TheVariants.{Claim, Finish};
 ghost use Rattle.cf_desk.specs.Calls.{event_by};
 ghost use Rattle.cf_desk.specs.Faults.{HasRoom, IsOnStage};
@@ -13,8 +13,8 @@ ghost use Rattle.cf_pool.specs.Waits.{Idles, Waits};
 ghost use Rattle.cf_pool.specs.Works.{Owed, Works};
 
 use crate::gate::Gate;
-use cf_core::{Claimed, Finished, Reply};
 use cf_desk::{Call, Desk, DeskFault, Pass};
+use cf_model::{Claimed, Finished, Reply};
 use cf_outcome::Value;
 use cf_plan::{Answer, Args, StageFn};
 

@@ -1,6 +1,7 @@
 //! What a graph and work over a desk come to, as rows.
-use cf_core::{Event, Graph};
+use cf_core::Graph;
 use cf_desk::{Closed, DeskFault};
+use cf_model::Event;
 use cf_outcome::{Outcome, Value};
 use cf_pool::Done;
 use std::process::Abort;

@@ -6,8 +6,9 @@ ghost use Rattle.cf_pool.specs.Races.{AreSteps};
 
 use crate::ends::Ended;
 use crate::plans::{Stages, plan_with};
-use cf_core::{Event, Graph};
+use cf_core::Graph;
 use cf_desk::{Closed, Desk, DeskFault, Pass};
+use cf_model::Event;
 use cf_outcome::Value;
 use cf_plan::{Answer, Args, Plan, StageFn};
 use cf_pool::{Done, Gate, PoolFault, race, run};

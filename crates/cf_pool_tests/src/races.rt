@@ -4,7 +4,8 @@ ghost use Rattle.std.specs.Prelude.{◌≡◌, ◌<◌, ◌≤◌, IfOk, replica
 use crate::ends::{check_outcomes, gives};
 use crate::plans::{Row, plan_of, sources};
 use crate::pools::raced;
-use cf_core::{Event, Graph};
+use cf_core::Graph;
+use cf_model::Event;
 use cf_outcome::Value;
 use cf_plan::{Answer, Args, Form, Of, Plan, StageFn};
 use cf_pool::{NoGate, RaceFault, race};
@@ -156,7 +157,7 @@ fn a_race_does_what_its_steps_attach(rt: HostRuntime) -> Result<(), Fail> {
 fn ticks(alloc: Global, count: usize) -> Result<Vec<Event>, AllocError>
     ensures { IfOk result (λ v. v.items ≡ replicate count (Event.Tick 0 0)) }
 {
-    vec![in alloc; Event::Tick { who: 0, now: 0 }; count]
+    vec![in alloc; Event::Tick { who: 0, moment: 0 }; count]
 }
 
 /// Ticks so often, and then races with 32 workers.

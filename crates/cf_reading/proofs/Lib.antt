@@ -1,6 +1,6 @@
 pub mod Counts
 pub mod Drafts
-pub mod Courses
+pub mod ReadingProgress
 pub mod Loop
 pub mod RaceSteps
 pub mod RaceReadingLemmas

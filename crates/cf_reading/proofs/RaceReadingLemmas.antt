@@ -19,9 +19,9 @@ use Rattle.cf_reading.specs.Limits.{kind_of, limit_next, number_named}
 use Rattle.cf_reading.specs.Parts.{up_to}
 use Rattle.cf_reading.specs.Purposes.{IsForRace}
 use Rattle.cf_reading.specs.RaceReadings.{first_items, cut_at, reading_up_to, IsNotOfStep, IsFirstWrong, RacesAreReadAsRuns}
-use Rattle.cf_reading.specs.Reading.{Outline, course_start, drafted_of, has_place, items_said, json_of, outline, outline_of, script_with, with_steps, reading, race_reading}
+use Rattle.cf_reading.specs.Reading.{Outline, progress_start, drafted_of, has_place, items_said, json_of, outline, outline_of, script_with, with_steps, reading, race_reading}
 use Rattle.cf_reading.specs.Scripts.{Script}
-use Rattle.cf_reading.specs.Courses.{Course}
+use Rattle.cf_reading.specs.ReadingProgress.{Progress}
 use Rattle.cf_reading.specs.Versions.{version_of, room_said}
 use Rattle.cf_reading.specs.declared.version.Version.{Version}
 use Rattle.cf_reading.specs.Stages.{Drafted, form_of, nothing_drafted, number_after, sources_said, source_next, stage_next, with_function}
@@ -121,26 +121,26 @@ never-outline bytes =
 
 -- ---- with its steps
 
--- what makes a script of a course that was read
-made_of : (make : Course → Script) (r : Result Course ReadingFault) (s : Script) → (r >>= λ c. Ok (make c)) ≡ Ok s → (c : Course) × (r ≡ Ok c) × (make c ≡ s)
+-- what makes a script of a progress that was read
+made_of : (make : Progress → Script) (r : Result Progress ReadingFault) (s : Script) → (r >>= λ c. Ok (make c)) ≡ Ok s → (c : Progress) × (r ≡ Ok c) × (make c ≡ s)
 made_of make (Ok c) s e = let same : make c ≡ s = cc in (c, refl, same)
 made_of make (Err fault) s e = absurd cc
 
-none_of : (make : Course → Script) (r : Result Course ReadingFault) (fault : ReadingFault) → (r >>= λ c. Ok (make c)) ≡ Err fault → r ≡ Err fault
+none_of : (make : Progress → Script) (r : Result Progress ReadingFault) (fault : ReadingFault) → (r >>= λ c. Ok (make c)) ≡ Err fault → r ≡ Err fault
 none_of make (Ok c) fault e = absurd cc
 none_of make (Err told) fault e = cc
 
 module _ (o : Outline) where
-  abbrev made : Course → Script
+  abbrev made : Progress → Script
   made = script_with o
 
-  abbrev start : Course
-  start = course_start o
+  abbrev start : Progress
+  start = progress_start o
 
   abbrev v : Version
   v = o.version
 
-  abbrev scripted : Result Course ReadingFault → Result Script ReadingFault
+  abbrev scripted : Result Progress ReadingFault → Result Script ReadingFault
   scripted r = r >>= λ c. Ok (made c)
 
   module _ (bytes : List ℕ) (is : outline bytes ≡ Ok o) where
@@ -179,7 +179,7 @@ module _ (o : Outline) where
         let race = to_race ∙ ap scripted same.race_ok in
         record {
           scripts = λ s. (
-            λ e. (let is_it : made same.course ≡ s = cc in (run ∙ ap Ok is_it, subst (λ (t : Script). All IsForRace t.steps) is_it same.for_race)),
+            λ e. (let is_it : made same.progress ≡ s = cc in (run ∙ ap Ok is_it, subst (λ (t : Script). All IsForRace t.steps) is_it same.for_race)),
             λ h. race ∙ sym run ∙ h.0,
           );
           other_faults = λ fault h. (λ e. absurd cc, λ e. absurd cc);
@@ -219,8 +219,8 @@ module _ (o : Outline) where
               (behind.0, behind.1, omega arith))
         ]
 
-        not_all : (course : Course) → runs v start o.steps ≡ Ok course → All IsForRace course.steps → ⊥
-        not_all course e h = elim w.wrong [
+        not_all : (progress : Progress) → runs v start o.steps ≡ Ok progress → All IsForRace progress.steps → ⊥
+        not_all progress e h = elim w.wrong [
           | inl told ↦ absurd cc
           | inr alone ↦ (let behind = subst (After v (w.before.steps ++ alone.step ∷ [])) e alone.rest in
               let taken = among w.before.steps alone.step behind.0 (subst (All IsForRace) behind.1 h) in
@@ -251,7 +251,7 @@ module _ (o : Outline) where
             }
 
 law-by : (bytes : List ℕ) (x : Result Outline ReadingFault) → outline bytes ≡ x → NeverOfStep x → RacesAreReadAsRuns bytes
-law-by bytes (Ok o) is never = elim (cases o.version o.steps (course_start o) (All-nil IsForRace)) [ inl same ↦ law-same o bytes is same | inr w ↦ law-differ o bytes is w ]
+law-by bytes (Ok o) is never = elim (cases o.version o.steps (progress_start o) (All-nil IsForRace)) [ inl same ↦ law-same o bytes is same | inr w ↦ law-differ o bytes is w ]
 law-by bytes (Err fault) is never =
     let run : reading bytes ≡ Err fault = ap (λ x. x >>= with_steps Run) is in
     let race : race_reading bytes ≡ Err fault = ap (λ x. x >>= with_steps Race) is in

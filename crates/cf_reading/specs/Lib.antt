@@ -8,7 +8,7 @@ pub mod Parts
 pub mod Funcs
 pub mod Versions
 pub mod Stages
-pub mod Courses
+pub mod ReadingProgress
 pub mod Attaching
 pub mod Limits
 pub mod Steps

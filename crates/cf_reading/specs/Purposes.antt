@@ -1,6 +1,6 @@
 -- What a script is read for, and the steps that it may have then.
 use Rattle.std.specs.Prelude.{◌≡◌, Bool, true, false}
-use Rattle.cf_core.specs.Calls.{is_from_outside}
+use Rattle.cf_model.specs.Calls.{is_from_outside}
 use Rattle.cf_reading.specs.declared.purpose.Purpose.{Purpose}
 use Rattle.cf_reading.specs.declared.purpose.Purpose.TheVariants.{Run, Race}
 use Rattle.cf_reading.specs.declared.script.Step.{Step}

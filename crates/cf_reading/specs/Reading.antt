@@ -17,7 +17,7 @@ use Rattle.cf_reading.specs.Checks.{◌>>=◌, ok_or, guard, fold_items}
 use Rattle.cf_reading.specs.Versions.{version_of, room_said}
 use Rattle.cf_reading.specs.Stages.{Drafted, nothing_drafted, stage_next}
 use Rattle.cf_reading.specs.Limits.{limit_next}
-use Rattle.cf_reading.specs.Courses.{Course}
+use Rattle.cf_reading.specs.ReadingProgress.{Progress}
 use Rattle.cf_reading.specs.Steps.{step_next}
 
 -- the items of an array; none, where nothing is said
@@ -60,16 +60,16 @@ outline_of d = do
   Ok (record { version = version; plan = drafted.plan; room = room; functions = drafted.functions; steps = steps })
 
 -- where reading its steps begins: no step is read, and the functions are those of its stages
-abbrev pub course_start : Outline → Course
-course_start o = record { extent = extent_of (with_room o.plan o.room); functions = o.functions; steps = [] }
+abbrev pub progress_start : Outline → Progress
+progress_start o = record { extent = extent_of (with_room o.plan o.room); functions = o.functions; steps = [] }
 
 -- the script with the steps and the functions that were read
-abbrev pub script_with : Outline → Course → Script
-script_with o course = record { plan = o.plan; room = o.room; functions = course.functions; steps = course.steps }
+abbrev pub script_with : Outline → Progress → Script
+script_with o progress = record { plan = o.plan; room = o.room; functions = progress.functions; steps = progress.steps }
 
 -- the script, once each step is read for its purpose
 abbrev pub with_steps : Purpose → Outline → Result Script ReadingFault
-with_steps purpose o = fold_items (step_next purpose o.version) (course_start o) o.steps >>= λ course. Ok (script_with o course)
+with_steps purpose o = fold_items (step_next purpose o.version) (progress_start o) o.steps >>= λ progress. Ok (script_with o progress)
 
 -- what a JSON value says to what it is read for
 unfoldable pub script_of : Purpose → Data → Result Script ReadingFault

@@ -1,9 +1,9 @@
 -- Scripts: a plan, room for stages that are attached to it later, a list of functions, and a list of steps.
 use Rattle.std.specs.Prelude.{ℕ, zero, suc, ◌+◌, ◌*◌, ◌<◌, ◌≤◌, List, [], ◌∷◌, length, IfSome, All, if◌then◌else◌}
 use Rattle.cf_plan.specs.Plans.{Planned, PlannedStage, edges_of, with_room}
-use Rattle.cf_core.specs.declared.events.Event.TheVariants.{Attach as Attaches}
-use Rattle.cf_core.specs.Calls.{is_attach}
-use Rattle.cf_core.specs.Ranges.{EventFits, AskFits}
+use Rattle.cf_model.specs.declared.events.Event.TheVariants.{Attach as Attaches}
+use Rattle.cf_model.specs.Calls.{is_attach}
+use Rattle.cf_model.specs.Ranges.{EventFits, AskFits}
 use Rattle.cf_reading.specs.declared.func.Func.{Func}
 use Rattle.cf_reading.specs.declared.script.Step.{Step}
 use Rattle.cf_reading.specs.declared.script.Step.TheVariants.{Does, Asks, Work, Nudge}

@@ -7,8 +7,8 @@ use Rattle.serde_json.specs.Find.{at, as_str}
 use Rattle.cf_outcome.specs.declared.outcome.Value.TheVariants.{Nil}
 use Rattle.cf_plan.specs.declared.forms.Answer.{Answer}
 use Rattle.cf_plan.specs.declared.forms.Answer.TheVariants.{Give, Throw, Link}
-use Rattle.cf_core.specs.declared.asks.Ask.TheVariants.{Now as AsksNow, Outcome as AsksOutcome}
-use Rattle.cf_core.specs.declared.events.Event.TheVariants.{Complete as Completes, Fail as Fails, Cancel as Cancels, Claim as Claims, Finish as Finishes, Tick as Ticks, Attach as Attaches}
+use Rattle.cf_model.specs.declared.asks.Ask.TheVariants.{Now as AsksNow, Outcome as AsksOutcome}
+use Rattle.cf_model.specs.declared.events.Event.TheVariants.{Complete as Completes, Fail as Fails, Cancel as Cancels, Claim as Claims, Finish as Finishes, Tick as Ticks, Attach as Attaches}
 use Rattle.cf_reading.specs.declared.fault.ReadingFault.{ReadingFault}
 use Rattle.cf_reading.specs.declared.fault.ReadingFault.TheVariants as faults
 use Rattle.cf_reading.specs.declared.script.Step.{Step}
@@ -18,7 +18,7 @@ use Rattle.cf_reading.specs.declared.func.Func.{Func}
 use Rattle.cf_reading.specs.declared.version.Version.{Version}
 use Rattle.cf_reading.specs.declared.version.Version.TheVariants.{One, Two}
 use Rattle.cf_reading.specs.Attaching.{attach_said}
-use Rattle.cf_reading.specs.Courses.{Course, with_step}
+use Rattle.cf_reading.specs.ReadingProgress.{Progress, with_step}
 use Rattle.cf_reading.specs.Scripts.{StepFits}
 use Rattle.cf_reading.specs.Purposes.{takes}
 use Rattle.cf_reading.specs.Checks.{ok_or}
@@ -152,15 +152,15 @@ step_worded One stages functions d word = step_alone stages d word
 step_worded Two stages functions d word = if bytes_eq word (codes "attach") then attach_said stages functions d else step_alone stages d word
 
 -- the step that comes after these
-abbrev pub step_said : Version → Course → Data → Option (Step × Option Func)
-step_said version course d = option_and_then (step_worded version course.extent.stages course.functions d) (option_and_then as_str (at 0 d))
+abbrev pub step_said : Version → Progress → Data → Option (Step × Option Func)
+step_said version progress d = option_and_then (step_worded version progress.extent.stages progress.functions d) (option_and_then as_str (at 0 d))
 
 -- that is taken
-abbrev pub step_for : Purpose → Version → Course → Data → Option (Step × Option Func)
-step_for purpose version course d = option_and_then (λ s. if takes purpose s.0 then Some s else None) (step_said version course d)
+abbrev pub step_for : Purpose → Version → Progress → Data → Option (Step × Option Func)
+step_for purpose version progress d = option_and_then (λ s. if takes purpose s.0 then Some s else None) (step_said version progress d)
 
 -- the next step, of which there are at most 20,000
-unfoldable pub step_next : Purpose → Version → Course → Data → Result Course ReadingFault
-step_next purpose version course d =
-    if nat_lt (length course.steps) 20000 then ok_or (faults.Step (length course.steps)) (option_map (with_step course) (step_for purpose version course d))
-    else Err (faults.Step (length course.steps))
+unfoldable pub step_next : Purpose → Version → Progress → Data → Result Progress ReadingFault
+step_next purpose version progress d =
+    if nat_lt (length progress.steps) 20000 then ok_or (faults.Step (length progress.steps)) (option_map (with_step progress) (step_for purpose version progress d))
+    else Err (faults.Step (length progress.steps))

@@ -3,16 +3,16 @@ ghost use Rattle.std.specs.Prelude.{◌≡◌, ◌<◌, ℕ, ◌≤◌, All, IfS
 ghost use Rattle.serde_json.specs.View.{view};
 ghost use Rattle.cf_plan.specs.Plans.{sources_of};
 ghost use Rattle.cf_reading.specs.Attaching.{attach_said, attaching, can_attach, few_sources, few_sources_said};
-ghost use Rattle.cf_reading.specs.Courses.{FitsNext};
+ghost use Rattle.cf_reading.specs.ReadingProgress.{FitsNext};
 
 use crate::forms::form_of;
 use crate::func::Func;
 use crate::functions::{function, number_after};
 use crate::parts::len;
 use crate::script::Step;
+use crate::step_parsers::stage_in;
 use crate::version::Version;
-use crate::words::stage_in;
-use cf_core::Event;
+use cf_model::Event;
 use cf_plan::{Form, Of, fits_form};
 use serde_json::Value as Json;
 

@@ -6,14 +6,13 @@
 //! that is told.
 //!
 //! A script of version 2 may ask for room and attach stages in its steps. So steps are read with what those before them
-//! leave: the stages that there are then, the room that is left, and the functions so far (`src/course.rt`).
+//! leave: the stages that there are then, the room that is left, and the functions so far (`src/progress.rt`).
 //!
 //! `specs/Reading.antt` is that order as a definition over the JSON value, and `read_script` is proved to give what it
 //! gives. A script that is to be raced is read the same way, and may have fewer steps (`src/purpose.rt`).
 #![tactic(auto)]
 
 mod attaching;
-mod course;
 mod draft;
 mod fault;
 mod forms;
@@ -23,14 +22,15 @@ mod input;
 mod laws;
 mod limits;
 mod parts;
+mod progress;
 mod purpose;
 mod reading;
 mod refused;
 mod script;
 mod stages;
+mod step_parsers;
 mod steps;
 mod version;
-mod words;
 
 pub use fault::{Part, ReadingFault};
 pub use func::Func;

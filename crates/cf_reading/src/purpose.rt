@@ -3,7 +3,7 @@ ghost use Rattle.std.specs.Prelude.{◌≡◌};
 ghost use Rattle.cf_reading.specs.Purposes.{takes, takes_in_race};
 
 use crate::script::Step;
-use cf_core::Event;
+use cf_model::Event;
 
 /// What a script is read for, which decides the steps that it may have.
 #[derive(Clone, Copy)]

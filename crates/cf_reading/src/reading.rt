@@ -6,12 +6,12 @@ ghost use Rattle.cf_reading.specs.Scripts.{FunctionFits};
 ghost use Rattle.cf_reading.specs.Purposes.{IsForRace, IsTaken};
 ghost use Rattle.cf_reading.specs.Reading.{drafted_of, has_place, items_said, race_reading, reading, reading_for, script_of};
 
-use crate::course::Course;
 use crate::draft::Draft;
 use crate::fault::{Part, ReadingFault};
 use crate::func::Func;
 use crate::input::MAX_BYTES;
 use crate::limits::read_limits;
+use crate::progress::Progress;
 use crate::purpose::Purpose;
 use crate::script::Script;
 use crate::stages::read_stages;
@@ -94,14 +94,14 @@ fn script(alloc: Global, purpose: Purpose, json: &Json) -> Result<Script, Readin
         return Err(ReadingFault::Shape(Part::Steps));
     };
     let (plan, functions) = planned(alloc, version, room, stages.as_slice(), limits)?;
-    let mut course = Course {
+    let mut progress = Progress {
         stages: plan.stages(),
         room,
         functions,
         steps: Vec::new(alloc),
     };
-    read_steps(purpose, version, &mut course, steps)?;
-    Ok(Script::new(plan, room, course.functions, course.steps))
+    read_steps(purpose, version, &mut progress, steps)?;
+    Ok(Script::new(plan, room, progress.functions, progress.steps))
 }
 
 /// The script that the bytes say, or the first fault in them.

@@ -1,6 +1,6 @@
 //! Scripts: a plan, its functions, and the steps to take over it.
 use crate::func::Func;
-use cf_core::{Ask, Event};
+use cf_model::{Ask, Event};
 use cf_plan::Plan;
 use std::marker::Model;
 

@@ -3,19 +3,19 @@ ghost use Rattle.std.specs.Prelude.{◌≡◌, ◌≤◌, IfSome, OnOk, [], leng
 ghost use Rattle.serde_json.specs.View.{items_view, view};
 ghost use Rattle.cf_reading.specs.Checks.{Gives, fold_items};
 ghost use Rattle.cf_reading.specs.Steps.{NamesWithin, own_step, other_step, step_alone, step_for, step_named, step_next, step_said, step_worded};
-ghost use Rattle.cf_reading.specs.Courses.{FitsNext, GoesOn, IsCourse};
-ghost use Rattle.cf_reading.specs.Views.{coursed};
+ghost use Rattle.cf_reading.specs.ReadingProgress.{FitsNext, GoesOn, IsProgress};
+ghost use Rattle.cf_reading.specs.Views.{progressed};
 ghost use Rattle.cf_reading.specs.Purposes.{IsTaken};
 
 use crate::attaching::attach;
-use crate::course::{Course, extent_after};
 use crate::fault::ReadingFault;
 use crate::func::Func;
 use crate::functions::keep;
+use crate::progress::{Progress, extent_after};
 use crate::purpose::Purpose;
 use crate::script::Step;
+use crate::step_parsers::{cancel, claim, complete, fail, finish, now, nudge, outcome, tick, work};
 use crate::version::Version;
-use crate::words::{cancel, claim, complete, fail, finish, now, nudge, outcome, tick, work};
 use serde_json::Value as Json;
 
 /// The most steps that a script has.
@@ -66,7 +66,7 @@ fn named(stages: u16, json: &Json, word: &str) -> Option<Step>
 }
 
 /// A step that brings no function.
-#[tactic(auto, using(crate::proofs::Courses::fits_alone))]
+#[tactic(auto, using(crate::proofs::ReadingProgress::fits_alone))]
 fn alone(stages: u16, functions: &[Func], json: &Json, word: &str) -> Option<(Step, Option<Func>)>
     requires { length functions.now ≤ 4096 }
     ensures said { result ≡ step_alone stages (view json.now) word.now }
@@ -98,15 +98,15 @@ fn worded(
 }
 
 /// The step that comes after these.
-fn step(version: Version, course: &Course, json: &Json) -> Option<(Step, Option<Func>)>
-    ensures said { result ≡ step_said version (coursed course.now) (view json.now) }
-    ensures fits { IfSome result (FitsNext course.now.stages course.now.functions.items) }
+fn step(version: Version, progress: &Progress, json: &Json) -> Option<(Step, Option<Func>)>
+    ensures said { result ≡ step_said version (progressed progress.now) (view json.now) }
+    ensures fits { IfSome result (FitsNext progress.now.stages progress.now.functions.items) }
 {
     let word = json.get(0usize)?.as_str()?;
     worded(
         version,
-        course.stages,
-        course.functions.as_slice(),
+        progress.stages,
+        progress.functions.as_slice(),
         json,
         word,
     )
@@ -116,14 +116,14 @@ fn step(version: Version, course: &Course, json: &Json) -> Option<(Step, Option<
 fn step_taken(
     purpose: Purpose,
     version: Version,
-    course: &Course,
+    progress: &Progress,
     json: &Json,
 ) -> Option<(Step, Option<Func>)>
-    ensures said { result ≡ step_for purpose version (coursed course.now) (view json.now) }
-    ensures fits { IfSome result (FitsNext course.now.stages course.now.functions.items) }
+    ensures said { result ≡ step_for purpose version (progressed progress.now) (view json.now) }
+    ensures fits { IfSome result (FitsNext progress.now.stages progress.now.functions.items) }
     ensures taken { IfSome result (λ s. IsTaken purpose s.0) }
 {
-    let (step, function) = step(version, course, json)?;
+    let (step, function) = step(version, progress, json)?;
     if purpose.takes(step) {
         Some((step, function))
     } else {
@@ -136,27 +136,27 @@ fn step_taken(
 fn add_step(
     purpose: Purpose,
     version: Version,
-    course: &mut Course,
+    progress: &mut Progress,
     json: &Json,
 ) -> Result<(), ReadingFault>
-    ensures gives { Gives (λ _. coursed course.new) result
-        (step_next purpose version (coursed course.old) (view json.now)) }
-    ensures goes_on { OnOk result (GoesOn purpose (coursed course.old) (coursed course.new)) }
+    ensures gives { Gives (λ _. progressed progress.new) result
+        (step_next purpose version (progressed progress.old) (view json.now)) }
+    ensures goes_on { OnOk result (GoesOn purpose (progressed progress.old) (progressed progress.new)) }
 {
-    let k = course.steps.len();
+    let k = progress.steps.len();
     if k >= MAX_STEPS {
         return Err(ReadingFault::Step(k as u32));
     }
-    let Some((step, function)) = step_taken(purpose, version, course, json) else {
+    let Some((step, function)) = step_taken(purpose, version, progress, json) else {
         return Err(ReadingFault::Step(k as u32));
     };
-    keep(&mut course.functions, function)?;
-    if course.steps.push(step).is_err() {
+    keep(&mut progress.functions, function)?;
+    if progress.steps.push(step).is_err() {
         return Err(ReadingFault::NoMemory);
     }
-    let (stages, room) = extent_after(step, course.stages, course.room);
-    course.stages = stages;
-    course.room = room;
+    let (stages, room) = extent_after(step, progress.stages, progress.room);
+    progress.stages = stages;
+    progress.room = room;
     Ok(())
 }
 
@@ -164,17 +164,17 @@ fn add_step(
 pub(crate) fn read_steps(
     purpose: Purpose,
     version: Version,
-    course: &mut Course,
+    progress: &mut Progress,
     list: &[Json],
 ) -> Result<(), ReadingFault>
-    requires { course.old.steps.items ≡ [] }
-    ensures gives { Gives (λ _. coursed course.new) result
-        (fold_items (step_next purpose version) (coursed course.old) (items_view list.now)) }
-    ensures leads { OnOk result (IsCourse purpose (record { stages = course.old.stages; room = course.old.room })
-        (length course.old.functions.items) (coursed course.new)) }
+    requires { progress.old.steps.items ≡ [] }
+    ensures gives { Gives (λ _. progressed progress.new) result
+        (fold_items (step_next purpose version) (progressed progress.old) (items_view list.now)) }
+    ensures leads { OnOk result (IsProgress purpose (record { stages = progress.old.stages; room = progress.old.room })
+        (length progress.old.functions.items) (progressed progress.new)) }
 {
     'steps: for json in list {
-        if let Err(e) = add_step(purpose, version, course, json) {
+        if let Err(e) = add_step(purpose, version, progress, json) {
             return Err(e);
         }
     }

@@ -1,5 +1,5 @@
 //! Scripts of version 2: room, and steps that attach stages.
-use cf_core::{Ask, Event};
+use cf_model::{Ask, Event};
 use cf_outcome::Value;
 use cf_plan::{Form, Of, PlanFault};
 use cf_reading::{Func, Part, ReadingFault, Step, read_race, read_script};

@@ -1,5 +1,5 @@
 //! What scripts are read as, what is refused, and the ten functions.
-use cf_core::{Ask, Event};
+use cf_model::{Ask, Event};
 use cf_outcome::{Cause, Outcome, Value};
 use cf_plan::{Answer, Args, Limit, LimitKind, PlanFault, StageFn};
 use cf_reading::{Func, MAX_BYTES, Part, ReadingFault, Step, read_input, read_script};

@@ -2,8 +2,9 @@
 use crate::graphs::Four;
 use crate::rows::source_and_apply;
 use anyhow::Result;
-use cf_core::{Event, Graph, Reply};
+use cf_core::Graph;
 use cf_event::{decode, encode, is_event};
+use cf_model::{Event, Reply};
 use cf_outcome::Value;
 use cf_plan::{Answer, Form, Of, Plan};
 use std::alloc::Global;
@@ -39,7 +40,7 @@ const EVENTS: [Event; 8] = [
         stage: 1,
         answer: Answer::Give(Value::Int(8)),
     },
-    Event::Tick { who: 0, now: 5 },
+    Event::Tick { who: 0, moment: 5 },
 ];
 
 /// Prints what a graph answers to each event, whether the event's word says the event, and what the other calls answer; or
@@ -89,7 +90,7 @@ fn reply_of(graph: &mut Graph, event: &Event) -> Option<Reply> {
         Event::Finish { who, stage, answer } if graph.has(stage) => {
             Some(Reply::Finish(graph.finish(who, stage, answer)))
         }
-        Event::Tick { now, .. } => Some(Reply::Tick(graph.tick(now))),
+        Event::Tick { moment, .. } => Some(Reply::Tick(graph.tick(moment))),
         Event::Attach { .. } if graph.has(0) => {
             let attached = graph.attach(Form::ThenRun, Of::One(0), Some(0));
             Some(Reply::Attach(attached))

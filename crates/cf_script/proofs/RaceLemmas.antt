@@ -4,12 +4,12 @@ use Rattle.std.proofs.lemmas.List.Elements.{All-nil, All-cons, All-head, All-tai
 use Rattle.cf_outcome.specs.declared.outcome.Outcome.{Outcome}
 use Rattle.cf_plan.specs.Meanings.{meanings_of}
 use Rattle.cf_plan.specs.Plans.{Planned, PlannedStage}
-use Rattle.cf_core.specs.declared.events.Event.{Event}
-use Rattle.cf_core.specs.declared.events.Event.TheVariants.{Complete as Completes, Fail as Fails, Cancel as Cancels, Claim as Claims, Finish as Finishes, Tick as Ticks, Attach as Attaches}
-use Rattle.cf_core.specs.Calls.{is_from_outside}
-use Rattle.cf_core.specs.Events.{answered}
-use Rattle.cf_core.specs.Ranges.{EventFits, EventsFit}
-use Rattle.cf_core.specs.States.{State, outcome_at, start}
+use Rattle.cf_model.specs.declared.events.Event.{Event}
+use Rattle.cf_model.specs.declared.events.Event.TheVariants.{Complete as Completes, Fail as Fails, Cancel as Cancels, Claim as Claims, Finish as Finishes, Tick as Ticks, Attach as Attaches}
+use Rattle.cf_model.specs.Calls.{is_from_outside}
+use Rattle.cf_model.specs.Events.{answered}
+use Rattle.cf_model.specs.Ranges.{EventFits, EventsFit}
+use Rattle.cf_model.specs.States.{State, outcome_at, start}
 use Rattle.cf_expr.specs.Expressions.{expr}
 use Rattle.cf_reading.specs.declared.script.Step.{Step}
 use Rattle.cf_reading.specs.declared.script.Step.TheVariants.{Does, Asks, Work, Nudge}

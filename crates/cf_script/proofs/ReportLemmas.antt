@@ -3,10 +3,10 @@ use Rattle.std.proofs.Common.{None, ◌≡◌, ℕ, ◌+◌, ◌-◌, ◌<◌, z
 use Rattle.std.proofs.Math.Seq.{drop-cons}
 use Rattle.cf_plan.specs.declared.forms.Form.TheVariants.{Source}
 use Rattle.cf_plan.specs.Plans.{Planned, PlannedStage, attached_stage, with_room}
-use Rattle.cf_core.specs.declared.events.Event.TheVariants.{Complete as Completes, Fail as Fails, Cancel as Cancels, Claim as Claims, Finish as Finishes, Tick as Ticks, Attach as Attaches}
-use Rattle.cf_core.specs.States.{State, outcome_at, start}
-use Rattle.cf_core.specs.Events.{attached_by}
-use Rattle.cf_core.proofs.Shape.{answered-shape}
+use Rattle.cf_model.specs.declared.events.Event.TheVariants.{Complete as Completes, Fail as Fails, Cancel as Cancels, Claim as Claims, Finish as Finishes, Tick as Ticks, Attach as Attaches}
+use Rattle.cf_model.specs.States.{State, outcome_at, start}
+use Rattle.cf_model.specs.Events.{attached_by}
+use Rattle.cf_model.proofs.Shape.{answered-shape}
 use Rattle.cf_reading.specs.declared.func.Func.{Func}
 use Rattle.cf_reading.specs.declared.script.Step.{Step}
 use Rattle.cf_reading.specs.declared.script.Step.TheVariants.{Does, Asks, Work, Nudge}

@@ -1,9 +1,9 @@
 -- Work ends with nothing ready, and keeps the plan.
 use Rattle.std.proofs.Common.{List}
 use Rattle.cf_plan.specs.Meanings.{meanings_of}
-use Rattle.cf_core.specs.States.{State}
-use Rattle.cf_core.specs.Growth.{SameShape}
-use Rattle.cf_core.proofs.Working as core
+use Rattle.cf_model.specs.States.{State}
+use Rattle.cf_model.specs.Growth.{SameShape}
+use Rattle.cf_model.proofs.Working as core
 use Rattle.cf_reading.specs.declared.func.Func.{Func}
 use Rattle.cf_reading.specs.Functions.{func_answer}
 use Rattle.cf_script.specs.Laws.{WorkLeavesNothingReady}

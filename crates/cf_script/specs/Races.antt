@@ -2,8 +2,8 @@
 use Rattle.std.specs.Prelude.{◌≡◌, ◌+◌, ◌≤◌, ◌<◌, ℕ, List, [], ◌∷◌, length}
 use Rattle.cf_plan.specs.Meanings.{meanings_of}
 use Rattle.cf_plan.specs.Plans.{Planned}
-use Rattle.cf_core.specs.declared.events.Event.{Event}
-use Rattle.cf_core.specs.States.{State, start}
+use Rattle.cf_model.specs.declared.events.Event.{Event}
+use Rattle.cf_model.specs.States.{State, start}
 use Rattle.cf_expr.specs.Expressions.{expr}
 use Rattle.cf_expr.specs.Histories.{IsPlain, IsPlainPlan, nothing_granted}
 use Rattle.cf_reading.specs.declared.script.Step.{Step}

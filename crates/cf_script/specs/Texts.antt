@@ -5,18 +5,18 @@ use Rattle.cf_outcome.specs.declared.outcome.Outcome.{Outcome}
 use Rattle.cf_outcome.specs.Texts.{value_text, outcome_text, now_text}
 use Rattle.cf_plan.specs.declared.forms.Args.{Args}
 use Rattle.cf_plan.specs.declared.forms.Args.TheVariants as args
-use Rattle.cf_core.specs.declared.replies.Claimed.{Claimed}
-use Rattle.cf_core.specs.declared.replies.Claimed.TheVariants as claims
-use Rattle.cf_core.specs.declared.replies.Finished.{Finished}
-use Rattle.cf_core.specs.declared.replies.Finished.TheVariants as finishes
-use Rattle.cf_core.specs.declared.replies.Ticked.{Ticked}
-use Rattle.cf_core.specs.declared.replies.Ticked.TheVariants as ticks
-use Rattle.cf_core.specs.declared.replies.Attached.{Attached}
-use Rattle.cf_core.specs.declared.replies.Attached.TheVariants as attaches
-use Rattle.cf_core.specs.declared.events.Reply.{Reply}
-use Rattle.cf_core.specs.declared.events.Reply.TheVariants as replies
-use Rattle.cf_core.specs.declared.asks.Told.{Told}
-use Rattle.cf_core.specs.declared.asks.Told.TheVariants as tells
+use Rattle.cf_model.specs.declared.replies.Claimed.{Claimed}
+use Rattle.cf_model.specs.declared.replies.Claimed.TheVariants as claims
+use Rattle.cf_model.specs.declared.replies.Finished.{Finished}
+use Rattle.cf_model.specs.declared.replies.Finished.TheVariants as finishes
+use Rattle.cf_model.specs.declared.replies.Ticked.{Ticked}
+use Rattle.cf_model.specs.declared.replies.Ticked.TheVariants as ticks
+use Rattle.cf_model.specs.declared.replies.Attached.{Attached}
+use Rattle.cf_model.specs.declared.replies.Attached.TheVariants as attaches
+use Rattle.cf_model.specs.declared.events.Reply.{Reply}
+use Rattle.cf_model.specs.declared.events.Reply.TheVariants as replies
+use Rattle.cf_model.specs.declared.asks.Told.{Told}
+use Rattle.cf_model.specs.declared.asks.Told.TheVariants as tells
 
 -- a text and its line feed
 abbrev pub line : List ℕ → List ℕ

@@ -11,7 +11,8 @@ ghost use Rattle.cf_script.specs.Races.{IsRaceEnd, IsRaceRefused, RaceGives, eve
 use crate::fault::ScriptFault;
 use crate::printing::print_given;
 use crate::report::write_stages;
-use cf_core::{Event, Graph};
+use cf_core::Graph;
+use cf_model::Event;
 use cf_pool::{Gate, RaceFault, race};
 use cf_reading::{MAX_BYTES, Script, Step, read_input, read_race};
 use std::alloc::{AllocError, Global};

@@ -1,6 +1,6 @@
 //! The report of a script.
 ghost use Rattle.std.specs.Prelude.{◌≡◌, ◌++◌, ◌<◌, length, OnOk, IfOk, string_bytes};
-ghost use Rattle.cf_core.specs.States.{outcome_at};
+ghost use Rattle.cf_model.specs.States.{outcome_at};
 ghost use Rattle.cf_reading.specs.Scripts.{StepFits, StepsFit, extent_of};
 ghost use Rattle.cf_script.specs.Texts.{line};
 ghost use Rattle.cf_script.specs.Reports.{after_step, after_steps, report, stage_text, stages_lines, step_text, steps_lines};

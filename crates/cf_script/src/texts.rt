@@ -2,7 +2,7 @@
 ghost use Rattle.std.specs.Prelude.{◌≡◌, ◌++◌, OnOk, string_bytes};
 ghost use Rattle.cf_script.specs.Texts.{attached_text, claimed_text, finished_text, flag_text, line, reply_text, settled_text, ticked_text, told_text};
 
-use cf_core::{Attached, Claimed, Finished, Reply, Ticked, Told};
+use cf_model::{Attached, Claimed, Finished, Reply, Ticked, Told};
 use cf_outcome::Outcome;
 use cf_plan::Args;
 use std::alloc::AllocError;

@@ -3,8 +3,8 @@ ghost use Rattle.std.specs.Prelude.{◌≡◌, All, length};
 
 use crate::hands::{Asked, Hand};
 use crate::steps::Step;
-use cf_core::{Ask, Claimed, Reply};
 use cf_desk::{Call, Desk, DeskFault, Pass};
+use cf_model::{Ask, Claimed, Reply};
 use cf_outcome::Value;
 use cf_plan::{Answer, Args, StageFn};
 use cf_reading::Func;

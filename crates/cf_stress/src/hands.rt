@@ -1,8 +1,8 @@
 //! What a caller holds on its thread.
 ghost use Rattle.std.specs.Prelude.{◌≡◌, All, IfOk, vec_len};
 
-use cf_core::Ask;
 use cf_desk::{Call, Desk, DeskFault, Pass};
+use cf_model::Ask;
 use std::alloc::{AllocError, Global};
 
 /// What a caller asked of the desk.

@@ -1,10 +1,11 @@
 //! The history of a closed desk as JSON, as docs/FORMATS.md has histories.
 use crate::texts::{write_reply, write_stage, write_told};
-use crate::words::Sizes;
+use crate::args::Sizes;
 use anyhow::{Result, anyhow};
-use cf_core::{Ask, Event, Graph, Reply, Told};
+use cf_core::Graph;
 use cf_desk::{Call, Closed, Kept, Rec};
 use cf_event::{encode, is_event};
+use cf_model::{Ask, Event, Reply, Told};
 use cf_outcome::Value;
 use serde_json::{Map, Value as Json, put};
 use std::alloc::{AllocError, Global};
@@ -215,7 +216,7 @@ fn event_by(who: u8, call: Call) -> Event {
         Call::Cancel(stage) => Event::Cancel { who, stage },
         Call::Claim(stage) => Event::Claim { who, stage },
         Call::Finish(stage, answer) => Event::Finish { who, stage, answer },
-        Call::Tick(now) => Event::Tick { who, now },
+        Call::Tick(moment) => Event::Tick { who, moment },
         Call::Attach(form, of, function) => Event::Attach {
             who,
             form,

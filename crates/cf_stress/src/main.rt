@@ -30,7 +30,7 @@ mod history;
 mod show;
 mod steps;
 mod texts;
-mod words;
+mod args;
 
 ghost use Rattle.std.specs.Prelude.{◌≡◌, All, IfOk, length, vec_len};
 
@@ -49,7 +49,7 @@ use std::sync::atomic::AtomicU32;
 use std::thread;
 use std::thread::Threads;
 use steps::{Step, read_steps};
-use words::{Run, Sizes, Words, read_words};
+use args::{Run, Sizes, Words, read_words};
 
 fn main(rt: HostRuntime) -> Result<ExitCode> {
     match read_words(&rt)? {

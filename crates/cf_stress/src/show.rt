@@ -2,8 +2,9 @@
 use crate::forms::name_of;
 use crate::hands::{Asked, Refusal};
 use crate::texts::{write_reply, write_stage, write_told};
-use cf_core::{Ask, Event, Graph, Reply, Told};
+use cf_core::Graph;
 use cf_desk::{Call, Closed, Kept, Rec};
+use cf_model::{Ask, Event, Reply, Told};
 use cf_plan::{Answer, Form, Of};
 use std::alloc::{AllocError, Global};
 

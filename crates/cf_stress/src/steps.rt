@@ -1,8 +1,8 @@
 //! The steps that callers do.
 use crate::forms::form_named;
 use anyhow::{Result, anyhow};
-use cf_core::Ask;
 use cf_desk::Call;
+use cf_model::Ask;
 use cf_outcome::Value;
 use cf_plan::{Answer, Of};
 use serde_json::Value as Json;

@@ -1,5 +1,6 @@
 //! The texts of replies and outcomes: those of a script's report.
-use cf_core::{Attached, Claimed, Finished, Graph, Reply, Ticked, Told};
+use cf_core::Graph;
+use cf_model::{Attached, Claimed, Finished, Reply, Ticked, Told};
 use cf_outcome::Outcome;
 use cf_plan::Args;
 use std::alloc::AllocError;

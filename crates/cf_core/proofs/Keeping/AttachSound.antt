@@ -6,19 +6,17 @@ use Rattle.std.proofs.lemmas.Bool.Decides.{nat_tests}
 use Rattle.std.proofs.lemmas.List.{map-append}
 use Rattle.std.proofs.lemmas.List.Elements.{All-head, All-tail}
 use Rattle.std.proofs.lemmas.List.Sums.{sum_by-cons, sum_by-append}
-use Rattle.cf_plan.specs.declared.forms.Of.{Of}
-use Rattle.cf_plan.specs.declared.forms.Of.TheVariants.{None as NoSource, One, Two}
 use Rattle.cf_plan.specs.declared.forms.Due.{Due}
 use Rattle.cf_plan.specs.declared.forms.Due.TheVariants.{Waits, Settles, Needs}
-use Rattle.cf_plan.specs.Plans.{PlannedStage, HasLowerSources, dependents_of, edges_of, form_at, mentions, sources_of}
+use Rattle.cf_plan.specs.Plans.{PlannedStage, HasLowerSources, dependents_of, edges_of, form_at, mentions}
 use Rattle.cf_plan.specs.Rows.{all_sources}
 use Rattle.cf_plan.proofs.PlanLemmas.{HasLowerSources-push}
 use Rattle.cf_plan.proofs.DependentLemmas.{length-dependents_from, mentions-append, mentions_none, all_sources_below}
-use Rattle.cf_core.specs.declared.stage.Stage.{Stage}
-use Rattle.cf_core.specs.declared.stage.Stage.TheVariants.{Pending, Ready, Claimed, Linked, Settled}
-use Rattle.cf_core.specs.States.{is_ready}
+use Rattle.cf_model.specs.declared.stage.Stage.{Stage}
+use Rattle.cf_model.specs.declared.stage.Stage.TheVariants.{Pending, Ready, Claimed, Linked, Settled}
+use Rattle.cf_model.specs.States.{is_ready}
 use Rattle.cf_core.specs.declared.kept.KeptStage.{KeptStage}
-use Rattle.cf_core.specs.Keeping.Late.{StepsUpTo, dated_in, dated_of, due_kept, late_due, linked_kept, treated, treated_by}
+use Rattle.cf_core.specs.Keeping.Treatment.{StepsUpTo, dated_in, dated_of, due_kept, late_due, linked_kept, treated, treated_by}
 use Rattle.cf_core.specs.Keeping.Sound.{IsSound, StayTaken, is_bound, kept_at, link_marks, marks_of, marks_from, steps_of}
 use Rattle.cf_core.specs.Keeping.Attaching.{due_now, open_one, open_count}
 use Rattle.cf_core.proofs.Keeping.Attaching.{due_again}
@@ -316,8 +314,3 @@ pub StayTaken-push : (kept : List KeptStage) (new : KeptStage) → StayTaken kep
 StayTaken-push [] new i e = cc
 StayTaken-push (k ∷ kept) new zero e = e
 StayTaken-push (k ∷ kept) new (suc i) e = StayTaken-push kept new i e
-
-pub few_sources : (of : Of) → length (sources_of of) ≤ 2
-few_sources NoSource = omega arith
-few_sources (One a) = omega arith
-few_sources (Two a b) = omega arith

@@ -8,15 +8,15 @@ use Rattle.cf_plan.specs.declared.forms.Due.{Due}
 use Rattle.cf_plan.specs.declared.forms.Due.TheVariants.{Waits, Settles, Needs}
 use Rattle.cf_plan.specs.Forms.{follows, due_of_first, first_there}
 use Rattle.cf_plan.specs.Plans.{PlannedStage}
-use Rattle.cf_core.specs.declared.stage.Stage.{Stage}
-use Rattle.cf_core.specs.declared.stage.Stage.TheVariants.{Pending, Ready, Claimed, Linked, Settled}
-use Rattle.cf_core.specs.States.{outcome_in, due_state, linked_state, next_of, new_states}
+use Rattle.cf_model.specs.declared.stage.Stage.{Stage}
+use Rattle.cf_model.specs.declared.stage.Stage.TheVariants.{Pending, Ready, Claimed, Linked, Settled}
+use Rattle.cf_model.specs.States.{outcome_in, due_state, linked_state, next_of, new_states}
 use Rattle.cf_core.specs.declared.kept.KeptStage.{KeptStage}
-use Rattle.cf_core.specs.Laws.{is_decided_by_first}
-use Rattle.cf_core.specs.Keeping.Late.{all_treated, dated_in, due_kept, earliest, late_due, linked_kept, outcome_part, stages_of, step_part, latest, treated, treated_by}
-use Rattle.cf_core.specs.Keeping.Sound.{outlook}
+use Rattle.cf_model.specs.Laws.{is_decided_by_first}
+use Rattle.cf_core.specs.Keeping.Treatment.{all_treated, dated_in, due_kept, earliest, late_due, linked_kept, outcome_part, stages_of, step_part, latest, treated, treated_by}
+use Rattle.cf_core.specs.Keeping.Sound.{settled_view}
 use Rattle.cf_core.specs.Keeping.Attaching.{AttachingIsAfter, attached_kept, due_now}
-use Rattle.cf_core.proofs.StateLemmas.{due_one-decides}
+use Rattle.cf_model.proofs.StateLemmas.{due_one-decides}
 use Rattle.cf_core.proofs.Keeping.Dues.{earlier_some}
 use Rattle.cf_core.proofs.Keeping.Settling.{outcome_in-stages_of, sources_part, longer}
 
@@ -166,7 +166,7 @@ attaching_is_after plan kept p step l quiet =
     let stages = stages_of kept in
     let fixed : new_states [] plan stages ≡ stages = ap (λ ks. new_states [] plan (stages_of ks)) (sym quiet) ∙ still [] plan kept ∙ ap stages_of quiet in
     let same : treated kept p k ≡ k = due_again kept p (due_now kept p.form p.sources) step refl in
-    let left : outlook (plan ++ p ∷ []) (kept ++ k ∷ []) ≡ stages ++ k.stage ∷ [] =
+    let left : settled_view (plan ++ p ∷ []) (kept ++ k ∷ []) ≡ stages ++ k.stage ∷ [] =
     ap stages_of (all_treated-push [] plan kept p k l ∙ ap (λ ks. ks ++ treated ks p k ∷ []) quiet ∙ ap (λ x. kept ++ x ∷ []) same)
     ∙ map-append (λ (x : KeptStage). x.stage) kept (k ∷ []) in
     let here : k.stage ≡ due_state (follows p.form (map (outcome_in stages) p.sources)) =

@@ -3,14 +3,14 @@ use Rattle.std.proofs.Common.{◌≡◌, ◌<◌, ◌∙◌, ℕ, ℤ, Bool, Opt
 use Rattle.std.specs.Prelude.{IfNone, option_and_then, slice_get}
 use Rattle.std.specs.Option.{option_map}
 use Rattle.std.proofs.lemmas.List.{length-map, map-set}
-use Rattle.cf_core.specs.declared.stage.Stage.TheVariants.{Pending}
+use Rattle.cf_model.specs.declared.stage.Stage.TheVariants.{Pending}
 use Rattle.cf_core.specs.declared.cell.Cell.{Cell}
 use Rattle.cf_core.specs.declared.cell.Kind.{Kind}
 use Rattle.cf_core.specs.declared.cell.Kind.TheVariants as kinds
 use Rattle.cf_core.specs.declared.cell.Detail.{Detail}
-use Rattle.cf_core.specs.States.{outcome_of}
+use Rattle.cf_model.specs.States.{outcome_of}
 use Rattle.cf_core.specs.Keeping.Cells.{blank, kept_of, outcome_in, stage_in}
-use Rattle.cf_core.specs.Keeping.Late.{dated_in, dated_of}
+use Rattle.cf_core.specs.Keeping.Treatment.{dated_in, dated_of}
 use Rattle.cf_core.specs.Keeping.Sound.{kept_at}
 
 pub map_written : (cells : List Cell) (i : ℕ) (c : Cell) → map kept_of (set cells i c) ≡ set (map kept_of cells) i (kept_of c)

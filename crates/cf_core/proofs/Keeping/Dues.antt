@@ -10,8 +10,8 @@ use Rattle.cf_plan.specs.declared.forms.Form.TheVariants.{Source, Supply, RunAsy
 use Rattle.cf_plan.specs.declared.forms.Due.{Due}
 use Rattle.cf_plan.specs.declared.forms.Due.TheVariants.{Waits, Settles}
 use Rattle.cf_plan.specs.Forms.{follows, due_of_first, due_of_both, due_two, first_there, first_fault}
-use Rattle.cf_core.proofs.StateLemmas.{due_one-decides}
-use Rattle.cf_core.specs.Keeping.Late.{earlier, earliest, latest, late_due, outcome_part, step_part}
+use Rattle.cf_model.proofs.StateLemmas.{due_one-decides}
+use Rattle.cf_core.specs.Keeping.Treatment.{earlier, earliest, latest, late_due, outcome_part, step_part}
 
 -- what was there stays, and what is new is of the next step
 abbrev pub Grows : ℕ → Option (Outcome × ℕ) → Option (Outcome × ℕ) → Type 0

@@ -1,8 +1,6 @@
 -- From the stages that a graph keeps to the state that contracts see.
 use Rattle.std.proofs.Common.{◌≡◌, ℕ, ◌+◌, ◌-◌, ◌<◌, ◌∷◌, ◌++◌, [], List, true, false, Option, Some, None, length, length-append, suc, zero, arith, ap, sym, ◌∙◌, subst, refl, set, inl, inr, replicate, cond, All, ◌==◌}
 use Rattle.std.specs.Prelude.{is_some, slice_get, unwrap_or, option_and_then}
-use Rattle.std.specs.List.{sum_by}
-use Rattle.std.proofs.lemmas.List.Sums.{sum_by-append, sum_by-cons}
 use Rattle.std.specs.Option.{option_map_or}
 use Rattle.std.proofs.lemmas.List.Elements.{All-head}
 use Rattle.std.proofs.lemmas.Bool.Decides.{eqb_tells, nat_tests}
@@ -15,38 +13,36 @@ use Rattle.cf_plan.specs.declared.forms.Landing.TheVariants.{Settles as Lands, L
 use Rattle.cf_plan.specs.declared.forms.Form.{Form}
 use Rattle.cf_plan.specs.declared.forms.Of.{Of}
 use Rattle.cf_plan.specs.Forms.{landing}
-use Rattle.cf_plan.specs.Plans.{IsGrowing, Planned, PlannedStage, and_stage, attached_stage, fits_form, sources_of, with_stage, form_at, sources_at}
-use Rattle.cf_core.specs.declared.stage.Stage.{Stage}
-use Rattle.cf_core.specs.declared.stage.Stage.TheVariants.{Pending, Ready, Claimed, Linked, Settled}
-use Rattle.cf_core.specs.declared.replies.Claimed.{Claimed as ClaimReply}
-use Rattle.cf_core.specs.declared.replies.Claimed.TheVariants.{Granted}
-use Rattle.cf_core.specs.States.{State, outcome_of, outcome_in, outcome_at, stage_at, claim_at, new_states, stages_after}
-use Rattle.cf_core.specs.Events.{settled_by, settling, claimed_by, claiming, finished_by, finishing, landed, linked_to, source_outcome, attached_by, attaching}
-use Rattle.cf_core.specs.declared.replies.Attached.TheVariants.{At, StagesFull}
-use Rattle.cf_core.specs.declared.replies.Finished.TheVariants.{Won, Late, NotYours}
+use Rattle.cf_plan.specs.Plans.{Planned, PlannedStage, and_stage, attached_stage, fits_form, sources_of, form_at, sources_at}
+use Rattle.cf_model.specs.declared.stage.Stage.{Stage}
+use Rattle.cf_model.specs.declared.stage.Stage.TheVariants.{Pending, Ready, Claimed, Linked, Settled}
+use Rattle.cf_model.specs.declared.replies.Claimed.{Claimed as ClaimReply}
+use Rattle.cf_model.specs.declared.replies.Claimed.TheVariants.{Granted}
+use Rattle.cf_model.specs.States.{State, outcome_of, outcome_in, outcome_at, stage_at, claim_at, new_states, stages_after}
+use Rattle.cf_model.specs.Events.{settled_by, settling, claimed_by, claiming, finished_by, finishing, landed, linked_to, source_outcome, attached_by, attaching}
+use Rattle.cf_model.specs.declared.replies.Attached.TheVariants.{At, StagesFull}
+use Rattle.cf_model.specs.declared.replies.Finished.TheVariants.{Won, Late, NotYours}
 use Rattle.cf_core.specs.declared.kept.KeptStage.{KeptStage}
 use Rattle.cf_core.specs.declared.stages.Stages.{Stages}
-use Rattle.cf_core.proofs.StateLemmas.{after-unsettled}
+use Rattle.cf_model.proofs.StateLemmas.{after-unsettled}
 use Rattle.cf_core.specs.Keeping.Sound.{AreTreated, StayTaken, StayTakenBut, is_taken, kept_at}
-use Rattle.cf_core.specs.Keeping.SoundStages.{AreSound, HasRoom, SameRoom, outlook_of}
+use Rattle.cf_core.specs.Keeping.SoundStages.{AreSound, HasRoom, SameRoom, settled_view_of}
 use Rattle.cf_core.specs.Keeping.Landings.{linked_stages, landed_stages}
 use Rattle.cf_core.specs.Keeping.Graphs.{AreClaimed, IsInStep}
-use Rattle.cf_plan.proofs.GrowingLemmas.{IsBuilt-as, may_attach}
-use Rattle.cf_plan.proofs.PlanLemmas.{IsBuilt-with_stage}
-use Rattle.cf_core.proofs.Keeping.AttachSound.{few_sources}
+use Rattle.cf_plan.proofs.GrowingLemmas.{growing-and_stage}
 use Rattle.cf_core.proofs.Keeping.Marking.{get-set_other}
-use Rattle.cf_core.proofs.Keeping.Moves.{is_steady, outcome_there, outlook_at}
+use Rattle.cf_core.proofs.Keeping.Moves.{is_steady, outcome_there, settled_view_at}
 
 -- ---- treated stages are seen as they are kept
 
-pub told_stage : (plan : List PlannedStage) (s : Stages) (i : ℕ) → AreSound plan s → i < length plan → AreTreated (i + 1) s.marks → slice_get (outlook_of plan s) i ≡ Some ((kept_at s.kept.items i).stage)
+pub told_stage : (plan : List PlannedStage) (s : Stages) (i : ℕ) → AreSound plan s → i < length plan → AreTreated (i + 1) s.marks → slice_get (settled_view_of plan s) i ≡ Some ((kept_at s.kept.items i).stage)
 told_stage plan s i h l treated =
-    outlook_at plan s.kept.items s.marks s.ready s.links s.steps s.turns h i (i + 1) l (is_steady plan s.kept.items s.marks s.ready s.links s.steps s.turns h (i + 1) treated) (omega arith)
+    settled_view_at plan s.kept.items s.marks s.ready s.links s.steps s.turns h i (i + 1) l (is_steady plan s.kept.items s.marks s.ready s.links s.steps s.turns h (i + 1) treated) (omega arith)
 
-pub told_outcome : (plan : List PlannedStage) (s : Stages) (i : ℕ) → AreSound plan s → i < length plan → AreTreated (i + 1) s.marks → outcome_in (outlook_of plan s) i ≡ outcome_of ((kept_at s.kept.items i).stage)
+pub told_outcome : (plan : List PlannedStage) (s : Stages) (i : ℕ) → AreSound plan s → i < length plan → AreTreated (i + 1) s.marks → outcome_in (settled_view_of plan s) i ≡ outcome_of ((kept_at s.kept.items i).stage)
 told_outcome plan s i h l treated = ap (option_and_then outcome_of) (told_stage plan s i h l treated)
 
-pub told_below : (plan : List PlannedStage) (s : Stages) (i j : ℕ) → AreSound plan s → i < length plan → AreTreated (i + 1) s.marks → j < i → outcome_in (outlook_of plan s) j ≡ outcome_of ((kept_at s.kept.items j).stage)
+pub told_below : (plan : List PlannedStage) (s : Stages) (i j : ℕ) → AreSound plan s → i < length plan → AreTreated (i + 1) s.marks → j < i → outcome_in (settled_view_of plan s) j ≡ outcome_of ((kept_at s.kept.items j).stage)
 told_below plan s i j h l treated below =
     outcome_there plan s.kept.items s.marks s.ready s.links s.steps s.turns h j (i + 1) (omega arith) (is_steady plan s.kept.items s.marks s.ready s.links s.steps s.turns h (i + 1) treated) (omega arith)
 
@@ -192,28 +188,6 @@ push-open (x ∷ claims) (suc i) who e = push-open claims i who e
 
 pub AreClaimed-push : (claims : List (Option ℕ)) (old new : List KeptStage) → AreClaimed claims old → StayTaken old new → AreClaimed (claims ++ None ∷ []) new
 AreClaimed-push claims old new h stay i who e = stay i (h i who (push-open claims i who e))
-
--- a plan that grows still does with the stage
-pub growing-and_stage : (plan : Planned) (form : Form) (of : Of) (function : Option ℕ) → IsGrowing plan → 0 < plan.room → fits_form form (length (sources_of of)) (is_some function) ≡ true →
-    All (λ j. j < length plan.stages) (sources_of of) → IsGrowing (and_stage plan (attached_stage form of function))
-growing-and_stage plan form of function h room fits lower =
-    let new = attached_stage form of function in
-    let few = few_sources of in
-    let may = may_attach plan new h room few fits lower in
-    let longer = length-append plan.stages (new ∷ []) in
-    let one : length (new ∷ []) ≡ 1 = refl in
-    let edges = sum_by-append (λ (s : PlannedStage). length s.sources) plan.stages (new ∷ []) in
-    let one_edge = sum_by-cons (λ (s : PlannedStage). length s.sources) new [] in
-    let no_edge : sum_by (λ (s : PlannedStage). length s.sources) [] ≡ 0 = refl in
-    let opened = h.opened in
-    let stages = h.few_stages in
-    let all_edges = h.few_edges in
-    record {
-      built = IsBuilt-as (with_stage plan new) (and_stage plan new) refl refl (IsBuilt-with_stage plan new h.built may);
-      opened = omega (arith, longer, one, opened);
-      few_stages = omega (arith, longer, one, stages);
-      few_edges = omega (arith, edges, one_edge, no_edge, few, all_edges);
-    }
 
 -- what is true of a graph between calls stays true when a stage is attached
 pub attach_in_step : (plan : Planned) (form : Form) (of : Of) (function : Option ℕ) (s t u : Stages) (claims : List (Option ℕ)) (capacity used : ℕ) → IsInStep plan s claims capacity used → 0 < plan.room →

@@ -9,16 +9,16 @@ use Rattle.std.proofs.lemmas.List.{length-map, set-get_or}
 use Rattle.std.proofs.lemmas.List.Quantifiers.{position-Some}
 use Rattle.cf_bits.proofs.Positions.{position_is, position_is_none}
 use Rattle.cf_plan.specs.Plans.{PlannedStage}
-use Rattle.cf_core.specs.declared.stage.Stage.{Stage}
-use Rattle.cf_core.specs.declared.stage.Stage.TheVariants.{Pending, Ready, Claimed, Linked, Settled}
-use Rattle.cf_core.specs.States.{is_ready}
+use Rattle.cf_model.specs.declared.stage.Stage.{Stage}
+use Rattle.cf_model.specs.declared.stage.Stage.TheVariants.{Pending, Ready, Claimed, Linked, Settled}
+use Rattle.cf_model.specs.States.{is_ready}
 use Rattle.cf_core.specs.declared.kept.KeptStage.{KeptStage}
-use Rattle.cf_core.specs.Keeping.Late.{IsSteady, all_treated, treated}
-use Rattle.cf_core.specs.Keeping.Sound.{AreTreated, IsSound, ReadyIsTreated, is_waiting, kept_at, outlook}
+use Rattle.cf_core.specs.Keeping.Treatment.{IsSteady, all_treated, treated}
+use Rattle.cf_core.specs.Keeping.Sound.{AreTreated, IsSound, ReadyIsTreated, is_waiting, kept_at, settled_view}
 use Rattle.cf_core.proofs.Keeping.Sums.{kept_is, kept_there}
 use Rattle.cf_core.proofs.Keeping.Waiting.{sources_below, stays, treated-take}
 use Rattle.cf_core.proofs.Keeping.Marks.{steady_by_stage}
-use Rattle.cf_core.proofs.Keeping.Moves.{get-map, is_steady, outlook_at}
+use Rattle.cf_core.proofs.Keeping.Moves.{get-map, is_steady, settled_view_at}
 use Rattle.cf_core.proofs.Keeping.Places.{lowest_below, lowest_within}
 
 -- ---- where no flag is set
@@ -64,8 +64,8 @@ length-all_treated below [] kept = refl
 length-all_treated below (p ∷ plan) [] = refl
 length-all_treated below (p ∷ plan) (k ∷ kept) = ap suc (length-all_treated (below ++ treated below p k ∷ []) plan kept)
 
-pub length-outlook : (plan : List PlannedStage) (kept : List KeptStage) → length (outlook plan kept) ≡ length kept
-length-outlook plan kept = length-map (all_treated [] plan kept) (λ (k : KeptStage). k.stage) ∙ length-all_treated [] plan kept
+pub length-settled_view : (plan : List PlannedStage) (kept : List KeptStage) → length (settled_view plan kept) ≡ length kept
+length-settled_view plan kept = length-map (all_treated [] plan kept) (λ (k : KeptStage). k.stage) ∙ length-all_treated [] plan kept
 
 -- ---- the lowest ready stage
 
@@ -91,8 +91,8 @@ module _ (plan : List PlannedStage) (kept : List KeptStage) (marks ready : List 
         ∙ h.waits i p k ep ek (treated i (omega arith)))
   ])
 
-  stage_at : (i n : ℕ) → i < length plan → IsSteady [] plan kept n → i < n → is_ready (get_or (outlook plan kept) i Pending) ≡ is_ready ((kept_at kept i).stage)
-  stage_at i n l steady below = ap is_ready (get_is (outlook plan kept) i ((kept_at kept i).stage) Pending (outlook_at plan kept marks ready links steps turns h i n l steady below))
+  stage_at : (i n : ℕ) → i < length plan → IsSteady [] plan kept n → i < n → is_ready (get_or (settled_view plan kept) i Pending) ≡ is_ready ((kept_at kept i).stage)
+  stage_at i n l steady below = ap is_ready (get_is (settled_view plan kept) i ((kept_at kept i).stage) Pending (settled_view_at plan kept marks ready links steps turns h i n l steady below))
 
   flag_is : (i : ℕ) → i < length kept → is_ready ((kept_at kept i).stage) ≡ get_or ready i false
   flag_is i l = sym (get_is ready i (is_ready ((kept_at kept i).stage)) false (flag_at i l))
@@ -107,7 +107,7 @@ module _ (plan : List PlannedStage) (kept : List KeptStage) (marks ready : List 
       let out = get_is ready d false false (flag_at d in_kept ∙ ap (λ b. Some b) e) in
       sym (ap (set ready d) (sym out) ∙ set-get_or ready d false)
 
-  pub ready_first : (r : ℕ) → position (λ b. b) ready ≡ Some r → AreTreated r marks → position is_ready (outlook plan kept) ≡ Some r
+  pub ready_first : (r : ℕ) → position (λ b. b) ready ≡ Some r → AreTreated r marks → position is_ready (settled_view plan kept) ≡ Some r
   ready_first r lowest treated =
       let first = position-Some (λ b. b) ready r false lowest in
       let all = all_flags in
@@ -115,23 +115,23 @@ module _ (plan : List PlannedStage) (kept : List KeptStage) (marks ready : List 
       let in_plan : r < length plan = omega (arith, h.all_kept) in
       let is = flag_is r in_kept ∙ first.1 in
       let steady = steady_to r treated is in
-      let count = length-outlook plan kept in
-      position_is is_ready (outlook plan kept) r Pending (omega (arith, count))
+      let count = length-settled_view plan kept in
+      position_is is_ready (settled_view plan kept) r Pending (omega (arith, count))
       (λ j l. stage_at j (r + 1) (omega arith) steady (omega arith) ∙ flag_is j (omega arith) ∙ first.2 j l)
       (stage_at r (r + 1) in_plan steady (omega arith) ∙ is)
 
-  pub ready_none : position (λ b. b) ready ≡ None → position (λ b. b) marks ≡ None → position is_ready (outlook plan kept) ≡ None
+  pub ready_none : position (λ b. b) ready ≡ None → position (λ b. b) marks ≡ None → position is_ready (settled_view plan kept) ≡ None
   ready_none lowest unmarked =
       let all = all_flags in
-      let count = length-outlook plan kept in
+      let count = length-settled_view plan kept in
       let steady = is_steady plan kept marks ready links steps turns h (length plan) (none_marked marks (length plan) unmarked (omega (arith, h.all_marks))) in
       let flags = none_marked ready (length ready) lowest (omega arith) in
-      position_is_none is_ready (outlook plan kept) Pending
+      position_is_none is_ready (settled_view plan kept) Pending
       (λ j l. (let in_kept : j < length kept = omega (arith, count) in
       let in_plan : j < length plan = omega (arith, h.all_kept) in
       stage_at j (length plan) in_plan steady in_plan ∙ flag_is j in_kept ∙ get_is ready j false false (flags j (omega (arith, all)))))
 
-  pub lowest_ready_is : (x : Option ℕ) → position (λ b. b) ready ≡ x → MatchOption x (position (λ b. b) marks ≡ None) (λ r. AreTreated r marks) → position is_ready (outlook plan kept) ≡ x
+  pub lowest_ready_is : (x : Option ℕ) → position (λ b. b) ready ≡ x → MatchOption x (position (λ b. b) marks ≡ None) (λ r. AreTreated r marks) → position is_ready (settled_view plan kept) ≡ x
   lowest_ready_is None e h = ready_none e h
   lowest_ready_is (Some r) e h = ready_first r e h
 

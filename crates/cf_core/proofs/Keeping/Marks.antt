@@ -2,11 +2,11 @@
 use Rattle.std.proofs.Common.{◌≡◌, ◌≢◌, ℕ, ◌<◌, ◌∷◌, ◌++◌, [], List, Some, Contains, suc, zero, arith, ap, sym, ◌∙◌, refl, set, map, take, append_assoc, append-nil}
 use Rattle.std.specs.Prelude.{slice_get, option_and_then}
 use Rattle.cf_plan.specs.Plans.{PlannedStage}
-use Rattle.cf_core.proofs.StateLemmas.{slice_get-set_other}
-use Rattle.cf_core.specs.declared.stage.Stage.{Stage}
-use Rattle.cf_core.specs.declared.stage.Stage.TheVariants.{Pending, Ready, Claimed, Linked, Settled}
+use Rattle.cf_model.proofs.StateLemmas.{slice_get-set_other}
+use Rattle.cf_model.specs.declared.stage.Stage.{Stage}
+use Rattle.cf_model.specs.declared.stage.Stage.TheVariants.{Pending, Ready, Claimed, Linked, Settled}
 use Rattle.cf_core.specs.declared.kept.KeptStage.{KeptStage}
-use Rattle.cf_core.specs.Keeping.Late.{treated, treated_by, due_kept, late_due, dated_in, dated_of, linked_kept, IsSteady}
+use Rattle.cf_core.specs.Keeping.Treatment.{treated, treated_by, due_kept, late_due, dated_in, dated_of, linked_kept, IsSteady}
 use Rattle.cf_core.specs.Keeping.Marks.{SteadyByStage, OthersWait}
 
 steady : (below : List KeptStage) (plan : List PlannedStage) (kept : List KeptStage) (m : ℕ) →

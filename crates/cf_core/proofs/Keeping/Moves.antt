@@ -8,12 +8,12 @@ use Rattle.cf_outcome.specs.declared.outcome.Outcome.{Outcome}
 use Rattle.cf_plan.specs.declared.forms.Args.{Args}
 use Rattle.cf_plan.specs.Forms.{composes}
 use Rattle.cf_plan.specs.Plans.{PlannedStage, form_at, dependents_of}
-use Rattle.cf_core.specs.declared.stage.Stage.TheVariants.{Ready, Claimed, Linked, Settled}
-use Rattle.cf_core.specs.States.{outcome_of, outcome_in, new_states}
+use Rattle.cf_model.specs.declared.stage.Stage.TheVariants.{Ready, Claimed, Linked, Settled}
+use Rattle.cf_model.specs.States.{outcome_of, outcome_in, new_states}
 use Rattle.cf_core.specs.declared.kept.KeptStage.{KeptStage}
-use Rattle.cf_core.specs.Keeping.Late.{IsSteady, all_treated, dated_in, linked_kept, stages_of, treated}
+use Rattle.cf_core.specs.Keeping.Treatment.{IsSteady, all_treated, dated_in, linked_kept, stages_of, treated}
 use Rattle.cf_core.specs.Keeping.Links.{list_at}
-use Rattle.cf_core.specs.Keeping.Sound.{AreBound, IsSound, is_bound, kept_at, mark_all, marks_of, link_marks, outlook, steps_of}
+use Rattle.cf_core.specs.Keeping.Sound.{AreBound, IsSound, is_bound, kept_at, mark_all, marks_of, link_marks, settled_view, steps_of}
 use Rattle.cf_core.proofs.Keeping.Marking.{get-set_same, get-set_other}
 use Rattle.cf_core.proofs.Keeping.Sums.{sum_by-set_at, list_in_sum, kept_there, kept_is, list_there, there_within}
 use Rattle.cf_core.proofs.Keeping.Waiting.{steady_below, steady_at, treated-take, sources_below}
@@ -39,17 +39,17 @@ module _ (plan : List PlannedStage) (kept : List KeptStage) (marks ready : List 
   is_steady m none = steady_below plan kept marks links m h.sources_lower h.waits h.listed none
 
   -- a stage below all marks is as it is kept
-  pub outlook_at : (d m : ℕ) → d < length plan → IsSteady [] plan kept m → d < m → slice_get (outlook plan kept) d ≡ Some ((kept_at kept d).stage)
-  outlook_at d m l steady below =
+  pub settled_view_at : (d m : ℕ) → d < length plan → IsSteady [] plan kept m → d < m → slice_get (settled_view plan kept) d ≡ Some ((kept_at kept d).stage)
+  settled_view_at d m l steady below =
       get-map (λ (k : KeptStage). k.stage) (all_treated [] plan kept) d
       ∙ ap (option_map (λ (k : KeptStage). k.stage)) (steady_at plan kept m d steady below ∙ kept_there kept d (omega (arith, h.all_kept)))
 
-  pub outcome_there : (d m : ℕ) → d < length plan → IsSteady [] plan kept m → d < m → outcome_in (outlook plan kept) d ≡ outcome_of ((kept_at kept d).stage)
-  outcome_there d m l steady below = ap (option_and_then outcome_of) (outlook_at d m l steady below)
+  pub outcome_there : (d m : ℕ) → d < length plan → IsSteady [] plan kept m → d < m → outcome_in (settled_view plan kept) d ≡ outcome_of ((kept_at kept d).stage)
+  outcome_there d m l steady below = ap (option_and_then outcome_of) (settled_view_at d m l steady below)
 
   -- ---- a turn
 
-  pub turn_same : (m : ℕ) (p : PlannedStage) → slice_get plan m ≡ Some p → IsSteady [] plan kept m → outlook plan (set kept m (treated kept p (kept_at kept m))) ≡ outlook plan kept
+  pub turn_same : (m : ℕ) (p : PlannedStage) → slice_get plan m ≡ Some p → IsSteady [] plan kept m → settled_view plan (set kept m (treated kept p (kept_at kept m))) ≡ settled_view plan kept
   turn_same m p planned steady =
       let k = kept_at kept m in
       let l = there_within plan m p planned in
@@ -66,7 +66,7 @@ module _ (plan : List PlannedStage) (kept : List KeptStage) (marks ready : List 
   settle_sound d o l e = settled_sound plan kept marks ready links steps turns (names_dependents plan) h d o (steps + 1) (steps + 1) turns marks l e (omega arith) (omega arith) (omega arith) refl (λ i ne. refl) (omega arith)
 
   pub settle_same : (d m : ℕ) (o : Outcome) → d < length plan → IsSteady [] plan kept m → d < m → outcome_of ((kept_at kept d).stage) ≡ None →
-      outlook plan (set kept d (record { stage = Settled o; step = steps + 1 })) ≡ new_states [] plan (set (outlook plan kept) d (Settled o))
+      settled_view plan (set kept d (record { stage = Settled o; step = steps + 1 })) ≡ new_states [] plan (set (settled_view plan kept) d (Settled o))
   settle_same d m o l steady below e = settling_is_after plan kept d steps o h.kept_steps (outcome_there d m l steady below ∙ e)
 
   -- ---- a ready stage is claimed
@@ -86,7 +86,7 @@ module _ (plan : List PlannedStage) (kept : List KeptStage) (marks ready : List 
       (omega (arith, budget))
 
   pub claim_same : (d step m : ℕ) (args : Args) → d < length plan → IsSteady [] plan kept m → d < m → (kept_at kept d).stage ≡ Ready args →
-      outlook plan (set kept d (record { stage = Claimed; step = step })) ≡ set (outlook plan kept) d Claimed
+      settled_view plan (set kept d (record { stage = Claimed; step = step })) ≡ set (settled_view plan kept) d Claimed
   claim_same d step m args l steady below e = claiming_is_alone plan kept d step (outcome_there d m l steady below ∙ ap outcome_of e)
 
   -- ---- the stages that stand in lists are there
@@ -155,6 +155,6 @@ module _ (plan : List PlannedStage) (kept : List KeptStage) (marks ready : List 
       ]
 
   pub link_same : (d j step m : ℕ) → d < length plan → IsSteady [] plan kept m → d < m → j < d → (kept_at kept d).stage ≡ Claimed → outcome_of ((kept_at kept j).stage) ≡ None →
-      outlook plan (set kept d (record { stage = Linked j; step = step })) ≡ set (outlook plan kept) d (Linked j)
+      settled_view plan (set kept d (record { stage = Linked j; step = step })) ≡ set (settled_view plan kept) d (Linked j)
   link_same d j step m l steady below lower e open_target =
       linking_is_alone plan kept d j step lower (outcome_there d m l steady below ∙ ap outcome_of e) (outcome_there j m (omega arith) steady (omega arith) ∙ open_target)

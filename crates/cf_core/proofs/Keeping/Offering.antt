@@ -11,10 +11,10 @@ use Rattle.cf_plan.specs.declared.forms.Answer.TheVariants.{Give}
 use Rattle.cf_plan.specs.declared.forms.Due.TheVariants.{Needs}
 use Rattle.cf_plan.specs.declared.forms.Landing.TheVariants.{Settles as Lands}
 use Rattle.cf_plan.specs.Forms.{landing}
-use Rattle.cf_core.specs.declared.stage.Stage.{Stage}
-use Rattle.cf_core.specs.declared.stage.Stage.TheVariants.{Pending, Ready, Claimed, Linked, Settled}
-use Rattle.cf_core.specs.States.{is_ready}
-use Rattle.cf_core.specs.Keeping.Late.{late_due, outcome_part}
+use Rattle.cf_model.specs.declared.stage.Stage.{Stage}
+use Rattle.cf_model.specs.declared.stage.Stage.TheVariants.{Pending, Ready, Claimed, Linked, Settled}
+use Rattle.cf_model.specs.States.{is_ready}
+use Rattle.cf_core.specs.Keeping.Treatment.{late_due, outcome_part}
 use Rattle.cf_core.specs.Keeping.Offers.{args_of, keeps_value, takes_values, two_values}
 
 both_values : (form : Form) (v w : Value) (step last : ℕ) → takes_values form ≡ true → (late_due form (Some (Gives v, step) ∷ Some (Gives w, last) ∷ [])).0 ≡ Needs (Two v w)

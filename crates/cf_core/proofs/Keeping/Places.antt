@@ -7,15 +7,15 @@ use Rattle.std.proofs.lemmas.Bool.Decides.{eqb_tells}
 use Rattle.std.proofs.lemmas.List.Quantifiers.{position-Some}
 use Rattle.std.proofs.lemmas.Option.{slice_get-get_or}
 use Rattle.cf_plan.specs.Plans.{PlannedStage}
-use Rattle.cf_core.specs.declared.stage.Stage.{Stage}
-use Rattle.cf_core.specs.declared.stage.Stage.TheVariants.{Pending, Ready, Claimed, Linked, Settled}
-use Rattle.cf_core.specs.States.{is_ready, outcome_of}
+use Rattle.cf_model.specs.declared.stage.Stage.{Stage}
+use Rattle.cf_model.specs.declared.stage.Stage.TheVariants.{Pending, Ready, Claimed, Linked, Settled}
+use Rattle.cf_model.specs.States.{is_ready, outcome_of}
 use Rattle.cf_core.specs.declared.kept.KeptStage.{KeptStage}
-use Rattle.cf_core.specs.Keeping.Late.{dated_in, dated_of, treated, treated_by}
+use Rattle.cf_core.specs.Keeping.Treatment.{dated_in, dated_of, treated, treated_by}
 use Rattle.cf_core.specs.Keeping.Turns.{planned_at, turned}
 use Rattle.std.proofs.lemmas.List.{length-set, set-get_or}
 use Rattle.cf_bits.proofs.Positions.{position_is}
-use Rattle.cf_core.specs.Keeping.Sound.{AreTreated, IsSound, StayTaken, StayTakenBut, is_taken, is_waiting, kept_at, links_after, marks_after, outlook}
+use Rattle.cf_core.specs.Keeping.Sound.{AreTreated, IsSound, StayTaken, StayTakenBut, is_taken, is_waiting, kept_at, links_after, marks_after, settled_view}
 use Rattle.cf_core.proofs.Keeping.Marking.{get-set_same, get-set_other}
 use Rattle.cf_core.proofs.Keeping.Sums.{kept_is, kept_there}
 use Rattle.cf_core.proofs.Keeping.Soundness.{idle_sound, turn_sound}
@@ -113,9 +113,9 @@ module _ (plan : List PlannedStage) (kept : List KeptStage) (marks ready : List 
   turn_kept new is waiting =
       rw is (turn_sound plan kept marks ready links steps turns h m (planned_at plan m) (planned_there plan m turn_within) (lowest_marked marks m lowest) waiting)
 
-  pub turn_outlook : (new : KeptStage) → new ≡ treated kept (planned_at plan m) (kept_at kept m) → outlook plan (set kept m new) ≡ outlook plan kept
-  turn_outlook new is =
-      ap (λ k. outlook plan (set kept m k)) is
+  pub turn_settled_view : (new : KeptStage) → new ≡ treated kept (planned_at plan m) (kept_at kept m) → settled_view plan (set kept m new) ≡ settled_view plan kept
+  turn_settled_view new is =
+      ap (λ k. settled_view plan (set kept m k)) is
       ∙ turn_same plan kept marks ready links steps turns h m (planned_at plan m) (planned_there plan m turn_within) (is_steady plan kept marks ready links steps turns h m (lowest_below marks m lowest))
 
   pub turn_taken : (new : KeptStage) → is_waiting ((kept_at kept m).stage) ≡ true → StayTaken kept (set kept m new)

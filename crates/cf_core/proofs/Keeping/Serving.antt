@@ -14,24 +14,24 @@ use Rattle.cf_plan.specs.declared.forms.Landing.TheVariants.{Settles as Lands, L
 use Rattle.cf_plan.specs.Forms.{landing}
 use Rattle.cf_plan.specs.Meanings.{Meanings, stage_answer}
 use Rattle.cf_plan.specs.Plans.{PlannedStage, form_at, sources_at}
-use Rattle.cf_core.specs.declared.stage.Stage.{Stage}
-use Rattle.cf_core.specs.declared.stage.Stage.TheVariants.{Pending, Ready, Claimed, Linked, Settled}
-use Rattle.cf_core.specs.declared.replies.Claimed.TheVariants.{Granted}
-use Rattle.cf_core.specs.declared.replies.Finished.{Finished}
-use Rattle.cf_core.specs.declared.replies.Finished.TheVariants.{Won}
-use Rattle.cf_core.specs.declared.events.Event.TheVariants.{Claim as Claims}
-use Rattle.cf_core.specs.declared.events.Reply.{Reply}
-use Rattle.cf_core.specs.declared.events.Reply.TheVariants.{Claim as ToldClaim}
-use Rattle.cf_core.specs.States.{State, is_ready, outcome_of, outcome_in, new_states}
-use Rattle.cf_core.specs.Events.{answered, claimed_by, claiming, finishing, told_as}
-use Rattle.cf_core.specs.Working.{finished_after, worked_once}
+use Rattle.cf_model.specs.declared.stage.Stage.{Stage}
+use Rattle.cf_model.specs.declared.stage.Stage.TheVariants.{Pending, Ready, Claimed, Linked, Settled}
+use Rattle.cf_model.specs.declared.replies.Claimed.TheVariants.{Granted}
+use Rattle.cf_model.specs.declared.replies.Finished.{Finished}
+use Rattle.cf_model.specs.declared.replies.Finished.TheVariants.{Won}
+use Rattle.cf_model.specs.declared.events.Event.TheVariants.{Claim as Claims}
+use Rattle.cf_model.specs.declared.events.Reply.{Reply}
+use Rattle.cf_model.specs.declared.events.Reply.TheVariants.{Claim as ToldClaim}
+use Rattle.cf_model.specs.States.{State, is_ready, outcome_of, outcome_in, new_states}
+use Rattle.cf_model.specs.Events.{answered, claimed_by, claiming, finishing, told_as}
+use Rattle.cf_model.specs.Working.{finished_after, worked_once}
 use Rattle.cf_core.specs.Keeping.Landings.{landed_stages, linked_stages}
 use Rattle.cf_core.specs.Keeping.Serving.{served, served_by}
 use Rattle.cf_core.specs.Keeping.Sound.{AreTreated, kept_at}
-use Rattle.cf_core.specs.Keeping.SoundStages.{AreSound, outlook_of}
+use Rattle.cf_core.specs.Keeping.SoundStages.{AreSound, settled_view_of}
 use Rattle.cf_core.specs.declared.stages.Stages.{Stages}
 use Rattle.cf_core.proofs.Keeping.Marking.{get-set_same}
-use Rattle.cf_core.proofs.Keeping.Lowest.{length-outlook}
+use Rattle.cf_core.proofs.Keeping.Lowest.{length-settled_view}
 use Rattle.cf_core.proofs.Keeping.GraphLemmas.{finishes_now, told_stage}
 
 -- ---- what is read of the stages once one is claimed
@@ -51,11 +51,11 @@ claimed-source xs i args (Some j) e = sym (claimed-outcome xs i j args e)
 -- ---- landing
 
 -- once a stage is claimed, and treated again, it is kept as claimed
-pub kept_claimed : (plan : List PlannedStage) (s r t : Stages) (d : ℕ) → AreSound plan s → d < length plan → AreTreated (d + 1) s.marks → outlook_of plan r ≡ set (outlook_of plan s) d Claimed →
-    outlook_of plan t ≡ outlook_of plan r → AreSound plan t → AreTreated (d + 1) t.marks → (kept_at t.kept.items d).stage ≡ Claimed
+pub kept_claimed : (plan : List PlannedStage) (s r t : Stages) (d : ℕ) → AreSound plan s → d < length plan → AreTreated (d + 1) s.marks → settled_view_of plan r ≡ set (settled_view_of plan s) d Claimed →
+    settled_view_of plan t ≡ settled_view_of plan r → AreSound plan t → AreTreated (d + 1) t.marks → (kept_at t.kept.items d).stage ≡ Claimed
 kept_claimed plan s r t d before l first claimed same sound treated =
-    let l_seen = slice_get_within (outlook_of plan s) d ((kept_at s.kept.items d).stage) (told_stage plan s d before l first) in
-    let is : slice_get (outlook_of plan t) d ≡ Some Claimed = ap (λ xs. slice_get xs d) (same ∙ claimed) ∙ get-set_same (outlook_of plan s) d Claimed l_seen in
+    let l_seen = slice_get_within (settled_view_of plan s) d ((kept_at s.kept.items d).stage) (told_stage plan s d before l first) in
+    let is : slice_get (settled_view_of plan t) d ≡ Some Claimed = ap (λ xs. slice_get xs d) (same ∙ claimed) ∙ get-set_same (settled_view_of plan s) d Claimed l_seen in
     let told = told_stage plan t d sound l treated in
     let both : Some ((kept_at t.kept.items d).stage) ≡ Some Claimed = sym told ∙ is in cc
 
@@ -126,10 +126,10 @@ served_as who meanings s i (Linked j) e ready l lc = cc
 served_as who meanings s i (Settled o) e ready l lc = cc
 
 -- the stage that was found is there
-pub found_within : (plan : List PlannedStage) (s : Stages) (i : ℕ) → AreSound plan s → Some i ≡ position is_ready (outlook_of plan s) → i < length plan
+pub found_within : (plan : List PlannedStage) (s : Stages) (i : ℕ) → AreSound plan s → Some i ≡ position is_ready (settled_view_of plan s) → i < length plan
 found_within plan s i h told =
-    let found = position-Some is_ready (outlook_of plan s) i Pending (sym told) in
-    let all = length-outlook plan s.kept.items in
+    let found = position-Some is_ready (settled_view_of plan s) i Pending (sym told) in
+    let all = length-settled_view plan s.kept.items in
     omega (arith, found.0, all, h.all_kept)
 
 -- what is done with the lowest ready stage is what its claim and its finish do

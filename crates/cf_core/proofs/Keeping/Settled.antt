@@ -3,14 +3,14 @@ use Rattle.std.proofs.Common.{◌≡◌, ℕ, ◌∷◌, ◌++◌, [], List, Som
 use Rattle.std.specs.Prelude.{is_some, option_and_then, slice_get}
 use Rattle.cf_outcome.specs.declared.outcome.Outcome.{Outcome}
 use Rattle.cf_plan.specs.Plans.{PlannedStage}
-use Rattle.cf_core.specs.declared.stage.Stage.{Stage}
-use Rattle.cf_core.specs.declared.stage.Stage.TheVariants.{Pending, Ready, Claimed, Linked, Settled}
+use Rattle.cf_model.specs.declared.stage.Stage.{Stage}
+use Rattle.cf_model.specs.declared.stage.Stage.TheVariants.{Pending, Ready, Claimed, Linked, Settled}
 use Rattle.cf_core.specs.declared.kept.KeptStage.{KeptStage}
 use Rattle.cf_core.specs.declared.stages.Stages.{Stages}
-use Rattle.cf_core.specs.States.{outcome_in, outcome_of}
-use Rattle.cf_core.specs.Keeping.Late.{all_treated, stages_of, treated, treated_by}
+use Rattle.cf_model.specs.States.{outcome_in, outcome_of}
+use Rattle.cf_core.specs.Keeping.Treatment.{all_treated, stages_of, treated, treated_by}
 use Rattle.cf_core.specs.Keeping.Sound.{kept_at}
-use Rattle.cf_core.specs.Keeping.SoundStages.{outlook_of}
+use Rattle.cf_core.specs.Keeping.SoundStages.{settled_view_of}
 
 -- its treatment leaves it as it is
 treated-settled : (below : List KeptStage) (p : PlannedStage) (stage : Stage) (step : ℕ) (o : Outcome) → outcome_of stage ≡ Some o → outcome_of ((treated_by below p stage step).stage) ≡ Some o
@@ -44,8 +44,8 @@ settled_there : (x : Option Stage) (o : Outcome) → option_and_then outcome_of 
 settled_there None o e = cc
 settled_there (Some stage) o e = ap (λ y. Some y) (settled_stage stage o e)
 
-pub told_settled : (plan : List PlannedStage) (s : Stages) (i : ℕ) (o : Outcome) → outcome_of ((kept_at s.kept.items i).stage) ≡ Some o → outcome_in (outlook_of plan s) i ≡ Some o
+pub told_settled : (plan : List PlannedStage) (s : Stages) (i : ℕ) (o : Outcome) → outcome_of ((kept_at s.kept.items i).stage) ≡ Some o → outcome_in (settled_view_of plan s) i ≡ Some o
 told_settled plan s i o e = all_treated-settled [] plan s.kept.items i o e
 
-pub told_settled_stage : (plan : List PlannedStage) (s : Stages) (i : ℕ) (o : Outcome) → outcome_of ((kept_at s.kept.items i).stage) ≡ Some o → slice_get (outlook_of plan s) i ≡ Some (Settled o)
-told_settled_stage plan s i o e = settled_there (slice_get (outlook_of plan s) i) o (told_settled plan s i o e)
+pub told_settled_stage : (plan : List PlannedStage) (s : Stages) (i : ℕ) (o : Outcome) → outcome_of ((kept_at s.kept.items i).stage) ≡ Some o → slice_get (settled_view_of plan s) i ≡ Some (Settled o)
+told_settled_stage plan s i o e = settled_there (slice_get (settled_view_of plan s) i) o (told_settled plan s i o e)

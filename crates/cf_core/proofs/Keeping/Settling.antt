@@ -8,11 +8,11 @@ use Rattle.std.proofs.lemmas.List.{map-append, map-set}
 use Rattle.std.specs.Option.{option_map}
 use Rattle.cf_outcome.specs.declared.outcome.Outcome.{Outcome}
 use Rattle.cf_plan.specs.Plans.{PlannedStage}
-use Rattle.cf_core.specs.declared.stage.Stage.{Stage}
-use Rattle.cf_core.specs.declared.stage.Stage.TheVariants.{Pending, Ready, Claimed, Linked, Settled}
-use Rattle.cf_core.specs.States.{outcome_of, outcome_in, due_state, next_of, new_states}
+use Rattle.cf_model.specs.declared.stage.Stage.{Stage}
+use Rattle.cf_model.specs.declared.stage.Stage.TheVariants.{Pending, Ready, Claimed, Linked, Settled}
+use Rattle.cf_model.specs.States.{outcome_of, outcome_in, due_state, next_of, new_states}
 use Rattle.cf_core.specs.declared.kept.KeptStage.{KeptStage}
-use Rattle.cf_core.specs.Keeping.Late.{SettlingIsAfter, StepsUpTo, stages_of, all_treated, treated, treated_by, due_kept, late_due, dated_in, dated_of, linked_kept, outcome_part}
+use Rattle.cf_core.specs.Keeping.Treatment.{SettlingIsAfter, StepsUpTo, stages_of, all_treated, treated, treated_by, due_kept, late_due, dated_in, dated_of, linked_kept, outcome_part}
 
 -- so it is stage by stage
 abbrev Grown : ℕ → List KeptStage → List KeptStage → Type 0

@@ -12,11 +12,11 @@ use Rattle.cf_plan.specs.declared.forms.Due.{Due}
 use Rattle.cf_plan.specs.declared.forms.Due.TheVariants.{Waits as IsWaits, Settles, Needs}
 use Rattle.cf_plan.specs.Plans.{PlannedStage, dependents_of, form_at, mentions, sources_at}
 use Rattle.cf_plan.proofs.DependentLemmas.{dependents_converse}
-use Rattle.cf_core.specs.declared.stage.Stage.{Stage}
-use Rattle.cf_core.specs.declared.stage.Stage.TheVariants.{Pending, Ready, Claimed, Linked, Settled}
-use Rattle.cf_core.specs.States.{outcome_of, is_ready}
+use Rattle.cf_model.specs.declared.stage.Stage.{Stage}
+use Rattle.cf_model.specs.declared.stage.Stage.TheVariants.{Pending, Ready, Claimed, Linked, Settled}
+use Rattle.cf_model.specs.States.{outcome_of, is_ready}
 use Rattle.cf_core.specs.declared.kept.KeptStage.{KeptStage}
-use Rattle.cf_core.specs.Keeping.Late.{dated_in, dated_of, treated, treated_by, due_kept, late_due, linked_kept}
+use Rattle.cf_core.specs.Keeping.Treatment.{dated_in, dated_of, treated, treated_by, due_kept, late_due, linked_kept}
 use Rattle.cf_core.specs.Keeping.Marks.{WaitsNow}
 use Rattle.cf_core.specs.Keeping.Links.{list_at, IsFree}
 use Rattle.cf_core.specs.Keeping.Sound.{IsSound, IsListed, AreAbove, AreListed, AreBound, is_waiting, is_bound, kept_at, mark_all, marks_after, links_after, marks_of, steps_of, link_marks}

@@ -11,10 +11,10 @@ use Rattle.cf_plan.specs.declared.forms.Due.{Due}
 use Rattle.cf_plan.specs.declared.forms.Due.TheVariants.{Waits, Settles, Needs}
 use Rattle.cf_plan.specs.Forms.{follows, due_of_first, first_there}
 use Rattle.cf_plan.specs.Plans.{PlannedStage}
-use Rattle.cf_core.specs.declared.stage.Stage.TheVariants.{Pending}
-use Rattle.cf_core.specs.States.{outcome_of, outcome_in, due_state, new_states}
+use Rattle.cf_model.specs.declared.stage.Stage.TheVariants.{Pending}
+use Rattle.cf_model.specs.States.{outcome_of, outcome_in, due_state, new_states}
 use Rattle.cf_core.specs.declared.kept.KeptStage.{KeptStage}
-use Rattle.cf_core.specs.Keeping.Late.{StepsUpTo, all_treated, stages_of, treated, due_kept, late_due, dated_in, earlier, earliest, step_part, outcome_part}
+use Rattle.cf_core.specs.Keeping.Treatment.{StepsUpTo, all_treated, stages_of, treated, due_kept, late_due, dated_in, earlier, earliest, step_part, outcome_part}
 use Rattle.cf_core.specs.Keeping.Starts.{TreatingStarts, untreated}
 use Rattle.cf_core.proofs.Keeping.Settling.{outcome_in-stages_of}
 use Rattle.cf_core.proofs.Keeping.Waiting.{treated-few}

@@ -14,10 +14,10 @@ use Rattle.cf_plan.specs.declared.forms.Due.TheVariants.{Waits}
 use Rattle.cf_plan.specs.Forms.{due_of_both, due_of_first, starts}
 use Rattle.cf_plan.specs.Plans.{starts_from, starts_of, PlannedStage, HasLowerSources, dependents_of, edges_of, form_at, sources_at}
 use Rattle.cf_plan.proofs.DependentLemmas.{all_dependents}
-use Rattle.cf_core.specs.States.{is_ready}
-use Rattle.cf_core.proofs.StateLemmas.{form_at-within, sources_at-within}
+use Rattle.cf_model.specs.States.{is_ready}
+use Rattle.cf_model.proofs.StateLemmas.{form_at-within, sources_at-within}
 use Rattle.cf_core.specs.declared.kept.KeptStage.{KeptStage}
-use Rattle.cf_core.specs.Keeping.Late.{StepsUpTo, dated_in, due_kept, earliest, late_due, outcome_part, treated}
+use Rattle.cf_core.specs.Keeping.Treatment.{StepsUpTo, dated_in, due_kept, earliest, late_due, outcome_part, treated}
 use Rattle.cf_core.specs.Keeping.Links.{list_at}
 use Rattle.cf_core.specs.Keeping.Sound.{HasLists, IsSound, is_bound, kept_at, link_marks, marks_from, steps_of}
 use Rattle.cf_core.specs.Keeping.Starts.{mark_starts, mark_those, untreated}

@@ -4,9 +4,9 @@ use Rattle.std.specs.Prelude.{slice_get, unwrap_or}
 use Rattle.std.specs.List.{sum_by}
 use Rattle.std.proofs.lemmas.List.Sums.{sum_by-cons}
 use Rattle.cf_plan.specs.Plans.{PlannedStage}
-use Rattle.cf_core.specs.declared.stage.Stage.TheVariants.{Pending}
+use Rattle.cf_model.specs.declared.stage.Stage.TheVariants.{Pending}
 use Rattle.cf_core.specs.declared.kept.KeptStage.{KeptStage}
-use Rattle.cf_core.specs.Keeping.Late.{StepsUpTo}
+use Rattle.cf_core.specs.Keeping.Treatment.{StepsUpTo}
 use Rattle.cf_core.specs.Keeping.Links.{list_at}
 use Rattle.cf_core.specs.Keeping.Sound.{kept_at, marks_of, marks_from}
 

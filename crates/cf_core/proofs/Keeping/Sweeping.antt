@@ -12,27 +12,28 @@ use Rattle.cf_plan.specs.Forms.{composes}
 use Rattle.cf_plan.specs.Meanings.{Meanings}
 use Rattle.cf_plan.specs.Plans.{PlannedStage, dependents_of, form_at}
 use Rattle.cf_plan.proofs.DependentLemmas.{dependents_above}
-use Rattle.cf_core.specs.declared.stage.Stage.{Stage}
-use Rattle.cf_core.specs.declared.stage.Stage.TheVariants.{Pending, Ready, Claimed, Linked, Settled}
+use Rattle.cf_model.specs.declared.stage.Stage.{Stage}
+use Rattle.cf_model.specs.declared.stage.Stage.TheVariants.{Pending, Ready, Claimed, Linked, Settled}
 use Rattle.cf_core.specs.declared.kept.KeptStage.{KeptStage}
-use Rattle.cf_core.specs.States.{State, is_ready, new_states, outcome_in, outcome_of}
+use Rattle.cf_model.specs.States.{State, is_ready, new_states, outcome_in, outcome_of}
 use Rattle.cf_core.specs.declared.stages.Stages.{Stages}
 use Rattle.cf_core.specs.Keeping.SoundStages.{AreSound}
-use Rattle.cf_core.specs.Keeping.Late.{IsSteady, dated_in, treated}
+use Rattle.cf_core.specs.Keeping.Treatment.{IsSteady, dated_in, treated}
 use Rattle.cf_core.specs.Keeping.Links.{IsFree, list_at}
-use Rattle.cf_core.specs.Growth.{SameShape}
-use Rattle.cf_core.specs.Working.{worked_once}
-use Rattle.cf_core.specs.Keeping.Serving.{AreWorkedOn, Works, served}
-use Rattle.cf_core.specs.Keeping.Sound.{AreTreated, IsSound, StayTaken, is_bound, is_waiting, kept_at, links_after, mark_all, mark_one, marks_after, outlook}
+use Rattle.cf_model.specs.Growth.{SameShape}
+use Rattle.cf_model.specs.Working.{worked_once}
+use Rattle.cf_core.specs.Keeping.Serving.{served}
+use Rattle.cf_model.specs.Working.{AreWorkedOn, Works}
+use Rattle.cf_core.specs.Keeping.Sound.{AreTreated, IsSound, StayTaken, is_bound, is_waiting, kept_at, links_after, mark_all, mark_one, marks_after, settled_view}
 use Rattle.cf_core.specs.Keeping.Sweeps.{AreServed, AreSwept, IsReadyWith, IsSwept, Serves, ready_with, turns_after}
 use Rattle.cf_core.specs.Keeping.Offers.{args_of}
 use Rattle.cf_core.specs.Keeping.Turns.{planned_at}
 use Rattle.cf_core.proofs.Keeping.Lowest.{all_flags, flag_at, get_is, ready_first, ready_none}
 use Rattle.cf_core.proofs.Keeping.Marking.{get-set_other, get-set_same}
 use Rattle.cf_core.proofs.Keeping.Marks.{dated_in-set}
-use Rattle.cf_core.proofs.Keeping.Moves.{claim_sound, is_steady, link_room, link_sound, outcome_there, outlook_at, settle_same, settle_sound, turn_same}
+use Rattle.cf_core.proofs.Keeping.Moves.{claim_sound, is_steady, link_room, link_sound, outcome_there, settled_view_at, settle_same, settle_sound, turn_same}
 use Rattle.cf_core.proofs.Keeping.Places.{StayTaken-set, kept_put, planned_there, ready_args, same_put, undated}
-use Rattle.cf_core.proofs.Working.{worked_once-shape}
+use Rattle.cf_model.proofs.Working.{worked_once-shape}
 use Rattle.cf_core.proofs.Keeping.Serving.{works}
 use Rattle.cf_core.proofs.Keeping.Soundness.{bound_free, idle_sound, turn_sound}
 use Rattle.cf_core.proofs.Keeping.Sums.{StepsUpTo-at, kept_there}
@@ -127,10 +128,10 @@ module _ (plan : List PlannedStage) (kept : List KeptStage) (links : List (List 
   swept_steady n m h = is_steady plan kept h.marks h.ready links steps turns h.sound n h.treated
 
   -- a treated stage is seen as it is kept
-  pub swept_stage : (n m i : ℕ) → IsSwept plan n m kept links steps turns → i < length plan → i < n → slice_get (outlook plan kept) i ≡ Some ((kept_at kept i).stage)
-  swept_stage n m i h l b = outlook_at plan kept h.marks h.ready links steps turns h.sound i n l (swept_steady n m h) b
+  pub swept_stage : (n m i : ℕ) → IsSwept plan n m kept links steps turns → i < length plan → i < n → slice_get (settled_view plan kept) i ≡ Some ((kept_at kept i).stage)
+  swept_stage n m i h l b = settled_view_at plan kept h.marks h.ready links steps turns h.sound i n l (swept_steady n m h) b
 
-  pub swept_outcome : (n m i : ℕ) → IsSwept plan n m kept links steps turns → i < length plan → i < n → outcome_in (outlook plan kept) i ≡ outcome_of ((kept_at kept i).stage)
+  pub swept_outcome : (n m i : ℕ) → IsSwept plan n m kept links steps turns → i < length plan → i < n → outcome_in (settled_view plan kept) i ≡ outcome_of ((kept_at kept i).stage)
   swept_outcome n m i h l b = ap (option_and_then outcome_of) (swept_stage n m i h l b)
 
   pub swept_room : (n m j : ℕ) → IsSwept plan n m kept links steps turns → length (list_at links j) < 65535
@@ -167,7 +168,7 @@ module _ (plan : List PlannedStage) (kept : List KeptStage) (links : List (List 
       record { marks = h.marks; ready = h.ready; sound = h.sound; treated = h.treated; served = one_more h.ready m h.served (flag ∙ ap (λ b. Some b) e) }
 
   -- one that is ready is the lowest
-  pub swept_lowest : (m : ℕ) → IsSwept plan (m + 1) m kept links steps turns → m < length plan → is_ready ((kept_at kept m).stage) ≡ true → position is_ready (outlook plan kept) ≡ Some m
+  pub swept_lowest : (m : ℕ) → IsSwept plan (m + 1) m kept links steps turns → m < length plan → is_ready ((kept_at kept m).stage) ≡ true → position is_ready (settled_view plan kept) ≡ Some m
   swept_lowest m h l e =
       let sound = h.sound in
       let in_kept : m < length kept = omega (arith, sound.all_kept, l) in
@@ -186,13 +187,13 @@ module _ (plan : List PlannedStage) (kept : List KeptStage) (links : List (List 
       subst (λ ready. P (replicate (length plan) false) ready) (none_set h.ready (length plan) (all ∙ sound.all_kept) h.served)
       (subst (λ marks. P marks h.ready) (none_set h.marks (length plan) sound.all_marks h.treated) h.sound)
 
-  pub swept_none : IsSwept plan (length plan) (length plan) kept links steps turns → position is_ready (outlook plan kept) ≡ None
+  pub swept_none : IsSwept plan (length plan) (length plan) kept links steps turns → position is_ready (settled_view plan kept) ≡ None
   swept_none h = ready_none plan kept (replicate (length plan) false) (replicate (length plan) false) links steps turns (swept_marks h) (none_of (length plan)) (none_of (length plan))
 
   -- what treating a stage leads to stays
-  pub swept_same : (m : ℕ) (new : KeptStage) → IsSwept plan m m kept links steps turns → m < length plan → new ≡ treated kept (planned_at plan m) (kept_at kept m) → outlook plan (set kept m new) ≡ outlook plan kept
+  pub swept_same : (m : ℕ) (new : KeptStage) → IsSwept plan m m kept links steps turns → m < length plan → new ≡ treated kept (planned_at plan m) (kept_at kept m) → settled_view plan (set kept m new) ≡ settled_view plan kept
   swept_same m new h l is =
-      ap (λ k. outlook plan (set kept m k)) is
+      ap (λ k. settled_view plan (set kept m k)) is
       ∙ turn_same plan kept h.marks h.ready links steps turns h.sound m (planned_at plan m) (planned_there plan m l) (swept_steady m m h)
 
   -- a stage that settles marks none up to it
@@ -305,7 +306,7 @@ module _ (plan : List PlannedStage) (kept : List KeptStage) (links : List (List 
 
   -- what that leads to
   pub swept_link_same : (j step : ℕ) → j < m → is_ready ((kept_at kept m).stage) ≡ true → outcome_of ((kept_at kept j).stage) ≡ None → IsSwept plan (m + 1) m kept links steps turns →
-      outlook plan (set kept m (record { stage = Linked j; step = step })) ≡ set (outlook plan kept) m (Linked j)
+      settled_view plan (set kept m (record { stage = Linked j; step = step })) ≡ set (settled_view plan kept) m (Linked j)
   swept_link_same j step lower e open_target h =
       let steady = swept_steady plan kept links steps turns (m + 1) m h in
       let args = ready_args ((kept_at kept m).stage) e in
@@ -320,7 +321,7 @@ module _ (plan : List PlannedStage) (kept : List KeptStage) (links : List (List 
       IsSwept plan (m + 1) m (ready_with kept m args) links steps (turns + 1)
   offered_ready is waiting h = swept_treated plan kept links steps turns m l (record { stage = Ready args; step = (kept_at kept m).step }) (sym is) waiting h
 
-  pub offered_same : treated kept (planned_at plan m) (kept_at kept m) ≡ record { stage = Ready args; step = (kept_at kept m).step } → IsSwept plan m m kept links steps turns → outlook plan (ready_with kept m args) ≡ outlook plan kept
+  pub offered_same : treated kept (planned_at plan m) (kept_at kept m) ≡ record { stage = Ready args; step = (kept_at kept m).step } → IsSwept plan m m kept links steps turns → settled_view plan (ready_with kept m args) ≡ settled_view plan kept
   offered_same is h = swept_same plan kept links steps turns m (record { stage = Ready args; step = (kept_at kept m).step }) h l (sym is)
 
   there : IsSwept plan (m + 1) m (ready_with kept m args) links steps turns → m < length kept
@@ -332,10 +333,10 @@ module _ (plan : List PlannedStage) (kept : List KeptStage) (links : List (List 
   seen : IsSwept plan (m + 1) m (ready_with kept m args) links steps turns → (kept_at (ready_with kept m args) m).stage ≡ Ready args
   seen h = ap (λ (k : KeptStage). k.stage) (kept_put kept m (record { stage = Ready args; step = (kept_at kept m).step }) (there h))
 
-  pub with_stage : IsSwept plan (m + 1) m (ready_with kept m args) links steps turns → slice_get (outlook plan (ready_with kept m args)) m ≡ Some (Ready args)
+  pub with_stage : IsSwept plan (m + 1) m (ready_with kept m args) links steps turns → slice_get (settled_view plan (ready_with kept m args)) m ≡ Some (Ready args)
   with_stage h = swept_stage plan (ready_with kept m args) links steps turns (m + 1) m m h l (omega arith) ∙ ap (λ x. Some x) (seen h)
 
-  pub with_lowest : IsSwept plan (m + 1) m (ready_with kept m args) links steps turns → position is_ready (outlook plan (ready_with kept m args)) ≡ Some m
+  pub with_lowest : IsSwept plan (m + 1) m (ready_with kept m args) links steps turns → position is_ready (settled_view plan (ready_with kept m args)) ≡ Some m
   with_lowest h = swept_lowest plan (ready_with kept m args) links steps turns m h l (ap is_ready (seen h))
 
   -- it settles in a step of its own
@@ -345,10 +346,10 @@ module _ (plan : List PlannedStage) (kept : List KeptStage) (links : List (List 
       subst (λ after. IsSwept plan (m + 1) (m + 1) after (set links m []) (steps + 1) turns) (set-set kept m (record { stage = Ready args; step = (kept_at kept m).step }) (record { stage = Settled o; step = steps + 1 }))
       (swept_settled plan (ready_with kept m args) links steps turns m l o (ap outcome_of (seen h)) h)
 
-  pub with_settle_same : (o : Outcome) → outlook plan (ready_with kept m args) ≡ outlook plan kept → IsSwept plan (m + 1) m (ready_with kept m args) links steps turns →
-      outlook plan (set kept m (record { stage = Settled o; step = steps + 1 })) ≡ new_states [] plan (set (outlook plan kept) m (Settled o))
+  pub with_settle_same : (o : Outcome) → settled_view plan (ready_with kept m args) ≡ settled_view plan kept → IsSwept plan (m + 1) m (ready_with kept m args) links steps turns →
+      settled_view plan (set kept m (record { stage = Settled o; step = steps + 1 })) ≡ new_states [] plan (set (settled_view plan kept) m (Settled o))
   with_settle_same o same h =
-      ap (outlook plan) (sym (set-set kept m (record { stage = Ready args; step = (kept_at kept m).step }) (record { stage = Settled o; step = steps + 1 })))
+      ap (settled_view plan) (sym (set-set kept m (record { stage = Ready args; step = (kept_at kept m).step }) (record { stage = Settled o; step = steps + 1 })))
       ∙ settle_same plan (ready_with kept m args) h.marks h.ready links steps turns h.sound m (m + 1) o l (swept_steady plan (ready_with kept m args) links steps turns (m + 1) m h) (omega arith) (ap outcome_of (seen h))
       ∙ ap (λ xs. new_states [] plan (set xs m (Settled o))) same
 
@@ -376,7 +377,7 @@ told_ready plan m s (Some args) e l h =
     let all = swept_within plan s.kept.items s.links s.steps s.turns (m + 1) m h in
     let is = args_told ((kept_at s.kept.items m).stage) args e in
     let same : ready_with s.kept.items m args ≡ s.kept.items = same_put s.kept.items m (record { stage = Ready args; step = (kept_at s.kept.items m).step }) (omega (arith, all, l)) (ap (λ stage. record { stage = stage; step = (kept_at s.kept.items m).step }) is) in
-    record { swept = subst (λ after. IsSwept plan (m + 1) m after s.links s.steps s.turns) (sym same) h; same = ap (outlook plan) same }
+    record { swept = subst (λ after. IsSwept plan (m + 1) m after s.links s.steps s.turns) (sym same) h; same = ap (settled_view plan) same }
 
 pub told_unready : (plan : List PlannedStage) (m : ℕ) (s : Stages) (x : Option Args) → x ≡ args_of ((kept_at s.kept.items m).stage) → m < length plan → AreSwept plan (m + 1) m s → IfNone x (AreSwept plan (m + 1) (m + 1) s)
 told_unready plan m s (Some args) e l h = tt

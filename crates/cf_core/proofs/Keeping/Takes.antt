@@ -7,11 +7,11 @@ use Rattle.cf_plan.specs.declared.forms.Due.{Due}
 use Rattle.cf_plan.specs.declared.forms.Due.TheVariants.{Waits}
 use Rattle.cf_plan.specs.Forms.{starts}
 use Rattle.cf_plan.specs.Plans.{PlannedStage}
-use Rattle.cf_core.specs.declared.stage.Stage.{Stage}
-use Rattle.cf_core.specs.declared.stage.Stage.TheVariants.{Pending, Ready, Claimed, Linked, Settled}
+use Rattle.cf_model.specs.declared.stage.Stage.{Stage}
+use Rattle.cf_model.specs.declared.stage.Stage.TheVariants.{Pending, Ready, Claimed, Linked, Settled}
 use Rattle.cf_core.specs.declared.kept.KeptStage.{KeptStage}
 use Rattle.cf_core.specs.Keeping.Attaching.{attached_kept, open_count, open_one, takes_now}
-use Rattle.cf_core.specs.Keeping.Late.{dated_in, dated_of, due_kept, late_due, outcome_part}
+use Rattle.cf_core.specs.Keeping.Treatment.{dated_in, dated_of, due_kept, late_due, outcome_part}
 use Rattle.cf_core.specs.Keeping.Sound.{link_marks}
 use Rattle.cf_core.specs.Keeping.Starts.{untreated}
 use Rattle.cf_core.proofs.Keeping.Attaching.{waits_now}

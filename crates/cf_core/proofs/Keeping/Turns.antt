@@ -5,10 +5,10 @@ use Rattle.cf_outcome.specs.declared.outcome.Outcome.{Outcome}
 use Rattle.cf_plan.specs.declared.forms.Due.{Due}
 use Rattle.cf_plan.specs.declared.forms.Due.TheVariants.{Waits, Settles, Needs}
 use Rattle.cf_plan.specs.Plans.{PlannedStage}
-use Rattle.cf_core.specs.declared.stage.Stage.{Stage}
-use Rattle.cf_core.specs.declared.stage.Stage.TheVariants.{Pending, Ready, Claimed, Linked, Settled}
+use Rattle.cf_model.specs.declared.stage.Stage.{Stage}
+use Rattle.cf_model.specs.declared.stage.Stage.TheVariants.{Pending, Ready, Claimed, Linked, Settled}
 use Rattle.cf_core.specs.declared.kept.KeptStage.{KeptStage}
-use Rattle.cf_core.specs.Keeping.Late.{TurnsChangeNothing, IsSteady, all_treated, treated, treated_by, due_kept, late_due, dated_in, linked_kept}
+use Rattle.cf_core.specs.Keeping.Treatment.{TurnsChangeNothing, IsSteady, all_treated, treated, treated_by, due_kept, late_due, dated_in, linked_kept}
 
 -- to treat a stage twice is to treat it once
 due_twice : (below : List KeptStage) (p : PlannedStage) (step : ℕ) (due : Due) (at : ℕ) → late_due p.form (map (dated_in below) p.sources) ≡ (due, at) →

@@ -11,12 +11,12 @@ use Rattle.cf_plan.specs.declared.forms.Due.TheVariants.{Waits as IsWaits, Settl
 use Rattle.cf_plan.specs.Forms.{follows, due_of_first}
 use Rattle.cf_plan.specs.Plans.{PlannedStage, HasLowerSources, dependents_of, mentions}
 use Rattle.cf_plan.proofs.PlanLemmas.{lower_at}
-use Rattle.cf_core.specs.declared.stage.Stage.{Stage}
-use Rattle.cf_core.specs.declared.stage.Stage.TheVariants.{Pending, Ready, Claimed, Linked, Settled}
-use Rattle.cf_core.specs.States.{outcome_of}
+use Rattle.cf_model.specs.declared.stage.Stage.{Stage}
+use Rattle.cf_model.specs.declared.stage.Stage.TheVariants.{Pending, Ready, Claimed, Linked, Settled}
+use Rattle.cf_model.specs.States.{outcome_of}
 use Rattle.cf_core.specs.declared.kept.KeptStage.{KeptStage}
-use Rattle.cf_core.specs.Laws.{is_decided_by_first}
-use Rattle.cf_core.specs.Keeping.Late.{StepsUpTo, IsSteady, all_treated, treated, treated_by, due_kept, late_due, dated_in, dated_of, linked_kept, earlier, earliest, latest, step_part, outcome_part}
+use Rattle.cf_model.specs.Laws.{is_decided_by_first}
+use Rattle.cf_core.specs.Keeping.Treatment.{StepsUpTo, IsSteady, all_treated, treated, treated_by, due_kept, late_due, dated_in, dated_of, linked_kept, earlier, earliest, latest, step_part, outcome_part}
 use Rattle.cf_core.specs.Keeping.Marks.{WaitsNow}
 use Rattle.cf_core.specs.Keeping.Links.{list_at}
 use Rattle.cf_core.specs.Keeping.Sound.{Waits, AreListed, is_waiting, kept_at, mark_all}

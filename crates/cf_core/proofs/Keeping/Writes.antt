@@ -3,11 +3,11 @@ use Rattle.std.proofs.Common.{◌≡◌, ℕ, ◌+◌, ◌<◌, length, arith, a
 use Rattle.std.specs.Option.{option_map}
 use Rattle.std.proofs.lemmas.List.{map-set}
 use Rattle.cf_plan.specs.Plans.{PlannedStage}
-use Rattle.cf_core.specs.declared.stage.Stage.{Stage}
-use Rattle.cf_core.specs.declared.stage.Stage.TheVariants.{Pending, Ready, Claimed, Linked, Settled}
-use Rattle.cf_core.specs.States.{outcome_of, outcome_in}
+use Rattle.cf_model.specs.declared.stage.Stage.{Stage}
+use Rattle.cf_model.specs.declared.stage.Stage.TheVariants.{Pending, Ready, Claimed, Linked, Settled}
+use Rattle.cf_model.specs.States.{outcome_of, outcome_in}
 use Rattle.cf_core.specs.declared.kept.KeptStage.{KeptStage}
-use Rattle.cf_core.specs.Keeping.Late.{stages_of, all_treated, treated, treated_by, due_kept, late_due, dated_in, dated_of, linked_kept}
+use Rattle.cf_core.specs.Keeping.Treatment.{stages_of, all_treated, treated, treated_by, due_kept, late_due, dated_in, dated_of, linked_kept}
 use Rattle.cf_core.specs.Keeping.Writes.{ClaimingIsAlone, LinkingIsAlone}
 
 -- stage by stage the same outcomes

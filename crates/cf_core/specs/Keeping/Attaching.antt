@@ -5,12 +5,12 @@ use Rattle.cf_plan.specs.declared.forms.Due.{Due}
 use Rattle.cf_plan.specs.declared.forms.Form.{Form}
 use Rattle.cf_plan.specs.Forms.{follows, starts}
 use Rattle.cf_plan.specs.Plans.{PlannedStage}
-use Rattle.cf_core.specs.declared.stage.Stage.{Stage}
-use Rattle.cf_core.specs.declared.stage.Stage.TheVariants.{Pending, Settled}
-use Rattle.cf_core.specs.States.{new_states}
+use Rattle.cf_model.specs.declared.stage.Stage.{Stage}
+use Rattle.cf_model.specs.declared.stage.Stage.TheVariants.{Pending, Settled}
+use Rattle.cf_model.specs.States.{new_states}
 use Rattle.cf_core.specs.declared.kept.KeptStage.{KeptStage}
-use Rattle.cf_core.specs.Keeping.Late.{all_treated, dated_in, due_kept, outcome_part}
-use Rattle.cf_core.specs.Keeping.Sound.{kept_at, outlook}
+use Rattle.cf_core.specs.Keeping.Treatment.{all_treated, dated_in, due_kept, outcome_part}
+use Rattle.cf_core.specs.Keeping.Sound.{kept_at, settled_view}
 
 -- what a stage does by what its sources have now, in argument order
 abbrev pub due_now : List KeptStage → Form → List ℕ → Due
@@ -25,7 +25,7 @@ abbrev pub AttachingIsAfter : Type 0
 AttachingIsAfter =
     (plan : List PlannedStage) (kept : List KeptStage) (p : PlannedStage) (step : ℕ) →
     length kept ≡ length plan → all_treated [] plan kept ≡ kept →
-    outlook (plan ++ p ∷ []) (kept ++ attached_kept kept p.form p.sources step ∷ []) ≡ new_states [] (plan ++ p ∷ []) (outlook plan kept ++ Pending ∷ [])
+    settled_view (plan ++ p ∷ []) (kept ++ attached_kept kept p.form p.sources step ∷ []) ≡ new_states [] (plan ++ p ∷ []) (settled_view plan kept ++ Pending ∷ [])
 
 -- whether a stage that is attached takes something: it starts by itself, or one of its sources is settled
 abbrev pub takes_now : List KeptStage → Form → List ℕ → Bool

@@ -5,9 +5,9 @@ use Rattle.cf_outcome.specs.Outcomes.{wrap}
 use Rattle.cf_plan.specs.declared.forms.Landing.{Landing}
 use Rattle.cf_plan.specs.declared.forms.Landing.TheVariants.{Settles as Lands, Links}
 use Rattle.cf_plan.specs.Plans.{PlannedStage}
-use Rattle.cf_core.specs.declared.stage.Stage.{Stage}
-use Rattle.cf_core.specs.declared.stage.Stage.TheVariants.{Linked, Settled}
-use Rattle.cf_core.specs.States.{new_states, outcome_in}
+use Rattle.cf_model.specs.declared.stage.Stage.{Stage}
+use Rattle.cf_model.specs.declared.stage.Stage.TheVariants.{Linked, Settled}
+use Rattle.cf_model.specs.States.{new_states, outcome_in}
 
 abbrev pub linked_stages : Option Outcome → List PlannedStage → List Stage → ℕ → ℕ → List Stage
 linked_stages (Some o) plan stages d j = new_states [] plan (slice_set stages d (Settled (wrap o)))

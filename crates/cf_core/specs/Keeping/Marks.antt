@@ -1,9 +1,9 @@
 -- Stages that wait by what their sources have now need no treatment.
 use Rattle.std.specs.Prelude.{◌≡◌, ◌≢◌, ℕ, ◌<◌, Some, List, [], take, slice_get, slice_set, Contains}
 use Rattle.cf_plan.specs.Plans.{PlannedStage}
-use Rattle.cf_core.specs.declared.stage.Stage.TheVariants.{Linked}
+use Rattle.cf_model.specs.declared.stage.Stage.TheVariants.{Linked}
 use Rattle.cf_core.specs.declared.kept.KeptStage.{KeptStage}
-use Rattle.cf_core.specs.Keeping.Late.{treated, IsSteady}
+use Rattle.cf_core.specs.Keeping.Treatment.{treated, IsSteady}
 
 -- a stage stays as it is when it is treated by what all stages have now
 abbrev pub WaitsNow : List KeptStage → PlannedStage → KeptStage → Type 0

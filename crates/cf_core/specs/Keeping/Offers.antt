@@ -6,8 +6,8 @@ use Rattle.cf_plan.specs.declared.forms.Form.{Form}
 use Rattle.cf_plan.specs.declared.forms.Form.TheVariants.{Supply, Apply, Combine, AcceptBoth, ApplyEither, Handle, Exceptionally}
 use Rattle.cf_plan.specs.declared.forms.Args.{Args}
 use Rattle.cf_plan.specs.declared.forms.Args.TheVariants.{Two}
-use Rattle.cf_core.specs.declared.stage.Stage.{Stage}
-use Rattle.cf_core.specs.declared.stage.Stage.TheVariants.{Ready}
+use Rattle.cf_model.specs.declared.stage.Stage.{Stage}
+use Rattle.cf_model.specs.declared.stage.Stage.TheVariants.{Ready}
 
 -- with what the function of a ready stage is to be called
 abbrev pub args_of : Stage → Option Args

@@ -1,12 +1,11 @@
 -- What becomes of the stages when a ready one is claimed and finished at once.
-use Rattle.std.specs.Prelude.{◌≡◌, ℕ, List, [], ◌∷◌, Some, length, option_and_then, slice_get, slice_set, unwrap_or}
+use Rattle.std.specs.Prelude.{ℕ, List, option_and_then, slice_get, slice_set, unwrap_or}
 use Rattle.cf_plan.specs.Forms.{landing}
 use Rattle.cf_plan.specs.Meanings.{Meanings, stage_answer}
 use Rattle.cf_plan.specs.Plans.{PlannedStage, form_at, sources_at}
-use Rattle.cf_core.specs.declared.stage.Stage.{Stage}
-use Rattle.cf_core.specs.declared.stage.Stage.TheVariants.{Claimed, Pending, Ready}
-use Rattle.cf_core.specs.States.{State, lowest_ready_of, outcome_in}
-use Rattle.cf_core.specs.Working.{worked_once}
+use Rattle.cf_model.specs.declared.stage.Stage.{Stage}
+use Rattle.cf_model.specs.declared.stage.Stage.TheVariants.{Claimed, Pending, Ready}
+use Rattle.cf_model.specs.States.{outcome_in}
 use Rattle.cf_core.specs.Keeping.Landings.{landed_stages}
 
 -- stage i lands with what its function answers, if it is ready
@@ -18,14 +17,3 @@ served_by stage meanings plan stages i = stages
 
 abbrev pub served : Meanings → List PlannedStage → List Stage → ℕ → List Stage
 served meanings plan stages i = served_by (unwrap_or (slice_get stages i) Pending) meanings plan stages i
-
--- these stages are worked on by a caller, each of which is then the lowest ready one
-abbrev pub AreWorkedOn : ℕ → Meanings → State → List ℕ → State → Type 0
-AreWorkedOn who meanings s [] t = t ≡ s
-AreWorkedOn who meanings s (i ∷ rest) t = (lowest_ready_of s ≡ Some i) × AreWorkedOn who meanings (worked_once who meanings s i) rest t
-
--- so many are
-pub record Works (who : ℕ) (meanings : Meanings) (s : State) (count : ℕ) (t : State) : Type 0 where
-  pub which : List ℕ
-  pub worked : AreWorkedOn who meanings s which t
-  pub counted : length which ≡ count

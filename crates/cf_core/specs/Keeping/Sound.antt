@@ -4,17 +4,17 @@ use Rattle.std.specs.List.{sum_by}
 use Rattle.cf_plan.specs.declared.forms.Form.{Form}
 use Rattle.cf_plan.specs.Forms.{composes}
 use Rattle.cf_plan.specs.Plans.{PlannedStage, HasLowerSources, dependents_of, edges_of, form_at}
-use Rattle.cf_core.specs.declared.stage.Stage.{Stage}
-use Rattle.cf_core.specs.declared.stage.Stage.TheVariants.{Pending, Claimed, Linked, Settled}
-use Rattle.cf_core.specs.States.{is_ready}
+use Rattle.cf_model.specs.declared.stage.Stage.{Stage}
+use Rattle.cf_model.specs.declared.stage.Stage.TheVariants.{Pending, Claimed, Linked, Settled}
+use Rattle.cf_model.specs.States.{is_ready}
 use Rattle.cf_core.specs.declared.kept.KeptStage.{KeptStage}
-use Rattle.cf_core.specs.Keeping.Late.{StepsUpTo, all_treated, dated_in, stages_of}
+use Rattle.cf_core.specs.Keeping.Treatment.{StepsUpTo, all_treated, dated_in, stages_of}
 use Rattle.cf_core.specs.Keeping.Marks.{WaitsNow}
 use Rattle.cf_core.specs.Keeping.Links.{list_at}
 
 -- what treating all stages, in rising number, leads to
-abbrev pub outlook : List PlannedStage → List KeptStage → List Stage
-outlook plan kept = stages_of (all_treated [] plan kept)
+abbrev pub settled_view : List PlannedStage → List KeptStage → List Stage
+settled_view plan kept = stages_of (all_treated [] plan kept)
 
 -- stage i as it is kept
 abbrev pub kept_at : List KeptStage → ℕ → KeptStage

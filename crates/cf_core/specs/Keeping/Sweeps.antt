@@ -3,13 +3,13 @@ use Rattle.std.specs.Prelude.{◌≡◌, ◌+◌, ℕ, if◌then◌else◌, Bool
 use Rattle.cf_plan.specs.Meanings.{Meanings}
 use Rattle.cf_plan.specs.Plans.{PlannedStage}
 use Rattle.cf_plan.specs.declared.forms.Args.{Args}
-use Rattle.cf_core.specs.declared.stage.Stage.{Stage}
-use Rattle.cf_core.specs.declared.stage.Stage.TheVariants.{Ready}
+use Rattle.cf_model.specs.declared.stage.Stage.{Stage}
+use Rattle.cf_model.specs.declared.stage.Stage.TheVariants.{Ready}
 use Rattle.cf_core.specs.declared.kept.KeptStage.{KeptStage}
 use Rattle.cf_core.specs.declared.stages.Stages.{Stages}
-use Rattle.cf_core.specs.States.{is_ready}
+use Rattle.cf_model.specs.States.{is_ready}
 use Rattle.cf_core.specs.Keeping.Serving.{served}
-use Rattle.cf_core.specs.Keeping.Sound.{AreTreated, IsSound, is_waiting, kept_at, outlook}
+use Rattle.cf_core.specs.Keeping.Sound.{AreTreated, IsSound, is_waiting, kept_at, settled_view}
 
 -- The first n stages are treated, and of the first m none is ready, with the marks and the ready stages that there would
 -- be if each had been treated and served by calls.
@@ -34,7 +34,7 @@ ready_with kept m args = slice_set kept m (record { stage = Ready args; step = (
 -- stage m of a sweep is ready with these arguments, whether it is written as that or not
 pub record IsReadyWith (plan : List PlannedStage) (m : ℕ) (args : Args) (s : Stages) : Type 0 where
   pub swept : IsSwept plan (m + 1) m (ready_with s.kept.items m args) s.links s.steps s.turns
-  pub same : outlook plan (ready_with s.kept.items m args) ≡ outlook plan s.kept.items
+  pub same : settled_view plan (ready_with s.kept.items m args) ≡ settled_view plan s.kept.items
 
 -- these stages are served, each of which is then the lowest ready one, and no claim of them is open then
 abbrev pub AreServed : Meanings → List PlannedStage → List Stage → List (Option ℕ) → List ℕ → List Stage → List (Option ℕ) → Type 0

@@ -1,10 +1,10 @@
 -- A write to a stage that neither had nor gets an outcome.
 use Rattle.std.specs.Prelude.{◌≡◌, ℕ, ◌<◌, None, List, [], slice_set}
 use Rattle.cf_plan.specs.Plans.{PlannedStage}
-use Rattle.cf_core.specs.declared.stage.Stage.TheVariants.{Claimed, Linked}
-use Rattle.cf_core.specs.States.{outcome_in}
+use Rattle.cf_model.specs.declared.stage.Stage.TheVariants.{Claimed, Linked}
+use Rattle.cf_model.specs.States.{outcome_in}
 use Rattle.cf_core.specs.declared.kept.KeptStage.{KeptStage}
-use Rattle.cf_core.specs.Keeping.Late.{all_treated, stages_of}
+use Rattle.cf_core.specs.Keeping.Treatment.{all_treated, stages_of}
 
 -- Claiming a stage that isn't settled changes nothing else of what all treatments lead to.
 abbrev pub ClaimingIsAlone : Type 0

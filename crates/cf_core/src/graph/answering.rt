@@ -1,12 +1,11 @@
 //! Any call, as an event that is answered or a question that is told.
 ghost use Rattle.std.specs.Prelude.{◌≡◌, ◌≤◌, length};
-ghost use Rattle.cf_core.specs.Events.{answered, told};
-ghost use Rattle.cf_core.specs.Graphs.{most_turns};
-ghost use Rattle.cf_core.specs.Ranges.{AskFits, EventFits};
+ghost use Rattle.cf_model.specs.Events.{answered, told};
+ghost use Rattle.cf_model.specs.Graphs.{most_turns};
+ghost use Rattle.cf_model.specs.Ranges.{AskFits, EventFits};
 
-use crate::asks::{Ask, Told};
-use crate::events::{Event, Reply};
 use crate::graph::Graph;
+use cf_model::{Ask, Event, Reply, Told};
 
 impl Graph {
     /// Does an event, and gives its reply. The stages that it names are there, and a stage that it attaches fits its form.
@@ -25,7 +24,7 @@ impl Graph {
             Event::Cancel { stage, .. } => Reply::Flag(self.cancel(stage)),
             Event::Claim { who, stage } => Reply::Claim(self.claim(who, stage)),
             Event::Finish { who, stage, answer } => Reply::Finish(self.finish(who, stage, answer)),
-            Event::Tick { now, .. } => Reply::Tick(self.tick(now)),
+            Event::Tick { moment, .. } => Reply::Tick(self.tick(moment)),
             Event::Attach {
                 form,
                 of,

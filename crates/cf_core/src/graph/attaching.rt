@@ -1,11 +1,11 @@
 //! The call by which a graph grows.
 ghost use Rattle.std.specs.Prelude.{◌≡◌, ◌<◌, ◌≤◌, All, is_some, length, true};
 ghost use Rattle.cf_plan.specs.Plans.{attached_stage, fits_form, sources_of};
-ghost use Rattle.cf_core.specs.Events.{attaching};
-ghost use Rattle.cf_core.specs.Graphs.{most_turns};
+ghost use Rattle.cf_model.specs.Events.{attaching};
+ghost use Rattle.cf_model.specs.Graphs.{most_turns};
 
 use crate::graph::Graph;
-use crate::replies::Attached;
+use cf_model::Attached;
 use cf_plan::{Form, Of};
 
 impl Graph {

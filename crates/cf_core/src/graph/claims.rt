@@ -3,16 +3,15 @@ ghost use Rattle.std.specs.Prelude.{◌≡◌, ◌+◌, ◌<◌, ◌≤◌, ◌=
 ghost use Rattle.std.specs.Option.{option_map_or};
 ghost use Rattle.cf_plan.specs.Forms.{landing};
 ghost use Rattle.cf_plan.specs.Plans.{form_at, sources_at};
-ghost use Rattle.cf_core.specs.States.{outcome_in};
-ghost use Rattle.cf_core.specs.Events.{claiming, finishing};
-ghost use Rattle.cf_core.specs.Keeping.SoundStages.{outlook_of};
+ghost use Rattle.cf_model.specs.States.{outcome_in};
+ghost use Rattle.cf_model.specs.Events.{claiming, finishing};
+ghost use Rattle.cf_core.specs.Keeping.SoundStages.{settled_view_of};
 ghost use Rattle.cf_core.specs.Keeping.Sweeps.{AreSwept};
-ghost use Rattle.cf_core.specs.Graphs.{most_turns};
+ghost use Rattle.cf_model.specs.Graphs.{most_turns};
 
 use crate::graph::Graph;
-use crate::replies::{Claimed, Finished};
-use crate::stage::Stage;
 use crate::stages::Stages;
+use cf_model::{Claimed, Finished, Stage};
 use cf_plan::{Answer, Form, GrowingPlan, Landing, landing};
 
 impl Graph {
@@ -80,7 +79,7 @@ fn has_claim(claims: &[Option<u8>], who: u8, i: u16) -> bool
 pub(super) fn landing_of(stages: &Stages, plan: &GrowingPlan, i: u16, answer: Answer) -> Landing
     requires treated { AreSwept plan.now.stages (i + 1) 0 stages.now }
     requires stage { i < length plan.now.stages }
-    ensures { result ≡ landing (form_at plan.now.stages i) i (option_and_then (outcome_in (outlook_of plan.now.stages stages.now)) (slice_get (sources_at plan.now.stages i) 0)) answer }
+    ensures { result ≡ landing (form_at plan.now.stages i) i (option_and_then (outcome_in (settled_view_of plan.now.stages stages.now)) (slice_get (sources_at plan.now.stages i) 0)) answer }
 {
     match plan.form(i) {
         Form::WhenComplete => landing(Form::WhenComplete, i, stages.source(plan, i), answer),

@@ -1,11 +1,11 @@
 //! The call by which time passes.
 ghost use Rattle.std.specs.Prelude.{◌≡◌, ◌+◌, ◌<◌, ◌≤◌, Some, drop, length, nat_le, slice_get, take};
 ghost use Rattle.std.specs.List.{prefix_len};
-ghost use Rattle.cf_core.specs.Events.{due_limits, firing, limit_outcome, settling, ticking};
-ghost use Rattle.cf_core.specs.Graphs.{most_turns};
+ghost use Rattle.cf_model.specs.Events.{due_limits, firing, limit_outcome, settling, ticking};
+ghost use Rattle.cf_model.specs.Graphs.{most_turns};
 
 use crate::graph::Graph;
-use crate::replies::Ticked;
+use cf_model::Ticked;
 use cf_outcome::{Cause, Outcome};
 use cf_plan::{Limit, LimitKind};
 

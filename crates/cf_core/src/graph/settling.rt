@@ -2,8 +2,8 @@
 ghost use Rattle.std.specs.Prelude.{◌≡◌, ◌<◌, ◌≤◌, false, length};
 ghost use Rattle.cf_outcome.specs.declared.outcome.Outcome.TheVariants.{Value as Gives, Fault};
 ghost use Rattle.cf_outcome.specs.declared.outcome.Cause.TheVariants.{Thrown};
-ghost use Rattle.cf_core.specs.Events.{cancelling, settling};
-ghost use Rattle.cf_core.specs.Graphs.{most_turns};
+ghost use Rattle.cf_model.specs.Events.{cancelling, settling};
+ghost use Rattle.cf_model.specs.Graphs.{most_turns};
 
 use crate::graph::Graph;
 use cf_outcome::{Cause, Outcome, Value, is_cancelled};

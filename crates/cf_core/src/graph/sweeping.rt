@@ -5,14 +5,15 @@ ghost use Rattle.cf_plan.specs.declared.forms.Landing.TheVariants.{Links as Link
 ghost use Rattle.cf_plan.specs.Forms.{composes, landing};
 ghost use Rattle.cf_plan.specs.Meanings.{meanings_of};
 ghost use Rattle.cf_plan.specs.Plans.{form_at, sources_at};
-ghost use Rattle.cf_core.specs.declared.stage.Stage.TheVariants.{Claimed as IsClaimed};
-ghost use Rattle.cf_core.specs.States.{is_ready, lowest_ready_of, outcome_in};
-ghost use Rattle.cf_core.specs.Graphs.{most_turns};
+ghost use Rattle.cf_model.specs.declared.stage.Stage.TheVariants.{Claimed as IsClaimed};
+ghost use Rattle.cf_model.specs.States.{is_ready, lowest_ready_of, outcome_in};
+ghost use Rattle.cf_model.specs.Graphs.{most_turns};
 ghost use Rattle.cf_core.specs.Keeping.Graphs.{AreClaimed};
 ghost use Rattle.cf_core.specs.Keeping.Landings.{landed_stages};
-ghost use Rattle.cf_core.specs.Keeping.Serving.{Works, served};
+ghost use Rattle.cf_core.specs.Keeping.Serving.{served};
+ghost use Rattle.cf_model.specs.Working.{Works};
 ghost use Rattle.cf_core.specs.Keeping.Sound.{StayTakenBut, kept_at};
-ghost use Rattle.cf_core.specs.Keeping.SoundStages.{AreSound, SameRoom, outlook_of};
+ghost use Rattle.cf_core.specs.Keeping.SoundStages.{AreSound, SameRoom, settled_view_of};
 ghost use Rattle.cf_core.specs.Keeping.Sweeps.{AreSwept, IsReadyWith, Serves};
 ghost use Rattle.cf_core.specs.Keeping.Offers.{keeps_value};
 
@@ -46,8 +47,8 @@ fn sweep<F: StageFn>(
     requires sound { AreSound plan.now.stages stages.old }
     requires all_claims { length claims.old.items ≡ length plan.now.stages }
     requires claimed { AreClaimed claims.old.items stages.old.kept.items }
-    ensures served { Serves (meanings_of F.meaning functions.now) plan.now.stages (outlook_of plan.now.stages stages.old) claims.old.items result (outlook_of plan.now.stages stages.new) claims.new.items }
-    ensures none { position is_ready (outlook_of plan.now.stages stages.new) ≡ None }
+    ensures served { Serves (meanings_of F.meaning functions.now) plan.now.stages (settled_view_of plan.now.stages stages.old) claims.old.items result (settled_view_of plan.now.stages stages.new) claims.new.items }
+    ensures none { position is_ready (settled_view_of plan.now.stages stages.new) ≡ None }
     ensures all_claims { length claims.new.items ≡ length plan.now.stages }
     ensures claims_room { vec_capacity claims.new ≡ vec_capacity claims.old }
     ensures claimed { AreClaimed claims.new.items stages.new.kept.items }
@@ -78,8 +79,8 @@ fn visit<F: StageFn>(
     requires stage { m < length plan.now.stages }
     requires all_claims { length claims.old.items ≡ length plan.now.stages }
     requires claimed { AreClaimed claims.old.items stages.old.kept.items }
-    ensures lowest { result ≡ true → position is_ready (outlook_of plan.now.stages stages.old) ≡ Some m }
-    ensures served { outlook_of plan.now.stages stages.new ≡ (if result then served (meanings_of F.meaning functions.now) plan.now.stages (outlook_of plan.now.stages stages.old) m else outlook_of plan.now.stages stages.old) }
+    ensures lowest { result ≡ true → position is_ready (settled_view_of plan.now.stages stages.old) ≡ Some m }
+    ensures served { settled_view_of plan.now.stages stages.new ≡ (if result then served (meanings_of F.meaning functions.now) plan.now.stages (settled_view_of plan.now.stages stages.old) m else settled_view_of plan.now.stages stages.old) }
     ensures closed { claims.new.items ≡ (if result then slice_set claims.old.items m None else claims.old.items) }
     ensures claims_room { vec_capacity claims.new ≡ vec_capacity claims.old }
     ensures claimed { AreClaimed claims.new.items stages.new.kept.items }
@@ -105,7 +106,7 @@ fn visit<F: StageFn>(
 fn land_next(stages: &mut Stages, plan: &GrowingPlan, m: u16, args: Args, answer: Answer)
     requires ready { IsReadyWith plan.now.stages m args stages.old }
     requires stage { m < length plan.now.stages }
-    ensures landed { outlook_of plan.now.stages stages.new ≡ landed_stages plan.now.stages (slice_set (outlook_of plan.now.stages stages.old) m IsClaimed) m (landing (form_at plan.now.stages m) m (option_and_then (outcome_in (outlook_of plan.now.stages stages.old)) (slice_get (sources_at plan.now.stages m) 0)) answer) }
+    ensures landed { settled_view_of plan.now.stages stages.new ≡ landed_stages plan.now.stages (slice_set (settled_view_of plan.now.stages stages.old) m IsClaimed) m (landing (form_at plan.now.stages m) m (option_and_then (outcome_in (settled_view_of plan.now.stages stages.old)) (slice_get (sources_at plan.now.stages m) 0)) answer) }
     ensures taken { StayTakenBut m stages.old.kept.items stages.new.kept.items }
     ensures turns { stages.new.turns ≡ stages.old.turns }
     ensures room { SameRoom stages.old stages.new }
@@ -157,7 +158,7 @@ fn land_swept(stages: &mut Stages, plan: &GrowingPlan, m: u16, at: Landing)
     requires ready { is_ready ((kept_at stages.old.kept.items m).stage) ≡ true }
     requires target { (j : ℕ) → at ≡ LinksTo j → j < m }
     requires composes { (j : ℕ) → at ≡ LinksTo j → composes (form_at plan.now.stages m) ≡ true }
-    ensures landed { outlook_of plan.now.stages stages.new ≡ landed_stages plan.now.stages (slice_set (outlook_of plan.now.stages stages.old) m IsClaimed) m at }
+    ensures landed { settled_view_of plan.now.stages stages.new ≡ landed_stages plan.now.stages (slice_set (settled_view_of plan.now.stages stages.old) m IsClaimed) m at }
     ensures taken { StayTakenBut m stages.old.kept.items stages.new.kept.items }
     ensures turns { stages.new.turns ≡ stages.old.turns }
     ensures room { SameRoom stages.old stages.new }

@@ -5,19 +5,20 @@ ghost use Rattle.cf_plan.specs.declared.forms.Landing.TheVariants.{Links as Link
 ghost use Rattle.cf_plan.specs.Forms.{composes};
 ghost use Rattle.cf_plan.specs.Meanings.{meanings_of, stage_answer};
 ghost use Rattle.cf_plan.specs.Plans.{form_at};
-ghost use Rattle.cf_core.specs.declared.stage.Stage.TheVariants.{Claimed as IsClaimed};
-ghost use Rattle.cf_core.specs.States.{is_ready, lowest_ready_of};
-ghost use Rattle.cf_core.specs.Working.{worked, worked_once};
+ghost use Rattle.cf_model.specs.declared.stage.Stage.TheVariants.{Claimed as IsClaimed};
+ghost use Rattle.cf_model.specs.States.{is_ready, lowest_ready_of};
+ghost use Rattle.cf_model.specs.Working.{worked, worked_once};
 ghost use Rattle.cf_core.specs.Keeping.Landings.{landed_stages};
-ghost use Rattle.cf_core.specs.Keeping.Serving.{Works, served};
+ghost use Rattle.cf_core.specs.Keeping.Serving.{served};
+ghost use Rattle.cf_model.specs.Working.{Works};
 ghost use Rattle.cf_core.specs.Keeping.Sound.{AreTreated, StayTakenBut, kept_at};
-ghost use Rattle.cf_core.specs.Keeping.SoundStages.{AreSound, SameRoom, outlook_of};
-ghost use Rattle.cf_core.specs.Graphs.{most_turns};
+ghost use Rattle.cf_core.specs.Keeping.SoundStages.{AreSound, SameRoom, settled_view_of};
+ghost use Rattle.cf_model.specs.Graphs.{most_turns};
 
 use crate::graph::Graph;
 use crate::graph::claims::landing_of;
-use crate::stage::Stage;
 use crate::stages::Stages;
+use cf_model::Stage;
 use cf_outcome::Value;
 use cf_plan::{Answer, Args, GrowingPlan, Landing, StageFn};
 
@@ -90,7 +91,7 @@ impl Graph {
 fn serve<F: StageFn>(stages: &mut Stages, plan: &GrowingPlan, functions: &[F], i: u16)
     requires sound { AreSound plan.now.stages stages.old }
     requires stage { i < length plan.now.stages }
-    ensures served { outlook_of plan.now.stages stages.new ≡ served (meanings_of F.meaning functions.now) plan.now.stages (outlook_of plan.now.stages stages.old) i }
+    ensures served { settled_view_of plan.now.stages stages.new ≡ served (meanings_of F.meaning functions.now) plan.now.stages (settled_view_of plan.now.stages stages.old) i }
     ensures taken { StayTakenBut i stages.old.kept.items stages.new.kept.items }
     ensures counted { stages.old.turns ≤ stages.new.turns }
     ensures room { SameRoom stages.old stages.new }
@@ -136,7 +137,7 @@ fn land_ready(stages: &mut Stages, plan: &GrowingPlan, d: u16, at: Landing)
     requires ready { is_ready ((kept_at stages.old.kept.items d).stage) ≡ true }
     requires target { (j : ℕ) → at ≡ LinksTo j → j < d }
     requires composes { (j : ℕ) → at ≡ LinksTo j → composes (form_at plan.now.stages d) ≡ true }
-    ensures landed { outlook_of plan.now.stages stages.new ≡ landed_stages plan.now.stages (slice_set (outlook_of plan.now.stages stages.old) d IsClaimed) d at }
+    ensures landed { settled_view_of plan.now.stages stages.new ≡ landed_stages plan.now.stages (slice_set (settled_view_of plan.now.stages stages.old) d IsClaimed) d at }
     ensures taken { StayTakenBut d stages.old.kept.items stages.new.kept.items }
     ensures counted { stages.old.turns ≤ stages.new.turns }
     ensures room { SameRoom stages.old stages.new }

@@ -1,16 +1,16 @@
 //! The attaching of a stage.
 ghost use Rattle.std.specs.Prelude.{◌≡◌, ℕ, ◌+◌, ◌<◌, ◌≤◌, ◌∷◌, ◌++◌, [], All, Option, false, length, if◌then◌else◌};
 ghost use Rattle.cf_plan.specs.Plans.{attached_stage, edges_of, sources_of};
-ghost use Rattle.cf_core.specs.declared.stage.Stage.TheVariants.{Pending};
-ghost use Rattle.cf_core.specs.States.{is_ready, new_states};
+ghost use Rattle.cf_model.specs.declared.stage.Stage.TheVariants.{Pending};
+ghost use Rattle.cf_model.specs.States.{is_ready, new_states};
 ghost use Rattle.cf_core.specs.Keeping.Attaching.{attached_kept, takes_now};
 ghost use Rattle.cf_core.specs.Keeping.Sound.{AreTreated, StayTaken};
-ghost use Rattle.cf_core.specs.Keeping.SoundStages.{AreSound, SameRoom, outlook_of};
+ghost use Rattle.cf_core.specs.Keeping.SoundStages.{AreSound, SameRoom, settled_view_of};
 
 use crate::attach::{attached, takes_now};
 use crate::kept::KeptStage;
-use crate::stage::Stage;
 use crate::stages::Stages;
+use cf_model::Stage;
 use cf_plan::{Form, GrowingPlan, Of};
 
 impl Stages {
@@ -26,7 +26,7 @@ impl Stages {
         requires few_edges { edges_of plan.now.stages + 2 ≤ 16384 }
         requires room { length plan.now.stages < self.old.kept.capacity }
         requires lists { length plan.now.stages < length self.old.links }
-        ensures attached { (function : Option ℕ) → let grown = plan.now.stages ++ attached_stage form of function ∷ [] in outlook_of grown self.new ≡ new_states [] grown (outlook_of plan.now.stages self.old ++ Pending ∷ []) }
+        ensures attached { (function : Option ℕ) → let grown = plan.now.stages ++ attached_stage form of function ∷ [] in settled_view_of grown self.new ≡ new_states [] grown (settled_view_of plan.now.stages self.old ++ Pending ∷ []) }
         ensures counted { self.new.turns ≡ self.old.turns + (if takes_now self.old.kept.items form (sources_of of) then 1 else 0) }
         ensures taken { StayTaken self.old.kept.items self.new.kept.items }
         ensures room { SameRoom self.old self.new }

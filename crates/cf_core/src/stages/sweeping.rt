@@ -7,16 +7,16 @@ ghost use Rattle.std.specs.Prelude.{◌≡◌, ◌+◌, ◌<◌, ◌≤◌, [], 
 ghost use Rattle.cf_outcome.specs.declared.outcome.Outcome.TheVariants.{Value as Gives};
 ghost use Rattle.cf_plan.specs.Forms.{composes};
 ghost use Rattle.cf_plan.specs.Plans.{form_at};
-ghost use Rattle.cf_core.specs.declared.stage.Stage.TheVariants.{Linked, Ready, Settled};
-ghost use Rattle.cf_core.specs.States.{is_ready, new_states, outcome_of};
+ghost use Rattle.cf_model.specs.declared.stage.Stage.TheVariants.{Linked, Ready, Settled};
+ghost use Rattle.cf_model.specs.States.{is_ready, new_states, outcome_of};
 ghost use Rattle.cf_core.specs.Keeping.Sound.{StayTaken, StayTakenBut, is_waiting, kept_at, links_after};
-ghost use Rattle.cf_core.specs.Keeping.SoundStages.{AreSound, SameRoom, outlook_of};
+ghost use Rattle.cf_core.specs.Keeping.SoundStages.{AreSound, SameRoom, settled_view_of};
 ghost use Rattle.cf_core.specs.Keeping.Sweeps.{AreSwept, IsReadyWith, turns_after};
 
 use crate::kept::KeptStage;
-use crate::stage::Stage;
 use crate::stages::Stages;
 use crate::treat::offer;
+use cf_model::Stage;
 use cf_outcome::{Outcome, Value};
 use cf_plan::{Args, GrowingPlan};
 
@@ -31,7 +31,7 @@ impl Stages {
         requires stage { m < length plan.now.stages }
         ensures ready { IfSome result (λ args. IsReadyWith plan.now.stages m args self.new) }
         ensures swept { IfNone result (AreSwept plan.now.stages (m + 1) (m + 1) self.new) }
-        ensures same { outlook_of plan.now.stages self.new ≡ outlook_of plan.now.stages self.old }
+        ensures same { settled_view_of plan.now.stages self.new ≡ settled_view_of plan.now.stages self.old }
         ensures taken { StayTaken self.old.kept.items self.new.kept.items }
         ensures counted { self.old.turns ≤ self.new.turns }
         ensures room { SameRoom self.old self.new }
@@ -54,7 +54,7 @@ impl Stages {
         requires waiting { is_waiting ((kept_at self.old.kept.items m).stage) ≡ true }
         ensures ready { IfSome result (λ args. IsReadyWith plan.now.stages m args self.new) }
         ensures swept { IfNone result (AreSwept plan.now.stages (m + 1) m self.new) }
-        ensures same { outlook_of plan.now.stages self.new ≡ outlook_of plan.now.stages self.old }
+        ensures same { settled_view_of plan.now.stages self.new ≡ settled_view_of plan.now.stages self.old }
         ensures taken { StayTaken self.old.kept.items self.new.kept.items }
         ensures counted { self.old.turns ≤ self.new.turns }
         ensures room { SameRoom self.old self.new }
@@ -96,7 +96,7 @@ impl Stages {
     pub fn settle_ready(&mut self, plan: &GrowingPlan, m: u16, args: Args, v: Value)
         requires ready { IsReadyWith plan.now.stages m args self.old }
         requires stage { m < length plan.now.stages }
-        ensures after { outlook_of plan.now.stages self.new ≡ new_states [] plan.now.stages (slice_set (outlook_of plan.now.stages self.old) m (Settled (Gives v))) }
+        ensures after { settled_view_of plan.now.stages self.new ≡ new_states [] plan.now.stages (slice_set (settled_view_of plan.now.stages self.old) m (Settled (Gives v))) }
         ensures taken { StayTaken self.old.kept.items self.new.kept.items }
         ensures turns { self.new.turns ≡ self.old.turns }
         ensures room { SameRoom self.old self.new }
@@ -115,7 +115,7 @@ impl Stages {
         requires ready { IsReadyWith plan.now.stages m args self.old }
         requires stage { m < length plan.now.stages }
         ensures ready { (kept_at self.new.kept.items m).stage ≡ Ready args }
-        ensures same { outlook_of plan.now.stages self.new ≡ outlook_of plan.now.stages self.old }
+        ensures same { settled_view_of plan.now.stages self.new ≡ settled_view_of plan.now.stages self.old }
         ensures taken { StayTakenBut m self.old.kept.items self.new.kept.items }
         ensures turns { self.new.turns ≡ self.old.turns }
         ensures room { SameRoom self.old self.new }
@@ -131,7 +131,7 @@ impl Stages {
         requires swept { AreSwept plan.now.stages (m + 1) m self.old }
         requires stage { m < length plan.now.stages }
         requires unsettled { outcome_of ((kept_at self.old.kept.items m).stage) ≡ None }
-        ensures after { outlook_of plan.now.stages self.new ≡ new_states [] plan.now.stages (slice_set (outlook_of plan.now.stages self.old) m (Settled o)) }
+        ensures after { settled_view_of plan.now.stages self.new ≡ new_states [] plan.now.stages (slice_set (settled_view_of plan.now.stages self.old) m (Settled o)) }
         ensures taken { StayTaken self.old.kept.items self.new.kept.items }
         ensures turns { self.new.turns ≡ self.old.turns }
         ensures room { SameRoom self.old self.new }
@@ -151,7 +151,7 @@ impl Stages {
         requires ready { is_ready ((kept_at self.old.kept.items m).stage) ≡ true }
         requires composes { composes (form_at plan.now.stages m) ≡ true }
         requires unsettled { outcome_of ((kept_at self.old.kept.items j).stage) ≡ None }
-        ensures linked { outlook_of plan.now.stages self.new ≡ slice_set (outlook_of plan.now.stages self.old) m (Linked j) }
+        ensures linked { settled_view_of plan.now.stages self.new ≡ slice_set (settled_view_of plan.now.stages self.old) m (Linked j) }
         ensures taken { StayTakenBut m self.old.kept.items self.new.kept.items }
         ensures turns { self.new.turns ≡ self.old.turns }
         ensures room { SameRoom self.old self.new }
@@ -175,7 +175,7 @@ impl Stages {
         requires swept { AreSwept plan.now.stages (length plan.now.stages) (length plan.now.stages) self.old }
         ensures kept { self.new.kept ≡ self.old.kept }
         ensures turns { self.new.turns ≡ self.old.turns }
-        ensures none { position is_ready (outlook_of plan.now.stages self.new) ≡ None }
+        ensures none { position is_ready (settled_view_of plan.now.stages self.new) ≡ None }
         ensures room { SameRoom self.old self.new }
         ensures sound { AreSound plan.now.stages self.new }
     {

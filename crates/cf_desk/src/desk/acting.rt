@@ -10,7 +10,7 @@ use crate::calls::Call;
 use crate::desk::Desk;
 use crate::faults::DeskFault;
 use crate::pass::Pass;
-use cf_core::Reply;
+use cf_model::Reply;
 
 impl Desk {
     /// Does a call of the pass's caller: adds its event to the log and its record to the pass, and gives the reply. The

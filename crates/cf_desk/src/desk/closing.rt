@@ -13,8 +13,9 @@ use crate::faults::CloseFault;
 use crate::pass::Pass;
 use crate::row::{Sits, StandsForBoth, View};
 use atomic_table::Seat;
-use cf_core::{Event, Graph};
+use cf_core::Graph;
 use cf_event::decode;
+use cf_model::Event;
 use std::alloc::Global;
 
 impl Desk {

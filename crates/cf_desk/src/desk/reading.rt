@@ -1,7 +1,7 @@
 //! The calls that look, and the one by which two passes tell each other what they have seen.
 ghost use Rattle.std.specs.Prelude.{◌≡◌, ◌<◌, ◌≤◌, IfErr, IfOk, IfSome, length};
-ghost use Rattle.cf_core.specs.declared.asks.Ask.TheVariants.{Outcome as AsksOutcome};
-ghost use Rattle.cf_core.specs.States.{lowest_ready_of};
+ghost use Rattle.cf_model.specs.declared.asks.Ask.TheVariants.{Outcome as AsksOutcome};
+ghost use Rattle.cf_model.specs.States.{lowest_ready_of};
 ghost use Rattle.cf_desk.specs.Calls.{event_by};
 ghost use Rattle.cf_desk.specs.declared.calls.Call.TheVariants.{Claim};
 ghost use Rattle.cf_desk.specs.Faults.{IsOnStage};
@@ -12,7 +12,7 @@ use crate::calls::Joined;
 use crate::desk::Desk;
 use crate::faults::DeskFault;
 use crate::pass::Pass;
-use cf_core::{Ask, Told};
+use cf_model::{Ask, Told};
 
 impl Desk {
     /// Answers a question of all events that are there: loads the next word until it finds it empty, or the row at its

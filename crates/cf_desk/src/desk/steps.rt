@@ -10,8 +10,9 @@ use crate::desk::Desk;
 use crate::pass::Pass;
 use crate::row::{Adds, Finds, KeepsFirst, Levels, Looks, Sits, StandsForBoth, View};
 use atomic_table::Seat;
-use cf_core::{Graph, Reply};
+use cf_core::Graph;
 use cf_event::{apply, decode, encode};
+use cf_model::Reply;
 use std::mem;
 
 impl Desk {

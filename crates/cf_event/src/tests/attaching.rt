@@ -2,10 +2,11 @@
 ghost use Rattle.std.specs.Prelude.{◌≡◌, ◌<◌, ◌≤◌, All, IfOk, length};
 ghost use Rattle.std.specs.Bool.{OnTrue};
 ghost use Rattle.cf_plan.specs.Plans.{sources_of};
-ghost use Rattle.cf_core.specs.Ranges.{EventFits};
+ghost use Rattle.cf_model.specs.Ranges.{EventFits};
 
 use crate::{Event, Reply, apply, decode, encode, is_event, replay};
-use cf_core::{Attached, Claimed, Graph};
+use cf_core::Graph;
+use cf_model::{Attached, Claimed};
 use cf_outcome::{Outcome, Value};
 use cf_plan::{Args, Form, Of, PlanBuilder, fits_form};
 use std::alloc::Global;

@@ -1,12 +1,12 @@
 //! The calls that change the graph. Each fails only where there is no memory, and the graph isn't to be used any more then.
 ghost use Rattle.std.specs.Prelude.{◌≡◌, ◌<◌, IfOk, None, false, length};
 ghost use Rattle.cf_outcome.specs.declared.outcome.Outcome.TheVariants.{Fault};
-ghost use Rattle.cf_core.specs.States.{after, flowed, outcome_at};
-ghost use Rattle.cf_core.specs.Events.{cancelling, claiming, finishing, landed, settling, source_outcome};
+ghost use Rattle.cf_model.specs.States.{after, flowed, outcome_at};
+ghost use Rattle.cf_model.specs.Events.{cancelling, claiming, finishing, landed, settling, source_outcome};
 
 use crate::graph::Plain;
 use crate::stages::{new_stages, outcome};
-use cf_core::{Claimed, Finished, Stage};
+use cf_model::{Claimed, Finished, Stage};
 use cf_outcome::{Cause, Outcome, is_cancelled, wrap};
 use cf_plan::{Answer, Landing, landing};
 use std::alloc::{AllocError, Global};

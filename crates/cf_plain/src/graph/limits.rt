@@ -1,10 +1,10 @@
 //! The answer to a moment.
 ghost use Rattle.std.specs.Prelude.{◌≡◌, ◌+◌, ◌<◌, ◌≤◌, IfOk, Some, drop, length, nat_le, slice_get, take};
 ghost use Rattle.std.specs.List.{prefix_len};
-ghost use Rattle.cf_core.specs.Events.{due_limits, firing, limit_outcome, settling, ticking};
+ghost use Rattle.cf_model.specs.Events.{due_limits, firing, limit_outcome, settling, ticking};
 
 use crate::graph::Plain;
-use cf_core::Ticked;
+use cf_model::Ticked;
 use cf_outcome::{Cause, Outcome};
 use cf_plan::{Limit, LimitKind};
 use std::alloc::{AllocError, Global};

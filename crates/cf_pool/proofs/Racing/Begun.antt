@@ -3,13 +3,13 @@ use Rattle.std.proofs.Common.{◌≡◌, ◌==◌, ℕ, zero, suc, ◌+◌, ◌<
 use Rattle.std.specs.List.{All}
 use Rattle.std.proofs.lemmas.List.{take_more}
 use Rattle.std.proofs.lemmas.List.Elements.{All-nil, All-cons, All-head, All-tail, All-get_or, All-weaker}
-use Rattle.cf_core.specs.declared.events.Event.{Event}
-use Rattle.cf_core.specs.declared.events.Event.TheVariants.{Complete as Completes, Fail as Fails, Cancel as Cancels, Claim as Claims, Finish as Finishes, Tick as Ticks, Attach as Attaches}
-use Rattle.cf_core.specs.declared.events.Reply.{Reply}
-use Rattle.cf_core.specs.Events.{answered, state_after}
-use Rattle.cf_core.specs.Ranges.{EventFits, EventsFit}
-use Rattle.cf_core.specs.States.{State, start}
-use Rattle.cf_core.proofs.Shape.{state_after-grows}
+use Rattle.cf_model.specs.declared.events.Event.{Event}
+use Rattle.cf_model.specs.declared.events.Event.TheVariants.{Complete as Completes, Fail as Fails, Cancel as Cancels, Claim as Claims, Finish as Finishes, Tick as Ticks, Attach as Attaches}
+use Rattle.cf_model.specs.declared.events.Reply.{Reply}
+use Rattle.cf_model.specs.Events.{answered, state_after}
+use Rattle.cf_model.specs.Ranges.{EventFits, EventsFit}
+use Rattle.cf_model.specs.States.{State, start}
+use Rattle.cf_model.proofs.Shape.{state_after-grows}
 use Rattle.cf_pool.proofs.Working.{more_stages}
 use Rattle.std.proofs.lemmas.Bool.Decides.{nat_tests}
 use Rattle.cf_desk.specs.declared.calls.Call.{Call}
@@ -28,7 +28,7 @@ use Rattle.cf_desk.specs.Views.{Acts, Follows, IsOf, Pass, Meets, Desk, SeesFull
 use Rattle.cf_desk.proofs.Events.{fits_more as event_fits_more}
 use Rattle.cf_desk.proofs.Recs.{fits_did, fits_more, fits_new, own_call}
 use Rattle.cf_desk.specs.Calls.{as_call, event_by}
-use Rattle.cf_core.specs.Calls.{is_from_outside}
+use Rattle.cf_model.specs.Calls.{is_from_outside}
 use Rattle.cf_pool.specs.Races.{AreSteps, IsStep, race_functions}
 use Rattle.cf_pool.specs.Beginnings.{HasTaken, HaveBegun, IsApart, IsHeldUp, IsIdle, HasDoneSteps}
 

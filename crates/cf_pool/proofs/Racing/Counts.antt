@@ -5,16 +5,16 @@ use Rattle.std.proofs.lemmas.Bool.{eqb-true, eqb-false}
 use Rattle.std.proofs.lemmas.Bool.Decides.{nat_tests}
 use Rattle.std.proofs.lemmas.List.Elements.{All-head, All-tail}
 use Rattle.cf_plan.specs.Plans.{Planned}
-use Rattle.cf_core.specs.declared.replies.Claimed.{Claimed}
-use Rattle.cf_core.specs.declared.replies.Claimed.TheVariants.{Granted, Settled, Taken, NotReady}
-use Rattle.cf_core.specs.declared.events.Event.{Event}
-use Rattle.cf_core.specs.declared.events.Event.TheVariants.{Complete as Completes, Fail as Fails, Cancel as Cancels, Claim as Claims, Finish as Finishes, Tick as Ticks, Attach as Attaches}
-use Rattle.cf_core.specs.declared.events.Reply.TheVariants.{Claim as ToldClaim, Flag as ToldFlag, Finish as ToldFinish, Tick as ToldTick, Attach as ToldAttach}
-use Rattle.cf_core.specs.States.{State}
-use Rattle.cf_core.specs.Claims.{claimable_count}
-use Rattle.cf_core.specs.Events.{answered, claiming, state_after}
-use Rattle.cf_core.proofs.Claimable.{answered-claimable, claiming-claimable}
-use Rattle.cf_core.proofs.Shape.{answered-shape}
+use Rattle.cf_model.specs.declared.replies.Claimed.{Claimed}
+use Rattle.cf_model.specs.declared.replies.Claimed.TheVariants.{Granted, Settled, Taken, NotReady}
+use Rattle.cf_model.specs.declared.events.Event.{Event}
+use Rattle.cf_model.specs.declared.events.Event.TheVariants.{Complete as Completes, Fail as Fails, Cancel as Cancels, Claim as Claims, Finish as Finishes, Tick as Ticks, Attach as Attaches}
+use Rattle.cf_model.specs.declared.events.Reply.TheVariants.{Claim as ToldClaim, Flag as ToldFlag, Finish as ToldFinish, Tick as ToldTick, Attach as ToldAttach}
+use Rattle.cf_model.specs.States.{State}
+use Rattle.cf_model.specs.Claims.{claimable_count}
+use Rattle.cf_model.specs.Events.{answered, claiming, state_after}
+use Rattle.cf_model.proofs.Claimable.{answered-claimable, claiming-claimable}
+use Rattle.cf_model.proofs.Shape.{answered-shape}
 use Rattle.cf_event.specs.Words.{who_of}
 use Rattle.cf_plan.specs.Meanings.{Meanings}
 use Rattle.cf_desk.specs.declared.calls.Call.TheVariants.{Complete, Fail, Cancel, Claim, Finish, Tick, Attach}

@@ -1,10 +1,10 @@
 -- A race of a plain plan with plain steps ends as the expressions say.
 use Rattle.std.proofs.Common.{◌≡◌, ◌<◌, ◌++◌, length, List, [], ◌∷◌, true, Some, All, sym, refl, ap, ◌∙◌, subst}
 use Rattle.std.proofs.lemmas.List.Elements.{All-nil, All-cons}
-use Rattle.cf_core.specs.declared.events.Event.{Event}
-use Rattle.cf_core.specs.declared.events.Event.TheVariants.{Complete as Completes, Fail as Fails, Cancel as Cancels, Claim as Claims, Finish as Finishes, Tick as Ticks, Attach as Attaches}
-use Rattle.cf_core.specs.States.{State, start, outcome_at}
-use Rattle.cf_core.specs.Events.{answered, state_after}
+use Rattle.cf_model.specs.declared.events.Event.{Event}
+use Rattle.cf_model.specs.declared.events.Event.TheVariants.{Complete as Completes, Fail as Fails, Cancel as Cancels, Claim as Claims, Finish as Finishes, Tick as Ticks, Attach as Attaches}
+use Rattle.cf_model.specs.States.{State, start, outcome_at}
+use Rattle.cf_model.specs.Events.{answered, state_after}
 use Rattle.cf_plan.specs.Meanings.{Meanings, stage_answer}
 use Rattle.cf_plan.specs.Plans.{IsBuilt, Planned}
 use Rattle.cf_expr.specs.Expressions.{expr}

@@ -11,25 +11,25 @@ use Rattle.cf_plan.specs.declared.forms.Landing.{Landing}
 use Rattle.cf_plan.specs.declared.forms.Landing.TheVariants.{Settles as Lands, Links}
 use Rattle.cf_plan.specs.Forms.{landing}
 use Rattle.cf_plan.specs.Plans.{Planned, form_at}
-use Rattle.cf_core.specs.declared.stage.Stage.{Stage}
-use Rattle.cf_core.specs.declared.stage.Stage.TheVariants.{Pending, Ready, Claimed, Linked, Settled}
-use Rattle.cf_core.specs.declared.replies.Finished.TheVariants.{NotYours}
-use Rattle.cf_core.specs.declared.events.Event.{Event}
-use Rattle.cf_core.specs.declared.events.Event.TheVariants.{Claim as Claims, Finish as Finishes}
-use Rattle.cf_core.specs.declared.events.Reply.{Reply}
-use Rattle.cf_core.specs.declared.events.Reply.TheVariants.{Claim as ToldClaim}
-use Rattle.cf_core.specs.States.{State, outcome_of, outcome_at, stage_at, claim_at}
-use Rattle.cf_core.specs.Events.{answered, state_after, claimed_by, finished_by, landed, linked_to, source_outcome}
+use Rattle.cf_model.specs.declared.stage.Stage.{Stage}
+use Rattle.cf_model.specs.declared.stage.Stage.TheVariants.{Pending, Ready, Claimed, Linked, Settled}
+use Rattle.cf_model.specs.declared.replies.Finished.TheVariants.{NotYours}
+use Rattle.cf_model.specs.declared.events.Event.{Event}
+use Rattle.cf_model.specs.declared.events.Event.TheVariants.{Claim as Claims, Finish as Finishes}
+use Rattle.cf_model.specs.declared.events.Reply.{Reply}
+use Rattle.cf_model.specs.declared.events.Reply.TheVariants.{Claim as ToldClaim}
+use Rattle.cf_model.specs.States.{State, outcome_of, outcome_at, stage_at, claim_at}
+use Rattle.cf_model.specs.Events.{answered, state_after, claimed_by, finished_by, landed, linked_to, source_outcome}
 use Rattle.cf_core.proofs.Keeping.Marking.{get-set_same}
-use Rattle.cf_core.proofs.Shape.{answered-shape}
-use Rattle.cf_core.proofs.StateLemmas.{slice_get-set_other}
+use Rattle.cf_model.proofs.Shape.{answered-shape}
+use Rattle.cf_model.proofs.StateLemmas.{slice_get-set_other}
 use Rattle.cf_event.specs.Words.{who_of}
 use Rattle.cf_plan.specs.Meanings.{Meanings}
 use Rattle.cf_desk.specs.declared.calls.Rec.{Rec}
 use Rattle.cf_pool.specs.Works.{Owed, owed_by, owed_after, IsNext}
 use Rattle.cf_pool.specs.Records.{recorded}
 use Rattle.cf_pool.proofs.Racing.Owing.{rec_of, owing_with, AllWork, is_next, next_attaches_none, rest_works, by_next}
-use Rattle.cf_core.proofs.ClaimedStages.{is_claimed, at, landed_claimed}
+use Rattle.cf_model.proofs.ClaimedStages.{is_claimed, at, landed_claimed}
 
 -- the one whose claim of stage i is open owes it
 pub record IsOwed (owes : ℕ → Owed) (s : State) (i : ℕ) : Type 0 where

@@ -9,16 +9,16 @@ use Rattle.std.proofs.Math.Seq.{take-length}
 use Rattle.std.proofs.lemmas.List.Elements.{All-cons, All-head, All-tail, All-weaker, All-contains}
 use Rattle.cf_plan.specs.Plans.{Planned, PlannedStage, IsBuilt, IsGrowing, edges_of, plan_of, with_room}
 use Rattle.cf_plan.proofs.GrowingLemmas.{IsBuilt-as}
-use Rattle.cf_core.specs.declared.events.Event.{Event}
-use Rattle.cf_core.specs.declared.stage.Stage.TheVariants.{Pending}
-use Rattle.cf_core.specs.States.{State, start, stage_at}
-use Rattle.cf_core.specs.Claims.{is_claimable}
-use Rattle.cf_core.specs.Events.{state_after}
-use Rattle.cf_core.specs.Calls.{is_from_outside}
-use Rattle.cf_core.proofs.Histories.{state_after-append}
-use Rattle.cf_core.proofs.LowestReady.{lowest_ready-none}
-use Rattle.cf_core.proofs.Growing.{grown_growing}
-use Rattle.cf_core.proofs.Shape.{length-new_states, state_after-grows}
+use Rattle.cf_model.specs.declared.events.Event.{Event}
+use Rattle.cf_model.specs.declared.stage.Stage.TheVariants.{Pending}
+use Rattle.cf_model.specs.States.{State, start, stage_at}
+use Rattle.cf_model.specs.Claims.{is_claimable}
+use Rattle.cf_model.specs.Events.{state_after}
+use Rattle.cf_model.specs.Calls.{is_from_outside}
+use Rattle.cf_model.proofs.Histories.{state_after-append}
+use Rattle.cf_model.proofs.LowestReady.{lowest_ready-none}
+use Rattle.cf_model.proofs.Growing.{grown_growing}
+use Rattle.cf_model.proofs.Shape.{length-new_states, state_after-grows}
 use Rattle.cf_plan.specs.Meanings.{Meanings}
 use Rattle.cf_expr.specs.Histories.{grants_after, nothing_granted}
 use Rattle.cf_desk.specs.declared.calls.Kept.{Kept}
@@ -36,7 +36,7 @@ use Rattle.cf_pool.specs.Works.{Owed, Works, WorksOut, owed_after}
 use Rattle.cf_pool.specs.Records.{recorded}
 use Rattle.cf_pool.specs.Races.{AreSteps, IsByWorker, IsRaced, IsStep, IsWorkHistory, log_words, plan_after, race_functions}
 use Rattle.cf_pool.specs.Beginnings.{HaveBegun, IsApart, IsHeldUp, HasDoneSteps}
-use Rattle.cf_core.proofs.ClaimedStages.{is_claimed, outside_leaves_unclaimed}
+use Rattle.cf_model.proofs.ClaimedStages.{is_claimed, outside_leaves_unclaimed}
 use Rattle.cf_expr.proofs.Quiet.{is_quiet}
 use Rattle.cf_pool.proofs.Runs.{each_out}
 use Rattle.cf_pool.proofs.Racing.Counts.{ByCaller, claims_left, grants_leave, history_at_most}

@@ -5,8 +5,8 @@ ghost use Rattle.cf_desk.specs.Views.{IsOf};
 ghost use Rattle.cf_pool.specs.Beginnings.{HasDoneSteps, HasTaken, HaveBegun, IsApart, IsIdle};
 ghost use Rattle.cf_pool.specs.Races.{IsStep, race_functions};
 
-use cf_core::Event;
 use cf_desk::{Call, Desk, Pass};
+use cf_model::Event;
 use cf_plan::Plan;
 use std::alloc::{AllocError, Global};
 

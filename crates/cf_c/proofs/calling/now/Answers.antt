@@ -1,4 +1,4 @@
-use Rattle.cf_core.specs.declared.asks.Ask.TheVariants.{Now as AsksNow}
+use Rattle.cf_model.specs.declared.asks.Ask.TheVariants.{Now as AsksNow}
 use Rattle.cf_c.specs.Desks.{Reads, told_now}
 use Rattle.cf_c.proofs.Callers.{at_caller}
 use Rattle.cf_c.proofs.calling.now.Goals as goal

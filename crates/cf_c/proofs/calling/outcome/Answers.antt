@@ -1,4 +1,4 @@
-use Rattle.cf_core.specs.declared.asks.Ask.TheVariants.{Outcome as AsksOutcome}
+use Rattle.cf_model.specs.declared.asks.Ask.TheVariants.{Outcome as AsksOutcome}
 use Rattle.cf_c.specs.Desks.{Reads, told_outcome}
 use Rattle.cf_c.proofs.Callers.{at_caller}
 use Rattle.cf_c.proofs.calling.outcome.Goals as goal

@@ -1,6 +1,6 @@
 use Rattle.std.proofs.Common.{◌≡◌, drop, map, is_some}
 use Rattle.std.specs.List.{list_any}
-use Rattle.cf_core.specs.Keeping.Late.{dated_in, outcome_part}
+use Rattle.cf_core.specs.Keeping.Treatment.{dated_in, outcome_part}
 use Rattle.cf_core.proofs.attach.any_settled.Given as goal
 
 -- what is left decides

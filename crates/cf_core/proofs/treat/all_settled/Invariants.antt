@@ -1,6 +1,6 @@
 use Rattle.std.proofs.Common.{◌≡◌, drop, map, is_some}
 use Rattle.std.specs.List.{list_all}
-use Rattle.cf_core.specs.Keeping.Late.{dated_in, outcome_part}
+use Rattle.cf_core.specs.Keeping.Treatment.{dated_in, outcome_part}
 use Rattle.cf_core.proofs.treat.all_settled.Given as goal
 
 -- what is left decides

@@ -1,5 +1,5 @@
 use Rattle.std.proofs.Common.{◌≡◌, drop, map}
-use Rattle.cf_core.specs.Keeping.Late.{dated_in, earlier, earliest}
+use Rattle.cf_core.specs.Keeping.Treatment.{dated_in, earlier, earliest}
 use Rattle.cf_core.proofs.treat.earliest.Given as goal
 
 -- the first so far, and the first of what is left

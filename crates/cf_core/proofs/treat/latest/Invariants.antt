@@ -1,5 +1,5 @@
 use Rattle.std.proofs.Common.{◌≡◌, drop, map, max}
-use Rattle.cf_core.specs.Keeping.Late.{dated_in, latest}
+use Rattle.cf_core.specs.Keeping.Treatment.{dated_in, latest}
 use Rattle.cf_core.proofs.treat.latest.Given as goal
 
 -- the greatest so far, and the greatest of what is left

@@ -1,6 +1,6 @@
 use Rattle.std.proofs.Common.{◌∙◌, ap, refl, sym}
 use Rattle.cf_plan.specs.Plans.{PlannedStage}
-use Rattle.cf_core.specs.Keeping.Late.{treated}
+use Rattle.cf_core.specs.Keeping.Treatment.{treated}
 use Rattle.cf_core.specs.Keeping.Sound.{is_waiting, kept_at}
 use Rattle.cf_core.proofs.Keeping.Places.{idle_stage, same_put, treated_idle}
 use Rattle.cf_core.proofs.treat.treat.Goals as goal

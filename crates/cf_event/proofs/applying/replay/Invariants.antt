@@ -1,6 +1,6 @@
 use Rattle.std.proofs.Common.{◌≤◌, drop}
-use Rattle.cf_core.specs.Graphs.{Graph}
-use Rattle.cf_core.specs.Ranges.{EventsFit}
+use Rattle.cf_model.specs.Graphs.{Graph}
+use Rattle.cf_model.specs.Ranges.{EventsFit}
 use Rattle.cf_event.specs.Replays.{Replays}
 use Rattle.cf_event.proofs.applying.replay.Given as goal
 

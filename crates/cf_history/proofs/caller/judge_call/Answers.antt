@@ -1,6 +1,6 @@
 use Rattle.std.proofs.Common.{◌≡◌, ◌-◌, Some, ap, ◌∙◌, subst, sym, arith, rules}
 use Rattle.std.specs.Prelude.{slice_get}
-use Rattle.cf_core.specs.Events.{answered}
+use Rattle.cf_model.specs.Events.{answered}
 use Rattle.cf_event.specs.Decoding.{event_of}
 use Rattle.cf_event.specs.Words.{IsEvent, who_of, word_of}
 use Rattle.cf_history.specs.Records.{state_in}

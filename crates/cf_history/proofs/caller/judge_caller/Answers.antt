@@ -1,9 +1,9 @@
 use Rattle.std.proofs.Common.{ℕ, ◌+◌, List, get_or, false, arith, subst, sym}
 use Rattle.std.proofs.lemmas.List.{take_rest}
 use Rattle.cf_outcome.specs.declared.outcome.Value.TheVariants.{Nil}
-use Rattle.cf_core.specs.declared.events.Event.{Event}
-use Rattle.cf_core.specs.declared.events.Event.TheVariants.{Complete as Completes}
-use Rattle.cf_core.specs.declared.events.Reply.TheVariants.{Flag}
+use Rattle.cf_model.specs.declared.events.Event.{Event}
+use Rattle.cf_model.specs.declared.events.Event.TheVariants.{Complete as Completes}
+use Rattle.cf_model.specs.declared.events.Reply.TheVariants.{Flag}
 use Rattle.cf_history.specs.declared.record.Record.{Record}
 use Rattle.cf_history.specs.declared.record.Record.TheVariants.{Did}
 use Rattle.cf_history.specs.Records.{GoesOn}

@@ -1,7 +1,7 @@
 use Rattle.std.proofs.Common.{List, arith, refl, subst}
 use Rattle.std.proofs.lemmas.Option.{slice_get_read}
 use Rattle.cf_plan.specs.Plans.{with_room}
-use Rattle.cf_core.specs.States.{start}
+use Rattle.cf_model.specs.States.{start}
 use Rattle.cf_history.specs.declared.caller.Judged.{Judged}
 use Rattle.cf_history.specs.declared.record.Record.{Record}
 use Rattle.cf_history.specs.Callers.{IsJudged}

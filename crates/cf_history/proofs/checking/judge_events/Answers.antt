@@ -1,7 +1,7 @@
 use Rattle.std.proofs.Common.{List, length, subst}
 use Rattle.std.specs.Prelude.{Option, MatchOption}
 use Rattle.cf_plan.specs.Plans.{with_room}
-use Rattle.cf_core.specs.States.{start}
+use Rattle.cf_model.specs.States.{start}
 use Rattle.cf_history.specs.declared.record.Caller.{Caller}
 use Rattle.cf_history.specs.declared.verdict.Verdict.{Verdict}
 use Rattle.cf_history.specs.Histories.{AllRight, AreWordsOf}

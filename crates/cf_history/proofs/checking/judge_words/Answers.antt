@@ -1,5 +1,5 @@
 use Rattle.std.proofs.Common.{List, length, ap, arith, refl, subst}
-use Rattle.cf_core.specs.declared.events.Event.{Event}
+use Rattle.cf_model.specs.declared.events.Event.{Event}
 use Rattle.cf_history.specs.Verdicts.{IsFirstUnfit}
 use Rattle.cf_history.proofs.Words.{decoded_few, unfit_word}
 use Rattle.cf_history.proofs.checking.judge_words.Goals as goal

@@ -1,6 +1,6 @@
 use Rattle.std.proofs.Common.{◌∙◌, sym, arith}
-use Rattle.cf_core.specs.States.{is_ready}
-use Rattle.cf_core.specs.declared.stage.Stage.TheVariants.{Pending}
+use Rattle.cf_model.specs.States.{is_ready}
+use Rattle.cf_model.specs.declared.stage.Stage.TheVariants.{Pending}
 use Rattle.cf_bits.proofs.Positions.{position_is, position_is_none}
 use Rattle.cf_plain.proofs.graph.first_ready.Goals as goal
 

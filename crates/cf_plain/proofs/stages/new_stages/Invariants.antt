@@ -1,5 +1,5 @@
 use Rattle.std.proofs.Common.{◌≡◌, ◌++◌, [], drop, length}
-use Rattle.cf_core.specs.States.{new_states}
+use Rattle.cf_model.specs.States.{new_states}
 use Rattle.cf_plain.proofs.stages.new_stages.Given as goal
 
 -- the new states so far, and those that then follow, are all new states

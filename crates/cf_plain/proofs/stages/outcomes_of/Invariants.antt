@@ -1,5 +1,5 @@
 use Rattle.std.proofs.Common.{◌≡◌, map, take}
-use Rattle.cf_core.specs.States.{outcome_in}
+use Rattle.cf_model.specs.States.{outcome_in}
 use Rattle.cf_plain.proofs.stages.outcomes_of.Given as goal
 
 -- the outcomes of the sources so far

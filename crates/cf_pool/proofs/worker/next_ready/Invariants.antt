@@ -1,5 +1,5 @@
 use Rattle.std.proofs.Common.{◌≡◌, ◌<◌, None, length}
-use Rattle.cf_core.specs.States.{lowest_ready_of}
+use Rattle.cf_model.specs.States.{lowest_ready_of}
 use Rattle.cf_desk.specs.Views.{Follows, state_of}
 use Rattle.cf_pool.specs.Waits.{Idles}
 use Rattle.cf_pool.proofs.worker.next_ready.Given as goal

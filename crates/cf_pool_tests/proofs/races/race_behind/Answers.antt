@@ -2,9 +2,9 @@ use Rattle.std.proofs.Common.{arith, refl, sym, subst, length, List, ◌∙◌}
 use Rattle.std.specs.List.{All}
 use Rattle.std.proofs.lemmas.List.Elements.{All-replicate}
 use Rattle.cf_plan.specs.Plans.{with_room}
-use Rattle.cf_core.specs.declared.events.Event.{Event}
-use Rattle.cf_core.specs.Ranges.{EventFits}
-use Rattle.cf_core.specs.States.{start}
+use Rattle.cf_model.specs.declared.events.Event.{Event}
+use Rattle.cf_model.specs.Ranges.{EventFits}
+use Rattle.cf_model.specs.States.{start}
 use Rattle.cf_pool.specs.Races.{AreSteps, IsStep}
 use Rattle.cf_pool.proofs.Racing.Begun.{fits_below}
 use Rattle.cf_pool_tests.proofs.races.race_behind.Goals as goal

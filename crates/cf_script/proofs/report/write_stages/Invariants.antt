@@ -1,5 +1,5 @@
 use Rattle.std.proofs.Common.{◌≡◌, ◌++◌, drop, string_bytes}
-use Rattle.cf_core.specs.States.{outcome_at}
+use Rattle.cf_model.specs.States.{outcome_at}
 use Rattle.cf_script.specs.Reports.{stage_lines}
 use Rattle.cf_script.proofs.report.write_stages.Given as goal
 

@@ -1,9 +1,9 @@
 use Rattle.std.proofs.Common.{◌<◌, ◌≡◌, ◌∙◌, None, ap, length, map, refl, set, subst, sym}
 use Rattle.cf_plan.specs.Forms.{due_of_first, due_one}
 use Rattle.cf_core.specs.declared.kept.KeptStage.{KeptStage}
-use Rattle.cf_core.specs.declared.stage.Stage.TheVariants.{Pending}
+use Rattle.cf_model.specs.declared.stage.Stage.TheVariants.{Pending}
 use Rattle.cf_core.specs.Keeping.Cells.{KeptStages, kept_of, outcome_in}
-use Rattle.cf_core.specs.Keeping.Late.{dated_in, due_kept, outcome_part, step_part}
+use Rattle.cf_core.specs.Keeping.Treatment.{dated_in, due_kept, outcome_part, step_part}
 use Rattle.cf_core.specs.Keeping.Sound.{kept_at}
 use Rattle.cf_core.proofs.Keeping.CellLemmas.{dated_there, kept_there, map_written, undated_there}
 use Rattle.cf_core.proofs.Keeping.Places.{same_put}

@@ -1,8 +1,8 @@
 use Rattle.std.proofs.Common.{◌≡◌, ◌+◌, ◌∙◌, ◌==◌, None, Some, ap, false, length-set, refl, sym, true}
 use Rattle.std.specs.Prelude.{slice_get, unwrap_or}
 use Rattle.std.specs.Option.{option_map_or}
-use Rattle.cf_core.specs.States.{outcome_in}
-use Rattle.cf_core.specs.Keeping.SoundStages.{outlook_of}
+use Rattle.cf_model.specs.States.{outcome_in}
+use Rattle.cf_core.specs.Keeping.SoundStages.{settled_view_of}
 use Rattle.cf_core.proofs.Keeping.GraphLemmas.{AreClaimed-closed, AreClaimed-stay, claim_there, finishes_late, finishes_now, open_claimed, room_stays, told_outcome}
 use Rattle.cf_core.proofs.Keeping.Sweeping.{treated_swept}
 use Rattle.cf_core.proofs.graph.Graph.finish.Goals as goal
@@ -66,8 +66,8 @@ returns-in-Some-clause-told c =
     let has : option_map_or (λ w. w == c.args.who) (unwrap_or (slice_get claims c.args.i) None) false ≡ true =
     ap (λ xs. option_map_or (λ w. w == c.args.who) (unwrap_or (slice_get xs c.args.i) None) false) (sym c.deref.ensures.value) ∙ sym c.has_claim.ensures ∙ c.if-not-has_claim.false in
     let told = told_outcome plan t c.args.i c.treat_up_to.ensures.sound (rw (← c.self.view_is) at c.requires) c.treat_up_to.ensures.treated in
-    let is : outcome_in (outlook_of plan t) c.args.i ≡ Some c.in-Some.field-0 = told ∙ sym c.outcome.ensures ∙ c.in-Some.is in
-    rw (← c.self.view_is) (finishes_late _ c.args.who c.args.i c.args.answer c.in-Some.field-0 (outlook_of plan t) c.treat_up_to.ensures.same has is)
+    let is : outcome_in (settled_view_of plan t) c.args.i ≡ Some c.in-Some.field-0 = told ∙ sym c.outcome.ensures ∙ c.in-Some.is in
+    rw (← c.self.view_is) (finishes_late _ c.args.who c.args.i c.args.answer c.in-Some.field-0 (settled_view_of plan t) c.treat_up_to.ensures.same has is)
 
 pub returns-in-None-clause-told : goal.returns-in-None-clause-told
 returns-in-None-clause-told c =
@@ -79,6 +79,6 @@ returns-in-None-clause-told c =
     let has : option_map_or (λ w. w == c.args.who) (unwrap_or (slice_get claims c.args.i) None) false ≡ true =
     ap (λ xs. option_map_or (λ w. w == c.args.who) (unwrap_or (slice_get xs c.args.i) None) false) (sym c.deref.ensures.value) ∙ sym c.has_claim.ensures ∙ c.if-not-has_claim.false in
     let told = told_outcome plan t c.args.i c.treat_up_to.ensures.sound (rw (← c.self.view_is) at c.requires) c.treat_up_to.ensures.treated in
-    let is : outcome_in (outlook_of plan t) c.args.i ≡ None = told ∙ sym c.outcome.ensures ∙ c.in-None.is in
-    rw (← c.self.view_is) (finishes_now _ c.args.who c.args.i c.args.answer _ c.landing_of-at.result (outlook_of plan t) (outlook_of plan c.land.new.self)
+    let is : outcome_in (settled_view_of plan t) c.args.i ≡ None = told ∙ sym c.outcome.ensures ∙ c.in-None.is in
+    rw (← c.self.view_is) (finishes_now _ c.args.who c.args.i c.args.answer _ c.landing_of-at.result (settled_view_of plan t) (settled_view_of plan c.land.new.self)
     c.treat_up_to.ensures.same has is refl c.landing_of-at.ensures c.land.ensures.landed)

@@ -1,7 +1,7 @@
 use Rattle.std.proofs.Common.{◌≡◌, ◌∙◌, ◌+◌, arith, Some}
 use Rattle.std.specs.Prelude.{slice_get}
-use Rattle.cf_core.specs.Events.{limit_outcome}
-use Rattle.cf_core.proofs.Firing.{firing-more, settling-plan, settling-used}
+use Rattle.cf_model.specs.Events.{limit_outcome}
+use Rattle.cf_model.proofs.Firing.{firing-more, settling-plan, settling-used}
 use Rattle.cf_core.proofs.graph.Graph.fire_next.Goals.{then-fire, else-fire}
 use Rattle.cf_core.proofs.graph.Graph.fire_next.Goals as goal
 

@@ -1,6 +1,6 @@
 use Rattle.std.proofs.Common.{◌∙◌, ap, sym}
-use Rattle.cf_core.specs.States.{outcome_at, outcome_in}
-use Rattle.cf_core.specs.Graphs.{Graph}
+use Rattle.cf_model.specs.States.{outcome_at, outcome_in}
+use Rattle.cf_model.specs.Graphs.{Graph}
 use Rattle.cf_core.proofs.Keeping.GraphLemmas.{told_outcome}
 use Rattle.cf_core.proofs.Keeping.Settled.{told_settled}
 use Rattle.cf_core.proofs.graph.Graph.outcome.Goals as goal

@@ -1,9 +1,9 @@
 use Rattle.std.proofs.Common.{◌≡◌, ◌∙◌, length, subst}
-use Rattle.cf_core.specs.Graphs.{Graph}
-use Rattle.cf_core.proofs.Keeping.Lowest.{length-outlook}
+use Rattle.cf_model.specs.Graphs.{Graph}
+use Rattle.cf_core.proofs.Keeping.Lowest.{length-settled_view}
 use Rattle.cf_core.proofs.graph.Graph.stages.Goals as goal
 
 pub returns-clause-all_stages : goal.returns-clause-all_stages
 returns-clause-all_stages c =
     let HasAll : Graph → Type 0 = λ g. length g.state.stages ≡ length g.state.plan.stages in
-    subst HasAll c.self.view_is (length-outlook c.self.inside.plan.stages c.self.inside.stages.kept.items ∙ c.self.invariant.sound.all_kept)
+    subst HasAll c.self.view_is (length-settled_view c.self.inside.plan.stages c.self.inside.stages.kept.items ∙ c.self.invariant.sound.all_kept)

@@ -1,7 +1,7 @@
 use Rattle.std.proofs.Common.{◌+◌, arith, subst}
 use Rattle.cf_plan.specs.Meanings.{meanings_of}
-use Rattle.cf_core.specs.Keeping.Serving.{Works}
-use Rattle.cf_core.proofs.Working.{works_all, works_few, works_none, works_on}
+use Rattle.cf_model.specs.Working.{Works}
+use Rattle.cf_model.proofs.Working.{works_all, works_few, works_none, works_on}
 use Rattle.cf_core.proofs.graph.Graph.work.Goals as goal
 use Rattle.cf_core.proofs.graph.Graph.work.Goals.{else-nudge-few, then-nudge-few+else-calls-few}
 

@@ -1,6 +1,6 @@
 use Rattle.std.proofs.Common.{arith}
 use Rattle.cf_plan.specs.Meanings.{meanings_of}
-use Rattle.cf_core.proofs.Working.{turn_more}
+use Rattle.cf_model.proofs.Working.{turn_more}
 use Rattle.cf_core.proofs.graph.Graph.work_few.Goals as goal
 
 pub loop-calls-preserved : goal.loop-calls-preserved

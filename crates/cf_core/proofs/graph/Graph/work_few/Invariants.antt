@@ -1,6 +1,6 @@
 use Rattle.std.proofs.Common.{◌≤◌, ◌-◌}
 use Rattle.cf_plan.specs.Meanings.{meanings_of}
-use Rattle.cf_core.specs.Keeping.Serving.{Works}
+use Rattle.cf_model.specs.Working.{Works}
 use Rattle.cf_core.proofs.graph.Graph.work_few.Given as goal
 
 abbrev pub invariant-loop-calls : goal.invariant-loop-calls

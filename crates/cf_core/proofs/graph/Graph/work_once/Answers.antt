@@ -1,6 +1,6 @@
 use Rattle.std.proofs.Common.{◌<◌, ◌∙◌, None, arith, length, length-set}
 use Rattle.cf_plan.specs.Meanings.{meanings_of}
-use Rattle.cf_core.specs.Keeping.SoundStages.{outlook_of}
+use Rattle.cf_core.specs.Keeping.SoundStages.{settled_view_of}
 use Rattle.cf_core.proofs.Keeping.GraphLemmas.{AreClaimed-closed, AreClaimed-stay, room_stays}
 use Rattle.cf_core.proofs.Keeping.Serving.{found_within, works}
 use Rattle.cf_core.proofs.graph.Graph.work_once.Goals as goal
@@ -38,5 +38,5 @@ returns-in-Some-clause-worked g c =
     let h = c.self.invariant in
     let l = found_within plan s c.in-Some.i h.sound c.in-Some.ensures.told in
     let lc : c.in-Some.i < length c.self.inside.claims.items = omega (arith, l, h.all_claims) in
-    rw (← c.self.view_is) (works _ c.args.who (meanings_of g.F.StageFn.meaning c.args.functions.now) c.in-Some.i (outlook_of plan t) (outlook_of plan c.serve.new.stages)
+    rw (← c.self.view_is) (works _ c.args.who (meanings_of g.F.StageFn.meaning c.args.functions.now) c.in-Some.i (settled_view_of plan t) (settled_view_of plan c.serve.new.stages)
     c.in-Some.ensures.same c.in-Some.ensures.told lc c.serve.ensures.served)

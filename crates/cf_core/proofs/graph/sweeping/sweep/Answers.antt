@@ -1,6 +1,6 @@
 use Rattle.std.proofs.Common.{◌≡◌, ◌≤◌, ◌+◌, ◌∙◌, ap, arith, cond, false, length, length-set, subst, sym, true, Bool, Option, List, ℕ, None, set, refl}
 use Rattle.cf_plan.specs.Meanings.{meanings_of}
-use Rattle.cf_core.specs.Keeping.SoundStages.{outlook_of}
+use Rattle.cf_core.specs.Keeping.SoundStages.{settled_view_of}
 use Rattle.cf_core.specs.Keeping.Sweeps.{Serves}
 use Rattle.cf_core.proofs.Keeping.Sweeping.{visited}
 use Rattle.cf_core.proofs.graph.sweeping.sweep.Goals as goal
@@ -22,8 +22,8 @@ loop-m-preserved g c =
     let few = few_more c.visit.result c.loop-m.calls in
     record {
       swept = v.swept;
-      served = subst (λ n. Serves meanings plan (outlook_of plan c.args.stages.now) c.args.claims.now.items n (outlook_of plan c.visit.new.stages) c.visit.new.claims.items) (sym counted)
-          (visited meanings plan (outlook_of plan c.args.stages.now) c.args.claims.now.items c.loop-m.calls (outlook_of plan c.loop-m.stages) (outlook_of plan c.visit.new.stages) c.loop-m.claims.items c.visit.new.claims.items c.loop-m.m c.visit.result
+      served = subst (λ n. Serves meanings plan (settled_view_of plan c.args.stages.now) c.args.claims.now.items n (settled_view_of plan c.visit.new.stages) c.visit.new.claims.items) (sym counted)
+          (visited meanings plan (settled_view_of plan c.args.stages.now) c.args.claims.now.items c.loop-m.calls (settled_view_of plan c.loop-m.stages) (settled_view_of plan c.visit.new.stages) c.loop-m.claims.items c.visit.new.claims.items c.loop-m.m c.visit.result
           h.served v.lowest v.served v.closed);
       few = (let start = h.few in omega (arith, counted, few, start));
       all_claims = all ∙ h.all_claims;

@@ -1,4 +1,4 @@
-use Rattle.cf_core.specs.Keeping.SoundStages.{outlook_of}
+use Rattle.cf_core.specs.Keeping.SoundStages.{settled_view_of}
 use Rattle.cf_core.proofs.Keeping.Serving.{kept_claimed, settles-claimed}
 use Rattle.cf_core.proofs.graph.working.land_ready.Goals as goal
 
@@ -10,4 +10,4 @@ land-requires-clause-claimed c =
 pub returns-in-Settles-clause-landed : goal.returns-in-Settles-clause-landed
 returns-in-Settles-clause-landed c =
     let plan = c.args.plan.now.stages in
-    settles-claimed plan (outlook_of plan c.args.stages.now) (outlook_of plan c.settle.new.self) c.args.d c.args.at c.in-Settles.o c.in-Settles.is c.settle.ensures.after
+    settles-claimed plan (settled_view_of plan c.args.stages.now) (settled_view_of plan c.settle.new.self) c.args.d c.args.at c.in-Settles.o c.in-Settles.is c.settle.ensures.after

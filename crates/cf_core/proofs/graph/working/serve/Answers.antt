@@ -1,8 +1,8 @@
 use Rattle.std.proofs.Common.{◌≡◌, ◌+◌, ◌∙◌, arith, Some, ap, sym}
 use Rattle.std.specs.Prelude.{slice_get}
 use Rattle.cf_plan.specs.Meanings.{meanings_of}
-use Rattle.cf_core.specs.declared.stage.Stage.TheVariants.{Ready}
-use Rattle.cf_core.specs.Keeping.SoundStages.{outlook_of}
+use Rattle.cf_model.specs.declared.stage.Stage.TheVariants.{Ready}
+use Rattle.cf_core.specs.Keeping.SoundStages.{settled_view_of}
 use Rattle.cf_core.proofs.Keeping.GraphLemmas.{told_stage}
 use Rattle.cf_core.proofs.Keeping.Serving.{served_not, served_ready}
 use Rattle.cf_core.proofs.Keeping.Sweeping.{treated_swept}
@@ -16,9 +16,9 @@ pub returns-in-Ready-clause-served : goal.returns-in-Ready-clause-served
 returns-in-Ready-clause-served g c =
     let plan = c.args.plan.now.stages in
     let t = c.treat_up_to.new.self in
-    let is : slice_get (outlook_of plan t) c.args.i ≡ Some (Ready c.in-Ready.args) =
+    let is : slice_get (settled_view_of plan t) c.args.i ≡ Some (Ready c.in-Ready.args) =
     told_stage plan t c.args.i c.treat_up_to.ensures.sound c.requires.stage c.treat_up_to.ensures.treated ∙ ap (λ x. Some x) (sym c.stage.ensures ∙ c.in-Ready.is) in
-    served_ready (meanings_of g.F.StageFn.meaning c.args.functions.now) plan (outlook_of plan c.args.stages.now) (outlook_of plan t) (outlook_of plan c.land_ready.new.stages) c.args.i c.in-Ready.args
+    served_ready (meanings_of g.F.StageFn.meaning c.args.functions.now) plan (settled_view_of plan c.args.stages.now) (settled_view_of plan t) (settled_view_of plan c.land_ready.new.stages) c.args.i c.in-Ready.args
     c.answer_of-answer.result c.landing_of-at.result c.treat_up_to.ensures.same is c.answer_of-answer.ensures c.landing_of-at.ensures c.land_ready.ensures.landed
 
 pub returns-in_default : goal.returns-in_default
@@ -28,7 +28,7 @@ returns-in_default g c =
     let t = c.treat_up_to.new.self in
     let told = told_stage plan t c.args.i c.treat_up_to.ensures.sound c.requires.stage c.treat_up_to.ensures.treated ∙ ap (λ x. Some x) (sym c.stage.ensures) in
     record {
-      served = served_not (meanings_of g.F.StageFn.meaning c.args.functions.now) plan (outlook_of plan s) (outlook_of plan t) c.args.i c.stage.result c.treat_up_to.ensures.same told c.in_default.not-Ready;
+      served = served_not (meanings_of g.F.StageFn.meaning c.args.functions.now) plan (settled_view_of plan s) (settled_view_of plan t) c.args.i c.stage.result c.treat_up_to.ensures.same told c.in_default.not-Ready;
       taken = λ i ne. c.treat_up_to.ensures.taken i;
       counted = let turns = c.treat_up_to.ensures.turns.turns in omega (arith, turns);
       room = c.treat_up_to.ensures.room;

@@ -2,10 +2,11 @@ use Rattle.std.proofs.Common.{ℕ, ◌∙◌, ◌+◌, ◌++◌, ◌∷◌, [], 
 use Rattle.cf_plan.specs.Plans.{attached_stage, sources_of}
 use Rattle.cf_core.specs.declared.kept.KeptStage.{KeptStage}
 use Rattle.cf_core.specs.declared.stages.Stages.{Stages}
-use Rattle.cf_core.specs.States.{is_ready}
+use Rattle.cf_model.specs.States.{is_ready}
 use Rattle.cf_core.specs.Keeping.Attaching.{due_now, takes_now}
-use Rattle.cf_core.specs.Keeping.Sound.{StayTaken, outlook}
-use Rattle.cf_core.proofs.Keeping.AttachSound.{StayTaken-push, attach_sound, few_sources}
+use Rattle.cf_core.specs.Keeping.Sound.{StayTaken, settled_view}
+use Rattle.cf_plan.proofs.GrowingLemmas.{few_sources}
+use Rattle.cf_core.proofs.Keeping.AttachSound.{StayTaken-push, attach_sound}
 use Rattle.cf_core.proofs.Keeping.Attaching.{attaching_is_after}
 use Rattle.cf_core.proofs.Keeping.Lowest.{all_steady}
 use Rattle.cf_core.proofs.Keeping.Places.{IsSound-same}
@@ -18,7 +19,7 @@ returns-clause-attached c function =
     let plan = c.args.plan.now.stages in
     let p = attached_stage c.args.form c.args.of function in
     let h = c.requires.sound in
-    ap (outlook (plan ++ p ∷ []))
+    ap (settled_view (plan ++ p ∷ []))
     (c.push.ensures.kept ∙ ap (λ (n : Stages). n.kept.items ++ c.newcomer_of-new.result ∷ []) c.newcomer_of-new.ensures.counted ∙ ap (λ (k : KeptStage). s.kept.items ++ k ∷ []) c.newcomer_of-new.ensures.kept)
     ∙ attaching_is_after plan s.kept.items p (s.steps + 1) h.all_kept (all_steady plan s.kept.items s.marks s.ready s.links s.steps s.turns h c.requires.treated)
 

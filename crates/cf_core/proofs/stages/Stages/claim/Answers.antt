@@ -1,7 +1,7 @@
 use Rattle.std.proofs.Common.{◌<◌, ◌+◌, ◌≤◌, ◌∙◌, ap, arith, length, refl, subst, sym}
-use Rattle.cf_core.specs.declared.stage.Stage.TheVariants.{Claimed}
+use Rattle.cf_model.specs.declared.stage.Stage.TheVariants.{Claimed}
 use Rattle.cf_core.specs.declared.kept.KeptStage.{KeptStage}
-use Rattle.cf_core.specs.Keeping.Sound.{StayTaken, is_taken, kept_at, outlook}
+use Rattle.cf_core.specs.Keeping.Sound.{StayTaken, is_taken, kept_at, settled_view}
 use Rattle.cf_core.proofs.Keeping.Marking.{get-set_same}
 use Rattle.cf_core.proofs.Keeping.Sums.{StepsUpTo-at, kept_is, kept_there}
 use Rattle.cf_core.proofs.Keeping.Moves.{links_within, claim_same, claim_sound, is_steady}
@@ -20,7 +20,7 @@ returns-clause-claimed c =
     let h = c.requires.sound in
     let is = ready_args ((kept_at s.kept.items c.args.d).stage) c.requires.ready in
     let steady = is_steady plan s.kept.items s.marks s.ready s.links s.steps s.turns h (c.args.d + 1) c.requires.treated in
-    ap (outlook plan) c.put.ensures.kept
+    ap (settled_view plan) c.put.ensures.kept
     ∙ claim_same plan s.kept.items s.marks s.ready s.links s.steps s.turns h c.args.d c.step-step.result (c.args.d + 1) is.0 c.requires.stage steady (omega arith) is.1
 
 pub returns-clause-here : goal.returns-clause-here

@@ -1,15 +1,15 @@
 use Rattle.std.proofs.Common.{◌≡◌, ◌∙◌, None, Some, [], ap, set, sym}
-use Rattle.cf_core.specs.declared.stage.Stage.TheVariants.{Settled}
-use Rattle.cf_core.specs.States.{new_states, outcome_in}
+use Rattle.cf_model.specs.declared.stage.Stage.TheVariants.{Settled}
+use Rattle.cf_model.specs.States.{new_states, outcome_in}
 use Rattle.cf_core.specs.Keeping.Landings.{landed_stages, linked_stages}
-use Rattle.cf_core.specs.Keeping.SoundStages.{outlook_of}
+use Rattle.cf_core.specs.Keeping.SoundStages.{settled_view_of}
 use Rattle.cf_core.proofs.Keeping.GraphLemmas.{told_below}
 use Rattle.cf_core.proofs.stages.Stages.land.Goals as goal
 
 pub returns-in-Some-clause-landed : goal.returns-in-Some-clause-landed
 returns-in-Some-clause-landed c =
     let plan = c.args.plan.now.stages in
-    let seen = outlook_of plan c.args.self.now in
+    let seen = settled_view_of plan c.args.self.now in
     let j = c.in-Links.j in
     let told : outcome_in seen j ≡ Some c.in-Some.o =
     told_below plan c.args.self.now c.args.d j c.requires.sound c.requires.stage c.requires.treated (c.requires.target j c.in-Links.is) ∙ sym c.outcome.ensures ∙ c.in-Some.is in
@@ -19,7 +19,7 @@ returns-in-Some-clause-landed c =
 pub returns-in-None-clause-landed : goal.returns-in-None-clause-landed
 returns-in-None-clause-landed c =
     let plan = c.args.plan.now.stages in
-    let seen = outlook_of plan c.args.self.now in
+    let seen = settled_view_of plan c.args.self.now in
     let j = c.in-Links.j in
     let told : outcome_in seen j ≡ None =
     told_below plan c.args.self.now c.args.d j c.requires.sound c.requires.stage c.requires.treated (c.requires.target j c.in-Links.is) ∙ sym c.outcome.ensures ∙ c.in-None.is in

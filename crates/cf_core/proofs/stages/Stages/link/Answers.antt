@@ -1,9 +1,9 @@
 use Rattle.std.proofs.Common.{◌≡◌, ◌∷◌, length, ◌+◌, ◌∙◌, None, ap, arith, subst, sym}
-use Rattle.cf_core.specs.declared.stage.Stage.TheVariants.{Linked}
+use Rattle.cf_model.specs.declared.stage.Stage.TheVariants.{Linked}
 use Rattle.cf_core.specs.declared.kept.KeptStage.{KeptStage}
-use Rattle.cf_core.specs.Keeping.Late.{dated_in}
+use Rattle.cf_core.specs.Keeping.Treatment.{dated_in}
 use Rattle.cf_core.specs.Keeping.Links.{list_at}
-use Rattle.cf_core.specs.Keeping.Sound.{StayTakenBut, outlook}
+use Rattle.cf_core.specs.Keeping.Sound.{StayTakenBut, settled_view}
 use Rattle.cf_core.proofs.Keeping.Moves.{is_steady, links_within, link_free, link_room, link_same, link_sound}
 use Rattle.cf_core.proofs.Keeping.MarkLemmas.{other_within}
 use Rattle.cf_core.proofs.Keeping.Places.{IsSound-same, StayTakenBut-set, undated}
@@ -31,7 +31,7 @@ returns-clause-linked c =
     let plan = c.args.plan.now.stages in
     let h = c.requires.sound in
     let steady = is_steady plan s.kept.items s.marks s.ready s.links s.steps s.turns h (c.args.d + 1) c.requires.treated in
-    ap (outlook plan) c.put.ensures.kept
+    ap (settled_view plan) c.put.ensures.kept
     ∙ link_same plan s.kept.items s.marks s.ready s.links s.steps s.turns h c.args.d c.args.j (s.steps + 1) (c.args.d + 1) c.requires.stage steady (omega arith) c.requires.target c.requires.claimed c.requires.unsettled
 
 pub returns-clause-taken : goal.returns-clause-taken

@@ -1,8 +1,8 @@
 use Rattle.std.proofs.Common.{◌+◌, ◌∙◌, ap, refl, subst, sym}
-use Rattle.cf_core.specs.declared.stage.Stage.TheVariants.{Linked}
+use Rattle.cf_model.specs.declared.stage.Stage.TheVariants.{Linked}
 use Rattle.cf_core.specs.declared.kept.KeptStage.{KeptStage}
 use Rattle.cf_core.specs.Keeping.Cells.{KeptStages}
-use Rattle.cf_core.specs.Keeping.Sound.{StayTakenBut, outlook}
+use Rattle.cf_core.specs.Keeping.Sound.{StayTakenBut, settled_view}
 use Rattle.cf_core.proofs.Keeping.Places.{StayTakenBut-set}
 use Rattle.cf_core.proofs.Keeping.Sweeping.{IsSwept-same, swept_free, swept_link_same, swept_linked, swept_room}
 use Rattle.cf_core.proofs.stages.Stages.link_swept.Goals as goal
@@ -21,7 +21,7 @@ pub returns-clause-linked : goal.returns-clause-linked
 returns-clause-linked c =
     let s = c.args.self.now in
     let plan = c.args.plan.now.stages in
-    ap (λ (k : KeptStages). outlook plan k.items) c.put.ensures
+    ap (λ (k : KeptStages). settled_view plan k.items) c.put.ensures
     ∙ swept_link_same plan s.kept.items s.links s.steps s.turns c.args.m c.requires.stage c.args.j (s.steps + 1) c.requires.target c.requires.ready c.requires.unsettled c.requires.swept
 
 pub returns-clause-taken : goal.returns-clause-taken

@@ -1,6 +1,6 @@
 use Rattle.std.proofs.Common.{◌<◌, ◌∙◌, Some, ap, arith, length, refl, subst, sym}
 use Rattle.std.specs.Prelude.{position}
-use Rattle.cf_core.specs.States.{is_ready}
+use Rattle.cf_model.specs.States.{is_ready}
 use Rattle.std.proofs.lemmas.List.{length-map}
 use Rattle.cf_core.specs.Keeping.Sound.{AreTreated}
 use Rattle.cf_core.proofs.Keeping.Lowest.{lowest_ready_is}

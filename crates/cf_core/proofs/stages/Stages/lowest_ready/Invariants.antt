@@ -2,13 +2,13 @@ use Rattle.std.proofs.Common.{◌≡◌, ◌+◌, ◌-◌, length}
 use Rattle.cf_plan.specs.Plans.{edges_of}
 use Rattle.cf_core.specs.Keeping.Sound.{StayTaken}
 use Rattle.cf_core.specs.Keeping.Turns.{TurnsBelowReady}
-use Rattle.cf_core.specs.Keeping.SoundStages.{AreSound, SameRoom, outlook_of}
+use Rattle.cf_core.specs.Keeping.SoundStages.{AreSound, SameRoom, settled_view_of}
 use Rattle.cf_core.proofs.stages.Stages.lowest_ready.Given as goal
 
 -- what the stages lead to stays, which were treated, and there are only so many turns in all
 abbrev pub invariant-loop-m : goal.invariant-loop-m
 invariant-loop-m l = record {
-  same : outlook_of l.plan.stages l.self ≡ outlook_of l.plan.stages l.initial.self;
+  same : settled_view_of l.plan.stages l.self ≡ settled_view_of l.plan.stages l.initial.self;
   taken : StayTaken l.initial.self.kept.items l.self.kept.items;
   turns : TurnsBelowReady l.plan.stages l.initial.self l.self;
   room : SameRoom l.initial.self l.self;

@@ -1,5 +1,5 @@
 use Rattle.std.proofs.Common.{◌∙◌, ◌++◌, ◌∷◌, [], ap, false, set, sym, true}
-use Rattle.cf_core.specs.States.{is_ready}
+use Rattle.cf_model.specs.States.{is_ready}
 use Rattle.cf_core.proofs.Keeping.AttachSound.{set-push}
 use Rattle.cf_core.proofs.stages.Stages.push.Goals as goal
 

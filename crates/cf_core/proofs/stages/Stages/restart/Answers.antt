@@ -1,6 +1,6 @@
 use Rattle.std.proofs.Common.{◌∙◌, refl, ap, length}
 use Rattle.std.specs.Prelude.{false, replicate}
-use Rattle.cf_core.specs.Keeping.Sound.{outlook}
+use Rattle.cf_core.specs.Keeping.Sound.{settled_view}
 use Rattle.cf_core.specs.Keeping.Starts.{mark_starts, untreated}
 use Rattle.cf_core.proofs.Keeping.Places.{IsSound-same}
 use Rattle.cf_core.proofs.Keeping.StartLemmas.{treating_starts}
@@ -10,7 +10,7 @@ use Rattle.cf_core.proofs.stages.Stages.restart.Goals as goal
 pub returns-clause-start : goal.returns-clause-start
 returns-clause-start c =
     let plan = c.args.plan.now.stages in
-    ap (outlook plan) (c.restart.ensures.kept ∙ ap (λ n. replicate n untreated) c.stages-count.ensures.count) ∙ treating_starts plan (length plan)
+    ap (settled_view plan) (c.restart.ensures.kept ∙ ap (λ n. replicate n untreated) c.stages-count.ensures.count) ∙ treating_starts plan (length plan)
 
 pub returns-clause-sound : goal.returns-clause-sound
 returns-clause-sound c =

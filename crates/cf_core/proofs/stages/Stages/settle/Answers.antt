@@ -1,9 +1,9 @@
 use Rattle.std.proofs.Common.{◌<◌, ◌+◌, ◌∙◌, [], All, ap, arith, length, refl, set, subst, sym}
-use Rattle.cf_core.specs.declared.stage.Stage.TheVariants.{Settled}
+use Rattle.cf_model.specs.declared.stage.Stage.TheVariants.{Settled}
 use Rattle.cf_core.specs.declared.kept.KeptStage.{KeptStage}
 use Rattle.cf_core.specs.Keeping.Cells.{KeptStages}
 use Rattle.cf_core.specs.Keeping.Links.{list_at}
-use Rattle.cf_core.specs.Keeping.Sound.{StayTaken, outlook}
+use Rattle.cf_core.specs.Keeping.Sound.{StayTaken, settled_view}
 use Rattle.cf_core.proofs.Keeping.Moves.{is_steady, links_within, settle_same, settle_sound}
 use Rattle.cf_core.proofs.Keeping.Places.{IsSound-same, StayTaken-set}
 use Rattle.cf_core.proofs.stages.Stages.settle.Goals as goal
@@ -21,9 +21,9 @@ returns-clause-after c =
     let h = c.requires.sound in
     let u = c.unready.ensures in
     let steady = is_steady plan s.kept.items s.marks s.ready s.links s.steps s.turns h (c.args.d + 1) c.requires.treated in
-    ap (λ (k : KeptStages). outlook plan k.items) (c.mark_after.ensures.kept ∙ c.settle.ensures)
-    ∙ ap (λ (k : KeptStages). outlook plan (set k.items c.args.d (record { stage = Settled c.args.o; step = c.unready.new.self.steps + 1 }))) u.kept
-    ∙ ap (λ n. outlook plan (set s.kept.items c.args.d (record { stage = Settled c.args.o; step = n + 1 }))) u.steps
+    ap (λ (k : KeptStages). settled_view plan k.items) (c.mark_after.ensures.kept ∙ c.settle.ensures)
+    ∙ ap (λ (k : KeptStages). settled_view plan (set k.items c.args.d (record { stage = Settled c.args.o; step = c.unready.new.self.steps + 1 }))) u.kept
+    ∙ ap (λ n. settled_view plan (set s.kept.items c.args.d (record { stage = Settled c.args.o; step = n + 1 }))) u.steps
     ∙ settle_same plan s.kept.items s.marks s.ready s.links s.steps s.turns h c.args.d (c.args.d + 1) c.args.o c.requires.stage steady (omega arith) c.requires.unsettled
 
 pub returns-clause-taken : goal.returns-clause-taken

@@ -1,7 +1,7 @@
 use Rattle.std.proofs.Common.{◌+◌, ◌∙◌, ap, refl, subst, sym}
 use Rattle.cf_outcome.specs.declared.outcome.Outcome.TheVariants.{Value as Gives}
 use Rattle.cf_core.specs.Keeping.Cells.{KeptStages}
-use Rattle.cf_core.specs.Keeping.Sound.{StayTaken, outlook}
+use Rattle.cf_core.specs.Keeping.Sound.{StayTaken, settled_view}
 use Rattle.cf_core.proofs.Keeping.Sweeping.{IsSwept-same, with_settle_same, with_settled, with_taken}
 use Rattle.cf_core.proofs.stages.Stages.settle_ready.Goals as goal
 
@@ -9,7 +9,7 @@ pub returns-clause-after : goal.returns-clause-after
 returns-clause-after c =
     let s = c.args.self.now in
     let plan = c.args.plan.now.stages in
-    ap (λ (k : KeptStages). outlook plan k.items) c.settle.ensures
+    ap (λ (k : KeptStages). settled_view plan k.items) c.settle.ensures
     ∙ with_settle_same plan s.kept.items s.links s.steps s.turns c.args.m c.args.args c.requires.stage (Gives c.args.v) c.requires.ready.same c.requires.ready.swept
 
 pub returns-clause-taken : goal.returns-clause-taken

@@ -1,8 +1,8 @@
 use Rattle.std.proofs.Common.{◌+◌, ◌∙◌, ap, arith, refl, subst, sym}
-use Rattle.cf_core.specs.declared.stage.Stage.TheVariants.{Settled}
+use Rattle.cf_model.specs.declared.stage.Stage.TheVariants.{Settled}
 use Rattle.cf_core.specs.declared.kept.KeptStage.{KeptStage}
 use Rattle.cf_core.specs.Keeping.Cells.{KeptStages}
-use Rattle.cf_core.specs.Keeping.Sound.{StayTaken, outlook}
+use Rattle.cf_core.specs.Keeping.Sound.{StayTaken, settled_view}
 use Rattle.cf_core.proofs.Keeping.Moves.{settle_same}
 use Rattle.cf_core.proofs.Keeping.Places.{StayTaken-set}
 use Rattle.cf_core.proofs.Keeping.Sweeping.{IsSwept-same, swept_settled, swept_steady, swept_within}
@@ -13,7 +13,7 @@ returns-clause-after c =
     let s = c.args.self.now in
     let plan = c.args.plan.now.stages in
     let h = c.requires.swept in
-    ap (λ (k : KeptStages). outlook plan k.items) c.settle.ensures
+    ap (λ (k : KeptStages). settled_view plan k.items) c.settle.ensures
     ∙ settle_same plan s.kept.items h.marks h.ready s.links s.steps s.turns h.sound c.args.m (c.args.m + 1) c.args.o c.requires.stage
     (swept_steady plan s.kept.items s.links s.steps s.turns (c.args.m + 1) c.args.m h) (omega arith) c.requires.unsettled
 

@@ -1,11 +1,11 @@
 use Rattle.std.proofs.Common.{◌<◌, ◌+◌, ◌≡◌, ◌∙◌, ap, arith, length, length-set, refl, set, subst, sym}
 use Rattle.cf_plan.specs.Plans.{function_at}
 use Rattle.cf_core.specs.declared.kept.KeptStage.{KeptStage}
-use Rattle.cf_core.specs.declared.stage.Stage.TheVariants.{Ready}
+use Rattle.cf_model.specs.declared.stage.Stage.TheVariants.{Ready}
 use Rattle.cf_core.specs.Keeping.Cells.{KeptStages}
-use Rattle.cf_core.specs.Keeping.Late.{treated}
+use Rattle.cf_core.specs.Keeping.Treatment.{treated}
 use Rattle.cf_core.specs.Keeping.Turns.{planned_at}
-use Rattle.cf_core.specs.Keeping.Sound.{StayTaken, kept_at, links_after, outlook}
+use Rattle.cf_core.specs.Keeping.Sound.{StayTaken, kept_at, links_after, settled_view}
 use Rattle.cf_core.specs.Keeping.Sweeps.{IsSwept, ready_with, turns_after}
 use Rattle.cf_core.proofs.Keeping.Places.{StayTaken-set, kept_put, waiting_untaken}
 use Rattle.cf_core.proofs.Keeping.Sweeping.{IsSwept-same, offered_ready, offered_same, swept_same, swept_treated, swept_within}
@@ -20,7 +20,7 @@ returns-in-Some-clause-ready g c =
     record {
       swept = subst (λ (k : KeptStages). IsSwept plan (c.args.m + 1) c.args.m (ready_with k.items c.args.m c.in-Some.args) s.links s.steps (s.turns + 1)) (sym c.in-Some.ensures.unwritten)
           (offered_ready plan s.kept.items s.links s.steps s.turns c.args.m c.in-Some.args c.requires.stage told c.requires.waiting c.requires.swept);
-      same = subst (λ (k : KeptStages). outlook plan (ready_with k.items c.args.m c.in-Some.args) ≡ outlook plan k.items) (sym c.in-Some.ensures.unwritten)
+      same = subst (λ (k : KeptStages). settled_view plan (ready_with k.items c.args.m c.in-Some.args) ≡ settled_view plan k.items) (sym c.in-Some.ensures.unwritten)
           (offered_same plan s.kept.items s.links s.steps s.turns c.args.m c.in-Some.args c.requires.stage told c.requires.swept);
     }
 
@@ -37,7 +37,7 @@ returns-in-None-clause-same g c =
     let plan = c.args.plan.now.stages in
     let new = treated s.kept.items (planned_at plan c.args.m) (kept_at s.kept.items c.args.m) in
     let is : c.offer.new.kept.items ≡ set s.kept.items c.args.m new = rw (← c.form.ensures, ← c.sources.ensures.sources) (c.in-None.ensures.kept (function_at plan c.args.m)) in
-    ap (outlook plan) (ap (λ (k : KeptStages). k.items) c.note_swept.ensures.kept ∙ is)
+    ap (settled_view plan) (ap (λ (k : KeptStages). k.items) c.note_swept.ensures.kept ∙ is)
     ∙ swept_same plan s.kept.items s.links s.steps s.turns c.args.m new c.requires.swept c.requires.stage refl
 
 pub returns-in-None-clause-taken : goal.returns-in-None-clause-taken

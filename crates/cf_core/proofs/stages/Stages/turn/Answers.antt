@@ -1,13 +1,13 @@
 use Rattle.std.proofs.Common.{◌<◌, ◌≡◌, ◌∙◌, ap, arith, false, length, length-set, refl, set, subst, sym, true}
 use Rattle.cf_plan.specs.Plans.{function_at}
 use Rattle.cf_core.specs.declared.kept.KeptStage.{KeptStage}
-use Rattle.cf_core.specs.States.{is_ready}
+use Rattle.cf_model.specs.States.{is_ready}
 use Rattle.cf_core.specs.Keeping.Cells.{KeptStages}
-use Rattle.cf_core.specs.Keeping.Late.{treated}
+use Rattle.cf_core.specs.Keeping.Treatment.{treated}
 use Rattle.cf_core.specs.Keeping.Turns.{planned_at}
-use Rattle.cf_core.specs.Keeping.Sound.{StayTaken, is_waiting, kept_at, links_after, outlook}
+use Rattle.cf_core.specs.Keeping.Sound.{StayTaken, is_waiting, kept_at, links_after, settled_view}
 use Rattle.cf_core.proofs.Keeping.Moves.{links_within}
-use Rattle.cf_core.proofs.Keeping.Places.{IsSound-same, kept_put, lowest_within, ready_marks, turn_idle, turn_idly, turn_kept, turn_outlook, turn_taken}
+use Rattle.cf_core.proofs.Keeping.Places.{IsSound-same, kept_put, lowest_within, ready_marks, turn_idle, turn_idly, turn_kept, turn_settled_view, turn_taken}
 use Rattle.cf_core.proofs.stages.Stages.turn.Goals as goal
 
 pub note-requires-clause-all_kept : goal.note-requires-clause-all_kept
@@ -39,8 +39,8 @@ returns-then-is_waiting-clause-same c =
     let plan = c.args.plan.now.stages in
     let new = treated s.kept.items (planned_at plan c.args.m) (kept_at s.kept.items c.args.m) in
     let is : c.treat.new.kept.items ≡ set s.kept.items c.args.m new = rw (← c.form.ensures, ← c.sources.ensures.sources) (c.treat.ensures.kept (function_at plan c.args.m)) in
-    ap (outlook plan) (ap (λ (k : KeptStages). k.items) c.note.ensures.kept ∙ is)
-    ∙ turn_outlook plan s.kept.items s.marks s.ready s.links s.steps s.turns c.requires.sound c.args.m c.requires.lowest new refl
+    ap (settled_view plan) (ap (λ (k : KeptStages). k.items) c.note.ensures.kept ∙ is)
+    ∙ turn_settled_view plan s.kept.items s.marks s.ready s.links s.steps s.turns c.requires.sound c.args.m c.requires.lowest new refl
 
 pub returns-then-is_waiting-clause-taken : goal.returns-then-is_waiting-clause-taken
 returns-then-is_waiting-clause-taken c =

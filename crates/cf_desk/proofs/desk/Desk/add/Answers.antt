@@ -1,9 +1,9 @@
 use Rattle.std.proofs.Common.{◌≡◌, ℕ, ◌<◌, ◌+◌, ◌++◌, ◌∷◌, [], length, length-append, sym, ap, ◌∙◌, subst, arith}
 use Rattle.atomic_table.specs.Seated.{TableId}
-use Rattle.cf_core.specs.declared.events.Event.{Event}
-use Rattle.cf_core.specs.declared.events.Reply.{Reply}
-use Rattle.cf_core.specs.States.{State}
-use Rattle.cf_core.specs.Events.{answered}
+use Rattle.cf_model.specs.declared.events.Event.{Event}
+use Rattle.cf_model.specs.declared.events.Reply.{Reply}
+use Rattle.cf_model.specs.States.{State}
+use Rattle.cf_model.specs.Events.{answered}
 use Rattle.cf_event.specs.Words.{who_of}
 use Rattle.cf_desk.specs.declared.row.Known.{Known}
 use Rattle.cf_desk.specs.Calls.{event_by}

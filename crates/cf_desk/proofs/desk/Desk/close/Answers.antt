@@ -1,6 +1,6 @@
 use Rattle.std.proofs.Common.{◌≡◌, ℕ, [], Option, length, map, sym, ap, ◌∙◌, subst, arith}
 use Rattle.std.specs.Prelude.{MatchOption}
-use Rattle.cf_core.specs.Graphs.{Graph}
+use Rattle.cf_model.specs.Graphs.{Graph}
 use Rattle.cf_desk.specs.Keepings.{AllFit, pass_kept}
 use Rattle.cf_desk.specs.Views.{IsLatest, knowns}
 use Rattle.cf_desk.proofs.Histories.{one_history}

@@ -1,4 +1,4 @@
-use Rattle.cf_core.specs.declared.asks.Ask.TheVariants.{Outcome as AsksOutcome}
+use Rattle.cf_model.specs.declared.asks.Ask.TheVariants.{Outcome as AsksOutcome}
 use Rattle.cf_desk.proofs.Passes.{still_asks_stage}
 use Rattle.cf_desk.proofs.Results.{is_true}
 use Rattle.cf_desk.proofs.desk.Desk.join.Goals as goal

@@ -1,8 +1,8 @@
 use Rattle.std.proofs.Common.{◌≡◌, ◌<◌, [], length, sym, ap, ◌∙◌, arith}
 use Rattle.atomic_table.specs.Seated.{TableId}
 use Rattle.cf_desk.specs.Rule.{LooksNext}
-use Rattle.cf_core.specs.declared.events.Reply.{Reply}
-use Rattle.cf_core.specs.States.{State}
+use Rattle.cf_model.specs.declared.events.Reply.{Reply}
+use Rattle.cf_model.specs.States.{State}
 use Rattle.cf_desk.specs.Views.{Pass, Desk, known_of}
 use Rattle.cf_desk.proofs.Passes.{looks_at, one_known, short_same, short_more, agrees_looked, agrees_other, on_plan}
 use Rattle.cf_desk.proofs.desk.Desk.look.Goals as goal

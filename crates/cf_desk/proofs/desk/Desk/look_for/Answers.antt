@@ -1,7 +1,7 @@
 use Rattle.std.proofs.Common.{◌≡◌, ◌≢◌, ◌+◌, Option, Some, None, true, false, is_some, inl, inr, refl, sym, ap, ◌∙◌, subst, arith}
 use Rattle.cf_outcome.specs.declared.outcome.Outcome.{Outcome}
-use Rattle.cf_core.specs.declared.asks.Ask.TheVariants.{Outcome as AsksOutcome}
-use Rattle.cf_core.specs.States.{outcome_at}
+use Rattle.cf_model.specs.declared.asks.Ask.TheVariants.{Outcome as AsksOutcome}
+use Rattle.cf_model.specs.States.{outcome_at}
 use Rattle.cf_desk.specs.Views.{Pass, Follows, LooksFor, state_of}
 use Rattle.cf_desk.proofs.Passes.{follows_itself, follows_then, still_asks_stage}
 use Rattle.cf_desk.proofs.Looks.{looks_more, looks_found}

@@ -1,6 +1,6 @@
 use Rattle.std.proofs.Common.{◌<◌, length, ap, ◌∙◌, subst}
 use Rattle.std.specs.Prelude.{IfSome}
-use Rattle.cf_core.specs.States.{lowest_ready_of}
+use Rattle.cf_model.specs.States.{lowest_ready_of}
 use Rattle.cf_desk.specs.Views.{Pass, known_of, state_of}
 use Rattle.cf_desk.proofs.Passes.{ready_there}
 use Rattle.cf_desk.proofs.pass.Pass.lowest_ready.Goals as goal

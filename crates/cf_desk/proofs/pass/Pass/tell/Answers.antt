@@ -1,9 +1,9 @@
 use Rattle.std.proofs.Common.{◌≡◌, ℕ, List, ◌++◌, ◌∷◌, [], length, length-append, sym, refl, ap, ◌∙◌, subst, append-nil, arith}
 use Rattle.std.proofs.lemmas.List.Elements.{All-nil}
 use Rattle.cf_desk.specs.declared.calls.Rec.TheVariants.{Saw}
-use Rattle.cf_core.specs.States.{State}
-use Rattle.cf_core.specs.Events.{told}
-use Rattle.cf_core.specs.Ranges.{AskFits}
+use Rattle.cf_model.specs.States.{State}
+use Rattle.cf_model.specs.Events.{told}
+use Rattle.cf_model.specs.Ranges.{AskFits}
 use Rattle.cf_desk.specs.declared.row.Known.{Known}
 use Rattle.cf_desk.specs.Views.{Pass, IsBetween, known_of, state_of}
 use Rattle.cf_desk.proofs.Passes.{agrees_told, none_new, asked_there}

@@ -1,7 +1,7 @@
 use Rattle.std.proofs.Common.{◌≡◌, ◌∙◌, ◌+◌, arith, Some}
 use Rattle.std.specs.Prelude.{slice_get}
-use Rattle.cf_core.specs.Events.{limit_outcome, settling}
-use Rattle.cf_core.proofs.Firing.{firing-more, settling-plan, settling-used}
+use Rattle.cf_model.specs.Events.{limit_outcome, settling}
+use Rattle.cf_model.proofs.Firing.{firing-more, settling-plan, settling-used}
 use Rattle.cf_plain.proofs.graph.Plain.fire_next.Goals.{then-done, else-done}
 use Rattle.cf_plain.proofs.graph.Plain.fire_next.Goals as goal
 

@@ -1,5 +1,5 @@
 use Rattle.std.proofs.Common.{◌≡◌, ◌+◌, ◌-◌, ◌≤◌, drop, take}
-use Rattle.cf_core.specs.Events.{firing}
+use Rattle.cf_model.specs.Events.{firing}
 use Rattle.cf_plain.proofs.graph.Plain.fire_next.Given as goal
 
 -- the limits that are left do what all do from the start; the plan and the number of used limits stay

@@ -1,5 +1,5 @@
 use Rattle.std.proofs.Common.{◌∙◌, ap, length}
-use Rattle.cf_core.proofs.Shape.{length-new_states}
+use Rattle.cf_model.proofs.Shape.{length-new_states}
 use Rattle.cf_plain.proofs.graph.Plain.flow.Goals as goal
 
 pub invariant_of-self : goal.invariant_of-self

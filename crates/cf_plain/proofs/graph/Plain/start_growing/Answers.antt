@@ -1,7 +1,7 @@
 use Rattle.std.proofs.Common.{◌∙◌, ap, arith, length, None}
 use Rattle.std.proofs.lemmas.List.{length-replicate}
-use Rattle.cf_core.specs.declared.stage.Stage.TheVariants.{Pending}
-use Rattle.cf_core.proofs.Shape.{length-new_states}
+use Rattle.cf_model.specs.declared.stage.Stage.TheVariants.{Pending}
+use Rattle.cf_model.proofs.Shape.{length-new_states}
 use Rattle.cf_plain.proofs.graph.Plain.start_growing.Goals as goal
 
 pub invariant_of-result : goal.invariant_of-result

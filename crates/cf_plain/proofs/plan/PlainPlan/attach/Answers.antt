@@ -1,6 +1,6 @@
 use Rattle.std.proofs.Common.{subst, sym}
 use Rattle.cf_plan.specs.Plans.{IsGrowing, Planned, and_stage, attached_stage}
-use Rattle.cf_core.proofs.Keeping.GraphLemmas.{growing-and_stage}
+use Rattle.cf_plan.proofs.GrowingLemmas.{growing-and_stage}
 use Rattle.cf_plain.specs.Plains.{grown}
 use Rattle.cf_plain.proofs.plan.PlainPlan.attach.Goals as goal
 

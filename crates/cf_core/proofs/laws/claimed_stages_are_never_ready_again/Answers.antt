@@ -1,5 +1,0 @@
-use Rattle.cf_core.proofs.Claimable.{never_ready_again}
-use Rattle.cf_core.proofs.laws.claimed_stages_are_never_ready_again.Goals as goal
-
-pub returns : goal.returns
-returns c = never_ready_again

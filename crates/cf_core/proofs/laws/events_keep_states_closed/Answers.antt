@@ -1,5 +1,0 @@
-use Rattle.cf_core.proofs.Closed.{keeps_closed}
-use Rattle.cf_core.proofs.laws.events_keep_states_closed.Goals as goal
-
-pub returns : goal.returns
-returns c = keeps_closed

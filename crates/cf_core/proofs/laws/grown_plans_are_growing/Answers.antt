@@ -1,5 +1,0 @@
-use Rattle.cf_core.proofs.Growing.{grown_growing}
-use Rattle.cf_core.proofs.laws.grown_plans_are_growing.Goals as goal
-
-pub returns : goal.returns
-returns c = grown_growing

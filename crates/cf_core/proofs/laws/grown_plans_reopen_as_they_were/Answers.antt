@@ -1,5 +1,0 @@
-use Rattle.cf_core.proofs.Growing.{grown_reopens}
-use Rattle.cf_core.proofs.laws.grown_plans_reopen_as_they_were.Goals as goal
-
-pub returns : goal.returns
-returns c = grown_reopens

@@ -1,0 +1,12 @@
+pub mod StateLemmas
+pub mod Moves
+pub mod Claimable
+pub mod Shape
+pub mod Growing
+pub mod Firing
+pub mod LowestReady
+pub mod Working
+pub mod Stable
+pub mod Closed
+pub mod Histories
+pub mod ClaimedStages

@@ -1,0 +1,9 @@
+pub mod States
+pub mod Events
+pub mod Ranges
+pub mod Calls
+pub mod Claims
+pub mod Laws
+pub mod Growth
+pub mod Graphs
+pub mod Working

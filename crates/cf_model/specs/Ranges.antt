@@ -1,0 +1,29 @@
+-- Which stages events and questions may name.
+use Rattle.std.specs.Prelude.{◌≡◌, ℕ, ◌<◌, true, is_some, length, List, [], ◌∷◌, All}
+use Rattle.cf_plan.specs.Plans.{fits_form, sources_of}
+use Rattle.cf_model.specs.declared.asks.Ask.{Ask}
+use Rattle.cf_model.specs.declared.asks.Ask.TheVariants.{Now as AsksNow, Outcome as AsksOutcome}
+use Rattle.cf_model.specs.declared.events.Event.{Event}
+use Rattle.cf_model.specs.declared.events.Event.TheVariants.{Complete as Completes, Fail as Fails, Cancel as Cancels, Claim as Claims, Finish as Finishes, Tick as Ticks, Attach as Attaches}
+use Rattle.cf_model.specs.States.{State}
+use Rattle.cf_model.specs.Events.{answered}
+
+-- the stages that an event names are among n, and a stage that it attaches fits its form
+abbrev pub EventFits : ℕ → Event → Type 0
+EventFits n (Completes who i v) = i < n
+EventFits n (Fails who i code) = i < n
+EventFits n (Cancels who i) = i < n
+EventFits n (Claims who i) = i < n
+EventFits n (Finishes who i answer) = i < n
+EventFits n (Ticks who now) = Unit {0}
+EventFits n (Attaches who form of function) = (fits_form form (length (sources_of of)) (is_some function) ≡ true) × All (λ j. j < n) (sources_of of)
+
+-- each event fits the graph as those before it leave it
+abbrev pub EventsFit : State → List Event → Type 0
+EventsFit s [] = Unit {0}
+EventsFit s (e ∷ events) = EventFits (length s.plan.stages) e × EventsFit ((answered s e).1) events
+
+-- the stage that is asked about is one of n
+abbrev pub AskFits : ℕ → Ask → Type 0
+AskFits n (AsksNow i absent) = i < n
+AskFits n (AsksOutcome i) = i < n
