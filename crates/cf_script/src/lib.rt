@@ -29,6 +29,3 @@ pub use cf_reading::{Func, Part, ReadingFault, Script, Step, read_race, read_scr
 pub use fault::ScriptFault;
 pub use race::race_script;
 pub use run::run_script;
-
-#[cfg(test)]
-mod tests;
