@@ -2,7 +2,7 @@
 ghost use Rattle.std.specs.Prelude.{IfOk};
 ghost use Rattle.cf_command.specs.Words.{HasWorkers};
 
-use cf_script::{Command, CommandFault, read_command};
+use cf_command::{Command, CommandFault, read_command};
 use std::env;
 use std::io::ErrorKind;
 use std::rt::Env;

@@ -5,7 +5,8 @@ ghost use Rattle.cf_command.specs.Words.{HasWorkers};
 ghost use Rattle.cf_script.specs.Printing.{IsInput};
 ghost use Rattle.cf.specs.Commands.{CarriesOut, status_of};
 
-use cf_script::{Command, NoGate, ScriptFault, race_script, run_script};
+use cf_command::Command;
+use cf_script::{NoGate, ScriptFault, race_script, run_script};
 use std::alloc::Global;
 use std::io::{Read, Write};
 use std::process::ExitCode;

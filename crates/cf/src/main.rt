@@ -15,7 +15,7 @@ mod args;
 ghost use Rattle.std.specs.Prelude.{◌≡◌};
 ghost use Rattle.std.specs.Process.{exit_status};
 
-use cf_script::CommandFault;
+use cf_command::CommandFault;
 use commands::carry_out;
 use std::io;
 use std::process::ExitCode;

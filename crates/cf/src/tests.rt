@@ -2,7 +2,7 @@
 ghost use Rattle.cf_command.specs.Words.{HasWorkers};
 
 use crate::commands::carry_out;
-use cf_script::Command;
+use cf_command::Command;
 use std::alloc::Global;
 use std::process::{Abort, ExitCode};
 use std::sync::Wait;

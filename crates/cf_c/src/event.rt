@@ -89,7 +89,7 @@ pub(crate) fn as_event(e: Event) -> CfEvent
             ..bare(4, who, stage)
         },
         Event::Tick { who, moment } => CfEvent {
-            now,
+            now: moment,
             ..bare(5, who, 0)
         },
         Event::Attach {

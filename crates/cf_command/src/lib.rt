@@ -14,6 +14,3 @@ mod workers;
 pub use command::{Command, read_command};
 pub use fault::CommandFault;
 pub use laws::commands_are_read;
-
-#[cfg(test)]
-mod tests;

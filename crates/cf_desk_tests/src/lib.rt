@@ -1,5 +1,5 @@
-//! Tests of the desk by its public calls alone. They stand in a crate of their own, since a crate that has tests is proved
-//! twice, with them and without.
+//! Tests of the desk, and of the example that shares one, by their public calls alone. They stand in a crate of their own,
+//! since a crate that has tests is proved twice, with them and without.
 #![tactic(auto)]
 
 #[cfg(test)]
@@ -10,6 +10,8 @@ mod bounds;
 mod desks;
 #[cfg(test)]
 mod ends;
+#[cfg(test)]
+mod example;
 #[cfg(test)]
 mod growing;
 #[cfg(test)]

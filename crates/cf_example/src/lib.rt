@@ -88,6 +88,3 @@ fn last_of(desk: &Desk, passes: &mut Vec<Pass>) -> Result<Pass, Fault>
 {
     passes.pop().ok_or(Fault::NoMemory)
 }
-
-#[cfg(test)]
-mod tests;

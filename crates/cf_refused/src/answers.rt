@@ -1,8 +1,8 @@
 //! What a call gave, or why it gave nothing.
+use cf_command::CommandFault;
 use cf_core::GraphFault;
 use cf_desk::{CloseFault, OpenFault};
 use cf_plan::PlanFault;
-use cf_script::CommandFault;
 use std::fmt;
 
 /// Why a call gave nothing.

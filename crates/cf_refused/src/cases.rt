@@ -2,10 +2,10 @@
 use crate::answers::{Numbers, Want};
 use crate::graphs::settled;
 use crate::shared::{run_by_three, used};
+use cf_command::{Command, read_command};
 use cf_core::Graph;
 use cf_desk::Desk;
 use cf_plan::{Form, LimitKind, Plan, PlanBuilder, PlanFault};
-use cf_script::{Command, read_command};
 use std::alloc::Global;
 use std::fmt;
 use std::sync::Wait;

@@ -1,9 +1,9 @@
 //! Scripts: what they ask for, and what is printed.
 //!
 //! A script is a JSON text with a plan of stages, their functions, limits and steps. `cf_reading` makes it of bytes, or
-//! tells the first fault in them; `cf_command` reads the words of the command line. This crate runs a script over a
-//! `Graph` and prints its report: a line for each step, then a line for each stage. The input is read and checked
-//! whole before anything is printed; the report is made whole in memory, and then written.
+//! tells the first fault in them. This crate runs a script over a `Graph` and prints its report: a line for each step,
+//! then a line for each stage. The input is read and checked whole before anything is printed; the report is made whole
+//! in memory, and then written.
 //!
 //! `specs/Reports.antt` says what a script prints by what the graph's model answers to the events and questions of its
 //! steps, and `specs/Working.antt` what the step `work` does. `run_script` is proved to write that report, or the line
@@ -23,13 +23,9 @@ mod run;
 mod texts;
 mod work;
 
-pub use cf_command::{Command, CommandFault, read_command};
 pub use cf_plan::PlanFault;
 pub use cf_pool::{Gate, NoGate};
 pub use cf_reading::{Func, Part, ReadingFault, Script, Step, read_race, read_script};
 pub use fault::ScriptFault;
 pub use race::race_script;
 pub use run::run_script;
-
-#[cfg(test)]
-mod tests;

@@ -1,7 +1,8 @@
 //! Scripts that are run, and what they must print.
 use crate::devices::{Dripping, Sipping, Then};
 use crate::rows::{LongRow, Row};
-use cf_script::{Command, CommandFault, read_command, run_script};
+use cf_command::{Command, CommandFault, read_command};
+use cf_script::run_script;
 use std::alloc::{AllocError, Global};
 use std::io::{ErrorKind, Read, Write};
 use std::process::Abort;

@@ -1,5 +1,5 @@
-//! Tests of scripts, of what is printed, and of races of whole scripts, by the public calls alone. They stand in a crate of
-//! their own, since a crate that has tests is proved twice, with them and without.
+//! Tests of scripts, of what is printed, of races of whole scripts, and of the words of the command line, by the public
+//! calls alone. They stand in a crate of their own, since a crate that has tests is proved twice, with them and without.
 #![tactic(auto)]
 
 #[cfg(test)]
@@ -10,6 +10,8 @@ mod checks;
 mod claims;
 #[cfg(test)]
 mod devices;
+#[cfg(test)]
+mod faults;
 #[cfg(test)]
 mod forms;
 #[cfg(test)]
@@ -26,6 +28,8 @@ mod rows;
 mod scripts;
 #[cfg(test)]
 mod versions;
+#[cfg(test)]
+mod words;
 #[cfg(test)]
 mod wrong;
 #[cfg(test)]

@@ -1,5 +1,5 @@
-//! Words and what they are, and each allocation refused in turn.
-use crate::{Command, CommandFault, read_command};
+//! Words of the command line and what they are, and each allocation refused in turn.
+use cf_command::{Command, CommandFault, read_command};
 use std::process::Abort;
 use std::test::Fail;
 

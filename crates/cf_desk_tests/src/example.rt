@@ -1,5 +1,5 @@
 //! That two callers take their turns.
-use crate::take_turns;
+use cf_example::take_turns;
 use cf_outcome::{Outcome, Value};
 use cf_plan::{Form, PlanBuilder};
 use std::test::Fail;
