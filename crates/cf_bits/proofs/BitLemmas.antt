@@ -1,5 +1,6 @@
 -- Bits of words, as flags.
-use Rattle.std.proofs.Common.{◌≡◌, ◌≢◌, ℕ, ◌+◌, ◌*◌, ◌/◌, ◌%◌, ◌^◌, ◌<◌, ◌≤◌, ◌∷◌, ◌++◌, [], List, Bool, false, Some, None, length, suc, zero, min, arith, ap, sym, ◌∙◌, refl, map, get_or, set, eqb, length-set, get_or-set_same, get_or-set_other, ext_get_or, inl, inr}
+use Rattle.std.proofs.Common.{◌≡◌, ◌≢◌, ℕ, ◌+◌, ◌*◌, ◌/◌, ◌%◌, ◌^◌, ◌<◌, ◌≤◌, ◌∷◌, ◌++◌, [], List, Bool, false, Some, None, length, suc, zero, min, arith, ap, sym, ◌∙◌, refl, map, get_or, set, eqb, length-set, get_or-set_same, get_or-set_other, ext_get_or, inl, inr, subst}
+use Rattle.std.proofs.lemmas.Grind.{get_or_default_zero}
 use Rattle.std.specs.Int.{bit_at}
 use Rattle.std.specs.List.{range_with_len, position}
 use Rattle.std.specs.Prelude.{slice_get, replicate}
@@ -203,3 +204,32 @@ flags-none len words h =
     let u = h.tops (j / 64) (omega (arith, n)) in
     let z = bit_at-zero (j / 64) in
     flag_at len words j l ∙ ap (λ x. eqb x 1) (bit_in-zero words j (omega (arith, u, z))))
+
+-- ---- the word of a number that is below the length
+
+pub word_within : (len top : ℕ) (words : List ℕ) (value : List Bool) (i : ℕ) → AreBits len top words → flags len words ≡ value → i < length value → i / 64 < length words
+word_within len top words value i h e l =
+    let low = in_words len top words value i h e l in
+    omega (arith, h.count, h.few)
+
+-- what is found there
+pub word_found : (len top : ℕ) (words : List ℕ) (value : List Bool) (i found : ℕ) → AreBits len top words → flags len words ≡ value → i < length value → found ≡ get_or words (i / 64) found → found ≡ get_or words (i / 64) 0
+word_found len top words value i found h e l at = at ∙ get_or_default_zero words (i / 64) found (word_within len top words value i h e l)
+
+-- what is written in its place
+pub word_written : (len top : ℕ) (words : List ℕ) (value : List Bool) (i found word b : ℕ) → AreBits len top words → flags len words ≡ value → i < length value → found ≡ get_or words (i / 64) found →
+    SetsBit found word (i % 64) b → SetsBit (get_or words (i / 64) 0) word (i % 64) b
+word_written len top words value i found word b h e l at s =
+    let P : ℕ → Type 0 = λ old. SetsBit old word (i % 64) b in
+    subst P (word_found len top words value i found h e l at) s
+
+-- the set is then the old one with that bit
+pub flags-written : (len top : ℕ) (words : List ℕ) (value : List Bool) (i found word n : ℕ) (b : Bool) → AreBits len top words → flags len words ≡ value → i < length value → found ≡ get_or words (i / 64) found →
+    SetsBit found word (i % 64) n → eqb n 1 ≡ b → flags len (set words (i / 64) word) ≡ set value i b
+flags-written len top words value i found word n b h e l at s is =
+    let low = in_words len top words value i h e l in
+    let small : i < 4096 = omega (arith, h.few) in
+    let written = word_written len top words value i found word n h e l at s in
+    flags-set len words (set words (i / 64) word) i b low (ap (λ x. eqb x 1) (bit_in-set_same words i word n h.count small written) ∙ is)
+    (bit_in-set_other words i word n h.count small written)
+    ∙ ap (λ v. set v i b) e
