@@ -52,7 +52,7 @@ pub struct Cell {
     /// The number that is the value, or the first of two.
     pub number: i32,
     /// The code of a fault, the stage linked to, and the bits of a second number.
-    pub word: u32,
+    pub payload: u32,
 }
 
 const _: () = prove!(size_of::<Cell>() == 16);
@@ -68,11 +68,11 @@ fn value_in(detail: Detail, number: i32) -> Value
 }
 
 /// The second of a cell's values.
-fn second_in(flag: bool, word: u32) -> Value
-    ensures { result ≡ Rattle.cf_core.specs.Keeping.Cells.second_in flag word }
+fn second_in(flag: bool, payload: u32) -> Value
+    ensures { result ≡ Rattle.cf_core.specs.Keeping.Cells.second_in flag payload }
 {
     if flag {
-        Value::Int(word.cast_signed())
+        Value::Int(payload.cast_signed())
     } else {
         Value::Nil
     }
@@ -80,14 +80,14 @@ fn second_in(flag: bool, word: u32) -> Value
 
 /// The outcome of a cell.
 fn outcome_in(cell: &Cell) -> Outcome
-    ensures { result ≡ outcome_in cell.now.detail cell.now.flag cell.now.number cell.now.word }
+    ensures { result ≡ outcome_in cell.now.detail cell.now.flag cell.now.number cell.now.payload }
 {
     let wrapped = cell.flag;
     match cell.detail {
         Detail::Nil => Outcome::Value(Value::Nil),
         Detail::Int => Outcome::Value(Value::Int(cell.number)),
         Detail::Thrown => Outcome::Fault {
-            cause: Cause::Thrown(cell.word),
+            cause: Cause::Thrown(cell.payload),
             wrapped,
         },
         Detail::Cancelled => Outcome::Fault {
@@ -117,11 +117,11 @@ impl Cell {
             Kind::One => Stage::Ready(Args::One(value_in(self.detail, self.number))),
             Kind::Two => Stage::Ready(Args::Two(
                 value_in(self.detail, self.number),
-                second_in(self.flag, self.word),
+                second_in(self.flag, self.payload),
             )),
             Kind::Got => Stage::Ready(Args::Got(outcome_in(self))),
             Kind::Claimed => Stage::Claimed,
-            Kind::Linked => Stage::Linked((self.word % 65536) as u16),
+            Kind::Linked => Stage::Linked((self.payload % 65536) as u16),
             Kind::Settled => Stage::Settled(outcome_in(self)),
         }
     }
@@ -187,7 +187,7 @@ impl Cell {
     /// Writes the parts of an outcome.
     #[inline(always)]
     fn put_outcome(&mut self, o: Outcome)
-        ensures outcome { outcome_in self.new.detail self.new.flag self.new.number self.new.word ≡ o }
+        ensures outcome { outcome_in self.new.detail self.new.flag self.new.number self.new.payload ≡ o }
         ensures kind { self.new.kind ≡ self.old.kind }
         ensures step { self.new.step ≡ self.old.step }
     {
@@ -202,7 +202,7 @@ impl Cell {
                 match cause {
                     Cause::Thrown(code) => {
                         self.detail = Detail::Thrown;
-                        self.word = code;
+                        self.payload = code;
                     }
                     Cause::Cancelled => self.detail = Detail::Cancelled,
                     Cause::TimedOut => self.detail = Detail::TimedOut,
@@ -241,7 +241,7 @@ impl Cell {
     /// Writes the second of two values.
     #[inline(always)]
     fn put_second(&mut self, v: Value)
-        ensures second { Rattle.cf_core.specs.Keeping.Cells.second_in self.new.flag self.new.word ≡ v }
+        ensures second { Rattle.cf_core.specs.Keeping.Cells.second_in self.new.flag self.new.payload ≡ v }
         ensures kind { self.new.kind ≡ self.old.kind }
         ensures step { self.new.step ≡ self.old.step }
         ensures detail { self.new.detail ≡ self.old.detail }
@@ -251,7 +251,7 @@ impl Cell {
             Value::Nil => self.flag = false,
             Value::Int(n) => {
                 self.flag = true;
-                self.word = n.cast_unsigned();
+                self.payload = n.cast_unsigned();
             }
         }
     }
@@ -293,7 +293,7 @@ impl Cell {
         ensures { kept_of self.new ≡ record { stage = Linked j; step = step } }
     {
         self.kind = Kind::Linked;
-        self.word = u32::from(j);
+        self.payload = u32::from(j);
         self.step = step;
     }
 
@@ -315,7 +315,7 @@ impl Cell {
     /// Whether it keeps a fault, where it keeps an outcome.
     #[inline(always)]
     pub fn is_fault(&self) -> bool
-        ensures { result ≡ is_exceptional (outcome_in self.now.detail self.now.flag self.now.number self.now.word) }
+        ensures { result ≡ is_exceptional (outcome_in self.now.detail self.now.flag self.now.number self.now.payload) }
     {
         match self.detail {
             Detail::Nil | Detail::Int => false,
@@ -326,26 +326,26 @@ impl Cell {
     /// Settles it with the outcome of another, wrapped. What kind of outcome it is isn't looked at.
     #[inline(always)]
     fn pass(&mut self, from: Cell, step: u32)
-        ensures { kept_of self.new ≡ record { stage = Settled (outcome_in from.detail true from.number from.word); step = step } }
+        ensures { kept_of self.new ≡ record { stage = Settled (outcome_in from.detail true from.number from.payload); step = step } }
     {
         self.kind = Kind::Settled;
         self.detail = from.detail;
         self.flag = true;
         self.step = step;
         self.number = from.number;
-        self.word = from.word;
+        self.payload = from.payload;
     }
 
     /// Makes it ready with the outcome of another. Its step stays.
     #[inline(always)]
     fn get(&mut self, from: Cell)
-        ensures { kept_of self.new ≡ record { stage = Ready (Got (outcome_in from.detail from.flag from.number from.word)); step = self.old.step } }
+        ensures { kept_of self.new ≡ record { stage = Ready (Got (outcome_in from.detail from.flag from.number from.payload)); step = self.old.step } }
     {
         self.kind = Kind::Got;
         self.detail = from.detail;
         self.flag = from.flag;
         self.number = from.number;
-        self.word = from.word;
+        self.payload = from.payload;
     }
 
     /// Makes it ready with the value of another. Its step stays.
@@ -369,7 +369,7 @@ impl Cell {
     /// Lets a pending stage take what its one source has, which has settled.
     #[inline(always)]
     pub fn take_one(&mut self, form: Form, from: Cell)
-        ensures { kept_of self.new ≡ due_kept (due_one form (outcome_in from.detail from.flag from.number from.word)) from.step self.old.step }
+        ensures { kept_of self.new ≡ due_kept (due_one form (outcome_in from.detail from.flag from.number from.payload)) from.step self.old.step }
     {
         match form {
             Form::Handle | Form::WhenComplete => self.get(from),
@@ -402,9 +402,9 @@ impl Cell {
     /// told, and not written.
     #[inline(always)]
     pub fn offer_one(&mut self, form: Form, from: Cell) -> Option<Args>
-        ensures told { IfSome result (λ args. due_one form (outcome_in from.detail from.flag from.number from.word) ≡ Needs args) }
+        ensures told { IfSome result (λ args. due_one form (outcome_in from.detail from.flag from.number from.payload) ≡ Needs args) }
         ensures unwritten { IfSome result (λ args. self.new ≡ self.old) }
-        ensures kept { IfNone result (kept_of self.new ≡ due_kept (due_one form (outcome_in from.detail from.flag from.number from.word)) from.step self.old.step) }
+        ensures kept { IfNone result (kept_of self.new ≡ due_kept (due_one form (outcome_in from.detail from.flag from.number from.payload)) from.step self.old.step) }
     {
         match form {
             Form::Handle | Form::WhenComplete => Some(Args::Got(outcome_in(&from))),

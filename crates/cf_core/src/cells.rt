@@ -244,7 +244,7 @@ fn blank() -> Cell
         flag: false,
         step: 0,
         number: 0,
-        word: 0,
+        payload: 0,
     }
 }
 

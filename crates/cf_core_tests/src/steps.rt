@@ -1,7 +1,4 @@
 //! What is done to a graph and asked of it, as rows: a call, and what it is answered.
-ghost use Rattle.std.specs.Prelude.{◌<◌, All, length};
-ghost use Rattle.std.specs.Bool.{OnTrue};
-ghost use Rattle.cf_plan.specs.Plans.{sources_of};
 
 use crate::plans::{Row, plan_of};
 use cf_core::Graph;
@@ -38,20 +35,9 @@ pub(crate) enum Step {
     Function(u16, Option<u16>),
 }
 
-/// Whether these stages are there by now.
-fn are_there(graph: &Graph, of: Of) -> bool
-    ensures { OnTrue result (All (λ j. j < length graph.now.state.plan.stages) (sources_of of)) }
-{
-    match of {
-        Of::None => true,
-        Of::One(a) => graph.has(a),
-        Of::Two(a, b) => graph.has(a) && graph.has(b),
-    }
-}
-
 /// What the attaching of a stage is answered, where it fits its form and its sources are there.
 fn attached(graph: &mut Graph, form: Form, of: Of, function: Option<u16>) -> Option<Attached> {
-    if fits_form(form, of.count(), function.is_some()) && are_there(graph, of) {
+    if fits_form(form, of.count(), function.is_some()) && of.are_below(graph.stages()) {
         Some(graph.attach(form, of, function))
     } else {
         None

@@ -60,14 +60,7 @@ fn records_at(closed: &Closed, place: usize) -> &[Rec] {
 
 /// Whether an event is this call of this caller.
 fn is_by(event: &Event, caller: u8, call: Call) -> bool {
-    let (Event::Complete { who, .. }
-    | Event::Fail { who, .. }
-    | Event::Cancel { who, .. }
-    | Event::Claim { who, .. }
-    | Event::Finish { who, .. }
-    | Event::Tick { who, .. }
-    | Event::Attach { who, .. }) = *event;
-    who == caller && Call::of(event) == call
+    event.who() == caller && Call::of(event) == call
 }
 
 /// The place of a record of this call, or 0 where it is of another one, or another event stands there.

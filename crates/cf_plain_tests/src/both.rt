@@ -1,79 +1,11 @@
 //! What is done to both graphs, which must answer alike.
-ghost use Rattle.std.specs.Prelude.{◌<◌, All, length};
-ghost use Rattle.std.specs.Bool.{OnTrue};
-ghost use Rattle.cf_model.specs.Ranges.{EventFits};
-ghost use Rattle.cf_plan.specs.Plans.{sources_of};
-
 use cf_core::Graph;
 use cf_model::{Attached, Event, Finished, Reply, Ticked};
 use cf_outcome::{Cause, Outcome};
 use cf_plain::Plain;
-use cf_plan::{Of, fits_form};
 use std::alloc::{AllocError, Global};
 use std::process::Abort;
 use std::test::Fail;
-
-/// Whether the graph has these stages by now.
-fn has_all(graph: &Graph, of: Of) -> bool
-    ensures { OnTrue result (All (λ j. j < length graph.now.state.plan.stages) (sources_of of)) }
-{
-    match of {
-        Of::None => true,
-        Of::One(a) => graph.has(a),
-        Of::Two(a, b) => graph.has(a) && graph.has(b),
-    }
-}
-
-/// Whether the plain graph has these stages by now.
-fn plain_has_all(plain: &Plain, of: Of) -> bool
-    ensures { OnTrue result (All (λ j. j < length plain.now.plan.stages) (sources_of of)) }
-{
-    match of {
-        Of::None => true,
-        Of::One(a) => plain.has(a),
-        Of::Two(a, b) => plain.has(a) && plain.has(b),
-    }
-}
-
-/// Whether an event is one of the graph.
-fn fits(graph: &Graph, event: &Event) -> bool
-    ensures { OnTrue result (EventFits (length graph.now.state.plan.stages) event.now) }
-{
-    match *event {
-        Event::Complete { stage, .. } => graph.has(stage),
-        Event::Fail { stage, .. } => graph.has(stage),
-        Event::Cancel { stage, .. } => graph.has(stage),
-        Event::Claim { stage, .. } => graph.has(stage),
-        Event::Finish { stage, .. } => graph.has(stage),
-        Event::Tick { .. } => true,
-        Event::Attach {
-            form,
-            of,
-            function,
-            ..
-        } => { fits_form(form, of.count(), function.is_some()) && has_all(graph, of) }
-    }
-}
-
-/// Whether an event is one of the plain graph.
-fn fits_plain(plain: &Plain, event: &Event) -> bool
-    ensures { OnTrue result (EventFits (length plain.now.plan.stages) event.now) }
-{
-    match *event {
-        Event::Complete { stage, .. } => plain.has(stage),
-        Event::Fail { stage, .. } => plain.has(stage),
-        Event::Cancel { stage, .. } => plain.has(stage),
-        Event::Claim { stage, .. } => plain.has(stage),
-        Event::Finish { stage, .. } => plain.has(stage),
-        Event::Tick { .. } => true,
-        Event::Attach {
-            form,
-            of,
-            function,
-            ..
-        } => { fits_form(form, of.count(), function.is_some()) && plain_has_all(plain, of) }
-    }
-}
 
 fn flagged(done: Result<bool, AllocError>) -> Result<Reply, AllocError> {
     Ok(Reply::Flag(done?))
@@ -127,7 +59,7 @@ pub(crate) fn answer(
     plain: &mut Plain,
     event: Event,
 ) -> Result<Reply, Fail> {
-    assert!(rt; fits(graph, &event) && fits_plain(plain, &event));
+    assert!(rt; graph.takes(&event) && event.fits(plain.stages()));
     let wanted = plain_reply(alloc, plain, &event)?;
     let reply = graph.answer(&event);
     assert_eq!(rt; reply, wanted, "{event:?}");

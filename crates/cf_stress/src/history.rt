@@ -1,6 +1,6 @@
 //! The history of a closed desk as JSON, as docs/FORMATS.md has histories.
-use crate::texts::{write_reply, write_stage, write_told};
 use crate::args::Sizes;
+use crate::texts::{write_reply, write_stage, write_told};
 use anyhow::{Result, anyhow};
 use cf_core::Graph;
 use cf_desk::{Call, Closed, Kept, Rec};

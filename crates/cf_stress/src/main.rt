@@ -23,6 +23,7 @@
 //! It ends with status 2 where the words are no run's, and 1 where there is no such run.
 #![tactic(auto)]
 
+mod args;
 mod caller;
 mod forms;
 mod hands;
@@ -30,11 +31,11 @@ mod history;
 mod show;
 mod steps;
 mod texts;
-mod args;
 
 ghost use Rattle.std.specs.Prelude.{◌≡◌, All, IfOk, length, vec_len};
 
 use anyhow::{Result, anyhow};
+use args::{Run, Sizes, Words, read_words};
 use caller::{Shared, take_part, take_turns};
 use cf_desk::{Closed, Desk, Pass};
 use cf_plan::Plan;
@@ -49,7 +50,6 @@ use std::sync::atomic::AtomicU32;
 use std::thread;
 use std::thread::Threads;
 use steps::{Step, read_steps};
-use args::{Run, Sizes, Words, read_words};
 
 fn main(rt: HostRuntime) -> Result<ExitCode> {
     match read_words(&rt)? {

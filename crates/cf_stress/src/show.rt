@@ -103,17 +103,6 @@ fn write_asked(text: &mut String, asked: Asked) -> Result<(), AllocError> {
     }
 }
 
-fn caller_of(event: Event) -> u8 {
-    let (Event::Complete { who, .. }
-    | Event::Fail { who, .. }
-    | Event::Cancel { who, .. }
-    | Event::Claim { who, .. }
-    | Event::Finish { who, .. }
-    | Event::Tick { who, .. }
-    | Event::Attach { who, .. }) = event;
-    who
-}
-
 fn write_stages(text: &mut String, graph: &mut Graph) -> Result<(), AllocError> {
     for i in 0..graph.stages() {
         write!(text, "stage {i} ")?;

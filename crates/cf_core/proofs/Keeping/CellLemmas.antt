@@ -40,27 +40,27 @@ get_there (x ∷ cells) (suc i) c l e = get_there cells i c (omega (arith, l)) e
 
 -- a cell that is settled has its outcome, at its step
 pub dated_there : (cells : List Cell) (i : ℕ) (c : Cell) → i < length (map kept_of cells) → c ≡ get_or cells i c → c.kind ≡ kinds.Settled →
-    dated_in (map kept_of cells) i ≡ Some (outcome_in c.detail c.flag c.number c.word, c.step)
+    dated_in (map kept_of cells) i ≡ Some (outcome_in c.detail c.flag c.number c.payload, c.step)
 dated_there cells i c l e is =
     ap (option_and_then dated_of) (get_there cells i c l e)
-    ∙ ap (λ kind. option_map (λ o. (o, c.step)) (outcome_of (stage_in kind c.detail c.flag c.number c.word))) is
+    ∙ ap (λ kind. option_map (λ o. (o, c.step)) (outcome_of (stage_in kind c.detail c.flag c.number c.payload))) is
 
-unsettled : (kind : Kind) (detail : Detail) (flag : Bool) (number : ℤ) (word : ℕ) → (kind ≡ kinds.Settled → ⊥) → outcome_of (stage_in kind detail flag number word) ≡ None
-unsettled kinds.Pending detail flag number word not = refl
-unsettled kinds.Linked detail flag number word not = refl
-unsettled kinds.None detail flag number word not = refl
-unsettled kinds.One detail flag number word not = refl
-unsettled kinds.Two detail flag number word not = refl
-unsettled kinds.Got detail flag number word not = refl
-unsettled kinds.Claimed detail flag number word not = refl
-unsettled kinds.Settled detail flag number word not = absurd (not refl)
+unsettled : (kind : Kind) (detail : Detail) (flag : Bool) (number : ℤ) (payload : ℕ) → (kind ≡ kinds.Settled → ⊥) → outcome_of (stage_in kind detail flag number payload) ≡ None
+unsettled kinds.Pending detail flag number payload not = refl
+unsettled kinds.Linked detail flag number payload not = refl
+unsettled kinds.None detail flag number payload not = refl
+unsettled kinds.One detail flag number payload not = refl
+unsettled kinds.Two detail flag number payload not = refl
+unsettled kinds.Got detail flag number payload not = refl
+unsettled kinds.Claimed detail flag number payload not = refl
+unsettled kinds.Settled detail flag number payload not = absurd (not refl)
 
 -- and any other has none
 pub undated_there : (cells : List Cell) (i : ℕ) (c : Cell) → i < length (map kept_of cells) → c ≡ get_or cells i c → (c.kind ≡ kinds.Settled → ⊥) →
     dated_in (map kept_of cells) i ≡ None
 undated_there cells i c l e not =
     ap (option_and_then dated_of) (get_there cells i c l e)
-    ∙ ap (option_map (λ o. (o, c.step))) (unsettled c.kind c.detail c.flag c.number c.word not)
+    ∙ ap (option_map (λ o. (o, c.step))) (unsettled c.kind c.detail c.flag c.number c.payload not)
 
 -- what follows from what holds where there is no value
 pub none_then : {X : Type 0} {P Q : Type 0} (x : Option X) → (P → Q) → IfNone x P → IfNone x Q

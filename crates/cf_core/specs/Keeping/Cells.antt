@@ -28,30 +28,30 @@ value_in detail number = values.Int number
 
 -- the second of two values
 abbrev pub second_in : Bool → ℕ → Value
-second_in false word = values.Nil
-second_in true word = values.Int (cast_signed w32 word)
+second_in false payload = values.Nil
+second_in true payload = values.Int (cast_signed w32 payload)
 
 abbrev pub outcome_in : Detail → Bool → ℤ → ℕ → Outcome
-outcome_in details.Nil flag number word = outcomes.Value values.Nil
-outcome_in details.Int flag number word = outcomes.Value (values.Int number)
-outcome_in details.Thrown flag number word = outcomes.Fault (causes.Thrown word) flag
-outcome_in details.Cancelled flag number word = outcomes.Fault causes.Cancelled flag
-outcome_in details.TimedOut flag number word = outcomes.Fault causes.TimedOut flag
-outcome_in details.BadAnswer flag number word = outcomes.Fault causes.BadAnswer flag
+outcome_in details.Nil flag number payload = outcomes.Value values.Nil
+outcome_in details.Int flag number payload = outcomes.Value (values.Int number)
+outcome_in details.Thrown flag number payload = outcomes.Fault (causes.Thrown payload) flag
+outcome_in details.Cancelled flag number payload = outcomes.Fault causes.Cancelled flag
+outcome_in details.TimedOut flag number payload = outcomes.Fault causes.TimedOut flag
+outcome_in details.BadAnswer flag number payload = outcomes.Fault causes.BadAnswer flag
 
 abbrev pub stage_in : Kind → Detail → Bool → ℤ → ℕ → Stage
-stage_in kinds.Pending detail flag number word = stages.Pending
-stage_in kinds.Linked detail flag number word = stages.Linked (word % 65536)
-stage_in kinds.None detail flag number word = stages.Ready arguments.None
-stage_in kinds.One detail flag number word = stages.Ready (arguments.One (value_in detail number))
-stage_in kinds.Two detail flag number word = stages.Ready (arguments.Two (value_in detail number) (second_in flag word))
-stage_in kinds.Got detail flag number word = stages.Ready (arguments.Got (outcome_in detail flag number word))
-stage_in kinds.Claimed detail flag number word = stages.Claimed
-stage_in kinds.Settled detail flag number word = stages.Settled (outcome_in detail flag number word)
+stage_in kinds.Pending detail flag number payload = stages.Pending
+stage_in kinds.Linked detail flag number payload = stages.Linked (payload % 65536)
+stage_in kinds.None detail flag number payload = stages.Ready arguments.None
+stage_in kinds.One detail flag number payload = stages.Ready (arguments.One (value_in detail number))
+stage_in kinds.Two detail flag number payload = stages.Ready (arguments.Two (value_in detail number) (second_in flag payload))
+stage_in kinds.Got detail flag number payload = stages.Ready (arguments.Got (outcome_in detail flag number payload))
+stage_in kinds.Claimed detail flag number payload = stages.Claimed
+stage_in kinds.Settled detail flag number payload = stages.Settled (outcome_in detail flag number payload)
 
 abbrev pub kept_of : Cell → KeptStage
-kept_of c = record { stage = stage_in c.kind c.detail c.flag c.number c.word; step = c.step }
+kept_of c = record { stage = stage_in c.kind c.detail c.flag c.number c.payload; step = c.step }
 
 -- a cell of a pending stage
 abbrev pub blank : Cell
-blank = record { kind = kinds.Pending; detail = details.Nil; flag = false; step = 0; number = pos 0; word = 0 }
+blank = record { kind = kinds.Pending; detail = details.Nil; flag = false; step = 0; number = pos 0; payload = 0 }

@@ -24,7 +24,7 @@ returns-in-Settled-clause-kept c =
     (map_written cells c.args.m c.offer_one.new.self
     ∙ ap (set kept c.args.m) (is
     ∙ sym (ap (λ x. due_kept (due_of_first c.args.form (outcome_part x)) (step_part x) (kept_at kept c.args.m).step) there
-    ∙ ap (due_kept (due_one c.args.form (outcome_in from.detail from.flag from.number from.word)) from.step) step)))) c.offer_one.ensures.kept
+    ∙ ap (due_kept (due_one c.args.form (outcome_in from.detail from.flag from.number from.payload)) from.step) step)))) c.offer_one.ensures.kept
 
 pub returns-in_default : goal.returns-in_default
 returns-in_default c =
