@@ -22,8 +22,8 @@ PROOFS = {
     "cf_history": 138, "cf_example": 100, "cf": 115, "cf_command": 78, "cf_picture": 220, "cf_bits": 28, "cf_expr": 20,
 }  # fmt: skip
 TESTS = {
-    "cf_script": 216, "cf_script_tests": 636, "cf_event": 259, "cf_plan_tests": 552, "cf_desk_tests": 493, "cf_outcome": 187,
-    "cf_pool_tests": 418, "cf_core_tests": 404, "cf_example": 144, "cf_plain_tests": 306, "cf": 90, "cf_command": 123,
+    "cf_script_tests": 714, "cf_event": 259, "cf_plan_tests": 552, "cf_desk_tests": 537, "cf_outcome": 187,
+    "cf_pool_tests": 418, "cf_core_tests": 404, "cf_plain_tests": 306, "cf": 90,
     "cf_reading_tests": 243, "cf_bits": 68, "cf_picture_tests": 91, "cf_history_tests": 90, "cf_explain_tests": 88,
 }  # fmt: skip
 OF_TESTS = 9  # to prove a crate that holds tests alone

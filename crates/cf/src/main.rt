@@ -9,8 +9,8 @@
 //! writer.
 #![tactic(auto)]
 
-mod commands;
 mod args;
+mod commands;
 
 ghost use Rattle.std.specs.Prelude.{◌≡◌};
 ghost use Rattle.std.specs.Process.{exit_status};

@@ -20,6 +20,7 @@
 //! - `call graph`, `call desk`: a call of each kind over a fan-out of 512, of a graph and of a desk's one caller.
 #![tactic(auto)]
 
+mod args;
 mod attach;
 mod calls;
 mod desk;
@@ -29,10 +30,10 @@ mod race;
 mod script;
 mod shape;
 mod times;
-mod args;
 mod work;
 
 use anyhow::Result;
+use args::{Words, read_words};
 use attach::{attach_checksum, measured_attach};
 use calls::{Calls, measured_desk_calls, measured_graph_calls};
 use desk::{desk_checksum, measured_desk};
@@ -45,7 +46,6 @@ use std::process::ExitCode;
 use std::thread::Threads;
 use std::time::Clock;
 use times::Shown;
-use args::{Words, read_words};
 
 const SIZES: [u16; 3] = [64, 512, 4095];
 

@@ -108,4 +108,3 @@ IsEvent (Finishes who i answer) = (who ≤ 63) × (i ≤ 4095) × IsAnswer answe
 IsEvent (Ticks who now) = (who ≤ 63) × (now < 2 ^ 32)
 IsEvent (Attaches who form of function) =
     (who ≤ 63) × (first_of of ≤ 4095) × (second_of of ≤ 4095) × (unwrap_or function 0 ≤ 4095) × (fits_form form (count_of of) (is_some function) ≡ true)
-
