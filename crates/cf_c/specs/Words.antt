@@ -5,7 +5,8 @@ use Rattle.cf_plan.specs.declared.forms.Answer.TheVariants.{Give}
 use Rattle.cf_model.specs.declared.events.Event.{Event}
 use Rattle.cf_model.specs.declared.events.Event.TheVariants.{Complete as Completes, Fail as Fails, Cancel as Cancels, Claim as Claims, Finish as Finishes, Tick as Ticks, Attach as Attaches}
 use Rattle.cf_event.specs.Decoding.{event_of as event_of_word}
-use Rattle.cf_event.specs.Words.{IsEvent, count_of, first_of, form_number, second_of, word_of}
+use Rattle.cf_plan.specs.Naming.{form_number}
+use Rattle.cf_event.specs.Words.{IsEvent, count_of, first_of, second_of, word_of}
 use Rattle.cf_c.specs.Answers.{Gives}
 use Rattle.cf_c.specs.Plans.{as_function, event_with, form_of, parts_with, sources_with}
 use Rattle.cf_c.specs.Values.{answer_of, as_answer, as_value, value_of}

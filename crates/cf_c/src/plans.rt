@@ -1,6 +1,6 @@
 //! Forms, sources and functions as C has them.
 ghost use Rattle.std.specs.Prelude.{◌≡◌};
-ghost use Rattle.cf_event.specs.Words.{form_number};
+ghost use Rattle.cf_plan.specs.Naming.{form_number};
 ghost use Rattle.cf_c.specs.Desks.{call_with};
 ghost use Rattle.cf_c.specs.Plans.{as_function, attach_event, event_with, form_of, function_of, parts_of, parts_with, sources_as, sources_with};
 

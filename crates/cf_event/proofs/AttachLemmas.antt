@@ -1,86 +1,23 @@
 -- The fields of events that attach a stage.
-use Rattle.std.proofs.Common.{◌≡◌, ℕ, zero, suc, List, [], ◌∷◌, map, ◌/◌, ◌%◌, ◌^◌, ◌+◌, ◌<◌, ◌≤◌, Bool, true, false, Option, Some, None, refl, ap, sym, subst, ◌∙◌, arith}
+use Rattle.std.proofs.Common.{◌≡◌, ℕ, ◌/◌, ◌%◌, ◌^◌, ◌<◌, ◌≤◌, Bool, true, false, Option, Some, None, refl, subst, arith}
 use Rattle.std.specs.Prelude.{is_some, not, ◌==◌, ◌&&◌, ◌||◌, if◌then◌else◌, option_and_then, slice_get, unwrap_or}
-use Rattle.std.specs.List.{range_with_len}
 use Rattle.std.proofs.lemmas.Grind.{common_steps}
 use Rattle.std.proofs.lemmas.Bool.Decides.{nat_tests}
 use Rattle.cf_plan.specs.declared.forms.Form.{Form}
-use Rattle.cf_plan.specs.declared.forms.Form.TheVariants.{Source, Supply, RunAsync, Apply, Accept, ThenRun, Combine, AcceptBoth, RunBoth, ApplyEither, AcceptEither, RunEither, Compose, Handle, WhenComplete, Exceptionally, AllOf, AnyOf, ExceptionallyCompose}
 use Rattle.cf_plan.specs.declared.forms.Of.{Of}
 use Rattle.cf_plan.specs.declared.forms.Of.TheVariants.{None as NoSource, One, Two}
+use Rattle.cf_plan.specs.Naming.{form_number, forms}
 use Rattle.cf_plan.specs.Plans.{calls_function, fits_count, fits_form}
+use Rattle.cf_plan.proofs.NamingLemmas.{form_back, number_few, number_is}
 use Rattle.cf_model.specs.declared.events.Event.{Event}
 use Rattle.cf_model.specs.declared.events.Event.TheVariants.{Attach as Attaches}
-use Rattle.cf_event.specs.Words.{IsEvent, attach_low, count_of, first_of, form_number, second_of, word_of, word_with}
-use Rattle.cf_event.specs.Decoding.{attach_of, attach_with, forms, of_with}
+use Rattle.cf_event.specs.Words.{IsEvent, attach_low, count_of, first_of, second_of, word_of, word_with}
+use Rattle.cf_event.specs.Decoding.{attach_of, attach_with, of_with}
 
 -- what is found by one of two ways
 pub chosen : {A P : Type 0} (b : Bool) (x y : Option A) (z : A) → (b ≡ true → x ≡ Some z → P) → (b ≡ false → y ≡ Some z → P) → (if b then x else y) ≡ Some z → P
 chosen true x y z f g h = f refl h
 chosen false x y z f g h = g refl h
-
--- a form comes back
-form_back : (form : Form) → slice_get forms (form_number form) ≡ Some form
-form_back Source = refl
-form_back Supply = refl
-form_back RunAsync = refl
-form_back Apply = refl
-form_back Accept = refl
-form_back ThenRun = refl
-form_back Combine = refl
-form_back AcceptBoth = refl
-form_back RunBoth = refl
-form_back ApplyEither = refl
-form_back AcceptEither = refl
-form_back RunEither = refl
-form_back Compose = refl
-form_back Handle = refl
-form_back WhenComplete = refl
-form_back Exceptionally = refl
-form_back AllOf = refl
-form_back AnyOf = refl
-form_back ExceptionallyCompose = refl
-
--- what stands at a place of a list has the number that stands there
-get_map : (f : Form → ℕ) (xs : List Form) (n : ℕ) (x : Form) → slice_get xs n ≡ Some x → slice_get (map f xs) n ≡ Some (f x)
-get_map f [] n x e = cc
-get_map f (y ∷ xs) zero x e = let is : y ≡ x = cc in ap (λ z. Some (f z)) is
-get_map f (y ∷ xs) (suc n) x e = get_map f xs n x e
-
-range_at : (a len n m : ℕ) → slice_get (range_with_len a len) n ≡ Some m → m ≡ a + n
-range_at a zero n m e = cc
-range_at a (suc len) zero m e = let is : a ≡ m = cc in omega (arith, is)
-range_at a (suc len) (suc n) m e = let rest = range_at (a + 1) len n m e in omega (arith, rest)
-
-numbers : map form_number forms ≡ range_with_len 0 19
-numbers = refl
-
-number_is : (n : ℕ) (form : Form) → slice_get forms n ≡ Some form → form_number form ≡ n
-number_is n form e =
-    let there = ap (λ (xs : List ℕ). slice_get xs n) (sym numbers) ∙ get_map form_number forms n form e in
-    let is = range_at 0 19 n (form_number form) there in
-    omega (arith, is)
-
-number_small : (form : Form) → form_number form < 256
-number_small Source = omega arith
-number_small Supply = omega arith
-number_small RunAsync = omega arith
-number_small Apply = omega arith
-number_small Accept = omega arith
-number_small ThenRun = omega arith
-number_small Combine = omega arith
-number_small AcceptBoth = omega arith
-number_small RunBoth = omega arith
-number_small ApplyEither = omega arith
-number_small AcceptEither = omega arith
-number_small RunEither = omega arith
-number_small Compose = omega arith
-number_small Handle = omega arith
-number_small WhenComplete = omega arith
-number_small Exceptionally = omega arith
-number_small AllOf = omega arith
-number_small AnyOf = omega arith
-number_small ExceptionallyCompose = omega arith
 
 -- sources come back
 of_back : (of : Of) → of_with (count_of of) (first_of of) (second_of of) ≡ Some of
@@ -121,7 +58,7 @@ attach_back who form of function s f fits =
     rw (number, second, called, form_back form, of_back of) (attach_of_back who form of function fits)
 
 pub attach_small : (form : Form) (of : Of) (function : Option ℕ) → second_of of ≤ 4095 → unwrap_or function 0 ≤ 4095 → attach_low form of function < 2 ^ 32
-attach_small form of function s f = let l = number_small form in omega (arith, l, s, f)
+attach_small form of function s f = let l = number_few form in omega (arith, l, s, f)
 
 -- what an attaching with these fields is
 and_then_is : {A B : Type 0} (x : Option A) (f : A → Option B) (z : B) → option_and_then f x ≡ Some z → (y : A) × (x ≡ Some y) × (f y ≡ Some z)

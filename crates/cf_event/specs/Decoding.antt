@@ -7,9 +7,9 @@ use Rattle.cf_outcome.specs.declared.outcome.Value.TheVariants.{Nil, Int}
 use Rattle.cf_plan.specs.declared.forms.Answer.{Answer}
 use Rattle.cf_plan.specs.declared.forms.Answer.TheVariants.{Give, Throw, Link}
 use Rattle.cf_plan.specs.declared.forms.Form.{Form}
-use Rattle.cf_plan.specs.declared.forms.Form.TheVariants.{Source, Supply, RunAsync, Apply, Accept, ThenRun, Combine, AcceptBoth, RunBoth, ApplyEither, AcceptEither, RunEither, Compose, Handle, WhenComplete, Exceptionally, AllOf, AnyOf, ExceptionallyCompose}
 use Rattle.cf_plan.specs.declared.forms.Of.{Of}
 use Rattle.cf_plan.specs.declared.forms.Of.TheVariants.{None as NoSource, One, Two}
+use Rattle.cf_plan.specs.Naming.{forms}
 use Rattle.cf_plan.specs.Plans.{fits_form}
 use Rattle.cf_model.specs.declared.events.Event.{Event}
 use Rattle.cf_model.specs.declared.events.Event.TheVariants.{Complete as Completes, Fail as Fails, Cancel as Cancels, Claim as Claims, Finish as Finishes, Tick as Ticks, Attach as Attaches}
@@ -28,10 +28,6 @@ answer_with tag low =
     if tag == 2 then Some (Throw low)
     else (if tag == 3 then (if nat_lt low (2 ^ 16) then Some (Link low) else None)
     else option_map Give (value_with tag low))
-
--- all forms, by their numbers
-abbrev pub forms : List Form
-forms = Source ∷ Supply ∷ RunAsync ∷ Apply ∷ Accept ∷ ThenRun ∷ Combine ∷ AcceptBoth ∷ RunBoth ∷ ApplyEither ∷ AcceptEither ∷ RunEither ∷ Compose ∷ Handle ∷ WhenComplete ∷ Exceptionally ∷ AllOf ∷ AnyOf ∷ ExceptionallyCompose ∷ []
 
 -- so many sources with these numbers, if that can be
 abbrev pub of_with : ℕ → ℕ → ℕ → Option Of

@@ -6,9 +6,9 @@ use Rattle.cf_outcome.specs.declared.outcome.Value.TheVariants.{Nil, Int}
 use Rattle.cf_plan.specs.declared.forms.Answer.{Answer}
 use Rattle.cf_plan.specs.declared.forms.Answer.TheVariants.{Give, Throw, Link}
 use Rattle.cf_plan.specs.declared.forms.Form.{Form}
-use Rattle.cf_plan.specs.declared.forms.Form.TheVariants.{Source, Supply, RunAsync, Apply, Accept, ThenRun, Combine, AcceptBoth, RunBoth, ApplyEither, AcceptEither, RunEither, Compose, Handle, WhenComplete, Exceptionally, AllOf, AnyOf, ExceptionallyCompose}
 use Rattle.cf_plan.specs.declared.forms.Of.{Of}
 use Rattle.cf_plan.specs.declared.forms.Of.TheVariants.{None as NoSource, One, Two}
+use Rattle.cf_plan.specs.Naming.{form_number}
 use Rattle.cf_plan.specs.Plans.{fits_form, sources_of}
 use Rattle.cf_model.specs.declared.events.Event.{Event}
 use Rattle.cf_model.specs.declared.events.Event.TheVariants.{Complete as Completes, Fail as Fails, Cancel as Cancels, Claim as Claims, Finish as Finishes, Tick as Ticks, Attach as Attaches}
@@ -36,28 +36,6 @@ abbrev pub answer_low : Answer → ℕ
 answer_low (Give v) = value_low v
 answer_low (Throw code) = code
 answer_low (Link j) = j
-
--- the number of a form, in the order in which they are declared
-abbrev pub form_number : Form → ℕ
-form_number Source = 0
-form_number Supply = 1
-form_number RunAsync = 2
-form_number Apply = 3
-form_number Accept = 4
-form_number ThenRun = 5
-form_number Combine = 6
-form_number AcceptBoth = 7
-form_number RunBoth = 8
-form_number ApplyEither = 9
-form_number AcceptEither = 10
-form_number RunEither = 11
-form_number Compose = 12
-form_number Handle = 13
-form_number WhenComplete = 14
-form_number Exceptionally = 15
-form_number AllOf = 16
-form_number AnyOf = 17
-form_number ExceptionallyCompose = 18
 
 -- how many sources an attached stage has, the first of them, and the second; 0 for one that isn't there
 abbrev pub count_of : Of → ℕ

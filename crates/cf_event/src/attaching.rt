@@ -1,8 +1,8 @@
 //! The fields of the word of an event that attaches a stage.
 ghost use Rattle.std.specs.Prelude.{◌≡◌, ◌<◌, ◌≤◌, ◌↔◌, IsTrue, is_some, slice_get, true, unwrap_or};
 ghost use Rattle.cf_plan.specs.Plans.{fits_form};
-ghost use Rattle.cf_event.specs.Words.{attach_low, count_of, first_of, form_number, second_of};
-ghost use Rattle.cf_event.specs.Decoding.{attach_of, attach_with, forms, of_with};
+ghost use Rattle.cf_event.specs.Words.{attach_low, count_of, first_of, second_of};
+ghost use Rattle.cf_event.specs.Decoding.{attach_of, attach_with, of_with};
 
 use cf_model::Event;
 use cf_plan::{Form, Of, fits_form};
@@ -14,29 +14,6 @@ const LAST_FUNCTION: u16 = 4095;
 const FORM: u32 = 1 << 24;
 
 const SECOND: u32 = 1 << 12;
-
-/// All forms, by their numbers.
-const FORMS: [Form; 19] = [
-    Form::Source,
-    Form::Supply,
-    Form::RunAsync,
-    Form::Apply,
-    Form::Accept,
-    Form::ThenRun,
-    Form::Combine,
-    Form::AcceptBoth,
-    Form::RunBoth,
-    Form::ApplyEither,
-    Form::AcceptEither,
-    Form::RunEither,
-    Form::Compose,
-    Form::Handle,
-    Form::WhenComplete,
-    Form::Exceptionally,
-    Form::AllOf,
-    Form::AnyOf,
-    Form::ExceptionallyCompose,
-];
 
 /// Whether a word has room for this function, and the stage fits its form.
 pub(crate) fn is_stage(form: Form, of: Of, function: Option<u16>) -> bool
@@ -79,35 +56,7 @@ pub(crate) fn attach_low(form: Form, of: Of, function: Option<u16>) -> u32
     requires function { unwrap_or function 0 ≤ 4095 }
     ensures { result ≡ attach_low form of function }
 {
-    form_number(form) * FORM + second_of(of) as u32 * SECOND + function.unwrap_or(0) as u32
-}
-
-/// The number of a form.
-fn form_number(form: Form) -> u32
-    ensures number { result ≡ form_number form }
-    ensures small { result < 256 }
-{
-    match form {
-        Form::Source => 0,
-        Form::Supply => 1,
-        Form::RunAsync => 2,
-        Form::Apply => 3,
-        Form::Accept => 4,
-        Form::ThenRun => 5,
-        Form::Combine => 6,
-        Form::AcceptBoth => 7,
-        Form::RunBoth => 8,
-        Form::ApplyEither => 9,
-        Form::AcceptEither => 10,
-        Form::RunEither => 11,
-        Form::Compose => 12,
-        Form::Handle => 13,
-        Form::WhenComplete => 14,
-        Form::Exceptionally => 15,
-        Form::AllOf => 16,
-        Form::AnyOf => 17,
-        Form::ExceptionallyCompose => 18,
-    }
+    u32::from(form.number()) * FORM + second_of(of) as u32 * SECOND + function.unwrap_or(0) as u32
 }
 
 /// The attaching with these fields, if there is one. It is a call of its own, since `decode`, in whose code it would else
@@ -118,23 +67,12 @@ pub(crate) fn attach_with(who: u8, first: u16, count: u8, low: u32) -> Option<Ev
 {
     let second = (low / SECOND % SECOND) as u16;
     let function = (low % SECOND) as u16;
-    match form_numbered(low / FORM) {
+    match Form::numbered(low / FORM) {
         None => None,
         Some(form) => match of_with(count, first, second) {
             None => None,
             Some(of) => attach_of(who, form, of, function),
         },
-    }
-}
-
-/// The form of a number.
-fn form_numbered(number: u32) -> Option<Form>
-    ensures { result ≡ slice_get forms number }
-{
-    if (number as usize) < FORMS.len() {
-        Some(FORMS[number as usize])
-    } else {
-        None
     }
 }
 

@@ -6,8 +6,8 @@
 //! which the fault came (`refusing.rt` and what it calls): a place in the part that the fault names, which is proved too. So a walk
 //! that went astray would name another member there, and never another verdict.
 //!
-//! What may stand where, and by which names, is in tables: forms, functions, answers, kinds and members in `words.rt`,
-//! the steps in `steps.rt`.
+//! What may stand where, and by which names, is in tables: functions, answers, kinds and members in `vocabulary.rt`, the
+//! steps in `steps.rt`.
 #![tactic(auto)]
 
 mod behind;

@@ -5,7 +5,7 @@ ghost use Rattle.cf_explain.specs.Places.{IsIn};
 use crate::fitting::{taken, word_wrong};
 use crate::place::Place;
 use crate::refusing::{Wrong, wrong_at};
-use crate::vocabulary::{Words, form_named};
+use crate::vocabulary::Words;
 use crate::wanted::Wanted;
 use crate::why::Why;
 use cf_plan::{Form, fits_form};
@@ -79,7 +79,7 @@ pub(crate) fn misfit(place: Place, json: &Json) -> Option<Wrong>
 
 /// The form of a stage.
 fn form_of(json: &Json) -> Option<Form> {
-    form_named(json.get("form")?.as_str()?)
+    Form::named(json.get("form")?.as_str()?)
 }
 
 /// How many sources a stage names.

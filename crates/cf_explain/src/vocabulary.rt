@@ -29,29 +29,6 @@ pub enum Words {
     LimitMembers,
 }
 
-/// The forms by their names.
-const FORMS: [(&str, Form); 19] = [
-    ("source", Form::Source),
-    ("supply", Form::Supply),
-    ("runAsync", Form::RunAsync),
-    ("apply", Form::Apply),
-    ("accept", Form::Accept),
-    ("thenRun", Form::ThenRun),
-    ("combine", Form::Combine),
-    ("acceptBoth", Form::AcceptBoth),
-    ("runBoth", Form::RunBoth),
-    ("applyEither", Form::ApplyEither),
-    ("acceptEither", Form::AcceptEither),
-    ("runEither", Form::RunEither),
-    ("compose", Form::Compose),
-    ("handle", Form::Handle),
-    ("whenComplete", Form::WhenComplete),
-    ("exceptionally", Form::Exceptionally),
-    ("allOf", Form::AllOf),
-    ("anyOf", Form::AnyOf),
-    ("exceptionallyCompose", Form::ExceptionallyCompose),
-];
-
 /// The functions that are an object of one member, with what stands in it.
 const FUNCTIONS: [(&str, Wanted); 8] = [
     ("add", Wanted::Int),
@@ -101,7 +78,7 @@ impl Words {
     /// The word at this position, if there are so many.
     fn at(self, i: usize) -> Option<&'static str> {
         match self {
-            Words::Forms => name_at(&FORMS, i),
+            Words::Forms => Some(Form::numbered(u32::try_from(i).ok()?)?.name()),
             Words::PlainFunctions => PLAIN_FUNCTIONS.get(i).copied(),
             Words::Functions => name_at(&FUNCTIONS, i),
             Words::Steps => Some(STEPS.get(i)?.word),
@@ -205,9 +182,4 @@ fn row_of<T: Copy>(table: &[(&'static str, T)], word: &str) -> Option<(&'static 
 /// The name of the form of this method.
 fn form_of_method(word: &str) -> Option<&'static str> {
     Some(row_of(&METHODS, word)?.1)
-}
-
-/// The form with this name.
-pub(crate) fn form_named(word: &str) -> Option<Form> {
-    Some(row_of(&FORMS, word)?.1)
 }

@@ -7,7 +7,7 @@ use Rattle.serde_json.specs.Data.{Data, Items, no_items, item}
 use Rattle.serde_json.specs.Find.{get, as_array, as_object}
 use Rattle.cf_plan.specs.declared.faults.PlanFault.{PlanFault}
 use Rattle.cf_plan.specs.declared.limits.Limit.{Limit}
-use Rattle.cf_plan.specs.Plans.{Planned, PlannedStage, edges_of, stage_fault, limit_fault, with_stage, with_limit}
+use Rattle.cf_plan.specs.Plans.{Planned, PlannedStage, edges_of, has_place, stage_fault, limit_fault, with_stage, with_limit}
 use Rattle.cf_reading.specs.declared.fault.Part.TheVariants as parts
 use Rattle.cf_reading.specs.declared.fault.ReadingFault.{ReadingFault}
 use Rattle.cf_reading.specs.declared.fault.ReadingFault.TheVariants as faults
@@ -19,7 +19,7 @@ use Rattle.cf_reading.specs.Limits.{kind_of, limit_next, number_named}
 use Rattle.cf_reading.specs.Parts.{up_to}
 use Rattle.cf_reading.specs.Purposes.{IsForRace}
 use Rattle.cf_reading.specs.RaceReadings.{first_items, cut_at, reading_up_to, IsNotOfStep, IsFirstWrong, RacesAreReadAsRuns}
-use Rattle.cf_reading.specs.Reading.{Outline, progress_start, drafted_of, has_place, items_said, json_of, outline, outline_of, script_with, with_steps, reading, race_reading}
+use Rattle.cf_reading.specs.Reading.{Outline, progress_start, drafted_of, items_said, json_of, outline, outline_of, script_with, with_steps, reading, race_reading}
 use Rattle.cf_reading.specs.Scripts.{Script}
 use Rattle.cf_reading.specs.ReadingProgress.{Progress}
 use Rattle.cf_reading.specs.Versions.{version_of, room_said}
@@ -95,7 +95,7 @@ unfolding drafted_of
 never-drafted_of version room stages limits =
     never-next _ _ (never-fold (stage_next version) (never-stage version) stages nothing_drafted) (λ drafted.
     never-next _ _ (never-fold limit_next never-limit limits drafted.plan) (λ plan.
-    never-next _ _ (never-guard (has_place plan room) (faults.Shape parts.Room) tt) (λ place.
+    never-next _ _ (never-guard (has_place plan.stages room) (faults.Shape parts.Room) tt) (λ place.
     never-ok (record { plan = plan; functions = drafted.functions }))))
 
 never-outline_of : (d : Data) → NeverOfStep (outline_of d)

@@ -1,5 +1,5 @@
 -- What script bytes say, or the first fault in them.
-use Rattle.std.specs.Prelude.{◌+◌, ◌*◌, ◌&&◌, ℕ, List, [], length, Option, Some, None, option_and_then, Bool, Result, Ok, Err, nat_lt, nat_le, codes, if◌then◌else◌}
+use Rattle.std.specs.Prelude.{ℕ, List, [], length, Option, Some, None, option_and_then, Result, Ok, Err, nat_lt, codes, if◌then◌else◌}
 use Rattle.std.specs.Str.{is_utf8}
 use Rattle.serde_json.specs.Data.{Data, Items, no_items}
 use Rattle.serde_json.specs.Find.{get, as_array, as_object}
@@ -9,7 +9,7 @@ use Rattle.cf_reading.specs.declared.fault.ReadingFault.{ReadingFault}
 use Rattle.cf_reading.specs.declared.fault.ReadingFault.TheVariants as faults
 use Rattle.cf_reading.specs.declared.purpose.Purpose.{Purpose}
 use Rattle.cf_reading.specs.declared.purpose.Purpose.TheVariants.{Run, Race}
-use Rattle.cf_plan.specs.Plans.{Planned, edges_of, with_room}
+use Rattle.cf_plan.specs.Plans.{Planned, has_place, with_room}
 use Rattle.cf_reading.specs.declared.func.Func.{Func}
 use Rattle.cf_reading.specs.declared.version.Version.{Version}
 use Rattle.cf_reading.specs.Scripts.{Script, extent_of}
@@ -25,17 +25,13 @@ abbrev pub items_said : Option Data → Option Items
 items_said None = Some no_items
 items_said (Some d) = as_array d
 
--- whether a graph of the plan has place for so much room: so many stages more, of two sources each
-abbrev pub has_place : Planned → ℕ → Bool
-has_place plan room = nat_le (length plan.stages + room) 4096 && nat_le (edges_of plan.stages + 2 * room) 16384
-
 -- The plan and the functions that the stages and the limits make: each stage, each limit, then whether there is place for the
 -- room.
 unfoldable pub drafted_of : Version → ℕ → Items → Items → Result Drafted ReadingFault
 drafted_of version room stages limits = do
   drafted ← fold_items (stage_next version) nothing_drafted stages
   plan ← fold_items limit_next drafted.plan limits
-  place ← guard (has_place plan room) (faults.Shape parts.Room)
+  place ← guard (has_place plan.stages room) (faults.Shape parts.Room)
   Ok (record { plan = plan; functions = drafted.functions })
 
 -- what is said of a script before its steps are read

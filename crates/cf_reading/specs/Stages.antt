@@ -1,11 +1,10 @@
 -- The stages of a script.
-use Rattle.std.specs.Prelude.{ℕ, List, [], ◌∷◌, ◌++◌, length, Option, Some, None, option_map, option_and_then, Result, Ok, codes, if◌then◌else◌}
-use Rattle.std.specs.Option.{option_or}
-use Rattle.std.specs.Str.{bytes_eq}
+use Rattle.std.specs.Prelude.{ℕ, List, [], ◌∷◌, ◌++◌, length, Option, Some, None, option_map, option_and_then, Result, Ok, codes}
 use Rattle.serde_json.specs.Data.{Data}
 use Rattle.serde_json.specs.Find.{get, as_str, as_array}
 use Rattle.cf_plan.specs.declared.forms.Form.{Form}
-use Rattle.cf_plan.specs.declared.forms.Form.TheVariants.{Source, Supply, RunAsync, Apply, Accept, ThenRun, Combine, AcceptBoth, RunBoth, ApplyEither, AcceptEither, RunEither, Compose, Handle, WhenComplete, Exceptionally, AllOf, AnyOf, ExceptionallyCompose}
+use Rattle.cf_plan.specs.declared.forms.Form.TheVariants.{ExceptionallyCompose}
+use Rattle.cf_plan.specs.Naming.{form_named}
 use Rattle.cf_plan.specs.Plans.{Planned, PlannedStage, edges_of, plan_of, stage_fault, with_stage}
 use Rattle.cf_reading.specs.declared.fault.Part.TheVariants as parts
 use Rattle.cf_reading.specs.declared.fault.ReadingFault.{ReadingFault}
@@ -17,51 +16,14 @@ use Rattle.cf_reading.specs.Checks.{◌>>=◌, ok_or, planned_unless, fold_items
 use Rattle.cf_reading.specs.Parts.{up_to}
 use Rattle.cf_reading.specs.Funcs.{function_said}
 
--- the forms of no source and of one
-unfoldable pub single_form : List ℕ → Option Form
-single_form name =
-    if bytes_eq name (codes "source") then Some Source
-    else (if bytes_eq name (codes "supply") then Some Supply
-    else (if bytes_eq name (codes "runAsync") then Some RunAsync
-    else (if bytes_eq name (codes "apply") then Some Apply
-    else (if bytes_eq name (codes "accept") then Some Accept
-    else (if bytes_eq name (codes "thenRun") then Some ThenRun
-    else None)))))
-
--- the forms of two sources
-unfoldable pub pair_form : List ℕ → Option Form
-pair_form name =
-    if bytes_eq name (codes "combine") then Some Combine
-    else (if bytes_eq name (codes "acceptBoth") then Some AcceptBoth
-    else (if bytes_eq name (codes "runBoth") then Some RunBoth
-    else (if bytes_eq name (codes "applyEither") then Some ApplyEither
-    else (if bytes_eq name (codes "acceptEither") then Some AcceptEither
-    else (if bytes_eq name (codes "runEither") then Some RunEither
-    else None)))))
-
--- the forms that link, that are handed faults, and that stand for groups
-unfoldable pub other_form : List ℕ → Option Form
-other_form name =
-    if bytes_eq name (codes "compose") then Some Compose
-    else (if bytes_eq name (codes "handle") then Some Handle
-    else (if bytes_eq name (codes "whenComplete") then Some WhenComplete
-    else (if bytes_eq name (codes "exceptionally") then Some Exceptionally
-    else (if bytes_eq name (codes "allOf") then Some AllOf
-    else (if bytes_eq name (codes "anyOf") then Some AnyOf
-    else None)))))
-
--- the forms that came with version 2
-unfoldable pub later_form : Version → List ℕ → Option Form
-later_form versions.One name = None
-later_form versions.Two name = if bytes_eq name (codes "exceptionallyCompose") then Some ExceptionallyCompose else None
-
--- the form with a name
-unfoldable pub form_named : Version → List ℕ → Option Form
-form_named version name = option_or (single_form name) (option_or (pair_form name) (option_or (other_form name) (later_form version name)))
+-- a form that scripts of a version have: exceptionallyCompose came with version 2
+abbrev pub form_in : Version → Form → Option Form
+form_in versions.One ExceptionallyCompose = None
+form_in version form = Some form
 
 -- the form of a stage
 abbrev pub form_of : Version → Data → Option Form
-form_of version d = option_and_then (form_named version) (option_and_then as_str (get (codes "form") d))
+form_of version d = option_and_then (form_in version) (option_and_then form_named (option_and_then as_str (get (codes "form") d)))
 
 -- one source more, or the fault
 abbrev pub source_next : ReadingFault → List ℕ → Data → Result (List ℕ) ReadingFault

@@ -4,7 +4,8 @@ ghost use Rattle.serde_json.specs.View.{items_view, view};
 ghost use Rattle.cf_reading.specs.Checks.{Gives};
 ghost use Rattle.cf_reading.specs.Scripts.{FunctionFits};
 ghost use Rattle.cf_reading.specs.Purposes.{IsForRace, IsTaken};
-ghost use Rattle.cf_reading.specs.Reading.{drafted_of, has_place, items_said, race_reading, reading, reading_for, script_of};
+ghost use Rattle.cf_plan.specs.Plans.{has_place};
+ghost use Rattle.cf_reading.specs.Reading.{drafted_of, items_said, race_reading, reading, reading_for, script_of};
 
 use crate::draft::Draft;
 use crate::fault::{Part, ReadingFault};
@@ -32,13 +33,6 @@ fn items<'a>(said: Option<&'a Json>) -> Option<&'a [Json]>
     }
 }
 
-/// Whether a graph of the plan has place for so much room: so many stages more, of two sources each.
-fn has_place(plan: &Plan, room: u16) -> bool
-    ensures { result ≡ has_place plan.now room }
-{
-    plan.stages() as u32 + room as u32 <= 4_096 && plan.edges() + 2 * room as u32 <= 16_384
-}
-
 /// The plan and the functions that the stages and the limits make, where there is place for the room.
 #[tactic(auto, unfolding(crate::specs::Reading::drafted_of))]
 fn planned(
@@ -52,7 +46,7 @@ fn planned(
         (drafted_of version room (items_view stages.now) (items_view limits.now)) }
     ensures numbered { IfOk result (λ p. All (FunctionFits (length p.1.items)) p.0.stages) }
     ensures few { IfOk result (λ p. length p.1.items ≤ 4096) }
-    ensures place { IfOk result (λ p. has_place p.0 room ≡ true) }
+    ensures place { IfOk result (λ p. has_place p.0.stages room ≡ true) }
 {
     let Draft {
         mut plan,
@@ -62,7 +56,7 @@ fn planned(
     let Ok(plan) = plan.build() else {
         return Err(ReadingFault::NoMemory);
     };
-    if has_place(&plan, room) {
+    if plan.has_place(room) {
         Ok((plan, functions))
     } else {
         Err(ReadingFault::Shape(Part::Room))

@@ -1,8 +1,5 @@
 //! Events that attach stages: the words of all of them, and what they do to a graph with room.
-ghost use Rattle.std.specs.Prelude.{◌≡◌, ◌<◌, ◌≤◌, All, IfOk, length};
-ghost use Rattle.std.specs.Bool.{OnTrue};
-ghost use Rattle.cf_plan.specs.Plans.{sources_of};
-ghost use Rattle.cf_model.specs.Ranges.{EventFits};
+ghost use Rattle.std.specs.Prelude.{◌≡◌, ◌<◌, IfOk, length};
 
 use crate::{Event, Reply, apply, decode, encode, is_event, replay};
 use cf_core::Graph;
@@ -152,41 +149,10 @@ fn growing(rt: &impl Abort, alloc: Global) -> Result<Graph, Fail>
     Ok(Graph::new_growing(alloc, plan, 2)?)
 }
 
-/// Whether an event fits a graph.
-fn fits(graph: &Graph, event: &Event) -> bool
-    ensures { OnTrue result (EventFits (length graph.now.state.plan.stages) event.now) }
-{
-    match *event {
-        Event::Complete { stage, .. } => graph.has(stage),
-        Event::Fail { stage, .. } => graph.has(stage),
-        Event::Cancel { stage, .. } => graph.has(stage),
-        Event::Claim { stage, .. } => graph.has(stage),
-        Event::Finish { stage, .. } => graph.has(stage),
-        Event::Tick { .. } => true,
-        Event::Attach {
-            form,
-            of,
-            function,
-            ..
-        } => fits_form(form, of.count(), function.is_some()) && are_there(graph, of),
-    }
-}
-
-/// Whether these stages are there by now.
-fn are_there(graph: &Graph, of: Of) -> bool
-    ensures { OnTrue result (All (λ j. j < length graph.now.state.plan.stages) (sources_of of)) }
-{
-    match of {
-        Of::None => true,
-        Of::One(a) => graph.has(a),
-        Of::Two(a, b) => graph.has(a) && graph.has(b),
-    }
-}
-
 /// What the event of a word is answered, if it is one's that fits.
 fn answer(graph: &mut Graph, word: u64) -> Option<Reply> {
     let event = decode(word)?;
-    if fits(graph, &event) {
+    if graph.takes(&event) {
         Some(apply(graph, &event))
     } else {
         None
