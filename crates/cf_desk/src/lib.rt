@@ -30,7 +30,7 @@ pub mod laws;
 mod pass;
 mod row;
 
-pub use calls::{Call, Closed, Joined, Kept, Rec};
+pub use calls::{Call, Closed, Joined, Kept, Rec, event_by};
 pub use cf_model::{Ask, Told};
 pub use desk::Desk;
 pub use faults::{CloseFault, DeskFault, OpenFault};

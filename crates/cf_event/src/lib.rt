@@ -9,6 +9,7 @@ mod applying;
 mod attaching;
 mod codec;
 pub mod laws;
+mod record;
 
 pub use applying::{apply, replay};
 pub use cf_model::{Event, Reply};
@@ -17,3 +18,4 @@ pub use cf_model::{Event, Reply};
 mod tests;
 
 pub use codec::{decode, encode, is_event};
+pub use record::Record;
