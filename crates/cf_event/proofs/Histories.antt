@@ -14,7 +14,7 @@ use Rattle.cf_model.specs.Ranges.{AskFits}
 use Rattle.cf_event.specs.declared.record.Record.{Record}
 use Rattle.cf_event.specs.declared.record.Record.TheVariants.{Did, Saw}
 use Rattle.cf_model.specs.Calls.{who_of}
-use Rattle.cf_event.specs.Events.{events_of, own}
+use Rattle.cf_event.specs.Events.{own}
 use Rattle.cf_event.specs.Histories.{AreRecordsOf, InOrder, IsAnswered, dids}
 use Rattle.cf_event.proofs.Events.{events_own, events_still}
 

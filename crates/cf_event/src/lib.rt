@@ -3,6 +3,9 @@
 //!
 //! In the word of an event that attaches a stage, the stage is its first source, the tag is how many sources it has, and
 //! `low` is `form * 2^24 + second * 2^12 + function`. What it doesn't have is 0.
+//!
+//! A `Record` is what a caller keeps of one call. `IsOneHistory` in `specs/Histories` says when events, and the records of
+//! callers, are one history: a closed desk of `cf_desk` promises it, and `cf_history` judges anybody's account by it.
 #![tactic(auto)]
 
 mod applying;
