@@ -15,9 +15,10 @@ use Rattle.cf_desk.specs.declared.calls.Rec.TheVariants.{Did, Saw}
 use Rattle.cf_desk.specs.declared.row.Setting.{Setting}
 use Rattle.cf_desk.specs.Calls.{event_by}
 use Rattle.cf_desk.specs.Keepings.{IsKeptFit, pass_kept}
-use Rattle.cf_desk.specs.Log.{AreLogged, placed}
+use Rattle.cf_event.specs.Events.{placed}
+use Rattle.cf_desk.specs.Log.{AreLogged}
 use Rattle.cf_desk.specs.Records.{dids}
-use Rattle.cf_desk.proofs.Events.{events_each}
+use Rattle.cf_event.proofs.Events.{events_each}
 use Rattle.cf_c.specs.Records.{CallHasWord, CallsHaveWords, HasWord, kept_of}
 
 pub has_word : (e : Event) → HasWord e → IsEvent e
@@ -51,7 +52,7 @@ call_at caller (Saw place ask answer ∷ records) (suc i) r all at = call_at cal
 
 -- those of a desk's history, and of passes that fit it
 pub history_has : (t : Setting) (history : List Event) → AreLogged t history → All HasWord history
-history_has t history h = events_each HasWord t (λ s e is. event_of_own_word e is.event) (start t.plan) history h
+history_has t history h = events_each HasWord t.callers t.functions (λ s e is. event_of_own_word e is.event) (start t.plan) history h
 
 placed_has : (n : ℕ) (history : List Event) → All HasWord history → All DidHasWord (placed n history)
 placed_has n [] h = All-nil DidHasWord

@@ -1,8 +1,9 @@
 -- A closed desk.
 use Rattle.std.specs.Prelude.{◌≡◌, List, length, map}
 use Rattle.cf_desk.specs.declared.calls.Closed.{Closed}
-use Rattle.cf_desk.specs.Keepings.{AllFit, AreKept, pass_kept}
-use Rattle.cf_desk.specs.Laws.{IsOneHistory}
+use Rattle.cf_event.specs.Histories.{IsOneHistory}
+use Rattle.cf_desk.specs.Keepings.{AllFit, AreKept, caller_kept, pass_kept}
+use Rattle.cf_desk.specs.Laws.{Shows}
 use Rattle.cf_desk.specs.Log.{state_from}
 use Rattle.cf_desk.specs.Views.{Closes, Desk, Pass}
 
@@ -15,4 +16,5 @@ pub record IsClosed (d : Desk) (passes : List Pass) (closed : Closed) : Type 0 w
   pub kept : AreKept closed.passes.items passes
   pub fit : AllFit d.setting.plan closed.history.items (map pass_kept closed.passes.items)
   pub graph : closed.graph.state ≡ state_from d.setting.plan closed.history.items
-  pub one : IsOneHistory d.setting.plan closed.history.items (map pass_kept closed.passes.items) closed.graph.state
+  pub one : IsOneHistory d.setting.plan d.setting.functions closed.history.items (map caller_kept closed.passes.items)
+  pub shows : Shows d.setting.plan closed.history.items (map caller_kept closed.passes.items) closed.graph.state

@@ -22,8 +22,9 @@ use Rattle.cf_model.specs.Calls.{who_of}
 use Rattle.cf_event.specs.Words.{IsEvent, word_of}
 use Rattle.cf_event.specs.Decoding.{decoded, decoded_with, event_of}
 use Rattle.cf_event.proofs.WordLemmas.{decoded_words}
-use Rattle.cf_desk.specs.Log.{own, AreEventsOf, AreLogged, Catches, state_from}
-use Rattle.cf_desk.proofs.Events.{events_after, events_each}
+use Rattle.cf_event.specs.Events.{own, AreEventsOf}
+use Rattle.cf_desk.specs.Log.{AreLogged, Catches, state_from}
+use Rattle.cf_event.proofs.Events.{events_after, events_each}
 use Rattle.cf_desk.specs.Records.{Fits}
 use Rattle.cf_desk.specs.Rule.{AllStand, weight, count_in, IsRow, RowKept, holds, longer_if, longest, with_seen, level, AllCatch, AllShort, blank, fresh, first, head_of, rest_of}
 use Rattle.cf_desk.specs.Views.{Pass, Desk, knowns, Closes, IsOneOf, IsLatest, IsOf, new_pass, opened, known_of}
@@ -88,7 +89,7 @@ none_of callers now rest (k ∷ ks) h c one = dite (ℕ_discrete k.caller c)
     (λ (same : k.caller ≡ c). subst (λ x. own x rest ≡ []) same (subst (λ l. own k.caller l ≡ []) (same_rest now h.0.rest rest (sym h.0.split)) h.0.none))
     (λ (ne : k.caller ≢ c). none_of callers now rest ks h.1 c (let w : weight (eqb k.caller c) ≡ 0 = ap weight (ne_eqb k.caller c ne) in omega arith))
 
-nobodys : (callers : Setting) (s : Copy) (rest : List Event) → AreEventsOf callers s rest → ((c : ℕ) → c < callers.callers → own c rest ≡ []) → rest ≡ []
+nobodys : (callers : Setting) (s : Copy) (rest : List Event) → AreEventsOf callers.callers callers.functions s rest → ((c : ℕ) → c < callers.callers → own c rest ≡ []) → rest ≡ []
 nobodys callers s [] events none = refl
 nobodys callers s (w ∷ ws) events none =
     let e = events.0 in
@@ -104,7 +105,7 @@ whole t words views h id v at all =
     let p = stand_levelled t.setting h.log v stand in
     let once : (c : ℕ) → count_in c v ≤ 1 = λ c. let a = h.apart c in let b = count_at c views id v at in omega arith in
     let full : below t.setting.callers v ≡ t.setting.callers = below_all t.setting h.log v stand ∙ all in
-    let none : begins.0 ≡ [] = nobodys t.setting (state_from t.setting.plan (longest v)) begins.0 (events_after t.setting (start t.setting.plan) (longest v) begins.0 (subst (AreLogged t.setting) begins.1 h.row.events))
+    let none : begins.0 ≡ [] = nobodys t.setting (state_from t.setting.plan (longest v)) begins.0 (events_after t.setting.callers t.setting.functions (start t.setting.plan) (longest v) begins.0 (subst (AreLogged t.setting) begins.1 h.row.events))
     (λ c lt. none_of t.setting (longest v) begins.0 v (subst (λ l. AllStand t.setting l (level v)) begins.1 p.1) c (all_there t.setting.callers v once full c lt)) in
     let is : h.log ≡ longest v = begins.1 ∙ ap (λ l. longest v ++ l) none ∙ append-nil (longest v) in
     (subst (λ l. IsRow t l words) is h.row, p.0)
@@ -150,7 +151,7 @@ fresh_head n c m k e = subst (λ (x : ℕ). (head_of (fresh n c x) ≡ blank n c
 
 -- the decoded words of a row are those of its log's events
 logged_events : (t : Setting) (log : List Event) → AreLogged t log → All IsEvent log
-logged_events t log h = events_each IsEvent t (λ s e is. is.event) (start t.plan) log h
+logged_events t log h = events_each IsEvent t.callers t.functions (λ s e is. is.event) (start t.plan) log h
 
 pub decoded_log : (t : Terms) (log : List Event) (words : List ℕ) → IsRow t log words → decoded words ≡ log
 decoded_log t log words r = ap decoded r.words_are ∙ decoded_words log r.free (logged_events t.setting log r.events)
@@ -180,7 +181,7 @@ there c (p ∷ ps) e = dite (ℕ_discrete p.known.caller c)
     (λ (ne : p.known.caller ≢ c). let w : weight (eqb p.known.caller c) ≡ 0 = ap weight (ne_eqb p.known.caller c ne) in let r = there c ps (omega arith) in (suc r.0, (let l = r.1 in omega arith), r.2))
 
 owned_all : (t : Setting) (ps : List Pass) → ((c : ℕ) → c < t.callers → count_in c (knowns ps) ≡ 1) → (ws : List Event) → AreLogged t ws → All (λ w. Contains (map (λ (k : ℕ × List Rec). k.0) (map pass_did ps)) (who_of w)) ws
-owned_all t ps each ws h = events_each (λ w. Contains (map (λ (k : ℕ × List Rec). k.0) (map pass_did ps)) (who_of w)) t (λ s w is. there (who_of w) ps (each (who_of w) is.caller)) (start t.plan) ws h
+owned_all t ps each ws h = events_each (λ w. Contains (map (λ (k : ℕ × List Rec). k.0) (map pass_did ps)) (who_of w)) t.callers t.functions (λ s w is. there (who_of w) ps (each (who_of w) is.caller)) (start t.plan) ws h
 
 -- the longest list of those that begin the history, which is one of them, is the history
 longest_short : (n : ℕ) (v : List Known) → AllShort n v → length (longest v) ≤ n

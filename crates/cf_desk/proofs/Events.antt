@@ -1,14 +1,13 @@
--- Events of a desk, one after another.
+-- Events of a desk, on a plan that grows.
 use Rattle.std.proofs.Common.{◌≡◌, ℕ, zero, suc, ◌<◌, ◌≤◌, Bool, true, false, Some, List, [], ◌∷◌, ◌++◌, length, length-append, take, slice_get, All, refl, ap, ◌∙◌, subst, arith}
-use Rattle.std.proofs.lemmas.List.Elements.{All-nil, All-cons, All-head, All-tail}
-use Rattle.std.proofs.lemmas.Option.{none-some}
+use Rattle.std.proofs.lemmas.List.Elements.{All-head, All-tail}
 use Rattle.cf_plan.specs.Plans.{PlannedStage}
 use Rattle.cf_model.specs.declared.asks.Ask.{Ask}
 use Rattle.cf_model.specs.declared.asks.Ask.TheVariants.{Now as AsksNow, Outcome as AsksOutcome}
 use Rattle.cf_model.specs.declared.events.Event.{Event}
 use Rattle.cf_model.specs.declared.events.Event.TheVariants.{Complete as Completes, Fail as Fails, Cancel as Cancels, Claim as Claims, Finish as Finishes, Tick as Ticks, Attach as Attaches}
 use Rattle.cf_model.specs.States.{State}
-use Rattle.cf_model.specs.Events.{answered, state_after}
+use Rattle.cf_model.specs.Events.{state_after}
 use Rattle.cf_model.specs.Ranges.{AskFits, EventFits}
 use Rattle.cf_plan.specs.declared.forms.Of.{Of}
 use Rattle.cf_plan.specs.declared.forms.Of.TheVariants.{None as NoSource, One, Two}
@@ -18,39 +17,6 @@ use Rattle.cf_model.proofs.Histories.{state_after-append}
 use Rattle.cf_model.proofs.Shape.{state_after-grows}
 use Rattle.cf_plan.specs.Plans.{sources_of}
 use Rattle.std.proofs.lemmas.List.Elements.{All-weaker}
-use Rattle.cf_desk.specs.declared.row.Setting.{Setting}
-use Rattle.cf_desk.specs.Log.{IsEventOf, AreEventsOf}
-
-pub events_append : (t : Setting) (s : State) (xs ys : List Event) → AreEventsOf t s xs → AreEventsOf t (state_after s xs) ys → AreEventsOf t s (xs ++ ys)
-events_append t s [] ys h g = g
-events_append t s (x ∷ xs) ys h g = (h.0, events_append t ((answered s x).1) xs ys h.1 g)
-
-pub events_push : (t : Setting) (s : State) (xs : List Event) (e : Event) → AreEventsOf t s xs → IsEventOf t (state_after s xs) e → AreEventsOf t s (xs ++ e ∷ [])
-events_push t s xs e h event = events_append t s xs (e ∷ []) h (event, tt)
-
-pub events_front : (t : Setting) (s : State) (xs ys : List Event) → AreEventsOf t s (xs ++ ys) → AreEventsOf t s xs
-events_front t s [] ys h = tt
-events_front t s (x ∷ xs) ys h = (h.0, events_front t ((answered s x).1) xs ys h.1)
-
-pub events_after : (t : Setting) (s : State) (xs ys : List Event) → AreEventsOf t s (xs ++ ys) → AreEventsOf t (state_after s xs) ys
-events_after t s [] ys h = h
-events_after t s (x ∷ xs) ys h = events_after t ((answered s x).1) xs ys h.1
-
--- the event behind the first of them
-pub event_behind : (t : Setting) (s : State) (xs : List Event) (e : Event) (more : List Event) → AreEventsOf t s (xs ++ e ∷ more) → IsEventOf t (state_after s xs) e
-event_behind t s xs e more h = (events_after t s xs (e ∷ more) h).0
-
-pub event_at : (t : Setting) (s : State) (xs : List Event) (i : ℕ) (e : Event) → slice_get xs i ≡ Some e → AreEventsOf t s xs → IsEventOf t (state_after s (take i xs)) e
-event_at t s [] i e there h = absurd (none-some e there)
-event_at t s (x ∷ xs) zero e there h = subst (IsEventOf t s) (let same : x ≡ e = cc in same) h.0
-event_at t s (x ∷ xs) (suc i) e there h = event_at t ((answered s x).1) xs i e there h.1
-
--- what is true of each such event
-pub events_each : (P : Event → Type 0) (t : Setting) → ((s : State) (e : Event) → IsEventOf t s e → P e) → (s : State) (xs : List Event) → AreEventsOf t s xs → All P xs
-events_each P t is s [] h = All-nil P
-events_each P t is s (x ∷ xs) h = All-cons P x xs (is s x h.0) (events_each P t is ((answered s x).1) xs h.1)
-
--- ---- a plan that grows takes what it took before
 
 pub names_more : (n m : ℕ) (e : Event) → n ≤ m → EventNames n e → EventNames m e
 names_more n m (Completes who i v) le h = omega (arith, le, h)

@@ -1,26 +1,26 @@
--- Passes that fit a history have one history.
+-- What one history shows.
 use Rattle.cf_plan.specs.Plans.{IsBuilt, Planned}
-use Rattle.std.proofs.Common.{◌≡◌, ℕ, zero, suc, ◌-◌, ◌<◌, ◌≤◌, Bool, true, false, cond, eqb, Some, List, [], ◌∷◌, ◌++◌, map, length, take, slice_get, All, sym, refl, ap, ◌∙◌, subst, append_assoc, length-append, arith}
+use Rattle.std.proofs.Common.{◌≡◌, ℕ, zero, suc, ◌-◌, ◌≤◌, ◌<◌, Bool, true, false, cond, eqb, Some, List, [], ◌∷◌, ◌++◌, map, length, take, slice_get, All, sym, refl, ap, ◌∙◌, subst, append_assoc, length-append, arith}
 use Rattle.std.specs.List.{filter}
-use Rattle.std.proofs.lemmas.Option.{none-some}
 use Rattle.std.proofs.lemmas.List.Elements.{All-nil, All-cons, All-head, All-tail}
 use Rattle.cf_model.specs.declared.events.Event.{Event}
-use Rattle.cf_model.specs.declared.events.Reply.{Reply}
-use Rattle.cf_desk.specs.Calls.{event_by}
-use Rattle.cf_desk.specs.declared.calls.Rec.{Rec}
-use Rattle.cf_desk.specs.declared.calls.Rec.TheVariants.{Did, Saw}
 use Rattle.cf_model.specs.States.{State, outcome_at, start}
 use Rattle.cf_model.proofs.Moves.{grants_once, keeps_outcomes}
 use Rattle.cf_expr.specs.Expressions.{expr}
 use Rattle.cf_expr.specs.Histories.{IsPlain, IsPlainPlan, IsQuiet, nothing_granted}
 use Rattle.cf_expr.proofs.Runs.{quiet_is_expression}
-use Rattle.cf_model.specs.Events.{answered}
+use Rattle.cf_model.specs.Events.{answered, state_after, state_at}
+use Rattle.cf_event.specs.declared.record.Record.{Record}
 use Rattle.cf_model.specs.Calls.{who_of}
-use Rattle.cf_model.specs.Events.{state_after, state_at}
-use Rattle.cf_desk.specs.Log.{own, placed}
-use Rattle.cf_desk.specs.Records.{dids, IsAnswered, Fits}
-use Rattle.cf_desk.specs.Keepings.{IsKeptFit}
-use Rattle.cf_desk.specs.Laws.{replies, call_of, StandsAt, IsSequential, IsWithin, IsOneOfAll, IsOnesOfAll, OneHistory}
+use Rattle.std.specs.List.{Contains}
+use Rattle.std.proofs.lemmas.List.{length-map}
+use Rattle.cf_event.specs.Events.{AreEventsOf, own, placed}
+use Rattle.cf_event.specs.Histories.{AreRecordsOfOne, IsOneHistory, numbers_of}
+use Rattle.cf_desk.specs.declared.calls.Kept.{Kept}
+use Rattle.cf_desk.specs.declared.calls.Rec.{Rec}
+use Rattle.cf_desk.specs.Keepings.{AllFit, AreKept, IsKeptFit, caller_kept, pass_did, pass_kept}
+use Rattle.cf_desk.specs.Laws.{call_of, OneHistoryShows, StandOnce, StandsAt}
+use Rattle.cf_desk.specs.Views.{Pass}
 
 abbrev mine : ℕ → ℕ × Event → Bool
 mine c e = eqb (who_of e.1) c
@@ -54,46 +54,15 @@ stand c xs (w ∷ ws) n is = split (eqb (who_of w) c)
     split true h = All-cons (StandsAt (xs ++ w ∷ ws)) (suc n, w) (filter (mine c) (placed (suc n) ws)) here h
     split false h = h
 
--- what the sequential graph replies at a place
-reply_at : (s : State) (es : List Event) (i : ℕ) (e : Event) → slice_get es i ≡ Some e → slice_get (replies s es) i ≡ Some ((answered (state_after s (take i es)) e).0)
-reply_at s [] i e h = absurd (none-some e h)
-reply_at s (w ∷ es) zero e h = ap (λ (x : Event). Some ((answered s x).0)) (let same : w ≡ e = cc in same)
-reply_at s (w ∷ es) (suc i) e h = reply_at ((answered s w).1) es i e h
+once : (plan : Planned) (history : List Event) (k : ℕ × List Record) → AreRecordsOfOne plan history k → StandOnce history k
+once plan history k f = (
+  ap (map call_of) f.did ∙ calls_of k.0 0 history,
+  subst (All (StandsAt history)) (sym f.did) (stand k.0 [] history 0 refl),
+)
 
-sequential : (plan : Planned) (c : ℕ) (history : List Event) (rs : List Rec) → All (IsAnswered plan c history) rs → All (StandsAt history) (dids c rs) → All (IsSequential plan history) rs
-sequential plan c history [] h g = All-nil (IsSequential plan history)
-sequential plan c history (Did place call reply ∷ rs) h g =
-    let r = All-head (IsAnswered plan c history) (Did place call reply) rs h in
-    let at : slice_get history (place - 1) ≡ Some (event_by c call) = All-head (StandsAt history) (place, event_by c call) (dids c rs) g in
-    All-cons (IsSequential plan history) (Did place call reply) rs
-    (reply_at (start plan) history (place - 1) (event_by c call) at ∙ ap (λ (x : Reply). Some x) (sym r.2))
-    (sequential plan c history rs (All-tail (IsAnswered plan c history) (Did place call reply) rs h) (All-tail (StandsAt history) (place, event_by c call) (dids c rs) g))
-sequential plan c history (Saw place ask answer ∷ rs) h g =
-    All-cons (IsSequential plan history) (Saw place ask answer) rs (All-head (IsAnswered plan c history) (Saw place ask answer) rs h).1
-    (sequential plan c history rs (All-tail (IsAnswered plan c history) (Saw place ask answer) rs h) g)
-
-within : (plan : Planned) (c : ℕ) (history : List Event) (rs : List Rec) → All (IsAnswered plan c history) rs → All (IsWithin history) rs
-within plan c history [] h = All-nil (IsWithin history)
-within plan c history (Did place call reply ∷ rs) h =
-    All-cons (IsWithin history) (Did place call reply) rs (All-head (IsAnswered plan c history) (Did place call reply) rs h).1
-    (within plan c history rs (All-tail (IsAnswered plan c history) (Did place call reply) rs h))
-within plan c history (Saw place ask answer ∷ rs) h =
-    All-cons (IsWithin history) (Saw place ask answer) rs (All-head (IsAnswered plan c history) (Saw place ask answer) rs h).0
-    (within plan c history rs (All-tail (IsAnswered plan c history) (Saw place ask answer) rs h))
-
-one_of_all : (plan : Planned) (history : List Event) (caller : ℕ) (records : List Rec) → Fits plan caller history records → IsOneOfAll plan history caller records
-one_of_all plan history caller records f =
-    let standing : All (StandsAt history) (dids caller records) = subst (All (StandsAt history)) (sym f.did) (stand caller [] history 0 refl) in record {
-      calls = ap (map call_of) f.did ∙ calls_of caller 0 history;
-      stand = standing;
-      answers = sequential plan caller history records f.answers standing;
-      order = f.order;
-      within = within plan caller history records f.answers;
-    }
-
-each_one : (plan : Planned) (history : List Event) (passes : List (ℕ × List Rec)) → All (IsKeptFit plan history) passes → All (IsOnesOfAll plan history) passes
-each_one plan history [] h = All-nil (IsOnesOfAll plan history)
-each_one plan history (k ∷ ks) h = All-cons (IsOnesOfAll plan history) k ks (one_of_all plan history k.0 k.1 (All-head (IsKeptFit plan history) k ks h)) (each_one plan history ks (All-tail (IsKeptFit plan history) k ks h))
+each_once : (plan : Planned) (history : List Event) (callers : List (ℕ × List Record)) → All (AreRecordsOfOne plan history) callers → All (StandOnce history) callers
+each_once plan history [] h = All-nil (StandOnce history)
+each_once plan history (k ∷ ks) h = All-cons (StandOnce history) k ks (once plan history k (All-head (AreRecordsOfOne plan history) k ks h)) (each_once plan history ks (All-tail (AreRecordsOfOne plan history) k ks h))
 
 -- a later state comes after an earlier one
 at_later : (s : State) (es : List Event) (p q : ℕ) → p ≤ q → (rest : List Event) × (state_after s (take q es) ≡ state_after (state_after s (take p es)) rest)
@@ -102,10 +71,9 @@ at_later s es (suc p) zero le = absurd (omega arith)
 at_later s [] (suc p) (suc q) le = ([], refl)
 at_later s (e ∷ es) (suc p) (suc q) le = at_later ((answered s e).1) es p q (omega arith)
 
-pub one_history : OneHistory
-one_history plan history passes graph fit is = record {
-  calls = each_one plan history passes fit.each;
-  no_other = fit.owned;
+pub one_history_shows : OneHistoryShows
+one_history_shows plan functions history callers graph one is = record {
+  calls = each_once plan history callers one.each;
   settled_once = λ i p q o le settled.
       let later = at_later (start plan) history p q le in
       ap (λ (s : State). outcome_at s i) later.1 ∙ keeps_outcomes (state_at plan history p) later.0 i o settled;
@@ -113,4 +81,24 @@ one_history plan history passes graph fit is = record {
   expressed = λ built plain quiet meanings events i lt.
       let holds = λ (s : State). IsBuilt s.plan → IsPlainPlan s.plan → IsPlain meanings nothing_granted (start plan) history → IsQuiet s → i < length s.plan.stages → outcome_at s i ≡ expr s.plan history meanings i in
       subst holds (sym is) (quiet_is_expression plan history meanings i) built plain events quiet lt;
+}
+
+-- what is kept of passes that fit a history is one history
+each_kept : (plan : Planned) (history : List Event) (kept : List Kept) → All (IsKeptFit plan history) (map pass_kept kept) → All (AreRecordsOfOne plan history) (map caller_kept kept)
+each_kept plan history [] h = All-nil (AreRecordsOfOne plan history)
+each_kept plan history (k ∷ ks) h =
+    All-cons (AreRecordsOfOne plan history) (caller_kept k) (map caller_kept ks) (All-head (IsKeptFit plan history) (pass_kept k) (map pass_kept ks) h)
+    (each_kept plan history ks (All-tail (IsKeptFit plan history) (pass_kept k) (map pass_kept ks) h))
+
+same_numbers : (kept : List Kept) → map (λ (k : ℕ × List Rec). k.0) (map pass_kept kept) ≡ numbers_of (map caller_kept kept)
+same_numbers [] = refl
+same_numbers (k ∷ ks) = ap (λ (l : List ℕ). k.caller ∷ l) (same_numbers ks)
+
+pub one_of_kept : (plan : Planned) (callers functions : ℕ) (history : List Event) (kept : List Kept) (passes : List Pass) → AreKept kept passes → length passes ≡ callers →
+    AreEventsOf callers functions (start plan) history → AllFit plan history (map pass_kept kept) → IsOneHistory plan functions history (map caller_kept kept)
+one_of_kept plan callers functions history kept passes same all taken fit = record {
+  taken = subst (λ (n : ℕ). AreEventsOf n functions (start plan) history)
+      (sym all ∙ sym (length-map passes pass_did) ∙ sym (ap length same) ∙ length-map kept pass_kept ∙ sym (length-map kept caller_kept)) taken;
+  each = each_kept plan history kept fit.each;
+  no_other = subst (λ (ns : List ℕ). All (λ e. Contains ns (who_of e)) history) (same_numbers kept) fit.owned;
 }

@@ -20,8 +20,9 @@ use Rattle.cf_event.specs.Words.{word_of}
 use Rattle.cf_event.specs.Decoding.{event_of}
 use Rattle.cf_event.proofs.WordLemmas.{event_of_own_word, event_of_zero, word_of_filled}
 use Rattle.cf_model.specs.States.{start}
-use Rattle.cf_desk.specs.Log.{own, IsEventOf, AreLogged, state_from}
-use Rattle.cf_desk.proofs.Events.{event_behind, events_push}
+use Rattle.cf_event.specs.Events.{own}
+use Rattle.cf_desk.specs.Log.{IsDeskEvent, AreLogged, state_from}
+use Rattle.cf_event.proofs.Events.{event_behind, events_push}
 use Rattle.cf_desk.specs.Rule.{Stands, AllStand, weight, count_in, count_all, IsRow, RowKept, holds, saw, looked, LooksNext, AddsNext, looks_next, adds_next, SeesOther}
 
 -- what lies behind what was seen begins with the event of the next word, if that isn't 0
@@ -103,9 +104,9 @@ looks_kept t words views h id k at st found next = ⊎_elim
     let parts : own k.caller (e ∷ []) ++ own k.caller more ≡ [] = sym (filter-append (λ x. eqb (who_of x) k.caller) (e ∷ []) more) ∙ ap (own k.caller) (sym p.2.1) ∙ st.none in
     let both = none_of_both (own k.caller (e ∷ [])) (own k.caller more) parts in
     let split' : h.log ≡ (k.seen ++ e ∷ []) ++ more = st.split ∙ ap (λ l. k.seen ++ l) p.2.1 ∙ sym (append_assoc k.seen (e ∷ []) more) in
-    let event : IsEventOf t.setting (state_from t.setting.plan k.seen) e = event_behind t.setting (start t.setting.plan) k.seen e more (subst (AreLogged t.setting) (st.split ∙ ap (λ l. k.seen ++ l) p.2.1) h.row.events) in
+    let event : IsDeskEvent t.setting (state_from t.setting.plan k.seen) e = event_behind t.setting.callers t.setting.functions (start t.setting.plan) k.seen e more (subst (AreLogged t.setting) (st.split ∙ ap (λ l. k.seen ++ l) p.2.1) h.row.events) in
     let is : event_of found ≡ Some e = ap event_of p.1 ∙ event_of_own_word e event.event in
-    let mine : SeesOther k e (saw k e ∷ []) = (refl, subst (λ n. IsEventOf n (state_from n.plan k.seen) e) (sym st.terms) event, both.0) in (
+    let mine : SeesOther k e (saw k e ∷ []) = (refl, subst (λ n. IsDeskEvent n (state_from n.plan k.seen) e) (sym st.terms) event, both.0) in (
       saw k e ∷ [],
       keeps_view t words views h id (k ∷ []) (saw k e ∷ []) at (record { terms = st.terms; caller = st.caller; rest = more; split = split'; none = both.1 }, tt) (λ c. omega arith),
       record { empty = λ none. absurd (let some = is in cc); taken = λ d some. subst (λ (x : Event). SeesOther k x (saw k e ∷ [])) (same_some e d (sym is ∙ some)) mine },
@@ -122,12 +123,12 @@ looks t slots id k c s h len at lt =
 
 -- an exchange of the next word that is won
 adds_kept : (t : Terms) (words : List ℕ) (views : List (List Known)) (h : RowKept t words views) (id : ℕ) (k : Known) → get_elem? views id ≡ some (k ∷ []) → (st : Stands t.setting h.log k) → st.rest ≡ []
-    → length k.seen < t.words → (e : Event) → IsEventOf t.setting (state_from t.setting.plan k.seen) e → who_of e ≡ k.caller → RowKept t (set words (length k.seen) (word_of e)) (set views id (saw k e ∷ []))
+    → length k.seen < t.words → (e : Event) → IsDeskEvent t.setting (state_from t.setting.plan k.seen) e → who_of e ≡ k.caller → RowKept t (set words (length k.seen) (word_of e)) (set views id (saw k e ∷ []))
 adds_kept t words views h id k at st end room e event mine =
     let all : h.log ≡ k.seen = st.split ∙ ap (λ l. k.seen ++ l) end ∙ append-nil k.seen in
     let now : set words (length k.seen) (word_of e) ≡ map word_of (h.log ++ e ∷ []) ++ replicate (h.row.free - 1) 0 = ap (λ l. set l (length k.seen) (word_of e)) h.row.words_are ∙ ap (λ (l : List Event). set (map word_of h.log ++ replicate h.row.free 0) (length l) (word_of e)) (sym all) ∙ put_at h.log h.row.free (some_free h.row all) in record {
       log = h.log ++ e ∷ [];
-      row = record { free = h.row.free - 1; words_are = now; room = length-set words (length k.seen) (word_of e) ∙ h.row.room; events = events_push t.setting (start t.setting.plan) h.log e h.row.events (subst (λ l. IsEventOf t.setting (state_from t.setting.plan l) e) (sym all) event) };
+      row = record { free = h.row.free - 1; words_are = now; room = length-set words (length k.seen) (word_of e) ∙ h.row.room; events = events_push t.setting.callers t.setting.functions (start t.setting.plan) h.log e h.row.events (subst (λ l. IsDeskEvent t.setting (state_from t.setting.plan l) e) (sym all) event) };
       known = λ j u at'. ⊎_elim
           (λ (p : (j ≡ id) × (saw k e ∷ [] ≡ u)). subst (AllStand t.setting (h.log ++ e ∷ [])) p.1 (record { terms = st.terms; caller = st.caller; rest = []; split = ap (λ l. l ++ e ∷ []) all ∙ sym (append-nil (k.seen ++ e ∷ [])); none = refl }, tt))
           (λ (p : (j ≢ id) × (get_elem? views j ≡ some u)). others_stand t.setting h.log e u
@@ -147,7 +148,7 @@ adds_kept t words views h id k at st end room e event mine =
     put_at [] (suc n) h = ap (λ (m : ℕ). word_of e ∷ replicate m 0) (let p : n ≡ suc n - 1 = omega arith in p)
     put_at (x ∷ log) (suc n) h = ap (λ (l : List ℕ). word_of x ∷ l) (put_at log (suc n) h)
 
-pub adds : {S : Type 0} (t : Terms) (slots id : ℕ) (k : Known) (c : List (ℕ × S)) (e : Event) → length k.seen < t.words → IsEventOf k.setting (state_from k.setting.plan k.seen) e → who_of e ≡ k.caller
+pub adds : {S : Type 0} (t : Terms) (slots id : ℕ) (k : Known) (c : List (ℕ × S)) (e : Event) → length k.seen < t.words → IsDeskEvent k.setting (state_from k.setting.plan k.seen) e → who_of e ≡ k.caller
     → Allows (holds {S = S} t) slots id (k ∷ [], c) (length k.seen) (λ n. either (eqb n 0) (word_of e) n) (adds_next (step slots (length k.seen) 0 (word_of e) none) (k ∷ [], c))
 adds {S} t slots id k c e room event mine s h len at lt =
     let i : ℕ = length k.seen in
@@ -161,7 +162,7 @@ adds {S} t slots id k c e room event mine s h len at lt =
       saw k e ∷ [],
       keeps,
       tt,
-      adds_kept t s.words s.views h id k at st end room e (subst (λ n. IsEventOf n (state_from n.plan k.seen) e) st.terms event) mine,
+      adds_kept t s.words s.views h id k at st end room e (subst (λ n. IsDeskEvent n (state_from n.plan k.seen) e) st.terms event) mine,
       (
         refl,
         λ k' f. subst (λ (x : Known). AddsNext x word found (saw k e ∷ [])) (one_of k k' f) (record {
@@ -193,6 +194,6 @@ adds {S} t slots id k c e room event mine s h len at lt =
     not_none : (rest : List Event) → AreLogged t.setting h.log → h.log ≡ k.seen ++ rest → slice_index s.words (length k.seen) ≢ 0 → Next rest (slice_index s.words (length k.seen)) → event_of (slice_index s.words (length k.seen)) ≢ None
     not_none rest events split filled (inl p) empty = filled p.0
     not_none rest events split filled (inr p) empty =
-        let event = event_behind t.setting (start t.setting.plan) k.seen p.0 p.2.0 (subst (AreLogged t.setting) (split ∙ ap (λ l. k.seen ++ l) p.2.1) events) in
+        let event = event_behind t.setting.callers t.setting.functions (start t.setting.plan) k.seen p.0 p.2.0 (subst (AreLogged t.setting) (split ∙ ap (λ l. k.seen ++ l) p.2.1) events) in
         let is : event_of (slice_index s.words (length k.seen)) ≡ Some p.0 = ap event_of p.1 ∙ event_of_own_word p.0 event.event in
         cc

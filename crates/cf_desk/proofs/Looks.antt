@@ -9,7 +9,7 @@ use Rattle.cf_desk.specs.declared.row.Known.{Known}
 use Rattle.cf_desk.specs.Log.{state_from}
 use Rattle.cf_desk.specs.Rule.{looked}
 use Rattle.cf_desk.specs.Views.{Pass, Desk, Follows, SeesFull, IsLook, LooksOnce, IsUnsettledAt, LooksFor, state_of}
-use Rattle.cf_desk.proofs.Recs.{at_still, take_all}
+use Rattle.cf_event.proofs.Histories.{at_still, take_all}
 use Rattle.cf_desk.proofs.Passes.{follows_longer}
 
 -- one look: it met an empty word, or what was seen fills the log

@@ -17,8 +17,9 @@ use Rattle.cf_event.specs.Words.{word_of}
 use Rattle.cf_event.specs.Decoding.{event_of}
 use Rattle.cf_event.proofs.WordLemmas.{event_of_own_word}
 use Rattle.cf_model.specs.States.{start}
-use Rattle.cf_desk.specs.Log.{own, AreLogged}
-use Rattle.cf_desk.proofs.Events.{event_at, events_front}
+use Rattle.cf_event.specs.Events.{own}
+use Rattle.cf_desk.specs.Log.{AreLogged}
+use Rattle.cf_event.proofs.Events.{event_at, events_front}
 use Rattle.cf_desk.specs.Rule.{AllStand, count_in, count_all, RowKept, holds, longer_if, longest, with_seen, level, AllCatch, AllLogged, AllShort, levels, finds, FindsSeen, head_of, rest_of}
 use Rattle.cf_desk.proofs.Keeps.{count_set, keeps_view, same_some}
 
@@ -144,7 +145,7 @@ logged setting log now events (k ∷ ks) h = (subst (λ n. AreLogged n now) (sym
 longest_logged : (setting : Setting) (log : List Event) (v : List Known) → AreLogged setting log → AllStand setting log v → AllLogged (longest v) v
 longest_logged setting log v events h =
     let b = longest_begins setting log v h in
-    logged setting log (longest v) (events_front setting (start setting.plan) (longest v) b.0 (subst (AreLogged setting) b.1 events)) v h
+    logged setting log (longest v) (events_front setting.callers setting.functions (start setting.plan) (longest v) b.0 (subst (AreLogged setting) b.1 events)) v h
 
 count_level : (c : ℕ) (now : List Event) (v : List Known) → count_in c (map (with_seen now) v) ≡ count_in c v
 count_level c now [] = refl
@@ -173,7 +174,7 @@ found_there t slots id k c i inside s h len at lt =
     let kept = keeps_view t s.words s.views h id (k ∷ []) (k ∷ []) at (h.known id (k ∷ []) at) (λ n. omega arith) in
     let e = there_at k.seen i inside in
     let is : found ≡ word_of e.0 = ap (λ (l : List ℕ). get_or l i 0) (h.row.words_are ∙ ap (λ (l : List Event). map word_of l ++ replicate h.row.free 0) st.split) ∙ word_at k.seen st.rest (replicate h.row.free 0) i e.0 e.1 in
-    let event = event_at t.setting (start t.setting.plan) k.seen i e.0 e.1 (events_front t.setting (start t.setting.plan) k.seen st.rest (subst (AreLogged t.setting) st.split h.row.events)) in (
+    let event = event_at t.setting.callers t.setting.functions (start t.setting.plan) k.seen i e.0 e.1 (events_front t.setting.callers t.setting.functions (start t.setting.plan) k.seen st.rest (subst (AreLogged t.setting) st.split h.row.events)) in (
       k ∷ [],
       keeps,
       tt,

@@ -28,10 +28,12 @@ use Rattle.cf_model.specs.Ranges.{AskFits, EventFits}
 use Rattle.cf_model.proofs.LowestReady.{lowest_ready-within}
 use Rattle.cf_model.specs.Calls.{who_of}
 use Rattle.cf_event.specs.Words.{word_of}
-use Rattle.cf_desk.specs.Log.{own, IsEventOf, AreLogged, state_from, Catches}
+use Rattle.cf_event.specs.Events.{own}
+use Rattle.cf_desk.specs.Log.{IsDeskEvent, AreLogged, state_from, Catches}
 use Rattle.cf_desk.specs.Faults.{AsksStage, AttachFits, IsFitting, IsOnStage}
 use Rattle.cf_model.proofs.Closed.{reached_length}
-use Rattle.cf_desk.proofs.Events.{asks_more, event_at, events_push, fits_more as event_fits_more, names_more, stages_grow_on}
+use Rattle.cf_event.proofs.Events.{event_at, events_push}
+use Rattle.cf_desk.proofs.Events.{asks_more, fits_more as event_fits_more, names_more, stages_grow_on}
 use Rattle.cf_desk.specs.Calls.{event_by, joined}
 use Rattle.cf_desk.specs.Records.{Fits}
 use Rattle.cf_desk.specs.Rule.{holds, saw, looked, looks_next, adds_next, finds, longer_if, longest, with_seen, level, AllCatch, AllLogged, head_of, rest_of}
@@ -47,7 +49,7 @@ pub looks_at : (t : Terms) (slots id : ℕ) (me : Me ℕ (List Known)) (k : Know
 looks_at t slots id me k i one at = subst (λ (m : Me ℕ (List Known)). Allows (holds {S = ℕ} t) slots id m i (λ n. n) (looks_next (step slots i 0 0 none) m)) (sym one)
     (subst (λ (n : ℕ). Allows (holds {S = ℕ} t) slots id (k ∷ [], []) n (λ n. n) (looks_next (step slots n 0 0 none) (k ∷ [], []))) (sym at) (looks {S = ℕ} t slots id k []))
 
-pub adds_at : (t : Terms) (slots id : ℕ) (me : Me ℕ (List Known)) (k : Known) (i word : ℕ) (e : Event) → me ≡ (k ∷ [], []) → i ≡ length k.seen → i < t.words → word ≡ word_of e → IsEventOf k.setting (state_of k) e → who_of e ≡ k.caller
+pub adds_at : (t : Terms) (slots id : ℕ) (me : Me ℕ (List Known)) (k : Known) (i word : ℕ) (e : Event) → me ≡ (k ∷ [], []) → i ≡ length k.seen → i < t.words → word ≡ word_of e → IsDeskEvent k.setting (state_of k) e → who_of e ≡ k.caller
     → Allows (holds {S = ℕ} t) slots id me i (λ n. either (eqb n 0) word n) (adds_next (step slots i 0 word none) me)
 adds_at t slots id me k i word e one at room is event mine = subst (λ (m : Me ℕ (List Known)). Allows (holds {S = ℕ} t) slots id m i (λ n. either (eqb n 0) word n) (adds_next (step slots i 0 word none) m)) (sym one)
     (subst (λ (n : ℕ). Allows (holds {S = ℕ} t) slots id (k ∷ [], []) n (λ n. either (eqb n 0) word n) (adds_next (step slots n 0 word none) (k ∷ [], []))) (sym at)
@@ -63,7 +65,7 @@ one_known me k e f = let is : me.0 ≡ known_of me.0 ∷ [] = e ∙ ap (λ (x : 
 pub agrees_looked : (k k' : Known) (caller most count : ℕ) (copy : State) (records : List Rec) → k' ≡ looked k → Agrees k caller most count copy records → Agrees k' caller most count copy records
 agrees_looked k k' caller most count copy records is a = subst (λ (x : Known). Agrees x caller most count copy records) (sym is) (record { caller = a.caller; one_of = a.one_of; few = a.few; functions = a.functions; count = a.count; state = a.state; events = a.events; fits = a.fits })
 
-pub agrees_other : (k k' : Known) (caller most count : ℕ) (copy copy' : State) (records : List Rec) (found : Event) → k' ≡ saw k found → IsEventOf k.setting (state_of k) found → own k.caller (found ∷ []) ≡ [] → copy' ≡ (answered copy found).1 → Agrees k caller most count copy records
+pub agrees_other : (k k' : Known) (caller most count : ℕ) (copy copy' : State) (records : List Rec) (found : Event) → k' ≡ saw k found → IsDeskEvent k.setting (state_of k) found → own k.caller (found ∷ []) ≡ [] → copy' ≡ (answered copy found).1 → Agrees k caller most count copy records
     → Agrees k' caller most (count + 1) copy' records
 agrees_other k k' caller most count copy copy' records found is event other now a = subst (λ (x : Known). Agrees x caller most (count + 1) copy' records) (sym is) (record {
   caller = a.caller;
@@ -72,11 +74,11 @@ agrees_other k k' caller most count copy copy' records found is event other now 
   functions = a.functions;
   count = (let c = a.count in omega (arith, length-append k.seen (found ∷ [])));
   state = now ∙ ap (λ s. (answered s found).1) a.state ∙ sym (state_snoc (start k.setting.plan) k.seen found);
-  events = events_push k.setting (start k.setting.plan) k.seen found a.events event;
+  events = events_push k.setting.callers k.setting.functions (start k.setting.plan) k.seen found a.events event;
   fits = fits_more k.setting.plan k.caller k.seen (k.seen ++ found ∷ []) records (record { others = found ∷ []; joined = refl; none = other }) a.fits;
 })
 
-pub agrees_own : (k k' : Known) (caller most count : ℕ) (copy copy' : State) (records records' : List Rec) (call : Call) (reply : Reply) → k' ≡ saw k (event_by k.caller call) → IsEventOf k.setting (state_of k) (event_by k.caller call) → (reply, copy') ≡ answered copy (event_by k.caller call)
+pub agrees_own : (k k' : Known) (caller most count : ℕ) (copy copy' : State) (records records' : List Rec) (call : Call) (reply : Reply) → k' ≡ saw k (event_by k.caller call) → IsDeskEvent k.setting (state_of k) (event_by k.caller call) → (reply, copy') ≡ answered copy (event_by k.caller call)
     → records' ≡ records ++ Did (count + 1) call reply ∷ [] → Agrees k caller most count copy records → Agrees k' caller most (count + 1) copy' records'
 agrees_own k k' caller most count copy copy' records records' call reply is event now more a =
     let e : Event = event_by k.caller call in
@@ -87,14 +89,14 @@ agrees_own k k' caller most count copy copy' records records' call reply is even
       functions = a.functions;
       count = (let c = a.count in omega (arith, length-append k.seen (e ∷ [])));
       state = ap (λ (x : Reply × State). x.1) now ∙ ap (λ s. (answered s e).1) a.state ∙ sym (state_snoc (start k.setting.plan) k.seen e);
-      events = events_push k.setting (start k.setting.plan) k.seen e a.events event;
+      events = events_push k.setting.callers k.setting.functions (start k.setting.plan) k.seen e a.events event;
       fits = subst (Fits k.setting.plan k.caller (k.seen ++ e ∷ [])) (ap (λ (n : ℕ). records ++ Did (n + 1) call reply ∷ []) (sym a.count) ∙ sym more)
           (fits_did k.setting.plan k.caller k.seen records call reply (own_call k.caller call) (ap (λ (x : Reply × State). x.0) now ∙ ap (λ s. (answered s e).0) a.state) a.fits);
     })
 
-pub agrees_told : (k : Known) (caller most count : ℕ) (copy copy' : State) (records records' : List Rec) (ask : Ask) (answer : Told) → copy' ≡ copy → answer ≡ told copy ask
+pub agrees_told : (k : Known) (caller most count : ℕ) (copy copy' : State) (records records' : List Rec) (ask : Ask) (answer : Told) → copy' ≡ copy → answer ≡ told copy ask → AskFits (length copy.plan.stages) ask
     → records' ≡ records ++ Saw count ask answer ∷ [] → Agrees k caller most count copy records → Agrees k caller most count copy' records'
-agrees_told k caller most count copy copy' records records' ask answer same is more a = record {
+agrees_told k caller most count copy copy' records records' ask answer same is there more a = record {
   caller = a.caller;
   one_of = a.one_of;
   few = a.few;
@@ -103,11 +105,11 @@ agrees_told k caller most count copy copy' records records' ask answer same is m
   state = same ∙ a.state;
   events = a.events;
   fits = subst (Fits k.setting.plan k.caller k.seen) (ap (λ (n : ℕ). records ++ Saw n ask answer ∷ []) (sym a.count) ∙ sym more)
-      (fits_saw k.setting.plan k.caller k.seen records ask answer (is ∙ ap (λ (s : State). told s ask) a.state) a.fits);
+      (fits_saw k.setting.plan k.caller k.seen records ask answer (is ∙ ap (λ (s : State). told s ask) a.state) (subst (λ (s : State). AskFits (length s.plan.stages) ask) a.state there) a.fits);
 }
 
 -- an event that fits what the pass has seen is one that its copy takes
-pub on_plan : (k : Known) (copy : State) (e : Event) → copy ≡ state_of k → IsEventOf k.setting (state_of k) e → EventFits (length copy.plan.stages) e
+pub on_plan : (k : Known) (copy : State) (e : Event) → copy ≡ state_of k → IsDeskEvent k.setting (state_of k) e → EventFits (length copy.plan.stages) e
 on_plan k copy e is h = subst (λ (s : State). EventFits (length s.plan.stages) e) (sym is) h.fits
 
 -- and so is a question
@@ -120,7 +122,7 @@ ready_there k None is = tt
 ready_there k (Some i) is = subst (λ n. i < n) (reached_length k.setting.plan k.seen) (lowest_ready-within (state_of k) i (sym is))
 
 pub on_plan_at : (k : Known) (copy : State) (i : ℕ) (e : Event) → copy ≡ state_from k.setting.plan (take i k.seen) → AreLogged k.setting k.seen → slice_get k.seen i ≡ Some e → EventFits (length copy.plan.stages) e
-on_plan_at k copy i e is events there = subst (λ (s : State). EventFits (length s.plan.stages) e) (sym is) (event_at k.setting (start k.setting.plan) k.seen i e there events).fits
+on_plan_at k copy i e is events there = subst (λ (s : State). EventFits (length s.plan.stages) e) (sym is) (event_at k.setting.callers k.setting.functions (start k.setting.plan) k.seen i e there events).fits
 
 more_stages : (p q : Pass) → Follows p q → length (state_of p.known).plan.stages ≤ length (state_of q.known).plan.stages
 more_stages p q f =
@@ -136,10 +138,10 @@ pub still_fitting : (p q : Pass) (e : Event) → Follows p q → IsFitting p e �
 still_fitting p q e f h = subst (λ (k : Known). AttachFits k.setting.functions e) (sym (ap (λ (x : Pass). x.known) f.is)) h
 
 -- and a call that fitted still does
-pub still_event : (p q : Pass) (call : Call) → Follows p q → IsEventOf p.known.setting (state_of p.known) (event_by p.known.caller call) → IsEventOf q.known.setting (state_of q.known) (event_by q.known.caller call)
+pub still_event : (p q : Pass) (call : Call) → Follows p q → IsDeskEvent p.known.setting (state_of p.known) (event_by p.known.caller call) → IsDeskEvent q.known.setting (state_of q.known) (event_by q.known.caller call)
 still_event p q call f h =
     let is : q.known ≡ record p.known { seen = f.now; looks = p.known.looks ++ f.more } = ap (λ (x : Pass). x.known) f.is in
-    subst (λ (k : Known). IsEventOf k.setting (state_of q.known) (event_by k.caller call)) (sym is) (record {
+    subst (λ (k : Known). IsDeskEvent k.setting (state_of q.known) (event_by k.caller call)) (sym is) (record {
       event = h.event;
       caller = h.caller;
       fits = event_fits_more (length (state_of p.known).plan.stages) (length (state_of q.known).plan.stages) (event_by p.known.caller call) (more_stages p q f) h.fits;

@@ -8,7 +8,7 @@ use Rattle.cf_model.specs.Calls.{who_of}
 use Rattle.cf_desk.proofs.Lists.{none_of_both, same_rest}
 use Rattle.cf_desk.specs.declared.row.Setting.{Setting}
 use Rattle.cf_desk.specs.declared.row.Known.{Known}
-use Rattle.cf_desk.specs.Log.{own}
+use Rattle.cf_event.specs.Events.{own}
 use Rattle.cf_desk.specs.Rule.{AllStand, count_in, weight, longest, with_seen}
 use Rattle.cf_desk.specs.Rows.{GoesOn, RowsHold, callers_of}
 use Rattle.cf_desk.proofs.Keeps.{count_two, same_some}

@@ -10,7 +10,7 @@ use Rattle.cf_desk.specs.declared.faults.DeskFault.TheVariants.{NoStage, BadAtta
 use Rattle.cf_desk.specs.declared.faults.OpenFault.{OpenFault}
 use Rattle.cf_desk.specs.declared.faults.OpenFault.TheVariants.{Callers, Log, Calls, Room, Functions, NoMemory}
 use Rattle.cf_desk.specs.Functions.{function_bound}
-use Rattle.cf_desk.specs.Log.{IsFunctionBelow}
+use Rattle.cf_event.specs.Events.{IsFunctionBelow}
 use Rattle.cf_desk.specs.Views.{Pass, Desk, SeesFull, state_of}
 
 -- the stages that an event names are among n

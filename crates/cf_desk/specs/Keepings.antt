@@ -5,12 +5,17 @@ use Rattle.std.specs.List.{All, Contains}
 use Rattle.cf_desk.specs.declared.calls.Kept.{Kept as KeptPass}
 use Rattle.cf_desk.specs.declared.calls.Rec.{Rec}
 use Rattle.cf_model.specs.declared.events.Event.{Event}
+use Rattle.cf_event.specs.declared.record.Record.{Record}
 use Rattle.cf_model.specs.Calls.{who_of}
-use Rattle.cf_desk.specs.Records.{Fits}
+use Rattle.cf_desk.specs.Records.{Fits, records_by}
 use Rattle.cf_desk.specs.Views.{Pass}
 
 abbrev pub pass_kept : KeptPass → ℕ × List Rec
 pass_kept k = (k.caller, k.records.items)
+
+-- what is kept of a pass, as its caller's records
+abbrev pub caller_kept : KeptPass → ℕ × List Record
+caller_kept k = (k.caller, records_by k.caller k.records.items)
 
 abbrev pub pass_did : Pass → ℕ × List Rec
 pass_did p = (p.known.caller, p.records)

@@ -7,7 +7,7 @@ use Rattle.cf_model.specs.declared.events.Event.{Event}
 use Rattle.cf_model.specs.Calls.{who_of}
 use Rattle.cf_desk.specs.declared.row.Terms.{Terms}
 use Rattle.cf_desk.specs.declared.row.Known.{Known}
-use Rattle.cf_desk.specs.Log.{own}
+use Rattle.cf_event.specs.Events.{own}
 use Rattle.cf_desk.specs.Rule.{IsRow, RowKept, longest}
 
 -- the callers for which a seat stands

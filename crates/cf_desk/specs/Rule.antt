@@ -9,7 +9,8 @@ use Rattle.cf_event.specs.Decoding.{event_of}
 use Rattle.cf_desk.specs.declared.row.Setting.{Setting}
 use Rattle.cf_desk.specs.declared.row.Terms.{Terms}
 use Rattle.cf_desk.specs.declared.row.Known.{Known}
-use Rattle.cf_desk.specs.Log.{own, IsEventOf, AreLogged, state_from, Catches}
+use Rattle.cf_event.specs.Events.{own}
+use Rattle.cf_desk.specs.Log.{IsDeskEvent, AreLogged, state_from, Catches}
 
 -- the log begins with what was seen, and after it has no event of the caller
 pub record Stands (setting : Setting) (log : List Event) (k : Known) : Type 0 where
@@ -74,7 +75,7 @@ looked k = record k { looks = k.looks ++ length k.seen ∷ [] }
 
 -- the word found at the next place is that of another caller's event, which was not seen before
 abbrev pub SeesOther : Known → Event → List Known → Type 0
-SeesOther k e w = (w ≡ saw k e ∷ []) × IsEventOf k.setting (state_from k.setting.plan k.seen) e × (own k.caller (e ∷ []) ≡ [])
+SeesOther k e w = (w ≡ saw k e ∷ []) × IsDeskEvent k.setting (state_from k.setting.plan k.seen) e × (own k.caller (e ∷ []) ≡ [])
 
 -- a load of the next word: it held no event, or one of another caller
 pub record LooksNext (k : Known) (found : ℕ) (w : List Known) : Type 0 where

@@ -18,7 +18,8 @@ use Rattle.cf_desk.specs.declared.calls.Rec.TheVariants.{Did, Saw}
 use Rattle.cf_desk.specs.declared.row.Known.{Known}
 use Rattle.cf_desk.specs.declared.row.Setting.{Setting}
 use Rattle.cf_desk.specs.Calls.{event_by, joined}
-use Rattle.cf_desk.specs.Log.{own, IsEventOf, AreLogged, Catches, state_from}
+use Rattle.cf_event.specs.Events.{own}
+use Rattle.cf_desk.specs.Log.{IsDeskEvent, AreLogged, Catches, state_from}
 use Rattle.cf_desk.specs.Records.{Fits}
 use Rattle.cf_desk.specs.Rule.{saw, longest, with_seen, fresh, count_in, AllShort}
 use Rattle.std.specs.List.{All}
@@ -57,7 +58,7 @@ state_of k = state_from k.setting.plan k.seen
 pub record AddedByOther (p q : Pass) : Type 0 where
   pub found : Event
   pub is : q ≡ record p { known = saw p.known found }
-  pub event : IsEventOf p.known.setting (state_of p.known) found
+  pub event : IsDeskEvent p.known.setting (state_of p.known) found
   pub other : own p.known.caller (found ∷ []) ≡ []
 
 -- the pass is of this desk

@@ -1,8 +1,10 @@
 //! What callers ask of a desk, and what they are answered.
 ghost use Rattle.std.specs.Prelude.{◌≡◌, false};
 ghost use Rattle.cf_desk.specs.Calls.{as_call, event_by, joined};
+ghost use Rattle.cf_desk.specs.Records.{record_by};
 
 use cf_core::Graph;
+use cf_event::Record;
 use cf_model::{Ask, Event, Reply, Told};
 use cf_outcome::{Cause, Outcome, Value};
 use cf_plan::{Answer, Form, Of};
@@ -61,7 +63,8 @@ pub enum Joined {
     NotYet,
 }
 
-/// What a pass keeps of one call.
+/// What a pass keeps of one call: a `Record` without its caller, which is the pass's, and with its place in 16 bits, since
+/// each call writes one.
 #[derive(Clone, Copy, Debug, Drop, PartialEq, Eq)]
 pub enum Rec {
     /// A changing call with its reply. The place counts the events up to and with its own.
@@ -76,6 +79,26 @@ pub enum Rec {
         ask: Ask,
         told: Told,
     },
+}
+
+impl Rec {
+    /// The same as a record of this caller.
+    pub fn record(&self, who: u8) -> Record
+        ensures { result ≡ record_by who self.now }
+    {
+        match *self {
+            Rec::Did { place, call, reply } => Record::Did {
+                place: place as usize,
+                event: event_by(who, call),
+                reply,
+            },
+            Rec::Saw { place, ask, told } => Record::Saw {
+                place: place as usize,
+                ask,
+                told,
+            },
+        }
+    }
 }
 
 /// A closed pass: its caller and its records.
@@ -96,7 +119,7 @@ pub struct Closed {
 
 /// A caller's call as an event.
 #[inline(always)]
-pub(crate) fn event_by(who: u8, call: Call) -> Event
+pub fn event_by(who: u8, call: Call) -> Event
     ensures { result ≡ event_by who call }
 {
     match call {

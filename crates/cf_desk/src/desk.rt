@@ -64,20 +64,37 @@ impl Desk {
         ensures counts { IfOk result (λ r. AreCounts callers log calls) }
         ensures fault { IfErr result (IsDueToOpen callers log calls) }
     {
+        Desk::open_of(alloc, &plan, callers, log, calls)
+    }
+
+    /// The same of a plan that stays where it is.
+    pub fn open_of(
+        alloc: Global,
+        plan: &Plan,
+        callers: u8,
+        log: u16,
+        calls: u16,
+    ) -> Result<(Desk, Vec<Pass>), OpenFault>
+        ensures opened { IfOk result (λ r. (r.0.setting ≡ record { plan = plan.now; callers = callers; functions = function_bound plan.now.stages }) × (r.0.words ≡ log) × (r.1.items ≡ opened r.0.table r.0.setting calls)) }
+        ensures passes { IfOk result (λ r. All (IsOf r.0) r.1.items × (vec_len r.1 ≡ callers)) }
+        ensures table { IfOk result (λ r. All (λ p. p.table ≡ r.0.table) r.1.items × (r.0.table.words ≡ log)) }
+        ensures counts { IfOk result (λ r. AreCounts callers log calls) }
+        ensures fault { IfErr result (IsDueToOpen callers log calls) }
+    {
         if let Some(fault) = count_fault(callers, log, calls) {
             return Err(fault);
         }
         // A plan that was built is within its bounds.
         let _stages = plan.stages();
-        let functions = function_bound(&plan);
+        let functions = function_bound(plan);
         match open_with(alloc, plan, callers, log, calls, 0, functions) {
             Ok(opened) => Ok(opened),
             Err(_) => Err(OpenFault::NoMemory),
         }
     }
 
-    /// The same with room for so many stages that callers attach later, whose functions have numbers below `functions`,
-    /// as those of the plan have. It takes all the memory that attaching will ever need.
+    /// The same as `open` with room for so many stages that callers attach later, whose functions have numbers below
+    /// `functions`, as those of the plan have. It takes all the memory that attaching will ever need.
     pub fn open_growing(
         alloc: Global,
         plan: Plan,
@@ -93,13 +110,32 @@ impl Desk {
         ensures counts { IfOk result (λ r. AreCounts callers log calls × (¬ IsOverfull plan.stages room) × (function_bound plan.stages ≤ functions)) }
         ensures fault { IfErr result (IsDueToGrow plan.stages callers log calls room functions) }
     {
+        Desk::open_growing_of(alloc, &plan, callers, log, calls, room, functions)
+    }
+
+    /// The same of a plan that stays where it is.
+    pub fn open_growing_of(
+        alloc: Global,
+        plan: &Plan,
+        callers: u8,
+        log: u16,
+        calls: u16,
+        room: u16,
+        functions: u32,
+    ) -> Result<(Desk, Vec<Pass>), OpenFault>
+        ensures opened { IfOk result (λ r. (r.0.setting ≡ record { plan = with_room plan.now room; callers = callers; functions = functions }) × (r.0.words ≡ log) × (r.1.items ≡ opened r.0.table r.0.setting calls)) }
+        ensures passes { IfOk result (λ r. All (IsOf r.0) r.1.items × (vec_len r.1 ≡ callers)) }
+        ensures table { IfOk result (λ r. All (λ p. p.table ≡ r.0.table) r.1.items × (r.0.table.words ≡ log)) }
+        ensures counts { IfOk result (λ r. AreCounts callers log calls × (¬ IsOverfull plan.now.stages room) × (function_bound plan.now.stages ≤ functions)) }
+        ensures fault { IfErr result (IsDueToGrow plan.now.stages callers log calls room functions) }
+    {
         if let Some(fault) = count_fault(callers, log, calls) {
             return Err(fault);
         }
-        if is_overfull(&plan, room) {
+        if is_overfull(plan, room) {
             return Err(OpenFault::Room);
         }
-        if functions < function_bound(&plan) {
+        if functions < function_bound(plan) {
             return Err(OpenFault::Functions);
         }
         match open_with(alloc, plan, callers, log, calls, room, functions) {
@@ -230,7 +266,7 @@ fn no_records(alloc: Global, calls: u16) -> Result<Vec<Rec>, AllocError>
 /// A desk with empty words, and its passes.
 fn open_with(
     alloc: Global,
-    plan: Plan,
+    plan: &Plan,
     callers: u8,
     log: u16,
     calls: u16,
@@ -238,16 +274,16 @@ fn open_with(
     functions: u32,
 ) -> Result<(Desk, Vec<Pass>), AllocError>
     requires counts { (0 < callers) × (callers ≤ 64) × (0 < log) }
-    requires room { ¬ IsOverfull plan.stages room }
+    requires room { ¬ IsOverfull plan.now.stages room }
     ensures words { IfOk result (λ r. r.0.table.words ≡ log) }
-    ensures opened { IfOk result (λ r. (r.0.setting ≡ record { plan = with_room plan room; callers = callers; functions = functions }) × (r.0.words ≡ log) × (r.1.items ≡ opened r.0.table r.0.setting calls)) }
+    ensures opened { IfOk result (λ r. (r.0.setting ≡ record { plan = with_room plan.now room; callers = callers; functions = functions }) × (r.0.words ≡ log) × (r.1.items ≡ opened r.0.table r.0.setting calls)) }
 {
     let history = Vec::with_capacity(alloc, log as usize)?;
     let kept = Vec::with_capacity(alloc, callers as usize)?;
     let zeros = vec![in alloc; 0u64; log as usize]?;
     let terms = Terms {
         setting: Setting {
-            plan: growing(alloc, &plan, room)?,
+            plan: growing(alloc, plan, room)?,
             callers,
             functions,
         },
@@ -257,7 +293,7 @@ fn open_with(
     let mut passes = Vec::with_capacity(alloc, callers as usize)?;
     for caller in 0..callers {
         let records = no_records(alloc, calls)?;
-        let copy = copy_of(alloc, &plan, room)?;
+        let copy = copy_of(alloc, plan, room)?;
         let mine = table.shared.split_seat::<GivesFirst>(&mut seat);
         let pass = Pass {
             seat: mine,

@@ -1,14 +1,15 @@
 //! What a closed desk shows, and what the rule of its row says. Each function does nothing, and its contract is the
 //! statement.
 ghost use Rattle.cf_desk.specs.Keepings.{IsFit};
-ghost use Rattle.cf_desk.specs.Laws.{OneHistory};
+ghost use Rattle.cf_desk.specs.Laws.{OneHistoryShows};
 ghost use Rattle.cf_desk.specs.Rows.{RowsHold};
 
 use crate::pass::Pass;
 
-/// What `Desk::close` hands out is one history of all the passes.
-pub fn closed_desks_have_one_history()
-    ensures { OneHistory }
+/// In one history, as `Desk::close` hands it out, each call stands once, a settled stage keeps its outcome, a stage is
+/// claimed once, and a quiet plain graph holds its expressions' outcomes.
+pub fn one_history_shows()
+    ensures { OneHistoryShows }
 {}
 
 /// Of the events that a pass has seen, those of its caller are just the ones that it was answered for, each with the reply

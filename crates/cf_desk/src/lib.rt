@@ -18,7 +18,7 @@
 //! | pass (`Pass`) | what one caller holds: a seat, a graph of its own, and records |
 //! | seat | a pass's hold on the row, which carries its view from step to step |
 //! | view | for each pass that a seat stands for, what that pass knows (`Known`): no code holds it, proofs do |
-//! | record (`Rec`) | what a pass keeps of one call: the call, its place and its answer |
+//! | record (`Rec`) | what a pass keeps of one call: the call, its place and its answer; with its caller it is a `Record` of `cf_event` |
 //! | closed desk (`Closed`) | the history, each pass's caller and records (`Kept`), and the graph |
 #![tactic(auto)]
 
@@ -30,7 +30,7 @@ pub mod laws;
 mod pass;
 mod row;
 
-pub use calls::{Call, Closed, Joined, Kept, Rec};
+pub use calls::{Call, Closed, Joined, Kept, Rec, event_by};
 pub use cf_model::{Ask, Told};
 pub use desk::Desk;
 pub use faults::{CloseFault, DeskFault, OpenFault};

@@ -1,11 +1,12 @@
 //! A caller's pass: its seat at the row, and what it has seen.
-ghost use Rattle.std.specs.Prelude.{◌≡◌, ◌<◌, ◌≤◌, ◌+◌, ◌↔◌, All, IfSome, IsTrue, length, unwrap_or};
+ghost use Rattle.std.specs.Prelude.{◌≡◌, ◌<◌, ◌≤◌, ◌+◌, ◌↔◌, IfSome, IsTrue, length, unwrap_or};
 ghost use Rattle.std.specs.Bool.{OnTrue};
-ghost use Rattle.cf_plan.specs.Plans.{function_at, sources_of};
+ghost use Rattle.cf_plan.specs.Plans.{function_at};
 ghost use Rattle.cf_model.specs.States.{lowest_ready_of, outcome_at};
 ghost use Rattle.cf_desk.specs.Calls.{event_by};
 ghost use Rattle.cf_desk.specs.Faults.{AsksStage, IsFitting, IsOnStage};
-ghost use Rattle.cf_desk.specs.Log.{IsEventOf, IsFunctionBelow};
+ghost use Rattle.cf_event.specs.Events.{IsFunctionBelow};
+ghost use Rattle.cf_desk.specs.Log.{IsDeskEvent};
 ghost use Rattle.cf_desk.specs.Views.{Joins, Reads, state_of};
 
 use crate::calls::{Call, Joined, Rec, joined_as};
@@ -14,7 +15,7 @@ use atomic_table::Seat;
 use cf_core::Graph;
 use cf_model::{Ask, Told};
 use cf_outcome::Outcome;
-use cf_plan::{Of, fits_form};
+use cf_plan::fits_form;
 use std::marker::Model;
 
 /// The greatest number of a function that a word has room for.
@@ -97,7 +98,7 @@ impl Pass {
             Call::Claim(stage) => stage < stages,
             Call::Finish(stage, _) => stage < stages,
             Call::Tick(_) => true,
-            Call::Attach(_, of, _) => are_below(of, stages),
+            Call::Attach(_, of, _) => of.are_below(stages),
         }
     }
 
@@ -108,7 +109,7 @@ impl Pass {
     pub(crate) fn fits(&self, call: Call) -> bool
         requires { IsOnStage self.now (event_by self.now.known.caller call) }
         ensures fits { IsTrue result ↔ IsFitting self.now (event_by self.now.known.caller call) }
-        ensures event { OnTrue result (IsEventOf self.now.known.setting (state_of self.now.known) (event_by self.now.known.caller call)) }
+        ensures event { OnTrue result (IsDeskEvent self.now.known.setting (state_of self.now.known) (event_by self.now.known.caller call)) }
     {
         // Each stage is below 4,096, and the caller is below 64.
         let _stages = self.stages();
@@ -186,17 +187,6 @@ impl Pass {
         };
         self.records.push_reserved(record);
         told
-    }
-}
-
-/// Whether these stages are below so many.
-fn are_below(of: Of, stages: u16) -> bool
-    ensures { IsTrue result ↔ All (λ j. j < stages) (sources_of of) }
-{
-    match of {
-        Of::None => true,
-        Of::One(a) => a < stages,
-        Of::Two(a, b) => a < stages && b < stages,
     }
 }
 

@@ -1,4 +1,6 @@
 pub mod Words
 pub mod Decoding
+pub mod Events
+pub mod Histories
 pub mod Laws
 pub mod Replays

@@ -3,12 +3,16 @@
 //!
 //! In the word of an event that attaches a stage, the stage is its first source, the tag is how many sources it has, and
 //! `low` is `form * 2^24 + second * 2^12 + function`. What it doesn't have is 0.
+//!
+//! A `Record` is what a caller keeps of one call. `IsOneHistory` in `specs/Histories` says when events, and the records of
+//! callers, are one history: a closed desk of `cf_desk` promises it, and `cf_history` judges anybody's account by it.
 #![tactic(auto)]
 
 mod applying;
 mod attaching;
 mod codec;
 pub mod laws;
+mod record;
 
 pub use applying::{apply, replay};
 pub use cf_model::{Event, Reply};
@@ -17,3 +21,4 @@ pub use cf_model::{Event, Reply};
 mod tests;
 
 pub use codec::{decode, encode, is_event};
+pub use record::Record;

@@ -2,15 +2,16 @@
 //!
 //! `take_turns` opens a desk for two callers with room for one stage more, lets one caller complete a stage, and the other
 //! cancel it and attach a stage to it, lets both look at what came of it, closes the desk, and promises that there was one
-//! history. That promise is `IsOneHistory`, the product's
-//! own statement; its proof is the contracts of the calls that are made, and nothing beside them.
+//! history. That promise is `IsOneHistory`, the product's own statement, with what it shows; its proof is the contracts of
+//! the calls that are made, and nothing beside them.
 #![tactic(auto)]
 
 mod fault;
 
 ghost use Rattle.std.specs.Prelude.{◌≡◌, All, IfOk, map};
-ghost use Rattle.cf_desk.specs.Keepings.{pass_kept};
-ghost use Rattle.cf_desk.specs.Laws.{IsOneHistory};
+ghost use Rattle.cf_event.specs.Histories.{IsOneHistory};
+ghost use Rattle.cf_desk.specs.Keepings.{caller_kept};
+ghost use Rattle.cf_desk.specs.Laws.{Shows};
 ghost use Rattle.cf_plan.specs.Plans.{with_room};
 
 use cf_desk::{Call, Closed, Desk, DeskFault, Pass};
@@ -30,7 +31,8 @@ const FUNCTIONS: u32 = 16;
 /// caller 1 cancels it and attaches an apply of it, with function 0, and both look at what came of it. What they were told
 /// stands in the closed desk, and is one history.
 pub fn take_turns(alloc: Global, plan: Plan, value: Value) -> Result<Closed, Fault>
-    ensures { IfOk result (λ closed. IsOneHistory (with_room plan 1) closed.history.items (map pass_kept closed.passes.items) closed.graph.state) }
+    ensures one { IfOk result (λ closed. IsOneHistory (with_room plan 1) 16 closed.history.items (map caller_kept closed.passes.items)) }
+    ensures shows { IfOk result (λ closed. Shows (with_room plan 1) closed.history.items (map caller_kept closed.passes.items) closed.graph.state) }
 {
     let (desk, mut first, mut second) = open_two(alloc, plan)?;
     act_and_look(&desk, &mut first, &mut second, value)?;
@@ -39,7 +41,7 @@ pub fn take_turns(alloc: Global, plan: Plan, value: Value) -> Result<Closed, Fau
 
 /// A desk of this plan with room for one stage more, and the passes of its two callers.
 fn open_two(alloc: Global, plan: Plan) -> Result<(Desk, Pass, Pass), Fault>
-    ensures setting { IfOk result (λ r. (r.0.setting.plan ≡ with_room plan 1) × (r.0.setting.callers ≡ 2)) }
+    ensures setting { IfOk result (λ r. (r.0.setting.plan ≡ with_room plan 1) × (r.0.setting.callers ≡ 2) × (r.0.setting.functions ≡ 16)) }
     ensures table { IfOk result (λ r. (r.1.table ≡ r.0.table) × (r.2.table ≡ r.0.table)) }
 {
     let (desk, mut passes) = Desk::open_growing(alloc, plan, 2, ROOM, ROOM, 1, FUNCTIONS)?;
@@ -71,7 +73,8 @@ fn act_and_look(
 fn close_two(alloc: Global, desk: Desk, first: Pass, second: Pass) -> Result<Closed, Fault>
     requires callers { desk.setting.callers ≡ 2 }
     requires table { (first.table ≡ desk.table) × (second.table ≡ desk.table) }
-    ensures { IfOk result (λ closed. IsOneHistory desk.setting.plan closed.history.items (map pass_kept closed.passes.items) closed.graph.state) }
+    ensures one { IfOk result (λ closed. IsOneHistory desk.setting.plan desk.setting.functions closed.history.items (map caller_kept closed.passes.items)) }
+    ensures shows { IfOk result (λ closed. Shows desk.setting.plan closed.history.items (map caller_kept closed.passes.items) closed.graph.state) }
 {
     let passes = match vec![in alloc; first, second] {
         Ok(passes) => passes,

@@ -3,7 +3,7 @@ use Rattle.std.proofs.Common.{◌≡◌, ℕ, zero, suc, ◌<◌, List, [], ◌�
 use Rattle.std.specs.Prelude.{Some, Bool, true, false, cond, eqb, slice_get}
 use Rattle.cf_model.specs.declared.events.Event.{Event}
 use Rattle.cf_model.specs.Calls.{who_of}
-use Rattle.cf_history.specs.Events.{own}
+use Rattle.cf_event.specs.Events.{own}
 use Rattle.cf_history.specs.Verdicts.{IsSkipped}
 
 kept_none : (b : Bool) (x : Event) (ys : List Event) → cond b (x ∷ ys) ys ≡ [] → ys ≡ []

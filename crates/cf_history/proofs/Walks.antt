@@ -13,12 +13,13 @@ use Rattle.cf_model.specs.Events.{answered, told}
 use Rattle.cf_model.specs.Ranges.{AskFits, EventFits, EventsFit}
 use Rattle.cf_model.specs.Calls.{who_of}
 use Rattle.cf_event.specs.Words.{IsEvent}
-use Rattle.cf_history.specs.declared.record.Record.{Record}
-use Rattle.cf_history.specs.declared.record.Record.TheVariants.{Did, Saw}
+use Rattle.cf_event.specs.declared.record.Record.{Record}
+use Rattle.cf_event.specs.declared.record.Record.TheVariants.{Did, Saw}
 use Rattle.cf_history.specs.declared.verdict.Misfit.{Misfit}
 use Rattle.cf_history.specs.declared.verdict.Misfit.TheVariants.{Before, Behind, Skips, Other, Reply as Replies, NoStage, Told as Tells}
-use Rattle.cf_history.specs.Events.{own}
-use Rattle.cf_history.specs.Records.{AreRight, GoesOn, IsRight, place_of, state_in}
+use Rattle.cf_event.specs.Events.{own}
+use Rattle.cf_event.specs.Histories.{place_of}
+use Rattle.cf_history.specs.Records.{AreRight, GoesOn, IsRight, state_in}
 use Rattle.cf_history.specs.Verdicts.{IsFirstMisfit, IsMisfit, IsNext, IsSkipped, LeavesOut}
 use Rattle.cf_history.proofs.Owns.{own_there, not_skipped}
 

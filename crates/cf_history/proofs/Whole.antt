@@ -7,16 +7,18 @@ use Rattle.cf_model.specs.declared.events.Event.{Event}
 use Rattle.cf_model.specs.States.{State, start}
 use Rattle.cf_model.specs.Events.{state_after}
 use Rattle.cf_history.specs.declared.history.History.{History}
-use Rattle.cf_history.specs.declared.record.Caller.{Caller}
+use Rattle.cf_history.specs.declared.history.Caller.{Caller}
 use Rattle.cf_history.specs.declared.verdict.Misfit.{Misfit}
 use Rattle.cf_history.specs.declared.verdict.Unfit.{Unfit}
 use Rattle.cf_history.specs.declared.verdict.Verdict.{Verdict}
 use Rattle.cf_history.specs.declared.verdict.Verdict.TheVariants.{Fits, Event as AtEvent, Record as AtRecord, Missing, Outcome as AtOutcome, Stages}
-use Rattle.cf_history.specs.Histories.{AllRight, AreOutcomesOf, AreWordsOf, IsOneHistory, said}
+use Rattle.cf_history.specs.Histories.{AllRight, AreOutcomesOf, AreWordsOf, FitsOneGraph, said}
 use Rattle.cf_history.specs.Records.{AreRight}
 use Rattle.cf_history.specs.Verdicts.{IsEnd, IsOfCallers, IsOfOutcomes, IsOfWords, IsVerdict, TellsOfCallers, TellsOfOutcomes}
 use Rattle.cf_history.proofs.Walks.{none_left_out, not_all_right}
 use Rattle.cf_history.proofs.Words.{not_words}
+use Rattle.cf_history.proofs.Alike.{one_of_right}
+use Rattle.cf_history.proofs.Accounts.{callers_fit, words_fit}
 
 -- where all callers fit, each does
 right_at : (s : State) (events : List Event) (c k : ℕ) (callers : List Caller) (here : Caller) → AllRight s events c callers → slice_get callers k ≡ Some here →
@@ -71,26 +73,26 @@ not_of_outcomes s (Some outcomes) (Missing caller place) told are = told
 same_events : (callers functions : ℕ) (s : State) (words : List ℕ) (events others : List Event) → AreWordsOf callers functions s words events → AreWordsOf callers functions s words others → others ≡ events
 same_events callers functions s words events others a b = b.read ∙ sym a.read
 
-of_callers : (plan : Planned) (h : History) (v : Verdict) → TellsOfCallers plan h v → IsOneHistory plan h → ⊥
+of_callers : (plan : Planned) (h : History) (v : Verdict) → TellsOfCallers plan h v → FitsOneGraph plan h → ⊥
 of_callers plan h v told one =
     not_of_callers (start plan) told.0 h.callers.items v told.2
-    (subst (λ (es : List Event). AllRight (start plan) es 0 h.callers.items) (same_events (length h.callers.items) h.functions (start plan) h.words.items told.0 one.events told.1 one.words) one.callers)
+    (subst (λ (es : List Event). AllRight (start plan) es 0 h.callers.items) (same_events (length h.callers.items) h.functions (start plan) h.words.items told.0 one.events told.1 (words_fit plan h one)) (callers_fit plan h one))
 
-of_outcomes : (plan : Planned) (h : History) (v : Verdict) → TellsOfOutcomes plan h v → IsOneHistory plan h → ⊥
+of_outcomes : (plan : Planned) (h : History) (v : Verdict) → TellsOfOutcomes plan h v → FitsOneGraph plan h → ⊥
 of_outcomes plan h v told one =
     not_of_outcomes (state_after (start plan) told.0) (said h) v told.3
-    (subst (λ (es : List Event). AreOutcomesOf (state_after (start plan) es) (said h)) (same_events (length h.callers.items) h.functions (start plan) h.words.items told.0 one.events told.1 one.words) one.outcomes)
+    (subst (λ (es : List Event). AreOutcomesOf (state_after (start plan) es) (said h)) (same_events (length h.callers.items) h.functions (start plan) h.words.items told.0 one.events told.1 (words_fit plan h one)) one.outcomes)
 
 -- where a history fits, the verdict is that it does
-pub only_fits : (plan : Planned) (h : History) (v : Verdict) → IsVerdict plan h v → IsOneHistory plan h → v ≡ Fits
+pub only_fits : (plan : Planned) (h : History) (v : Verdict) → IsVerdict plan h v → FitsOneGraph plan h → v ≡ Fits
 only_fits plan h Fits told one = refl
-only_fits plan h (AtEvent place why) told one = absurd (not_words (length h.callers.items) h.functions (start plan) h.words.items one.events told.0 why told.2 one.words)
+only_fits plan h (AtEvent place why) told one = absurd (not_words (length h.callers.items) h.functions (start plan) h.words.items one.events told.0 why told.2 (words_fit plan h one))
 only_fits plan h (AtRecord caller k why) told one = absurd (of_callers plan h (AtRecord caller k why) told one)
 only_fits plan h (Missing caller place) told one = absurd (of_callers plan h (Missing caller place) told one)
 only_fits plan h (AtOutcome stage outcome) told one = absurd (of_outcomes plan h (AtOutcome stage outcome) told one)
 only_fits plan h (Stages count) told one = absurd (of_outcomes plan h (Stages count) told one)
 
-pub both_ways : (plan : Planned) (h : History) (v : Verdict) → IsVerdict plan h v → (v ≡ Fits) ↔ IsOneHistory plan h
+pub both_ways : (plan : Planned) (h : History) (v : Verdict) → IsVerdict plan h v → (v ≡ Fits) ↔ FitsOneGraph plan h
 both_ways plan h v told = (λ (e : v ≡ Fits). subst (IsVerdict plan h) e told, only_fits plan h v told)
 
 -- what was found is the verdict
@@ -125,7 +127,12 @@ no_missing s (Some outcomes) caller place t = t
 
 pub told_at_end : (plan : Planned) (h : History) (events : List Event) (v : Verdict) → AreWordsOf (length h.callers.items) h.functions (start plan) h.words.items events →
     AllRight (start plan) events 0 h.callers.items → IsEnd (state_after (start plan) events) (said h) v → IsVerdict plan h v
-told_at_end plan h events Fits w all t = record { events = events; words = w; callers = all; outcomes = t }
+told_at_end plan h events Fits w all t = record {
+  events = events;
+  words = record { read = w.read; all = w.all };
+  one = one_of_right plan h.functions events h.callers.items w.taken all;
+  outcomes = t;
+}
 told_at_end plan h events (AtEvent place why) w all t = absurd (no_event (state_after (start plan) events) (said h) place why t)
 told_at_end plan h events (AtRecord caller k why) w all t = absurd (no_record (state_after (start plan) events) (said h) caller k why t)
 told_at_end plan h events (Missing caller place) w all t = absurd (no_missing (state_after (start plan) events) (said h) caller place t)

@@ -5,11 +5,14 @@ use Rattle.std.proofs.lemmas.List.{drop_more, drop_all}
 use Rattle.cf_model.specs.declared.events.Event.{Event}
 use Rattle.cf_model.specs.States.{State}
 use Rattle.cf_model.specs.Events.{answered, state_after}
-use Rattle.cf_model.specs.Ranges.{EventsFit}
+use Rattle.std.specs.List.{All}
+use Rattle.std.proofs.lemmas.List.Elements.{All-nil, All-cons}
+use Rattle.cf_event.specs.Words.{IsEvent}
+use Rattle.cf_event.proofs.WordLemmas.{event_of_is}
 use Rattle.cf_event.specs.Decoding.{decoded, decoded_with, event_of}
 use Rattle.cf_history.specs.declared.verdict.Unfit.{Unfit}
 use Rattle.cf_history.specs.declared.verdict.Unfit.TheVariants.{NoEvent, NoCaller, NoStage, NoFunction}
-use Rattle.cf_history.specs.Events.{AreEventsOf, IsEventOf}
+use Rattle.cf_event.specs.Events.{AreEventsOf, IsEventOf}
 use Rattle.cf_history.specs.Histories.{AreWordsOf}
 use Rattle.cf_history.specs.Verdicts.{IsFirstUnfit, IsUnfit, IsUnfitWord}
 
@@ -32,10 +35,14 @@ pub decoded_few : (ws : List ℕ) → length (decoded ws) ≤ length ws
 decoded_few [] = omega arith
 decoded_few (w ∷ ws) = few_with (event_of w) (decoded ws) (length ws) (decoded_few ws)
 
--- events that can stand there fit the graph
-pub fit_of : (callers functions : ℕ) (s : State) (events : List Event) → AreEventsOf callers functions s events → EventsFit s events
-fit_of callers functions s [] h = tt
-fit_of callers functions s (e ∷ events) h = (h.0.fits, fit_of callers functions ((answered s e).1) events h.1)
+-- each of them has a word
+events_with : (o : Option Event) (w : ℕ) (es : List Event) → event_of w ≡ o → All IsEvent es → All IsEvent (decoded_with o es)
+events_with None w es is h = All-nil IsEvent
+events_with (Some e) w es is h = All-cons IsEvent e es (event_of_is w e is).0 h
+
+pub decoded_events : (ws : List ℕ) → All IsEvent (decoded ws)
+decoded_events [] = All-nil IsEvent
+decoded_events (w ∷ ws) = events_with (event_of w) w (decoded ws) refl (decoded_events ws)
 
 -- an event that can't stand there is none that can
 not_event : (callers functions : ℕ) (s : State) (e : Event) (why : Unfit) → IsUnfit callers functions s e why → IsEventOf callers functions s e → ⊥

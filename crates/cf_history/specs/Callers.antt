@@ -2,7 +2,7 @@
 use Rattle.std.specs.Prelude.{ℕ, List}
 use Rattle.cf_model.specs.declared.events.Event.{Event}
 use Rattle.cf_model.specs.States.{State}
-use Rattle.cf_history.specs.declared.record.Record.{Record}
+use Rattle.cf_event.specs.declared.record.Record.{Record}
 use Rattle.cf_history.specs.declared.caller.Judged.{Judged}
 use Rattle.cf_history.specs.declared.caller.Judged.TheVariants.{Fits, Record as AtRecord, Missing}
 use Rattle.cf_history.specs.Records.{AreRight}

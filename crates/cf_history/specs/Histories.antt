@@ -5,10 +5,12 @@ use Rattle.cf_outcome.specs.declared.outcome.Outcome.{Outcome}
 use Rattle.cf_model.specs.declared.events.Event.{Event}
 use Rattle.cf_model.specs.States.{State, outcome_at, start}
 use Rattle.cf_model.specs.Events.{state_after}
+use Rattle.cf_event.specs.declared.record.Record.{Record}
 use Rattle.cf_event.specs.Decoding.{decoded}
+use Rattle.cf_event.specs.Histories.{IsOneHistory}
 use Rattle.cf_history.specs.declared.history.History.{History}
-use Rattle.cf_history.specs.declared.record.Caller.{Caller}
-use Rattle.cf_history.specs.Events.{AreEventsOf}
+use Rattle.cf_history.specs.declared.history.Caller.{Caller}
+use Rattle.cf_event.specs.Events.{AreEventsOf}
 use Rattle.cf_history.specs.Records.{AreRight}
 
 -- the words are those of these events, each of which the graph takes as those before it leave it
@@ -34,9 +36,20 @@ AreOutcomesOf s (Some outcomes) = (length outcomes ≡ length s.plan.stages) × 
 abbrev pub said : History → Option (List (Option Outcome))
 said h = option_map (λ o. o.items) h.outcomes
 
--- the history fits, from this plan on
-pub record IsOneHistory (plan : Planned) (h : History) : Type 0 where
+-- the callers' records, each under its number, the first being caller c
+abbrev pub callers_from : ℕ → List Caller → List (ℕ × List Record)
+callers_from c [] = []
+callers_from c (k ∷ callers) = (c, k.records.items) ∷ callers_from (c + 1) callers
+
+-- the words are those of these events
+pub record AreRead (words : List ℕ) (events : List Event) : Type 0 where
+  pub read : events ≡ decoded words
+  pub all : length events ≡ length words
+
+-- The history fits, from this plan on: its words are events that are one history with what its callers were told, and its outcomes are
+-- those of the graph as the events leave it.
+pub record FitsOneGraph (plan : Planned) (h : History) : Type 0 where
   pub events : List Event
-  pub words : AreWordsOf (length h.callers.items) h.functions (start plan) h.words.items events
-  pub callers : AllRight (start plan) events 0 h.callers.items
+  pub words : AreRead h.words.items events
+  pub one : IsOneHistory plan h.functions events (callers_from 0 h.callers.items)
   pub outcomes : AreOutcomesOf (state_after (start plan) events) (said h)

@@ -1,5 +1,5 @@
-pub mod Events
 pub mod Records
 pub mod Histories
 pub mod Verdicts
 pub mod Callers
+pub mod Laws

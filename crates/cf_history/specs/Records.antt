@@ -1,4 +1,4 @@
--- When the records of a caller fit a history. `at` events have come and left the graph in state s, and `rest` are still to come.
+-- When the records of a caller fit a history, read one after another. `at` events have come and left the graph in state s, and `rest` are still to come.
 use Rattle.std.specs.Prelude.{◌≡◌, ℕ, ◌-◌, ◌<◌, ◌≤◌, Some, List, [], ◌∷◌, length, take, drop, slice_get}
 use Rattle.cf_model.specs.declared.asks.Ask.{Ask}
 use Rattle.cf_model.specs.declared.asks.Told.{Told}
@@ -9,14 +9,10 @@ use Rattle.cf_model.specs.Events.{answered, state_after, told}
 use Rattle.cf_model.specs.Ranges.{AskFits}
 use Rattle.cf_model.specs.Calls.{who_of}
 use Rattle.cf_event.specs.Words.{IsEvent}
-use Rattle.cf_history.specs.declared.record.Record.{Record}
-use Rattle.cf_history.specs.declared.record.Record.TheVariants.{Did, Saw}
-use Rattle.cf_history.specs.Events.{own}
-
--- how many events were there once a record was answered
-abbrev pub place_of : Record → ℕ
-place_of (Did place event reply) = place
-place_of (Saw place ask answer) = place
+use Rattle.cf_event.specs.Histories.{place_of}
+use Rattle.cf_event.specs.declared.record.Record.{Record}
+use Rattle.cf_event.specs.declared.record.Record.TheVariants.{Did, Saw}
+use Rattle.cf_event.specs.Events.{own}
 
 -- the state once so many of the events to come are done
 abbrev pub state_in : State → List Event → ℕ → State

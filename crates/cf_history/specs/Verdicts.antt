@@ -10,18 +10,19 @@ use Rattle.cf_model.specs.Calls.{who_of}
 use Rattle.cf_event.specs.Words.{IsEvent}
 use Rattle.cf_event.specs.Decoding.{decoded}
 use Rattle.cf_history.specs.declared.history.History.{History}
-use Rattle.cf_history.specs.declared.record.Caller.{Caller}
-use Rattle.cf_history.specs.declared.record.Record.{Record}
-use Rattle.cf_history.specs.declared.record.Record.TheVariants.{Did, Saw}
+use Rattle.cf_history.specs.declared.history.Caller.{Caller}
+use Rattle.cf_event.specs.declared.record.Record.{Record}
+use Rattle.cf_event.specs.declared.record.Record.TheVariants.{Did, Saw}
 use Rattle.cf_history.specs.declared.verdict.Misfit.{Misfit}
 use Rattle.cf_history.specs.declared.verdict.Misfit.TheVariants.{Before, Behind, Skips, Other, Reply as Replies, NoStage as AsksNone, Told as Tells}
 use Rattle.cf_history.specs.declared.verdict.Unfit.{Unfit}
 use Rattle.cf_history.specs.declared.verdict.Unfit.TheVariants.{NoEvent, NoCaller, NoStage, NoFunction}
 use Rattle.cf_history.specs.declared.verdict.Verdict.{Verdict}
 use Rattle.cf_history.specs.declared.verdict.Verdict.TheVariants.{Fits, Event as AtEvent, Record as AtRecord, Missing, Outcome as AtOutcome, Stages}
-use Rattle.cf_history.specs.Events.{own, AreEventsOf, IsEventOf, NamesFunction}
-use Rattle.cf_history.specs.Records.{IsRight, place_of, state_in}
-use Rattle.cf_history.specs.Histories.{AllRight, AreOutcomesOf, AreOutcomesTo, AreWordsOf, IsOneHistory, said}
+use Rattle.cf_event.specs.Events.{own, AreEventsOf, IsEventOf, NamesFunction}
+use Rattle.cf_event.specs.Histories.{place_of}
+use Rattle.cf_history.specs.Records.{IsRight, state_in}
+use Rattle.cf_history.specs.Histories.{AllRight, AreOutcomesOf, AreOutcomesTo, AreWordsOf, FitsOneGraph, said}
 
 -- why an event can't stand where the graph is in this state
 abbrev pub IsUnfit : ℕ → ℕ → State → Event → Unfit → Type 0
@@ -138,7 +139,7 @@ TellsOfOutcomes plan h verdict =
 
 -- what a verdict tells
 abbrev pub IsVerdict : Planned → History → Verdict → Type 0
-IsVerdict plan h Fits = IsOneHistory plan h
+IsVerdict plan h Fits = FitsOneGraph plan h
 IsVerdict plan h (AtEvent place why) = IsOfWords (length h.callers.items) h.functions (start plan) h.words.items (AtEvent place why)
 IsVerdict plan h (AtRecord caller k why) = TellsOfCallers plan h (AtRecord caller k why)
 IsVerdict plan h (Missing caller place) = TellsOfCallers plan h (Missing caller place)

@@ -1,16 +1,15 @@
 //! One caller's records, read along a history.
 ghost use Rattle.std.specs.Prelude.{◌≡◌, ◌<◌, ◌≤◌, ◌↔◌, [], IsTrue, MatchResult, Some, length, slice_get, take, drop};
 ghost use Rattle.cf_model.specs.Ranges.{AskFits, EventsFit};
-ghost use Rattle.cf_history.specs.Events.{own};
+ghost use Rattle.cf_event.specs.Events.{own};
 ghost use Rattle.cf_history.specs.Records.{GoesOn, state_in};
 ghost use Rattle.cf_history.specs.Callers.{IsJudged};
 ghost use Rattle.cf_history.specs.Verdicts.{IsMisfit, IsNext};
-ghost use Rattle.cf_history.specs.declared.record.Record.TheVariants.{Did, Saw};
+ghost use Rattle.cf_event.specs.declared.record.Record.TheVariants.{Did, Saw};
 
-use crate::record::{Record, caller_of};
 use crate::verdict::Misfit;
 use cf_core::Graph;
-use cf_event::{encode, is_event};
+use cf_event::{Record, encode, is_event};
 use cf_model::{Ask, Event, Reply, Told};
 
 /// What is found of one caller.
@@ -113,7 +112,7 @@ fn judge_call(
     if found != wanted {
         return Err(Misfit::Other);
     }
-    if caller_of(&event) as usize != caller {
+    if event.who() as usize != caller {
         return Err(Misfit::Other);
     }
     let given = graph.answer(&event);
@@ -179,7 +178,7 @@ fn pass_by(graph: &mut Graph, rest: &[Event], most: usize, caller: usize) -> usi
 {
     for i in 0..most {
         let event = rest[i];
-        if caller_of(&event) as usize == caller {
+        if event.who() as usize == caller {
             return i;
         }
         graph.answer(&event);

@@ -7,16 +7,16 @@ ghost use Rattle.cf_model.specs.Ranges.{EventsFit};
 ghost use Rattle.cf_event.specs.Decoding.{decoded};
 ghost use Rattle.cf_history.specs.Callers.{IsJudged};
 ghost use Rattle.cf_history.specs.declared.verdict.Verdict.TheVariants.{Fits};
-ghost use Rattle.cf_history.specs.Histories.{AllRight, AreOutcomesOf, AreWordsOf, IsOneHistory, said};
+ghost use Rattle.cf_history.specs.Histories.{AllRight, AreOutcomesOf, AreWordsOf, FitsOneGraph, said};
 ghost use Rattle.cf_history.specs.Verdicts.{IsEnd, IsOfCallers, IsOfOutcomes, IsOfWords, IsVerdict};
 
 use crate::caller::{Judged, judge_caller};
 use crate::events::{find_unfit, read_events};
-use crate::history::History;
+use crate::history::{Caller, History};
 use crate::outcomes::first_other;
-use crate::record::{Caller, Record};
 use crate::verdict::{Unfit, Verdict};
 use cf_core::Graph;
+use cf_event::Record;
 use cf_model::Event;
 use cf_outcome::Outcome;
 use cf_plan::Plan;
@@ -33,7 +33,7 @@ pub fn check(
 ) -> Result<Verdict, AllocError>
     requires stages { length plan.now.stages + room ≤ 4096 }
     requires edges { edges_of plan.now.stages + 2 * room ≤ 16384 }
-    ensures fits { IfOk result (λ verdict. (verdict ≡ Fits) ↔ IsOneHistory (with_room plan.now room) history.now) }
+    ensures fits { IfOk result (λ verdict. (verdict ≡ Fits) ↔ FitsOneGraph (with_room plan.now room) history.now) }
     ensures tells { IfOk result (λ verdict. IsVerdict (with_room plan.now room) history.now verdict) }
 {
     verdict(alloc, plan, room, history)

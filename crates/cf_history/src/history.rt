@@ -1,5 +1,5 @@
 //! A history as it is handed in.
-use crate::record::Caller;
+use cf_event::Record;
 use cf_outcome::Outcome;
 
 /// What happened by somebody's account. Nothing of it is trusted.
@@ -13,4 +13,10 @@ pub struct History {
     pub callers: Vec<Caller>,
     /// What each stage is settled with in the end, if that is said: its outcome, or none.
     pub outcomes: Option<Vec<Option<Outcome>>>,
+}
+
+/// One caller: its records, in its order.
+#[derive(Drop)]
+pub struct Caller {
+    pub records: Vec<Record>,
 }

@@ -12,19 +12,20 @@
 //! fit, `check` names the first event, or else the first record of the first caller, or else the first outcome that
 //! doesn't, and says what the sequential graph answers there.
 //!
-//! `specs/Records` says when a record fits; `specs/Histories` says when all do; `specs/Verdicts` says what each verdict
-//! tells. `check` gives the one verdict `Fits` exactly where they all do.
+//! When records fit is `IsOneHistory` of `cf_event`, which is also what a closed desk promises; `specs/Histories` says what
+//! a history holds beside its records; `specs/Records` says the same of the records one after another, as `check` reads
+//! them; `specs/Verdicts` says what each verdict tells. `check` gives the one verdict `Fits` exactly where all fits.
 #![tactic(auto)]
 
 mod caller;
 mod checking;
 mod events;
 mod history;
+pub mod laws;
 mod outcomes;
-mod record;
 mod verdict;
 
+pub use cf_event::Record;
 pub use checking::check;
-pub use history::History;
-pub use record::{Caller, Record};
+pub use history::{Caller, History};
 pub use verdict::{Misfit, Unfit, Verdict};

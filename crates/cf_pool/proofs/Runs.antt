@@ -18,7 +18,7 @@ use Rattle.cf_desk.specs.Keepings.{AllFit, AreKept, IsKeptFit, pass_kept}
 use Rattle.cf_desk.specs.Log.{Catches, state_from}
 use Rattle.cf_desk.specs.Rule.{AllShort, longer_if, longest}
 use Rattle.cf_desk.specs.Views.{Closes, Follows, IsOf, Pass, Desk, knowns, state_of}
-use Rattle.cf_desk.proofs.Events.{events_each}
+use Rattle.cf_event.proofs.Events.{events_each}
 use Rattle.cf_desk.proofs.Gathers.{all_at}
 use Rattle.cf_desk.proofs.Lists.{all_front}
 use Rattle.cf_desk.proofs.Meets.{short_more}
@@ -356,7 +356,7 @@ back_out meanings d mine met done ps qs ws others fault b history kept graph s n
       none = ap lowest_ready_of same ∙ (ended meanings d 1 met done fault (first_none others done.known.caller fault none) b.mine_works).none;
       claims = were_open meanings d.setting.plan d.setting.callers history graph (mine ∷ ps) (done ∷ qs) (each_out meanings d (mine ∷ ps) (done ∷ qs) each)
           (subst (All (IsKeptFit d.setting.plan history)) s.kept_are s.fit.each) s.closes.each
-          (events_each (λ e. who_of e < d.setting.callers) d.setting (λ t e h. h.caller) (start d.setting.plan) history s.closes.events) s.graph_is;
+          (events_each (λ e. who_of e < d.setting.callers) d.setting.callers d.setting.functions (λ t e h. h.caller) (start d.setting.plan) history s.closes.events) s.graph_is;
     }
 
 -- work attaches nothing

@@ -10,7 +10,7 @@ use Rattle.cf_desk.specs.declared.calls.Rec.TheVariants.{Did, Saw}
 use Rattle.cf_desk.specs.Log.{state_from}
 use Rattle.cf_desk.specs.Views.{Desk, Follows, IsBetween, IsLook, LooksOnce, Pass, state_of}
 use Rattle.cf_desk.proofs.Passes.{follows_longer}
-use Rattle.cf_desk.proofs.Recs.{at_still, take_all}
+use Rattle.cf_event.proofs.Histories.{at_still, take_all}
 use Rattle.cf_pool.specs.Waits.{Idles, IsEarlier, IsIdleAt, LooksBefore, last_place}
 
 -- ---- the place of the last record

@@ -6,7 +6,7 @@ use Rattle.cf_desk.specs.declared.faults.DeskFault.{DeskFault}
 use Rattle.cf_desk.specs.Faults.{IsDue}
 use Rattle.cf_desk.specs.Keepings.{IsFit}
 use Rattle.cf_desk.specs.Laws.{call_of}
-use Rattle.cf_desk.specs.Log.{own}
+use Rattle.cf_event.specs.Events.{own}
 use Rattle.cf_desk.specs.Records.{dids}
 use Rattle.cf_desk.specs.Views.{Desk, IsOf, Pass}
 

@@ -3,7 +3,7 @@ use crate::args::Sizes;
 use crate::texts::{write_reply, write_stage, write_told};
 use anyhow::{Result, anyhow};
 use cf_core::Graph;
-use cf_desk::{Call, Closed, Kept, Rec};
+use cf_desk::{Closed, Kept, Rec, event_by};
 use cf_event::{encode, is_event};
 use cf_model::{Ask, Event, Reply, Told};
 use cf_outcome::Value;
@@ -206,22 +206,4 @@ fn outcome_of(alloc: Global, graph: &mut Graph, i: u16) -> Result<Json, AllocErr
     let mut text = String::new(alloc);
     write_stage(&mut text, graph, i)?;
     Ok(Json::String(text))
-}
-
-/// A caller's call as an event.
-fn event_by(who: u8, call: Call) -> Event {
-    match call {
-        Call::Complete(stage, value) => Event::Complete { who, stage, value },
-        Call::Fail(stage, code) => Event::Fail { who, stage, code },
-        Call::Cancel(stage) => Event::Cancel { who, stage },
-        Call::Claim(stage) => Event::Claim { who, stage },
-        Call::Finish(stage, answer) => Event::Finish { who, stage, answer },
-        Call::Tick(moment) => Event::Tick { who, moment },
-        Call::Attach(form, of, function) => Event::Attach {
-            who,
-            form,
-            of,
-            function,
-        },
-    }
 }

@@ -2,7 +2,7 @@
 ghost use Rattle.std.specs.Prelude.{◌≡◌, IfErr, IfOk, IsTrue, MatchOption};
 ghost use Rattle.cf_desk.specs.Calls.{event_by};
 ghost use Rattle.cf_desk.specs.Faults.{HasRoom, IsFitting, IsOnStage};
-ghost use Rattle.cf_desk.specs.Log.{IsEventOf};
+ghost use Rattle.cf_desk.specs.Log.{IsDeskEvent};
 ghost use Rattle.cf_desk.specs.Results.{Answers, CaughtUp, Refuses};
 ghost use Rattle.cf_desk.specs.Views.{Acts, Follows, IsSamePass, SeesFull, state_of};
 
@@ -60,7 +60,7 @@ impl Desk {
         requires table { p.old.table ≡ self.now.table }
         requires there { IsOnStage p.old (event_by p.old.known.caller c) }
         requires fits { IsFitting p.old (event_by p.old.known.caller c) }
-        requires event { IsEventOf p.old.known.setting (state_of p.old.known) (event_by p.old.known.caller c) }
+        requires event { IsDeskEvent p.old.known.setting (state_of p.old.known) (event_by p.old.known.caller c) }
         requires room { HasRoom p.old }
         ensures { MatchOption result (Follows p.old p.new × (p.new.known.looks ≡ p.old.known.looks) × SeesFull self.now p.new) (λ reply. Acts p.old c reply p.new) }
     {

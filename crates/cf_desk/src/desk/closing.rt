@@ -2,8 +2,9 @@
 ghost use Rattle.std.specs.Prelude.{◌≡◌, ◌<◌, ◌≤◌, ℕ, [], All, IsOkAnd, MatchOption, map, unwrap_or, vec_capacity, vec_len};
 ghost use Rattle.std.specs.Mem.Slots.{IsFull, slots_items, slots_len};
 ghost use Rattle.cf_event.specs.Decoding.{decoded};
-ghost use Rattle.cf_desk.specs.Keepings.{AllFit, AreKept, IsFit, pass_kept};
-ghost use Rattle.cf_desk.specs.Laws.{IsOneHistory};
+ghost use Rattle.cf_event.specs.Histories.{IsOneHistory};
+ghost use Rattle.cf_desk.specs.Keepings.{AllFit, AreKept, IsFit, caller_kept, pass_kept};
+ghost use Rattle.cf_desk.specs.Laws.{Shows};
 ghost use Rattle.cf_desk.specs.Log.{state_from};
 ghost use Rattle.cf_desk.specs.Views.{Closes, IsLatest, knowns};
 
@@ -29,7 +30,8 @@ impl Desk {
         ensures passes { IsOkAnd result (λ closed. AreKept closed.passes.items passes.items) }
         ensures fit { IsOkAnd result (λ closed. AllFit self.setting.plan closed.history.items (map pass_kept closed.passes.items)) }
         ensures graph { IsOkAnd result (λ closed. closed.graph.state ≡ state_from self.setting.plan closed.history.items) }
-        ensures one { IsOkAnd result (λ closed. IsOneHistory self.setting.plan closed.history.items (map pass_kept closed.passes.items) closed.graph.state) }
+        ensures one { IsOkAnd result (λ closed. IsOneHistory self.setting.plan self.setting.functions closed.history.items (map caller_kept closed.passes.items)) }
+        ensures shows { IsOkAnd result (λ closed. Shows self.setting.plan closed.history.items (map caller_kept closed.passes.items) closed.graph.state) }
     {
         let Desk {
             table,

@@ -1,7 +1,7 @@
 //! The calls that make single steps on the row.
 ghost use Rattle.std.specs.Prelude.{◌≡◌, ◌<◌, ◌≤◌, length, MatchBool, MatchOption, take};
 ghost use Rattle.cf_desk.specs.Calls.{event_by};
-ghost use Rattle.cf_desk.specs.Log.{AreLogged, IsEventOf, state_from};
+ghost use Rattle.cf_desk.specs.Log.{AreLogged, IsDeskEvent, state_from};
 ghost use Rattle.cf_desk.specs.Rule.{looked};
 ghost use Rattle.cf_desk.specs.Views.{AddedByOther, AddedOwn, IsOne, Levelled, known_of, state_of};
 
@@ -22,7 +22,7 @@ impl Desk {
         requires table { p.old.table ≡ self.now.table }
         requires room { length p.old.known.seen < self.now.words }
         requires call { length p.old.records < p.old.calls }
-        requires event { IsEventOf p.old.known.setting (state_of p.old.known) (event_by p.old.known.caller call) }
+        requires event { IsDeskEvent p.old.known.setting (state_of p.old.known) (event_by p.old.known.caller call) }
         ensures { MatchOption result (AddedByOther p.old p.new) (λ reply. AddedOwn p.old call reply p.new) }
     {
         let event = event_by(p.caller, call);

@@ -20,7 +20,8 @@ use Rattle.cf_desk.specs.declared.faults.DeskFault.TheVariants.{NoStage, BadAtta
 use Rattle.cf_desk.specs.declared.row.Setting.{Setting}
 use Rattle.cf_desk.specs.Faults.{AttachFits, EventNames, IsDue, IsFitting, IsOnStage}
 use Rattle.cf_desk.specs.Laws.{call_of}
-use Rattle.cf_desk.specs.Log.{own, state_from}
+use Rattle.cf_event.specs.Events.{own}
+use Rattle.cf_desk.specs.Log.{state_from}
 use Rattle.cf_desk.specs.Records.{dids, Fits}
 use Rattle.cf_desk.specs.Results.{Answers, CaughtUp, Refuses}
 use Rattle.cf_desk.specs.Rule.{blank, fresh, with_seen}

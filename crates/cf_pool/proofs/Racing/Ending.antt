@@ -10,7 +10,8 @@ use Rattle.cf_plan.specs.Meanings.{Meanings}
 use Rattle.cf_desk.specs.declared.row.Setting.{Setting}
 use Rattle.cf_desk.specs.Keepings.{IsKeptFit, pass_did}
 use Rattle.cf_desk.specs.Laws.{call_of}
-use Rattle.cf_desk.specs.Log.{events_of, own, state_from}
+use Rattle.cf_event.specs.Events.{events_of, own}
+use Rattle.cf_desk.specs.Log.{state_from}
 use Rattle.cf_desk.specs.Records.{Fits, dids}
 use Rattle.cf_desk.specs.Rule.{count_in, weight}
 use Rattle.cf_desk.specs.Views.{Pass, Desk, knowns}

@@ -26,11 +26,12 @@ use Rattle.cf_desk.specs.declared.faults.DeskFault.{DeskFault}
 use Rattle.cf_desk.specs.declared.faults.DeskFault.TheVariants.{BadAttach, LogFull, NoStage, PassFull}
 use Rattle.cf_desk.specs.declared.row.Setting.{Setting}
 use Rattle.cf_desk.specs.Keepings.{IsKeptFit, pass_did}
-use Rattle.cf_desk.specs.Log.{Catches, own, state_from}
+use Rattle.cf_event.specs.Events.{own}
+use Rattle.cf_desk.specs.Log.{Catches, state_from}
 use Rattle.cf_desk.specs.Rule.{count_in}
 use Rattle.cf_desk.specs.Views.{Closes, Pass, Desk, knowns}
 use Rattle.cf_desk.proofs.Lists.{all_front}
-use Rattle.cf_desk.proofs.Events.{events_each}
+use Rattle.cf_event.proofs.Events.{events_each}
 use Rattle.cf_pool.specs.Closings.{IsDueToTell, Ran, RanOut}
 use Rattle.cf_pool.specs.Works.{Owed, Works, WorksOut, owed_after}
 use Rattle.cf_pool.specs.Records.{recorded}
@@ -124,7 +125,7 @@ ended meanings d steps calls workers first q others qs history t room apart zip 
     let catch = All-head (λ (p : Pass). Catches p.known.caller p.known.seen history) q qs closes.begins in
     let work = w.seen ++ catch.others in
     let is : history ≡ seen ++ work = catch.joined ∙ ap (λ l. l ++ catch.others) w.goes_on ∙ append_assoc seen w.seen catch.others in
-    let by : All (ByCaller setting.callers) (seen ++ work) = subst (All (ByCaller setting.callers)) is (events_each (ByCaller setting.callers) setting (λ s e h. h.caller) (start setting.plan) history closes.events) in
+    let by : All (ByCaller setting.callers) (seen ++ work) = subst (All (ByCaller setting.callers)) is (events_each (ByCaller setting.callers) setting.callers setting.functions (λ s e h. h.caller) (start setting.plan) history closes.events) in
     let caught = subst (λ (h : List Event). All (λ (p : Pass). Catches p.known.caller p.known.seen h) (q ∷ qs)) is closes.begins in
     let both : AllZip (WorksIn meanings (seen ++ work)) (first ∷ others) (q ∷ qs) = zip_both (Works meanings) (λ (p : Pass). Catches p.known.caller p.known.seen (seen ++ work)) (first ∷ others) (q ∷ qs) zip caught in
     let fits : All (IsKeptFit setting.plan (seen ++ work)) (map pass_did (q ∷ qs)) = subst (λ (h : List Event). All (IsKeptFit setting.plan h) (map pass_did (q ∷ qs))) is fit in

@@ -14,8 +14,10 @@ use Rattle.cf_desk.specs.declared.calls.Call.{Call}
 use Rattle.cf_desk.specs.declared.calls.Call.TheVariants.{Complete, Fail, Cancel, Claim, Finish, Tick, Attach}
 use Rattle.cf_desk.specs.declared.calls.Rec.{Rec}
 use Rattle.cf_desk.specs.declared.calls.Rec.TheVariants.{Did, Saw}
-use Rattle.cf_desk.specs.Log.{state_from, placed}
-use Rattle.cf_desk.specs.Records.{dids, IsAnswered, Fits}
+use Rattle.cf_event.specs.Events.{placed}
+use Rattle.cf_desk.specs.Log.{state_from}
+use Rattle.cf_event.specs.Histories.{IsAnswered}
+use Rattle.cf_desk.specs.Records.{dids, Fits, record_by, records_by}
 use Rattle.cf_desk.proofs.Recs.{state_snoc}
 use Rattle.std.specs.Prelude.{Some, None}
 use Rattle.cf_pool.specs.Works.{Owed, AreWork, owed_by}
@@ -47,12 +49,12 @@ call_by c (Attach form of function) = refl
 told_rec : (plan : Planned) (history : List Event) (c place : ℕ) (call : Call) (reply : Reply) → reply ≡ (answered (state_at plan history (place - 1)) (event_by c call)).0 → Did place call reply ≡ told_of plan history (place, event_by c call)
 told_rec plan history c place call reply e = (λ i. Did place (sym (call_by c call) i) (e i))
 
-told_dids : (plan : Planned) (history : List Event) (c : ℕ) (rs : List Rec) → All (IsAnswered plan c history) rs → only_dids rs ≡ map (told_of plan history) (dids c rs)
+told_dids : (plan : Planned) (history : List Event) (c : ℕ) (rs : List Rec) → All (IsAnswered plan history) (records_by c rs) → only_dids rs ≡ map (told_of plan history) (dids c rs)
 told_dids plan history c [] h = refl
 told_dids plan history c (Did place call reply ∷ rs) h =
-    let head = All-head (IsAnswered plan c history) (Did place call reply) rs h in
-    (λ i. told_rec plan history c place call reply head.2 i ∷ told_dids plan history c rs (All-tail (IsAnswered plan c history) (Did place call reply) rs h) i)
-told_dids plan history c (Saw place ask answer ∷ rs) h = told_dids plan history c rs (All-tail (IsAnswered plan c history) (Saw place ask answer) rs h)
+    let head = All-head (IsAnswered plan history) (record_by c (Did place call reply)) (records_by c rs) h in
+    (λ i. told_rec plan history c place call reply head.2 i ∷ told_dids plan history c rs (All-tail (IsAnswered plan history) (record_by c (Did place call reply)) (records_by c rs) h) i)
+told_dids plan history c (Saw place ask answer ∷ rs) h = told_dids plan history c rs (All-tail (IsAnswered plan history) (record_by c (Saw place ask answer)) (records_by c rs) h)
 
 told_here : (plan : Planned) (xs ws : List Event) (w : Event) → told_of plan (xs ++ w ∷ ws) (suc (length xs), w) ≡ Did (suc (length xs)) (as_call w) ((answered (state_from plan xs) w).0)
 told_here plan xs ws w =

@@ -16,7 +16,7 @@ pub split_seat-mine-requires : goal.split_seat-mine-requires
 split_seat-mine-requires c = (c.loop-caller.invariant.table, (let e = c.in_ok-table.ensures.0 in let l = c.as_slice.ensures.len in let z = c.in_ok-zeros.ensures.len in omega arith), gives_first _ _ _)
 
 abbrev setting : After-split_seat-mine → Setting
-setting c = record { plan = with_room c.args.plan c.args.room; callers = c.args.callers; functions = c.args.functions }
+setting c = record { plan = with_room c.args.plan.now c.args.room; callers = c.args.callers; functions = c.args.functions }
 
 mine : (c : After-split_seat-mine) → c.split_seat-mine.result.me ≡ (blank (setting c) c.loop-caller.caller ∷ [], [])
 mine c = new_one _ _ _ _ c.loop-caller-test.true c.loop-caller.invariant.seat c.split_seat-mine.ensures.4

@@ -4,8 +4,8 @@ use Rattle.cf_outcome.specs.declared.outcome.Value.TheVariants.{Nil}
 use Rattle.cf_model.specs.declared.events.Event.{Event}
 use Rattle.cf_model.specs.declared.events.Event.TheVariants.{Complete as Completes}
 use Rattle.cf_model.specs.declared.events.Reply.TheVariants.{Flag}
-use Rattle.cf_history.specs.declared.record.Record.{Record}
-use Rattle.cf_history.specs.declared.record.Record.TheVariants.{Did}
+use Rattle.cf_event.specs.declared.record.Record.{Record}
+use Rattle.cf_event.specs.declared.record.Record.TheVariants.{Did}
 use Rattle.cf_history.specs.Records.{GoesOn}
 use Rattle.cf_history.specs.Verdicts.{IsMisfit}
 use Rattle.cf_history.proofs.Walks.{Walked, walk_misfit, walk_on}

@@ -3,7 +3,7 @@ use Rattle.std.proofs.lemmas.Option.{slice_get_read}
 use Rattle.cf_plan.specs.Plans.{with_room}
 use Rattle.cf_model.specs.States.{start}
 use Rattle.cf_history.specs.declared.caller.Judged.{Judged}
-use Rattle.cf_history.specs.declared.record.Record.{Record}
+use Rattle.cf_event.specs.declared.record.Record.{Record}
 use Rattle.cf_history.specs.Callers.{IsJudged}
 use Rattle.cf_history.proofs.Whole.{all_more}
 use Rattle.cf_history.proofs.checking.judge_callers.Goals as goal

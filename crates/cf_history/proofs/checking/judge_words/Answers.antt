@@ -1,8 +1,12 @@
-use Rattle.std.proofs.Common.{List, length, ap, arith, refl, subst}
+use Rattle.std.proofs.Common.{List, length, All, ap, arith, refl, subst, sym}
+use Rattle.cf_event.specs.Words.{IsEvent}
 use Rattle.cf_model.specs.declared.events.Event.{Event}
 use Rattle.cf_history.specs.Verdicts.{IsFirstUnfit}
-use Rattle.cf_history.proofs.Words.{decoded_few, unfit_word}
+use Rattle.cf_history.proofs.Words.{decoded_events, decoded_few, unfit_word}
 use Rattle.cf_history.proofs.checking.judge_words.Goals as goal
+
+pub find_unfit-requires : goal.find_unfit-requires
+find_unfit-requires c = subst (All IsEvent) (sym c.requires) (decoded_events c.args.words.now)
 
 pub returns-in-Some-clause-found : goal.returns-in-Some-clause-found
 returns-in-Some-clause-found c =

@@ -7,7 +7,7 @@ use Rattle.cf_model.specs.Events.{answered}
 use Rattle.cf_model.specs.Calls.{who_of}
 use Rattle.cf_desk.specs.declared.row.Known.{Known}
 use Rattle.cf_desk.specs.Calls.{event_by}
-use Rattle.cf_desk.specs.Log.{IsEventOf}
+use Rattle.cf_desk.specs.Log.{IsDeskEvent}
 use Rattle.cf_desk.specs.Rule.{saw, AddsNext}
 use Rattle.cf_desk.specs.declared.calls.Rec.TheVariants.{Did}
 use Rattle.cf_desk.specs.Views.{Pass, Desk, known_of, state_of}
@@ -20,13 +20,13 @@ use Rattle.cf_desk.proofs.desk.Desk.add.Goals.{After-event_by-event, After-compa
 event_is : (c : After-event_by-event) → c.event_by-event.result ≡ event_by (known_of c.p.inside.seat.me.0).caller c.args.call
 event_is c = c.event_by-event.ensures ∙ ap (λ (n : ℕ). event_by n c.args.call) c.p.invariant.agrees.caller
 
-of_pass : (c : After-event_by-event) → IsEventOf (known_of c.p.inside.seat.me.0).setting (state_of (known_of c.p.inside.seat.me.0)) (event_by (known_of c.p.inside.seat.me.0).caller c.args.call)
+of_pass : (c : After-event_by-event) → IsDeskEvent (known_of c.p.inside.seat.me.0).setting (state_of (known_of c.p.inside.seat.me.0)) (event_by (known_of c.p.inside.seat.me.0).caller c.args.call)
 of_pass c =
     let known = ap (λ (h : Pass). h.known) c.p.view_is in
-    subst (λ (x : Known). IsEventOf x.setting (state_of x) (event_by x.caller c.args.call)) (sym known) c.requires.event
+    subst (λ (x : Known). IsDeskEvent x.setting (state_of x) (event_by x.caller c.args.call)) (sym known) c.requires.event
 
-of_desk : (c : After-event_by-event) → IsEventOf (known_of c.p.inside.seat.me.0).setting (state_of (known_of c.p.inside.seat.me.0)) c.event_by-event.result
-of_desk c = subst (IsEventOf (known_of c.p.inside.seat.me.0).setting (state_of (known_of c.p.inside.seat.me.0))) (sym (event_is c)) (of_pass c)
+of_desk : (c : After-event_by-event) → IsDeskEvent (known_of c.p.inside.seat.me.0).setting (state_of (known_of c.p.inside.seat.me.0)) c.event_by-event.result
+of_desk c = subst (IsDeskEvent (known_of c.p.inside.seat.me.0).setting (state_of (known_of c.p.inside.seat.me.0))) (sym (event_is c)) (of_pass c)
 
 pub encode-word-requires : goal.encode-word-requires
 encode-word-requires c = (of_desk (goal.at.encode-word-requires c).After-event_by-event).event

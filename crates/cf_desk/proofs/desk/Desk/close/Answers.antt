@@ -1,9 +1,10 @@
 use Rattle.std.proofs.Common.{◌≡◌, ℕ, [], Option, length, map, sym, ap, ◌∙◌, subst, arith}
 use Rattle.std.specs.Prelude.{MatchOption}
 use Rattle.cf_model.specs.Graphs.{Graph}
-use Rattle.cf_desk.specs.Keepings.{AllFit, pass_kept}
+use Rattle.cf_event.specs.Histories.{IsOneHistory}
+use Rattle.cf_desk.specs.Keepings.{AllFit, caller_kept}
 use Rattle.cf_desk.specs.Views.{IsLatest, knowns}
-use Rattle.cf_desk.proofs.Histories.{one_history}
+use Rattle.cf_desk.proofs.Histories.{one_history_shows, one_of_kept}
 use Rattle.cf_desk.proofs.Closing.{Shown, shown_as}
 use Rattle.cf_desk.proofs.desk.Desk.close.Goals as goal
 use Rattle.cf_desk.proofs.desk.Desk.close.Goals.{In-Some}
@@ -32,8 +33,18 @@ returns-clause-fit c = subst (AllFit c.args.self.setting.plan c.decode_row-histo
 pub returns-clause-graph : goal.returns-clause-graph
 returns-clause-graph c = (shown (goal.at.returns-clause-graph c).In-Some).latest
 
+one : (c : In-Some) → IsOneHistory c.args.self.setting.plan c.args.self.setting.functions c.decode_row-history.result.items (map caller_kept c.gather-seat.result.2.items)
+one c =
+    let len : length c.args.passes.items ≡ c.args.self.setting.callers = (let a = c.requires.all in let o = c.args.passes.ok.0 in omega arith) in
+    one_of_kept c.args.self.setting.plan c.args.self.setting.callers c.args.self.setting.functions c.decode_row-history.result.items c.gather-seat.result.2.items c.args.passes.items
+    c.gather-seat.ensures.kept len (shown c).closes.events
+    (subst (AllFit c.args.self.setting.plan c.decode_row-history.result.items) (sym c.gather-seat.ensures.kept) (shown c).fit)
+
 pub returns-clause-one : goal.returns-clause-one
-returns-clause-one c =
-    let all = shown (goal.at.returns-clause-one c).In-Some in
-    one_history c.args.self.setting.plan c.decode_row-history.result.items (map pass_kept c.gather-seat.result.2.items) c.in-Some.graph.state
-    (subst (AllFit c.args.self.setting.plan c.decode_row-history.result.items) (sym c.gather-seat.ensures.kept) all.fit) all.latest
+returns-clause-one c = one (goal.at.returns-clause-one c).In-Some
+
+pub returns-clause-shows : goal.returns-clause-shows
+returns-clause-shows c =
+    let here = (goal.at.returns-clause-shows c).In-Some in
+    one_history_shows c.args.self.setting.plan c.args.self.setting.functions c.decode_row-history.result.items (map caller_kept c.gather-seat.result.2.items) c.in-Some.graph.state
+    (one here) (shown here).latest

@@ -24,9 +24,11 @@ invariant_of-self c =
     let m = more (goal.at.invariant_of-self c).After-push_reserved in
     let v = ap (λ (h : Pass). length h.records) c.self.view_is in
     let calls = ap (λ (h : Pass). h.calls) c.self.view_is in
-    let longer = ap length m in record {
+    let longer = ap length m in
+    let known = ap (λ (h : Pass). h.known) c.self.view_is in
+    let there = asked_there (known_of c.self.inside.seat.me.0) _ c.args.ask i.agrees.state (subst (λ (x : Known). AskFits (length (state_of x).plan.stages) c.args.ask) (sym known) c.requires.asked) in record {
       one = i.one;
-      agrees = agrees_told _ _ _ _ _ _ _ _ c.args.ask c.tell-told.result c.tell-told.ensures.unchanged c.tell-told.ensures.told m i.agrees;
+      agrees = agrees_told _ _ _ _ _ _ _ _ c.args.ask c.tell-told.result c.tell-told.ensures.unchanged c.tell-told.ensures.told there m i.agrees;
       room = (let r = i.room in omega (arith, c.push_reserved.ensures.capacity));
       within = omega (arith, length-append c.self.inside.records.items (Saw c.self.inside.count c.args.ask c.tell-told.result ∷ []));
       short = i.short;

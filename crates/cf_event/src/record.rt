@@ -1,7 +1,6 @@
 //! What a caller keeps of its calls.
 ghost use Rattle.std.specs.Prelude.{◌≡◌};
-ghost use Rattle.cf_model.specs.Calls.{who_of};
-ghost use Rattle.cf_history.specs.Records.{place_of};
+ghost use Rattle.cf_event.specs.Histories.{place_of};
 
 use cf_model::{Ask, Event, Reply, Told};
 
@@ -22,12 +21,6 @@ pub enum Record {
     },
 }
 
-/// One caller: its records, in its order.
-#[derive(Drop)]
-pub struct Caller {
-    pub records: Vec<Record>,
-}
-
 impl Record {
     /// How many events were there once it was answered.
     pub fn place(&self) -> usize
@@ -36,20 +29,5 @@ impl Record {
         match *self {
             Record::Did { place, .. } | Record::Saw { place, .. } => place,
         }
-    }
-}
-
-/// The caller of an event.
-pub(crate) fn caller_of(event: &Event) -> u8
-    ensures { result ≡ who_of event.now }
-{
-    match *event {
-        Event::Complete { who, .. } => who,
-        Event::Fail { who, .. } => who,
-        Event::Cancel { who, .. } => who,
-        Event::Claim { who, .. } => who,
-        Event::Finish { who, .. } => who,
-        Event::Tick { who, .. } => who,
-        Event::Attach { who, .. } => who,
     }
 }

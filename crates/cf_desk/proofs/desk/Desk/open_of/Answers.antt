@@ -1,7 +1,7 @@
 use Rattle.std.proofs.Common.{ap, ◌∙◌}
 use Rattle.cf_desk.specs.declared.row.Setting.{Setting}
 use Rattle.cf_desk.proofs.Closing.{opened_all, opened_of, opened_there}
-use Rattle.cf_desk.proofs.desk.Desk.open.Goals as goal
+use Rattle.cf_desk.proofs.desk.Desk.open_of.Goals as goal
 
 pub returns-in-Ok-clause-passes : goal.returns-in-Ok-clause-passes
 returns-in-Ok-clause-passes c =

@@ -1,0 +1,31 @@
+-- Which histories fit.
+use Rattle.std.specs.Prelude.{◌≡◌, ℕ, Some, List, length, map, slice_get}
+use Rattle.std.specs.List.{Contains}
+use Rattle.cf_plan.specs.Plans.{Planned}
+use Rattle.cf_model.specs.declared.events.Event.{Event}
+use Rattle.cf_model.specs.States.{start}
+use Rattle.cf_model.specs.Events.{state_after}
+use Rattle.cf_event.specs.declared.record.Record.{Record}
+use Rattle.cf_event.specs.Words.{word_of}
+use Rattle.cf_event.specs.Histories.{IsOneHistory}
+use Rattle.cf_history.specs.declared.history.Caller.{Caller}
+use Rattle.cf_history.specs.declared.history.History.{History}
+use Rattle.cf_history.specs.Histories.{AreOutcomesOf, FitsOneGraph, said}
+
+-- these callers are those of the list, which may stand there in any order, each under its number
+pub record AreCallersOf (told : List (ℕ × List Record)) (callers : List Caller) : Type 0 where
+  pub all : length callers ≡ length told
+  pub each : (c : ℕ) (k : Caller) → slice_get callers c ≡ Some k → Contains told (c, k.records.items)
+
+-- a history says what callers were told: the words of these events, the callers' records, and the graph's outcomes, if any
+pub record Tells (plan : Planned) (functions : ℕ) (events : List Event) (told : List (ℕ × List Record)) (h : History) : Type 0 where
+  pub functions_are : h.functions ≡ functions
+  pub words : h.words.items ≡ map word_of events
+  pub callers : AreCallersOf told h.callers.items
+  pub outcomes : AreOutcomesOf (state_after (start plan) events) (said h)
+
+-- where what callers were told is one history, a history that says so fits
+abbrev pub OneHistoriesFit : Type 0
+OneHistoriesFit =
+    (plan : Planned) (functions : ℕ) (events : List Event) (told : List (ℕ × List Record)) (h : History) →
+    IsOneHistory plan functions events told → Tells plan functions events told h → FitsOneGraph plan h
