@@ -1,4 +1,4 @@
-use Rattle.cf_c.proofs.Meetings.{are_met}
+use Rattle.cf_c.proofs.Callers.{are_met}
 use Rattle.cf_c.proofs.desk.caller.meet.Goals as goal
 
 pub returns : goal.returns
