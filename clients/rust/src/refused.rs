@@ -21,7 +21,7 @@ const WORDS: [&str; 27] = [
     "nothing stands behind the handle",
     "the handle isn't empty",
     "something of another kind stands behind the handle",
-    "no form has this number",
+    "no form, no call of an event and no code has this number",
     "a stage that the call names isn't there",
     "an attached stage doesn't fit its form",
     "there would be too many stages or edges with the room",

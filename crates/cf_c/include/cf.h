@@ -45,7 +45,7 @@ typedef enum {
   CF_EMPTY = 10,              /* nothing stands behind the handle */
   CF_FULL = 11,               /* something stands behind a handle that has to be empty */
   CF_WRONG_KIND = 12,         /* something of another kind stands behind the handle */
-  CF_NO_SUCH_NUMBER = 13,     /* no form, or no call of an event, has this number */
+  CF_NO_SUCH_NUMBER = 13,     /* no form, no call of an event and no code has this number */
   CF_NO_STAGE = 14,           /* a stage that the call names isn't there */
   CF_BAD_ATTACH = 15,         /* an attached stage doesn't fit its form */
   CF_ROOM = 16,               /* with the room there would be over 4,096 stages, or, two for each place, over 16,384 edges */

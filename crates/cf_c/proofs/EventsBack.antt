@@ -17,9 +17,9 @@ use Rattle.cf_plan.specs.Naming.{form_number}
 use Rattle.cf_c.specs.Answers.{Gives}
 use Rattle.cf_c.specs.Plans.{as_function, event_with, form_of, function_of, parts_with, sources_with}
 use Rattle.cf_c.specs.Values.{answer_of, as_answer, as_value, value_of}
-use Rattle.cf_c.specs.Words.{HasWord, as_event, event_of, told_event}
+use Rattle.cf_c.specs.EventWords.{HasWord, as_event, event_of, told_event}
 use Rattle.cf_c.specs.declared.code.Code.{Code}
-use Rattle.cf_c.specs.declared.event.CfEvent.{CfEvent}
+use Rattle.cf_c.specs.declared.values.event.CfEvent.{CfEvent}
 
 value_back : (v : Value) → value_of (as_value v) ≡ v
 value_back Nil = refl

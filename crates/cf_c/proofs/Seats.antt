@@ -4,24 +4,24 @@ use Rattle.std.specs.Global.{Box}
 use Rattle.cf_desk.specs.Views.{Desk, Pass}
 use Rattle.cf_c.specs.Opening.{AreBehind, AreBoxed, ArePut, IsBehind, IsCallerOf}
 use Rattle.cf_c.specs.declared.handle.CfHandle.{CfHandle}
-use Rattle.cf_c.specs.declared.held.Held.{Held}
+use Rattle.cf_c.specs.declared.handle.object.Object.{Object}
 
 -- one more is made
-pub boxed_push : (d : Desk) (ps : List Pass) (bs : List (Box Held)) (p : Pass) (b : Box Held) → AreBoxed d ps bs → IsCallerOf d p b.value → AreBoxed d (ps ++ p ∷ []) (bs ++ b ∷ [])
+pub boxed_push : (d : Desk) (ps : List Pass) (bs : List (Box Object)) (p : Pass) (b : Box Object) → AreBoxed d ps bs → IsCallerOf d p b.value → AreBoxed d (ps ++ p ∷ []) (bs ++ b ∷ [])
 boxed_push d [] [] p b made next = (next, tt)
 boxed_push d [] (c ∷ bs) p b made next = absurd made
 boxed_push d (q ∷ ps) [] p b made next = absurd made
 boxed_push d (q ∷ ps) (c ∷ bs) p b made next = (made.0, boxed_push d ps bs p b made.1 next)
 
 -- as many are made as there are passes
-pub boxed_count : (d : Desk) (ps : List Pass) (bs : List (Box Held)) → AreBoxed d ps bs → length bs ≡ length ps
+pub boxed_count : (d : Desk) (ps : List Pass) (bs : List (Box Object)) → AreBoxed d ps bs → length bs ≡ length ps
 boxed_count d [] [] made = refl
 boxed_count d [] (b ∷ bs) made = absurd made
 boxed_count d (p ∷ ps) [] made = absurd made
 boxed_count d (p ∷ ps) (b ∷ bs) made = ap suc (boxed_count d ps bs made.1)
 
 -- one more is put behind a handle
-pub put_push : (bs : List (Box Held)) (hs : List CfHandle) (b : Box Held) (h : CfHandle) → ArePut bs hs → h.inner.held ≡ Some b.value → ArePut (bs ++ b ∷ []) (hs ++ h ∷ [])
+pub put_push : (bs : List (Box Object)) (hs : List CfHandle) (b : Box Object) (h : CfHandle) → ArePut bs hs → h.inner.held ≡ Some b.value → ArePut (bs ++ b ∷ []) (hs ++ h ∷ [])
 put_push [] [] b h put next = (next, tt)
 put_push [] (g ∷ hs) b h put next = absurd put
 put_push (c ∷ bs) [] b h put next = absurd put
@@ -32,11 +32,11 @@ pub set_next : (front back : List CfHandle) (h g : CfHandle) → slice_set (fron
 set_next [] back h g = refl
 set_next (x ∷ front) back h g = ap (λ l. x ∷ l) (set_next front back h g)
 
-behind_one : (d : Desk) (p : Pass) (held : Held) (h : Option Held) → IsCallerOf d p held → h ≡ Some held → IsBehind d p h
+behind_one : (d : Desk) (p : Pass) (held : Object) (h : Option Object) → IsCallerOf d p held → h ≡ Some held → IsBehind d p h
 behind_one d p held h is put = rw put is
 
 -- the callers that were made stand behind the handles
-pub behind_of : (d : Desk) (ps : List Pass) (bs : List (Box Held)) (hs : List CfHandle) → AreBoxed d ps bs → ArePut bs hs → AreBehind d ps hs
+pub behind_of : (d : Desk) (ps : List Pass) (bs : List (Box Object)) (hs : List CfHandle) → AreBoxed d ps bs → ArePut bs hs → AreBehind d ps hs
 behind_of d [] [] [] made put = tt
 behind_of d [] [] (h ∷ hs) made put = absurd put
 behind_of d [] (b ∷ bs) hs made put = absurd made

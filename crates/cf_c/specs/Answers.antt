@@ -2,7 +2,7 @@
 use Rattle.std.specs.Prelude.{◌≡◌, ℕ, Option, Some, None, Result, Ok, Err}
 use Rattle.cf_c.specs.declared.code.Code.{Code}
 use Rattle.cf_c.specs.declared.code.Code.TheVariants.{Empty}
-use Rattle.cf_c.specs.declared.held.Held.{Held}
+use Rattle.cf_c.specs.declared.handle.object.Object.{Object}
 use Rattle.cf_c.specs.Codes.{number_of}
 
 -- what C gets: 0 and the answer, or a code, and then what C had stays
@@ -11,15 +11,15 @@ Gives (Ok x) code had has = (code ≡ 0) × (has ≡ x)
 Gives (Err fault) code had has = (code ≡ number_of fault) × (has ≡ had)
 
 -- what stands behind a handle is asked and stays there, and C gets what that answers
-pub record Told {X : Type 0} (Asks : Held → Result X Code → Held → Type 0) (held : Held) (new : Option Held) (code : ℕ) (had has : X) : Type 0 where
+pub record Told {X : Type 0} (Asks : Object → Result X Code → Object → Type 0) (held : Object) (new : Option Object) (code : ℕ) (had has : X) : Type 0 where
   pub result : Result X Code
-  pub now : Held
+  pub now : Object
   pub is : new ≡ Some now
   pub asked : Asks held result now
   pub gives : Gives result code had has
 
 -- A call through a handle tells C its code, and where that is 0 its answer. An empty handle stays empty, and C is told so.
-abbrev pub Tells : {X : Type 0} → (Held → Result X Code → Held → Type 0) → Option Held → Option Held → ℕ → X → X → Type 0
+abbrev pub Tells : {X : Type 0} → (Object → Result X Code → Object → Type 0) → Option Object → Option Object → ℕ → X → X → Type 0
 Tells Asks None new code had has = (code ≡ number_of Empty) × (new ≡ None) × (has ≡ had)
 Tells Asks (Some held) new code had has = Told Asks held new code had has
 
@@ -28,13 +28,13 @@ abbrev pub Codes : Result (Unit {0}) Code → ℕ → Type 0
 Codes (Ok done) code = code ≡ 0
 Codes (Err fault) code = code ≡ number_of fault
 
-pub record Done (Asks : Held → Result (Unit {0}) Code → Held → Type 0) (held : Held) (new : Option Held) (code : ℕ) : Type 0 where
+pub record Done (Asks : Object → Result (Unit {0}) Code → Object → Type 0) (held : Object) (new : Option Object) (code : ℕ) : Type 0 where
   pub result : Result (Unit {0}) Code
-  pub now : Held
+  pub now : Object
   pub is : new ≡ Some now
   pub asked : Asks held result now
   pub codes : Codes result code
 
-abbrev pub Does : (Held → Result (Unit {0}) Code → Held → Type 0) → Option Held → Option Held → ℕ → Type 0
+abbrev pub Does : (Object → Result (Unit {0}) Code → Object → Type 0) → Option Object → Option Object → ℕ → Type 0
 Does Asks None new code = (code ≡ number_of Empty) × (new ≡ None)
 Does Asks (Some held) new code = Done Asks held new code

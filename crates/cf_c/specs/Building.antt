@@ -12,18 +12,18 @@ use Rattle.cf_c.specs.Codes.{number_of, plan_code}
 use Rattle.cf_c.specs.Values.{value_of}
 use Rattle.cf_c.specs.declared.code.Code.{Code}
 use Rattle.cf_c.specs.declared.code.Code.TheVariants.{Empty, Full, NoMemory, NoSuchNumber, Room, WrongKind}
-use Rattle.cf_c.specs.declared.held.Held.{Held}
-use Rattle.cf_c.specs.declared.held.Held.TheVariants.{Builder, Graph, Plan}
-use Rattle.cf_c.specs.declared.value.CfValue.{CfValue}
+use Rattle.cf_c.specs.declared.handle.object.Object.{Object}
+use Rattle.cf_c.specs.declared.handle.object.Object.TheVariants.{Builder, Graph, Plan}
+use Rattle.cf_c.specs.declared.values.CfValue.{CfValue}
 
 -- what is made is put behind a handle, if the handle is empty; that takes memory, too
-abbrev pub Fills : Result Held Code → Option Held → ℕ → Option Held → Type 0
+abbrev pub Fills : Result Object Code → Option Object → ℕ → Option Object → Type 0
 Fills made (Some held) code new = (code ≡ number_of Full) × (new ≡ Some held)
 Fills (Ok held) None code new = ((code ≡ 0) × (new ≡ Some held)) ⊎ ((code ≡ number_of NoMemory) × (new ≡ None))
 Fills (Err fault) None code new = (code ≡ number_of fault) × (new ≡ None)
 
 -- an empty handle has an empty builder then, where there is memory
-abbrev pub IsNewBuilder : Option Held → ℕ → Option Held → Type 0
+abbrev pub IsNewBuilder : Option Object → ℕ → Option Object → Type 0
 IsNewBuilder (Some held) code new = (code ≡ number_of Full) × (new ≡ Some held)
 IsNewBuilder None code new = ((code ≡ 0) × (new ≡ Some (Builder (plan_of [] [])))) ⊎ ((code ≡ number_of NoMemory) × (new ≡ None))
 
@@ -35,7 +35,7 @@ abbrev pub accepted_as : ℕ → Result ℕ PlanFault
 accepted_as stage = Ok stage
 
 -- the builder refuses a stage for the fault that is due, and where none is, for want of memory
-pub record IsNotAdded (b : Planned) (s : PlannedStage) (fault : Code) (new : Held) : Type 0 where
+pub record IsNotAdded (b : Planned) (s : PlannedStage) (fault : Code) (new : Object) : Type 0 where
   pub why : PlanFault
   pub code : fault ≡ plan_code why
   pub refused : IfSome (stage_fault (length b.stages) (edges_of b.stages) s) (λ (due : PlanFault). refused_with why ≡ Err due)
@@ -43,7 +43,7 @@ pub record IsNotAdded (b : Planned) (s : PlannedStage) (fault : Code) (new : Hel
   pub stays : new ≡ Builder b
 
 -- the builder adds a stage, which no fault is due for
-pub record IsAdded (b : Planned) (s : PlannedStage) (stage : ℕ) (new : Held) : Type 0 where
+pub record IsAdded (b : Planned) (s : PlannedStage) (stage : ℕ) (new : Object) : Type 0 where
   pub number : stage ≡ length b.stages
   pub added : new ≡ Builder (with_stage b s)
   pub refused : IfSome (stage_fault (length b.stages) (edges_of b.stages) s) (λ (due : PlanFault). accepted_as stage ≡ Err due)
@@ -51,7 +51,7 @@ pub record IsAdded (b : Planned) (s : PlannedStage) (stage : ℕ) (new : Held) :
 abbrev pub planned : Form → List ℕ → Option ℕ → PlannedStage
 planned form of function = record { form = form; sources = of; function = function }
 
-abbrev pub AddsStage : Option Form → List ℕ → Option ℕ → Held → Result ℕ Code → Held → Type 0
+abbrev pub AddsStage : Option Form → List ℕ → Option ℕ → Object → Result ℕ Code → Object → Type 0
 AddsStage None of function (Builder b) r new = (r ≡ Err NoSuchNumber) × (new ≡ Builder b)
 AddsStage (Some form) of function (Builder b) (Ok stage) new = IsAdded b (planned form of function) stage new
 AddsStage (Some form) of function (Builder b) (Err fault) new = IsNotAdded b (planned form of function) fault new
@@ -61,35 +61,35 @@ AddsStage form of function held r new = (r ≡ Err WrongKind) × (new ≡ held)
 abbrev pub kind_of : ℕ → CfValue → LimitKind
 kind_of kind value = if kind == 0 then Timeout else Give (value_of value)
 
-abbrev pub IsLimited : Planned → ℕ → ℕ → LimitKind → Option PlanFault → Result (Unit {0}) Code → Held → Type 0
+abbrev pub IsLimited : Planned → ℕ → ℕ → LimitKind → Option PlanFault → Result (Unit {0}) Code → Object → Type 0
 IsLimited b stage at kind (Some fault) r new = (r ≡ Err (plan_code fault)) × (new ≡ Builder b)
 IsLimited b stage at kind None (Ok done) new = new ≡ Builder (with_limit b (record { stage = stage; at = at; kind = kind }))
 IsLimited b stage at kind None (Err fault) new = (fault ≡ NoMemory) × (new ≡ Builder b)
 
-abbrev pub AddsLimit : ℕ → ℕ → LimitKind → Held → Result (Unit {0}) Code → Held → Type 0
+abbrev pub AddsLimit : ℕ → ℕ → LimitKind → Object → Result (Unit {0}) Code → Object → Type 0
 AddsLimit stage at kind (Builder b) r new = IsLimited b stage at kind (limit_fault b stage) r new
 AddsLimit stage at kind held r new = (r ≡ Err WrongKind) × (new ≡ held)
 
 -- what is built so far is a plan, or where memory was refused an empty builder
-abbrev pub Builds : Held → Result (Unit {0}) Code → Held → Type 0
+abbrev pub Builds : Object → Result (Unit {0}) Code → Object → Type 0
 Builds (Builder b) (Ok done) new = new ≡ Plan b
 Builds (Builder b) (Err fault) new = (fault ≡ NoMemory) × (new ≡ Builder (plan_of [] []))
 Builds held r new = (r ≡ Err WrongKind) × (new ≡ held)
 
 -- the graph of a plan with so much room, at its start
-abbrev pub GraphOf : ℕ → Held → Result Held Code → Type 0
+abbrev pub GraphOf : ℕ → Object → Result Object Code → Type 0
 GraphOf room (Plan p) (Ok made) = (¬ IsOverfull p.stages room) × (made ≡ Graph (record { state = start (with_room p room); turns = 0 }))
 GraphOf room (Plan p) (Err Room) = IsOverfull p.stages room
 GraphOf room (Plan p) (Err fault) = (fault ≡ NoMemory) × (¬ IsOverfull p.stages room)
 GraphOf room held r = r ≡ Err WrongKind
 
 -- of a plan, which stays behind its handle, something is made and put behind another handle
-pub record IsOpened (Makes : Held → Result Held Code → Type 0) (plan : Held) (kept : Option Held) (code : ℕ) (old new : Option Held) : Type 0 where
-  pub made : Result Held Code
+pub record IsOpened (Makes : Object → Result Object Code → Type 0) (plan : Object) (kept : Option Object) (code : ℕ) (old new : Option Object) : Type 0 where
+  pub made : Result Object Code
   pub makes : Makes plan made
   pub stays : kept ≡ Some plan
   pub fills : Fills made old code new
 
-abbrev pub Opens : (Held → Result Held Code → Type 0) → Option Held → Option Held → ℕ → Option Held → Option Held → Type 0
+abbrev pub Opens : (Object → Result Object Code → Type 0) → Option Object → Option Object → ℕ → Option Object → Option Object → Type 0
 Opens Makes None kept code old new = (kept ≡ None) × Fills (Err Empty) old code new
 Opens Makes (Some plan) kept code old new = IsOpened Makes plan kept code old new

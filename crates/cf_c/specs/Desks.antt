@@ -20,15 +20,15 @@ use Rattle.cf_c.specs.Codes.{desk_code}
 use Rattle.cf_c.specs.Graphs.{or_nothing}
 use Rattle.cf_c.specs.Replies.{as_reply}
 use Rattle.cf_c.specs.Values.{as_now, as_outcome}
-use Rattle.cf_c.specs.declared.caller.Caller.{Caller as Caller'}
+use Rattle.cf_c.specs.declared.handle.object.Caller.{Caller as Caller'}
 use Rattle.cf_c.specs.declared.code.Code.{Code}
 use Rattle.cf_c.specs.declared.code.Code.TheVariants.{NoStage, WrongKind}
-use Rattle.cf_c.specs.declared.held.Held.{Held}
-use Rattle.cf_c.specs.declared.held.Held.TheVariants.{Caller}
-use Rattle.cf_c.specs.declared.plans.AttachParts.{AttachParts}
-use Rattle.cf_c.specs.declared.reply.CfReply.{CfReply}
-use Rattle.cf_c.specs.declared.value.CfNow.{CfNow}
-use Rattle.cf_c.specs.declared.value.CfOutcome.{CfOutcome}
+use Rattle.cf_c.specs.declared.handle.object.Object.{Object}
+use Rattle.cf_c.specs.declared.handle.object.Object.TheVariants.{Caller}
+use Rattle.cf_c.specs.declared.values.attaching.AttachParts.{AttachParts}
+use Rattle.cf_c.specs.declared.values.CfReply.{CfReply}
+use Rattle.cf_c.specs.declared.values.CfNow.{CfNow}
+use Rattle.cf_c.specs.declared.values.CfOutcome.{CfOutcome}
 
 -- the same caller of the same desk
 pub record IsSameCaller (c d : Caller') : Type 0 where
@@ -36,13 +36,13 @@ pub record IsSameCaller (c d : Caller') : Type 0 where
   pub pass : IsSamePass c.pass d.pass
 
 -- a caller is asked, and stands behind the handle as it is then
-pub record AtCaller {X : Type 0} (Asks : Caller' → Result X Code → Caller' → Type 0) (c : Caller') (r : Result X Code) (new : Held) : Type 0 where
+pub record AtCaller {X : Type 0} (Asks : Caller' → Result X Code → Caller' → Type 0) (c : Caller') (r : Result X Code) (new : Object) : Type 0 where
   pub now : Caller'
   pub is : new ≡ Caller now
   pub same : IsSameCaller c now
   pub asked : Asks c r now
 
-abbrev pub ByCaller : {X : Type 0} → (Caller' → Result X Code → Caller' → Type 0) → Held → Result X Code → Held → Type 0
+abbrev pub ByCaller : {X : Type 0} → (Caller' → Result X Code → Caller' → Type 0) → Object → Result X Code → Object → Type 0
 ByCaller Asks (Caller c) r new = AtCaller Asks c r new
 ByCaller Asks held r new = (r ≡ Err WrongKind) × (new ≡ held)
 

@@ -14,11 +14,11 @@ use Rattle.cf_c.specs.Replies.{as_reply}
 use Rattle.cf_c.specs.Values.{as_now, as_outcome}
 use Rattle.cf_c.specs.declared.code.Code.{Code}
 use Rattle.cf_c.specs.declared.code.Code.TheVariants.{WrongKind, NoStage, BadAttach, Nothing}
-use Rattle.cf_c.specs.declared.held.Held.{Held}
-use Rattle.cf_c.specs.declared.held.Held.TheVariants.{Graph}
-use Rattle.cf_c.specs.declared.reply.CfReply.{CfReply}
-use Rattle.cf_c.specs.declared.value.CfNow.{CfNow}
-use Rattle.cf_c.specs.declared.value.CfOutcome.{CfOutcome}
+use Rattle.cf_c.specs.declared.handle.object.Object.{Object}
+use Rattle.cf_c.specs.declared.handle.object.Object.TheVariants.{Graph}
+use Rattle.cf_c.specs.declared.values.CfReply.{CfReply}
+use Rattle.cf_c.specs.declared.values.CfNow.{CfNow}
+use Rattle.cf_c.specs.declared.values.CfOutcome.{CfOutcome}
 
 -- why an event isn't done to a graph of so many stages: a stage of it isn't there, or else what it attaches doesn't fit its form
 abbrev pub IsRefused : ℕ → Event → Code → Type 0
@@ -27,7 +27,7 @@ IsRefused n e BadAttach = EventNames n e × (¬ EventFits n e)
 IsRefused n e code = ⊥
 
 -- the event is done to the graph, which gives the sequential graph's reply and is then at the sequential graph's state
-pub record IsDone (g : Graph') (e : Event) (told : CfReply) (new : Held) : Type 0 where
+pub record IsDone (g : Graph') (e : Event) (told : CfReply) (new : Object) : Type 0 where
   pub fits : EventFits (length g.state.plan.stages) e
   pub reply : Reply
   pub now : Graph'
@@ -36,20 +36,20 @@ pub record IsDone (g : Graph') (e : Event) (told : CfReply) (new : Held) : Type 
   pub tells : told ≡ as_reply reply
 
 -- a graph is handed an event, or why there is none
-abbrev pub Answers : Result Event Code → Held → Result CfReply Code → Held → Type 0
+abbrev pub Answers : Result Event Code → Object → Result CfReply Code → Object → Type 0
 Answers (Ok e) (Graph g) (Ok told) new = IsDone g e told new
 Answers (Ok e) (Graph g) (Err fault) new = IsRefused (length g.state.plan.stages) e fault × (new ≡ Graph g)
 Answers (Err fault) (Graph g) r new = (r ≡ Err fault) × (new ≡ Graph g)
 Answers e held r new = (r ≡ Err WrongKind) × (new ≡ held)
 
 -- the graph may have taken turns, and is at the state at which it was
-pub record IsSame (g : Graph') (new : Held) : Type 0 where
+pub record IsSame (g : Graph') (new : Object) : Type 0 where
   pub now : Graph'
   pub is : new ≡ Graph now
   pub state : now.state ≡ g.state
 
 -- a graph is asked what this tells of it
-abbrev pub Asked : {X : Type 0} → (Graph' → Result X Code) → Held → Result X Code → Held → Type 0
+abbrev pub Asked : {X : Type 0} → (Graph' → Result X Code) → Object → Result X Code → Object → Type 0
 Asked tells (Graph g) r new = (r ≡ tells g) × IsSame g new
 Asked tells held r new = (r ≡ Err WrongKind) × (new ≡ held)
 
@@ -81,6 +81,6 @@ abbrev pub turns_told : Graph' → Result ℕ Code
 turns_told g = Ok g.turns
 
 -- a graph starts again
-abbrev pub Restarts : Held → Result (Unit {0}) Code → Held → Type 0
+abbrev pub Restarts : Object → Result (Unit {0}) Code → Object → Type 0
 Restarts (Graph g) r new = (r ≡ Ok tt) × (new ≡ Graph (record { state = start (reopened g.state.plan); turns = 0 }))
 Restarts held r new = (r ≡ Err WrongKind) × (new ≡ held)

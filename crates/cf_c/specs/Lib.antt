@@ -4,6 +4,7 @@ pub mod Closed
 pub mod Closings
 pub mod Codes
 pub mod Desks
+pub mod EventWords
 pub mod Graphs
 pub mod Meetings
 pub mod Opening
@@ -14,4 +15,3 @@ pub mod Scripts
 pub mod Seals
 pub mod Texts
 pub mod Values
-pub mod Words

@@ -3,14 +3,14 @@ use Rattle.std.specs.Prelude.{◌≡◌, Option, Some, None, Result, Ok, Err}
 use Rattle.std.specs.Arc.{arc_value}
 use Rattle.cf_desk.specs.Views.{Meets}
 use Rattle.cf_c.specs.Desks.{IsSameCaller}
-use Rattle.cf_c.specs.declared.caller.Caller.{Caller as Caller'}
+use Rattle.cf_c.specs.declared.handle.object.Caller.{Caller as Caller'}
 use Rattle.cf_c.specs.declared.code.Code.{Code}
 use Rattle.cf_c.specs.declared.code.Code.TheVariants.{Empty, OtherDesk, WrongKind}
-use Rattle.cf_c.specs.declared.held.Held.{Held}
-use Rattle.cf_c.specs.declared.held.Held.TheVariants.{Caller}
+use Rattle.cf_c.specs.declared.handle.object.Object.{Object}
+use Rattle.cf_c.specs.declared.handle.object.Object.TheVariants.{Caller}
 
 -- two callers are of one desk, which C owes
-abbrev pub AreOfOne : Option Held → Option Held → Type 0
+abbrev pub AreOfOne : Option Object → Option Object → Type 0
 AreOfOne (Some (Caller c)) (Some (Caller d)) = (arc_value d.desk).table ≡ (arc_value c.desk).table
 AreOfOne held given = Unit {0}
 
@@ -25,7 +25,7 @@ abbrev pub MeetsCaller : Caller' → Caller' → Result (Unit {0}) Code → Call
 MeetsCaller c d (Ok done) newer other = HaveMet c d newer other
 MeetsCaller c d (Err fault) newer other = (fault ≡ OtherDesk) × (newer ≡ c) × (other ≡ d)
 
-pub record AreMet (c d : Caller') (r : Result (Unit {0}) Code) (new left : Held) : Type 0 where
+pub record AreMet (c d : Caller') (r : Result (Unit {0}) Code) (new left : Object) : Type 0 where
   pub newer : Caller'
   pub other : Caller'
   pub is : new ≡ Caller newer
@@ -33,16 +33,16 @@ pub record AreMet (c d : Caller') (r : Result (Unit {0}) Code) (new left : Held)
   pub meets : MeetsCaller c d r newer other
 
 -- what stands behind two handles meets, if both are callers
-abbrev pub MeetsHeld : Held → Held → Result (Unit {0}) Code → Held → Held → Type 0
+abbrev pub MeetsHeld : Object → Object → Result (Unit {0}) Code → Object → Object → Type 0
 MeetsHeld (Caller c) (Caller d) r new left = AreMet c d r new left
 MeetsHeld held given r new left = (r ≡ Err WrongKind) × (new ≡ held) × (left ≡ given)
 
-pub record StaysBehind (given : Held) (back : Option Held) (held : Held) (r : Result (Unit {0}) Code) (new : Held) : Type 0 where
-  pub left : Held
+pub record StaysBehind (given : Object) (back : Option Object) (held : Object) (r : Result (Unit {0}) Code) (new : Object) : Type 0 where
+  pub left : Object
   pub is : back ≡ Some left
   pub meets : MeetsHeld held given r new left
 
 -- what stands behind a handle meets what stands behind another, if there is something
-abbrev pub MeetsBehind : Option Held → Option Held → Held → Result (Unit {0}) Code → Held → Type 0
+abbrev pub MeetsBehind : Option Object → Option Object → Object → Result (Unit {0}) Code → Object → Type 0
 MeetsBehind None back held r new = (r ≡ Err Empty) × (new ≡ held) × (back ≡ None)
 MeetsBehind (Some given) back held r new = StaysBehind given back held r new

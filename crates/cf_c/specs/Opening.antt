@@ -11,21 +11,21 @@ use Rattle.cf_desk.specs.Functions.{function_bound}
 use Rattle.cf_desk.specs.Views.{Desk, Pass, opened}
 use Rattle.cf_c.specs.Answers.{Codes}
 use Rattle.cf_c.specs.Codes.{number_of, open_code}
-use Rattle.cf_c.specs.declared.caller.Caller.{Caller as Caller'}
+use Rattle.cf_c.specs.declared.handle.object.Caller.{Caller as Caller'}
 use Rattle.cf_c.specs.declared.code.Code.{Code}
 use Rattle.cf_c.specs.declared.code.Code.TheVariants.{Empty, Full, WrongKind}
 use Rattle.cf_c.specs.declared.handle.CfHandle.{CfHandle}
-use Rattle.cf_c.specs.declared.held.Held.{Held}
-use Rattle.cf_c.specs.declared.held.Held.TheVariants.{Caller, Plan}
+use Rattle.cf_c.specs.declared.handle.object.Object.{Object}
+use Rattle.cf_c.specs.declared.handle.object.Object.TheVariants.{Caller, Plan}
 
 -- the caller of a desk with this pass
-pub record IsCallerOf (d : Desk) (p : Pass) (held : Held) : Type 0 where
+pub record IsCallerOf (d : Desk) (p : Pass) (held : Object) : Type 0 where
   pub caller : Caller'
   pub is : held ≡ Caller caller
   pub desk : arc_value caller.desk ≡ d
   pub pass : caller.pass ≡ p
 
-abbrev pub IsBehind : Desk → Pass → Option Held → Type 0
+abbrev pub IsBehind : Desk → Pass → Option Object → Type 0
 IsBehind d p None = ⊥
 IsBehind d p (Some held) = IsCallerOf d p held
 
@@ -36,12 +36,12 @@ AreBehind d (p ∷ ps) (h ∷ hs) = IsBehind d p h.inner.held × AreBehind d ps 
 AreBehind d ps hs = ⊥
 
 -- the same of boxes, and of these behind handles
-abbrev pub AreBoxed : Desk → List Pass → List (Box Held) → Type 0
+abbrev pub AreBoxed : Desk → List Pass → List (Box Object) → Type 0
 AreBoxed d [] [] = Unit {0}
 AreBoxed d (p ∷ ps) (b ∷ bs) = IsCallerOf d p b.value × AreBoxed d ps bs
 AreBoxed d ps bs = ⊥
 
-abbrev pub ArePut : List (Box Held) → List CfHandle → Type 0
+abbrev pub ArePut : List (Box Object) → List CfHandle → Type 0
 ArePut [] [] = Unit {0}
 ArePut (b ∷ bs) (h ∷ hs) = (h.inner.held ≡ Some b.value) × ArePut bs hs
 ArePut bs hs = ⊥
@@ -63,7 +63,7 @@ pub record IsNotOpened (IsDue : OpenFault → Type 0) (code : Code) : Type 0 whe
   pub is : code ≡ open_code why
 
 -- Of a plan a desk with so many callers as there are handles is opened, if they are all empty. Where it isn't, they stay.
-abbrev pub DeskOf : (Planned → ℕ → Setting) → (Planned → ℕ → OpenFault → Type 0) → ℕ → ℕ → Held → List CfHandle → Result (Unit {0}) Code → List CfHandle → Type 0
+abbrev pub DeskOf : (Planned → ℕ → Setting) → (Planned → ℕ → OpenFault → Type 0) → ℕ → ℕ → Object → List CfHandle → Result (Unit {0}) Code → List CfHandle → Type 0
 DeskOf setting IsDue log calls (Plan p) old (Ok done) new = AreEmpty old × AreCounts (length old) log calls × IsOpenedDesk (setting p (length old)) log calls new
 DeskOf setting IsDue log calls (Plan p) old (Err Full) new = (¬ AreEmpty old) × (new ≡ old)
 DeskOf setting IsDue log calls (Plan p) old (Err code) new = AreEmpty old × IsNotOpened (IsDue p (length old)) code × (new ≡ old)
@@ -85,12 +85,12 @@ is_due_to_grow log calls room functions p callers opening.NoMemory = AreCounts c
 is_due_to_grow log calls room functions p callers fault = IsDueToGrow p.stages callers log calls room functions fault
 
 -- the plan stays behind its handle, and C gets the code
-pub record IsAskedFor (Opens : Held → List CfHandle → Result (Unit {0}) Code → List CfHandle → Type 0) (plan : Held) (kept : Option Held) (code : ℕ) (old new : List CfHandle) : Type 0 where
+pub record IsAskedFor (Opens : Object → List CfHandle → Result (Unit {0}) Code → List CfHandle → Type 0) (plan : Object) (kept : Option Object) (code : ℕ) (old new : List CfHandle) : Type 0 where
   pub result : Result (Unit {0}) Code
   pub opens : Opens plan old result new
   pub stays : kept ≡ Some plan
   pub codes : Codes result code
 
-abbrev pub OpensDesk : (Held → List CfHandle → Result (Unit {0}) Code → List CfHandle → Type 0) → Option Held → Option Held → ℕ → List CfHandle → List CfHandle → Type 0
+abbrev pub OpensDesk : (Object → List CfHandle → Result (Unit {0}) Code → List CfHandle → Type 0) → Option Object → Option Object → ℕ → List CfHandle → List CfHandle → Type 0
 OpensDesk Opens None kept code old new = (code ≡ number_of Empty) × (kept ≡ None) × (new ≡ old)
 OpensDesk Opens (Some plan) kept code old new = IsAskedFor Opens plan kept code old new

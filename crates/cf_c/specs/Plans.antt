@@ -6,7 +6,7 @@ use Rattle.cf_plan.specs.declared.forms.Of.TheVariants.{None as NoSource, One, T
 use Rattle.cf_model.specs.declared.events.Event.{Event}
 use Rattle.cf_model.specs.declared.events.Event.TheVariants.{Attach as Attaches}
 use Rattle.cf_plan.specs.Naming.{forms}
-use Rattle.cf_c.specs.declared.plans.AttachParts.{AttachParts}
+use Rattle.cf_c.specs.declared.values.attaching.AttachParts.{AttachParts}
 use Rattle.cf_c.specs.declared.code.Code.{Code}
 use Rattle.cf_c.specs.declared.code.Code.TheVariants.{NoSuchNumber, WrongSourceCount}
 

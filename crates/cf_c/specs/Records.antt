@@ -17,8 +17,8 @@ use Rattle.cf_desk.specs.Calls.{event_by}
 use Rattle.cf_desk.specs.Records.{dids}
 use Rattle.cf_c.specs.Replies.{as_reply, reply_with}
 use Rattle.cf_c.specs.Values.{as_now, as_outcome, as_value}
-use Rattle.cf_c.specs.declared.record.CfRecord.{CfRecord}
-use Rattle.cf_c.specs.declared.value.CfNow.{CfNow}
+use Rattle.cf_c.specs.declared.close.closed.CfRecord.{CfRecord}
+use Rattle.cf_c.specs.declared.values.CfNow.{CfNow}
 
 -- nothing that is told at present
 abbrev pub no_now : CfNow

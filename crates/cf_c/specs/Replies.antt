@@ -9,7 +9,7 @@ use Rattle.cf_model.specs.declared.replies.Finished.TheVariants.{Won, Late, NotY
 use Rattle.cf_model.specs.declared.replies.Ticked.TheVariants.{Fired, Past}
 use Rattle.cf_model.specs.declared.replies.Attached.TheVariants.{At, StagesFull}
 use Rattle.cf_c.specs.Values.{as_args, bit}
-use Rattle.cf_c.specs.declared.reply.CfReply.{CfReply}
+use Rattle.cf_c.specs.declared.values.CfReply.{CfReply}
 
 abbrev pub reply_with : ℕ → ℕ → Args → CfReply
 reply_with answer number args = record { answer = answer; number = number; args = as_args args }

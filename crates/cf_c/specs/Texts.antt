@@ -5,11 +5,11 @@ use Rattle.cf_c.specs.Codes.{number_of}
 use Rattle.cf_c.specs.declared.code.Code.{Code}
 use Rattle.cf_c.specs.declared.code.Code.TheVariants.{TooManyStages, SourceNotLower, WrongSourceCount, FunctionMissing, FunctionUnwanted, TooManyEdges, NoSuchStage, NoMemory, TooManyLimits, Empty, Full, WrongKind, NoSuchNumber, NoStage, BadAttach, Room, Nothing, Callers, Log, Calls, Functions, PassFull, LogFull, OtherDesk, NotAll, NoWord, BadScript}
 
--- a text as far as there is room, and behind its end what was there
+-- a buffer with a text in it as far as it reaches, and behind the text's end what was there
 abbrev pub filled : List ℕ → List ℕ → List ℕ
-filled text room = take (length room) text ++ drop (length text) room
+filled text buffer = take (length buffer) text ++ drop (length text) buffer
 
--- C gets a text as far as there is room, and its whole length
+-- C gets a text as far as its buffer reaches, and the length of the whole
 pub record GivesText (text old new : List ℕ) (whole : ℕ) : Type 0 where
   pub bytes : new ≡ filled text old
   pub whole_length : whole ≡ length text

@@ -12,11 +12,11 @@ use Rattle.cf_plan.specs.declared.forms.Answer.{Answer}
 use Rattle.cf_plan.specs.declared.forms.Answer.TheVariants.{Give, Throw, Link}
 use Rattle.cf_plan.specs.declared.forms.Args.{Args}
 use Rattle.cf_plan.specs.declared.forms.Args.TheVariants.{None as NoArgs, One, Two, Got as GotOutcome}
-use Rattle.cf_c.specs.declared.value.CfAnswer.{CfAnswer}
-use Rattle.cf_c.specs.declared.value.CfArgs.{CfArgs}
-use Rattle.cf_c.specs.declared.value.CfNow.{CfNow}
-use Rattle.cf_c.specs.declared.value.CfOutcome.{CfOutcome}
-use Rattle.cf_c.specs.declared.value.CfValue.{CfValue}
+use Rattle.cf_c.specs.declared.values.CfAnswer.{CfAnswer}
+use Rattle.cf_c.specs.declared.values.CfArgs.{CfArgs}
+use Rattle.cf_c.specs.declared.values.CfNow.{CfNow}
+use Rattle.cf_c.specs.declared.values.CfOutcome.{CfOutcome}
+use Rattle.cf_c.specs.declared.values.CfValue.{CfValue}
 
 -- what C means by a value: nothing where the kind is 0
 abbrev pub value_of : CfValue → Value

@@ -1,6 +1,7 @@
 //! What a call answers.
-ghost use Rattle.std.specs.Prelude.{◌≡◌};
+ghost use Rattle.std.specs.Prelude.{◌≡◌, MatchOption, None, Some};
 ghost use Rattle.cf_c.specs.Codes.{desk_code, number_of, open_code, plan_code};
+ghost use Rattle.cf_c.specs.Texts.{code_text};
 
 use cf_desk::{DeskFault, OpenFault};
 use cf_plan::PlanFault;
@@ -10,7 +11,7 @@ use cf_plan::PlanFault;
 pub enum Code {
     /// 1 to 9: the builder of plans refused the stage or the limit, by the numbers of its faults. `NoMemory` is told by
     /// every call that takes memory.
-    TooManyStages,
+    TooManyStages = 1,
     SourceNotLower,
     WrongSourceCount,
     FunctionMissing,
@@ -25,7 +26,7 @@ pub enum Code {
     Full,
     /// 12: something of another kind stands behind the handle.
     WrongKind,
-    /// 13: no form, answer, value, call or event has this number.
+    /// 13: no form, no call of an event and no code has this number.
     NoSuchNumber,
     /// 14: a stage that the call names isn't there.
     NoStage,
@@ -62,35 +63,45 @@ impl Code {
     pub fn number(self) -> u32
         ensures { result ≡ number_of self }
     {
-        match self {
-            Code::TooManyStages => 1,
-            Code::SourceNotLower => 2,
-            Code::WrongSourceCount => 3,
-            Code::FunctionMissing => 4,
-            Code::FunctionUnwanted => 5,
-            Code::TooManyEdges => 6,
-            Code::NoSuchStage => 7,
-            Code::NoMemory => 8,
-            Code::TooManyLimits => 9,
-            Code::Empty => 10,
-            Code::Full => 11,
-            Code::WrongKind => 12,
-            Code::NoSuchNumber => 13,
-            Code::NoStage => 14,
-            Code::BadAttach => 15,
-            Code::Room => 16,
-            Code::Nothing => 17,
-            Code::Callers => 18,
-            Code::Log => 19,
-            Code::Calls => 20,
-            Code::Functions => 21,
-            Code::PassFull => 22,
-            Code::LogFull => 23,
-            Code::OtherDesk => 24,
-            Code::NotAll => 25,
-            Code::NoWord => 26,
-            Code::BadScript => 27,
-        }
+        self as u32
+    }
+}
+
+/// The text of a number that a call may answer, if it is one.
+pub(crate) fn text_of(number: u32) -> Option<&'static str>
+    ensures { MatchOption result (code_text number ≡ None) (λ text. code_text number ≡ Some text.now) }
+{
+    match number {
+        0 => Some("Ok"),
+        1 => Some("TooManyStages"),
+        2 => Some("SourceNotLower"),
+        3 => Some("WrongSourceCount"),
+        4 => Some("FunctionMissing"),
+        5 => Some("FunctionUnwanted"),
+        6 => Some("TooManyEdges"),
+        7 => Some("NoSuchStage"),
+        8 => Some("NoMemory"),
+        9 => Some("TooManyLimits"),
+        10 => Some("Empty"),
+        11 => Some("Full"),
+        12 => Some("WrongKind"),
+        13 => Some("NoSuchNumber"),
+        14 => Some("NoStage"),
+        15 => Some("BadAttach"),
+        16 => Some("Room"),
+        17 => Some("Nothing"),
+        18 => Some("Callers"),
+        19 => Some("Log"),
+        20 => Some("Calls"),
+        21 => Some("Functions"),
+        22 => Some("PassFull"),
+        23 => Some("LogFull"),
+        24 => Some("OtherDesk"),
+        25 => Some("NotAll"),
+        26 => Some("NoWord"),
+        27 => Some("BadScript"),
+        255 => Some("Null"),
+        _ => None,
     }
 }
 

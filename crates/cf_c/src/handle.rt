@@ -2,9 +2,12 @@
 ghost use Rattle.std.specs.Prelude.{◌≡◌, MatchOption, None, Some};
 ghost use Rattle.cf_c.specs.Seals.{is_full};
 
-use crate::held::{Held, crosses};
-use crate::inner::Inner;
-use crate::parts::Parts;
+pub(crate) mod object;
+pub(crate) mod raw_box;
+pub(crate) mod with_handle;
+
+use crate::handle::object::{Object, assert_send};
+use crate::handle::raw_box::{BoxParts, RawBox};
 use std::alloc::Global;
 use std::mem;
 
@@ -12,7 +15,7 @@ use std::mem;
 #[repr(C)]
 #[derive(Drop)]
 pub struct CfHandle {
-    pub(crate) inner: Inner,
+    pub(crate) inner: RawBox,
     full: bool,
     ghost kept: { full ≡ is_full inner.held },
 }
@@ -22,13 +25,13 @@ impl CfHandle {
         ensures { result.inner.held ≡ None }
     {
         CfHandle {
-            inner: Inner::empty(alloc),
+            inner: RawBox::empty(alloc),
             full: false,
         }
     }
 
     /// Takes out what stands behind it.
-    pub(crate) fn take(&mut self, alloc: Global) -> Option<Box<Held>>
+    pub(crate) fn take(&mut self, alloc: Global) -> Option<Box<Object>>
         ensures was { MatchOption result (self.old.inner.held ≡ None) (λ held. self.old.inner.held ≡ Some held.value) }
         ensures empty { self.new.inner.held ≡ None }
     {
@@ -47,12 +50,20 @@ impl CfHandle {
     }
 
     /// Puts something behind it. What stood there is never freed.
-    pub(crate) fn put(&mut self, held: Box<Held>)
+    pub(crate) fn put(&mut self, held: Box<Object>)
         ensures { self.new.inner.held ≡ Some held.value }
     {
         *self = CfHandle {
-            inner: Inner::of_parts(Parts::of(crosses(held))),
+            inner: RawBox::of_parts(BoxParts::of(assert_send(held))),
             full: true,
         };
     }
+}
+
+/// Frees what stands behind a handle, and leaves the handle empty.
+#[unsafe(no_mangle)]
+pub extern "C" fn cf_free(alloc: Global, h: &mut CfHandle)
+    ensures { h.new.inner.held ≡ None }
+{
+    drop(h.take(alloc))
 }

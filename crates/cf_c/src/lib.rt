@@ -2,46 +2,24 @@
 //!
 //! A handle is a pointer that C keeps and never looks at. Each call takes out what stands behind it, asks it, and puts it
 //! back. A handle may go to another thread, and is in one call at a time.
+//!
+//! | Module | What C has |
+//! |---|---|
+//! | `handle` | the handle, and what may stand behind it |
+//! | `plan` | a plan that is being built |
+//! | `graph` | a graph that one caller has alone |
+//! | `desk` | the callers of a graph that several share: how it is opened, and what each of them is asked |
+//! | `close` | a desk that is being closed, and a closed one with its records |
+//! | `values` | values, replies and events |
+//! | `texts` | reports of scripts, outcomes and codes as texts |
+//! | `code` | what a call answers |
 #![tactic(auto)]
 
-ghost use Rattle.std.specs.Prelude.{◌≡◌, None};
-
-mod asking;
-mod building;
-mod caller;
-mod calling;
-mod calls;
-mod closed;
-mod closing;
-mod closings;
+mod close;
 mod code;
-mod desks;
-mod event;
-mod graphs;
+mod desk;
+mod graph;
 mod handle;
-mod held;
-mod inner;
-mod looking;
-mod meeting;
-mod names;
-mod opening;
-mod parts;
-mod plans;
-mod record;
-mod reply;
-mod returning;
-mod scripts;
+mod plan;
 mod texts;
-mod value;
-mod words;
-
-use crate::handle::CfHandle;
-use std::alloc::Global;
-
-/// Frees what stands behind a handle, and leaves the handle empty.
-#[unsafe(no_mangle)]
-pub extern "C" fn cf_free(alloc: Global, h: &mut CfHandle)
-    ensures { h.new.inner.held ≡ None }
-{
-    drop(h.take(alloc))
-}
+mod values;

@@ -1,15 +1,37 @@
-//! Texts for C.
-ghost use Rattle.std.specs.Prelude.{◌≡◌, Some};
+//! Texts for C: of scripts, outcomes and codes.
+ghost use Rattle.std.specs.Prelude.{◌≡◌, [], IfSome, Some};
 ghost use Rattle.cf_script.specs.Texts.{settled_text};
 ghost use Rattle.cf_c.specs.Codes.{number_of};
+ghost use Rattle.cf_c.specs.Scripts.{IsRun, RunsScript, code_of_run};
 ghost use Rattle.cf_c.specs.Texts.{GivesText, TellsText, code_text, name_of};
 ghost use Rattle.cf_c.specs.Values.{outcome_of};
 ghost use Rattle.cf_c.specs.declared.code.Code.{Code};
 
-use crate::code::Code;
-use crate::names::text_of;
-use crate::value::{CfOutcome, outcome_of};
+use crate::code::{Code, text_of};
+use crate::values::{CfOutcome, outcome_of};
 use cf_outcome::{Outcome, ShortText};
+use cf_script::{ScriptFault, run_script};
+use std::alloc::Global;
+
+/// Runs a script. Its report, or the line of the fault in it, goes out as far as the buffer reaches, and the length of the whole.
+#[unsafe(no_mangle)]
+pub extern "C" fn cf_run_script(
+    alloc: Global,
+    text: &[u8],
+    report: &mut [u8],
+    length: &mut usize,
+) -> u32
+    ensures { RunsScript text.now result report.old report.new length.old length.new }
+{
+    let mut told = Vec::new(alloc);
+    match run(alloc, text, &mut told) {
+        Some(code) => {
+            give_text(&told, report, length);
+            code
+        }
+        None => Code::NoMemory.number(),
+    }
+}
 
 /// The text of an outcome, as reports have it: "pending" where there is none, and else at most 31 bytes. A kind above 5
 /// stands for 5.
@@ -37,13 +59,34 @@ pub extern "C" fn cf_code_text(code: u32, text: &mut [u8], length: &mut usize) -
     }
 }
 
-/// Gives C a text as far as there is room, and its whole length.
-pub(crate) fn give_text(text: &[u8], room: &mut [u8], whole: &mut usize)
-    ensures { GivesText text.now room.old room.new whole.new }
+/// Runs a script, and tells the code where what it prints is there whole.
+fn run(alloc: Global, text: &[u8], told: &mut Vec<u8>) -> Option<u32>
+    requires { told.old.items ≡ [] }
+    ensures { IfSome result (IsRun text.now told.new.items) }
 {
-    let n = text.len().min(room.len());
-    room[..n].copy_from_slice(&text[..n]);
-    *whole = text.len();
+    let mut input = text;
+    let ran = run_script(alloc, &mut input, told);
+    code_of_run(ran)
+}
+
+/// The code of a run whose text is whole. A writer into memory fails for want of it alone, and a reader of memory never.
+fn code_of_run(ran: Result<(), ScriptFault>) -> Option<u32>
+    ensures { result ≡ code_of_run ran }
+{
+    match ran {
+        Ok(()) => Some(0),
+        Err(ScriptFault::NoMemory | ScriptFault::Write | ScriptFault::Read) => None,
+        Err(_) => Some(Code::BadScript.number()),
+    }
+}
+
+/// Gives C a text as far as its buffer reaches, and the length of the whole.
+fn give_text(text: &[u8], buffer: &mut [u8], length: &mut usize)
+    ensures { GivesText text.now buffer.old buffer.new length.new }
+{
+    let n = text.len().min(buffer.len());
+    buffer[..n].copy_from_slice(&text[..n]);
+    *length = text.len();
 }
 
 /// The text of an outcome, or that there is none yet.

@@ -1,0 +1,219 @@
+//! The callers of a desk, which is a graph that they share.
+ghost use Rattle.std.specs.Prelude.{◌≡◌, Ok};
+ghost use Rattle.cf_model.specs.declared.asks.Ask.TheVariants.{Now as AsksNow, Outcome as AsksOutcome};
+ghost use Rattle.cf_desk.specs.declared.calls.Call.TheVariants.{Complete as Completes, Fail as Fails, Cancel as Cancels, Claim as Claims, Finish as Finishes, Tick as Ticks};
+ghost use Rattle.cf_c.specs.Answers.{Does, Tells};
+ghost use Rattle.cf_c.specs.Desks.{Acts, ByCaller, FindsReady, IsLeft, Joins, Knows, Reads, call_with, function_known, number_told, seen_told, told_now, told_outcome};
+ghost use Rattle.cf_c.specs.Meetings.{AreOfOne, MeetsBehind};
+ghost use Rattle.cf_c.specs.Plans.{parts_of};
+ghost use Rattle.cf_c.specs.Values.{answer_of, value_of};
+
+pub(crate) mod caller;
+mod opening;
+
+use crate::code::Code;
+use crate::handle::CfHandle;
+use crate::handle::with_handle::{ask, code_of, give, tell};
+use crate::values::attaching::attach_call;
+use crate::values::{CfAnswer, CfNow, CfOutcome, CfReply, CfValue, answer_of, value_of};
+use cf_desk::Call;
+use std::alloc::Global;
+
+/// Completes a stage with a value.
+#[unsafe(no_mangle)]
+pub extern "C" fn cf_desk_complete(
+    alloc: Global,
+    h: &mut CfHandle,
+    stage: u16,
+    value: CfValue,
+    reply: &mut CfReply,
+) -> u32
+    ensures { Tells (ByCaller (Acts (Ok (Completes stage (value_of value))))) h.old.inner.held h.new.inner.held result reply.old reply.new }
+{
+    let call = Call::Complete(stage, value_of(value));
+    tell!(alloc, h, reply, held => caller::act(&mut held, Ok(call)))
+}
+
+/// Fails a stage with a code.
+#[unsafe(no_mangle)]
+pub extern "C" fn cf_desk_fail(
+    alloc: Global,
+    h: &mut CfHandle,
+    stage: u16,
+    code: u32,
+    reply: &mut CfReply,
+) -> u32
+    ensures { Tells (ByCaller (Acts (Ok (Fails stage code)))) h.old.inner.held h.new.inner.held result reply.old reply.new }
+{
+    let call = Call::Fail(stage, code);
+    tell!(alloc, h, reply, held => caller::act(&mut held, Ok(call)))
+}
+
+/// Cancels a stage.
+#[unsafe(no_mangle)]
+pub extern "C" fn cf_desk_cancel(
+    alloc: Global,
+    h: &mut CfHandle,
+    stage: u16,
+    reply: &mut CfReply,
+) -> u32
+    ensures { Tells (ByCaller (Acts (Ok (Cancels stage)))) h.old.inner.held h.new.inner.held result reply.old reply.new }
+{
+    let call = Call::Cancel(stage);
+    tell!(alloc, h, reply, held => caller::act(&mut held, Ok(call)))
+}
+
+/// Claims a ready stage.
+#[unsafe(no_mangle)]
+pub extern "C" fn cf_desk_claim(
+    alloc: Global,
+    h: &mut CfHandle,
+    stage: u16,
+    reply: &mut CfReply,
+) -> u32
+    ensures { Tells (ByCaller (Acts (Ok (Claims stage)))) h.old.inner.held h.new.inner.held result reply.old reply.new }
+{
+    let call = Call::Claim(stage);
+    tell!(alloc, h, reply, held => caller::act(&mut held, Ok(call)))
+}
+
+/// Finishes a stage that the caller has claimed.
+#[unsafe(no_mangle)]
+pub extern "C" fn cf_desk_finish(
+    alloc: Global,
+    h: &mut CfHandle,
+    stage: u16,
+    answer: CfAnswer,
+    reply: &mut CfReply,
+) -> u32
+    ensures { Tells (ByCaller (Acts (Ok (Finishes stage (answer_of answer))))) h.old.inner.held h.new.inner.held result reply.old reply.new }
+{
+    let call = Call::Finish(stage, answer_of(answer));
+    tell!(alloc, h, reply, held => caller::act(&mut held, Ok(call)))
+}
+
+/// Lets it be this moment.
+#[unsafe(no_mangle)]
+pub extern "C" fn cf_desk_tick(
+    alloc: Global,
+    h: &mut CfHandle,
+    now: u32,
+    reply: &mut CfReply,
+) -> u32
+    ensures { Tells (ByCaller (Acts (Ok (Ticks now)))) h.old.inner.held h.new.inner.held result reply.old reply.new }
+{
+    let call = Call::Tick(now);
+    tell!(alloc, h, reply, held => caller::act(&mut held, Ok(call)))
+}
+
+/// Attaches a stage.
+#[unsafe(no_mangle)]
+pub extern "C" fn cf_desk_attach(
+    alloc: Global,
+    h: &mut CfHandle,
+    form: u32,
+    of: &[u16],
+    function: u32,
+    reply: &mut CfReply,
+) -> u32
+    ensures { Tells (ByCaller (Acts (call_with (parts_of form of.now function)))) h.old.inner.held h.new.inner.held result reply.old reply.new }
+{
+    let call = attach_call(form, of, function);
+    tell!(alloc, h, reply, held => caller::act(&mut held, call))
+}
+
+/// The outcome of a stage after a look, or that there is none yet.
+#[unsafe(no_mangle)]
+pub extern "C" fn cf_desk_read(
+    alloc: Global,
+    h: &mut CfHandle,
+    stage: u16,
+    outcome: &mut CfOutcome,
+) -> u32
+    ensures { Tells (ByCaller (Reads told_outcome (AsksOutcome stage))) h.old.inner.held h.new.inner.held result outcome.old outcome.new }
+{
+    tell!(alloc, h, outcome, held => caller::outcome(&mut held, stage))
+}
+
+/// What a stage gives after a look, or this value where it isn't settled.
+#[unsafe(no_mangle)]
+pub extern "C" fn cf_desk_read_now(
+    alloc: Global,
+    h: &mut CfHandle,
+    stage: u16,
+    absent: CfValue,
+    now: &mut CfNow,
+) -> u32
+    ensures { Tells (ByCaller (Reads told_now (AsksNow stage (value_of absent)))) h.old.inner.held h.new.inner.held result now.old now.new }
+{
+    let absent = value_of(absent);
+    tell!(alloc, h, now, held => caller::now(&mut held, stage, absent))
+}
+
+/// What a stage gives after so many looks at most, or that it isn't settled.
+#[unsafe(no_mangle)]
+pub extern "C" fn cf_desk_join(
+    alloc: Global,
+    h: &mut CfHandle,
+    stage: u16,
+    looks: u32,
+    now: &mut CfNow,
+) -> u32
+    ensures { Tells (ByCaller (Joins stage looks)) h.old.inner.held h.new.inner.held result now.old now.new }
+{
+    tell!(alloc, h, now, held => caller::join(&mut held, stage, looks))
+}
+
+/// The lowest ready stage after a look.
+#[unsafe(no_mangle)]
+pub extern "C" fn cf_desk_ready(alloc: Global, h: &mut CfHandle, stage: &mut u16) -> u32
+    ensures { Tells (ByCaller FindsReady) h.old.inner.held h.new.inner.held result stage.old stage.new }
+{
+    tell!(alloc, h, stage, held => caller::ready(&mut held))
+}
+
+/// How many events a caller has seen.
+#[unsafe(no_mangle)]
+pub extern "C" fn cf_desk_seen(alloc: Global, h: &mut CfHandle, events: &mut u16) -> u32
+    ensures { Tells (ByCaller (Knows seen_told)) h.old.inner.held h.new.inner.held result events.old events.new }
+{
+    tell!(alloc, h, events, held => caller::seen(&mut held))
+}
+
+/// How many records a caller still takes.
+#[unsafe(no_mangle)]
+pub extern "C" fn cf_desk_left(alloc: Global, h: &mut CfHandle, calls: &mut u16) -> u32
+    ensures { Tells (ByCaller IsLeft) h.old.inner.held h.new.inner.held result calls.old calls.new }
+{
+    tell!(alloc, h, calls, held => caller::left(&mut held))
+}
+
+/// The number of a stage's function, in what a caller has seen.
+#[unsafe(no_mangle)]
+pub extern "C" fn cf_desk_function(
+    alloc: Global,
+    h: &mut CfHandle,
+    stage: u16,
+    function: &mut u16,
+) -> u32
+    ensures { Tells (ByCaller (Knows (function_known stage))) h.old.inner.held h.new.inner.held result function.old function.new }
+{
+    tell!(alloc, h, function, held => caller::function(&mut held, stage))
+}
+
+/// A caller's number.
+#[unsafe(no_mangle)]
+pub extern "C" fn cf_desk_caller(alloc: Global, h: &mut CfHandle, number: &mut u8) -> u32
+    ensures { Tells (ByCaller (Knows number_told)) h.old.inner.held h.new.inner.held result number.old number.new }
+{
+    tell!(alloc, h, number, held => caller::number(&mut held))
+}
+
+/// Lets the callers behind two handles see the longer of what either has seen. They are of one desk, which C owes.
+#[unsafe(no_mangle)]
+pub extern "C" fn cf_desk_meet(alloc: Global, h: &mut CfHandle, other: &mut CfHandle) -> u32
+    requires { AreOfOne h.old.inner.held other.old.inner.held }
+    ensures { Does (MeetsBehind other.old.inner.held other.new.inner.held) h.old.inner.held h.new.inner.held result }
+{
+    ask!(alloc, h, held => caller::meet_behind(alloc, &mut held, other))
+}

@@ -1,0 +1,250 @@
+//! How desks are opened.
+ghost use Rattle.std.specs.Prelude.{◌≡◌, ◌≢◌, ◌↔◌, All, IfErr, IfOk, IsTrue, MatchOption, length, vec_len};
+ghost use Rattle.std.specs.Arc.{arc_value};
+ghost use Rattle.cf_desk.specs.Faults.{AreCounts, IsDueToOpen};
+ghost use Rattle.cf_desk.specs.declared.faults.OpenFault.TheVariants.{NoMemory};
+ghost use Rattle.cf_desk.specs.Views.{opened};
+ghost use Rattle.cf_c.specs.declared.code.Code.TheVariants.{NoMemory as RefusedMemory};
+ghost use Rattle.cf_c.specs.Opening.{AreBehind, AreBoxed, AreEmpty, ArePut, DeskOf, IsCallerOf, OpensDesk, growing_of, is_due, is_due_to_grow, setting_of};
+
+use crate::code::{Code, open_code};
+use crate::graph::is_overfull;
+use crate::handle::CfHandle;
+use crate::handle::object::{Caller, Object};
+use crate::handle::with_handle::code_of;
+use cf_desk::{Desk, OpenFault, Pass};
+use cf_plan::Plan;
+use std::alloc::{AllocError, Global};
+use std::sync::Arc;
+
+/// Opens a desk of the plan behind a handle, with a caller for each of the other handles, which are empty.
+#[unsafe(no_mangle)]
+pub extern "C" fn cf_desk_open(
+    alloc: Global,
+    plan: &mut CfHandle,
+    callers: &mut [CfHandle],
+    log: u16,
+    calls: u16,
+) -> u32
+    ensures { OpensDesk (DeskOf setting_of (is_due log calls) log calls) plan.old.inner.held plan.new.inner.held result callers.old callers.new }
+{
+    match plan.take(alloc) {
+        None => Code::Empty.number(),
+        Some(held) => {
+            let done = open(alloc, &held, callers, log, calls);
+            plan.put(held);
+            code_of(done)
+        }
+    }
+}
+
+/// The same with room for so many stages that callers attach later, and so many functions.
+#[unsafe(no_mangle)]
+pub extern "C" fn cf_desk_open_growing(
+    alloc: Global,
+    plan: &mut CfHandle,
+    callers: &mut [CfHandle],
+    log: u16,
+    calls: u16,
+    room: u16,
+    functions: u32,
+) -> u32
+    ensures { OpensDesk (DeskOf (growing_of room functions) (is_due_to_grow log calls room functions) log calls) plan.old.inner.held plan.new.inner.held result callers.old callers.new }
+{
+    match plan.take(alloc) {
+        None => Code::Empty.number(),
+        Some(held) => {
+            let done = open_growing(alloc, &held, callers, log, calls, room, functions);
+            plan.put(held);
+            code_of(done)
+        }
+    }
+}
+
+/// Opens a desk of a plan, and seats its callers behind these handles, if they are empty.
+fn open(
+    alloc: Global,
+    held: &Object,
+    callers: &mut [CfHandle],
+    log: u16,
+    calls: u16,
+) -> Result<(), Code>
+    ensures { DeskOf setting_of (is_due log calls) log calls held.now callers.old result callers.new }
+{
+    let Object::Plan(plan) = held else {
+        return Err(Code::WrongKind);
+    };
+    if !are_empty(callers) {
+        return Err(Code::Full);
+    }
+    match desk_of(alloc, plan, callers.len(), log, calls) {
+        Ok((desk, passes)) => seat_all(alloc, desk, passes, callers),
+        Err(fault) => Err(open_code(fault)),
+    }
+}
+
+/// The same with room.
+fn open_growing(
+    alloc: Global,
+    held: &Object,
+    callers: &mut [CfHandle],
+    log: u16,
+    calls: u16,
+    room: u16,
+    functions: u32,
+) -> Result<(), Code>
+    ensures { DeskOf (growing_of room functions) (is_due_to_grow log calls room functions) log calls held.now callers.old result callers.new }
+{
+    let Object::Plan(plan) = held else {
+        return Err(Code::WrongKind);
+    };
+    if !are_empty(callers) {
+        return Err(Code::Full);
+    }
+    match growing_desk_of(alloc, plan, callers.len(), log, calls, room, functions) {
+        Ok((desk, passes)) => seat_all(alloc, desk, passes, callers),
+        Err(fault) => Err(open_code(fault)),
+    }
+}
+
+/// A desk of a plan that stays, and its passes.
+fn desk_of(
+    alloc: Global,
+    plan: &Plan,
+    callers: usize,
+    log: u16,
+    calls: u16,
+) -> Result<(Desk, Vec<Pass>), OpenFault>
+    ensures opened { IfOk result (λ r. (r.0.setting ≡ setting_of plan.now callers) × (r.0.words ≡ log) × (r.1.items ≡ opened r.0.table r.0.setting calls)) }
+    ensures table { IfOk result (λ r. All (λ p. p.table ≡ r.0.table) r.1.items × (vec_len r.1 ≡ callers)) }
+    ensures counts { IfOk result (λ r. AreCounts callers log calls) }
+    ensures fault { IfErr result (is_due log calls plan.now callers) }
+{
+    if let Some(fault) = count_fault(callers, log, calls) {
+        return Err(fault);
+    }
+    match plan.copy() {
+        Ok(copy) => Desk::open(alloc, copy, callers as u8, log, calls),
+        Err(_) => Err(OpenFault::NoMemory),
+    }
+}
+
+/// The same with room.
+fn growing_desk_of(
+    alloc: Global,
+    plan: &Plan,
+    callers: usize,
+    log: u16,
+    calls: u16,
+    room: u16,
+    functions: u32,
+) -> Result<(Desk, Vec<Pass>), OpenFault>
+    ensures opened { IfOk result (λ r. (r.0.setting ≡ growing_of room functions plan.now callers) × (r.0.words ≡ log) × (r.1.items ≡ opened r.0.table r.0.setting calls)) }
+    ensures table { IfOk result (λ r. All (λ p. p.table ≡ r.0.table) r.1.items × (vec_len r.1 ≡ callers)) }
+    ensures counts { IfOk result (λ r. AreCounts callers log calls) }
+    ensures fault { IfErr result (is_due_to_grow log calls room functions plan.now callers) }
+{
+    if let Some(fault) = count_fault(callers, log, calls) {
+        return Err(fault);
+    }
+    if is_overfull(plan, room) {
+        return Err(OpenFault::Room);
+    }
+    match plan.copy() {
+        Ok(copy) => Desk::open_growing(alloc, copy, callers as u8, log, calls, room, functions),
+        Err(_) => Err(OpenFault::NoMemory),
+    }
+}
+
+/// Which of the counts is wrong, if one is.
+fn count_fault(callers: usize, log: u16, calls: u16) -> Option<OpenFault>
+    ensures { MatchOption result (AreCounts callers log calls) (λ fault. IsDueToOpen callers log calls fault × (fault ≢ NoMemory)) }
+{
+    if callers == 0 || callers > 64 {
+        return Some(OpenFault::Callers);
+    }
+    if log == 0 {
+        return Some(OpenFault::Log);
+    }
+    if calls == 0 {
+        return Some(OpenFault::Calls);
+    }
+    None
+}
+
+/// Whether nothing stands behind any of these handles.
+fn are_empty(callers: &[CfHandle]) -> bool
+    ensures { IsTrue result ↔ AreEmpty callers.now }
+{
+    'each: for h in callers {
+        if h.is_full() {
+            return false;
+        }
+    }
+    true
+}
+
+/// Seats the callers of a new desk behind these handles, as many as it has passes. Where memory is refused they stay.
+#[tactic(auto, using(crate::proofs::Seats::boxed_count, crate::proofs::Seats::behind_of))]
+fn seat_all(
+    alloc: Global,
+    desk: Desk,
+    passes: Vec<Pass>,
+    callers: &mut [CfHandle],
+) -> Result<(), Code>
+    requires table { All (λ p. p.table ≡ desk.table) passes.items }
+    requires count { vec_len passes ≡ length callers.old }
+    ensures seated { IfOk result (λ done. AreBehind desk passes.items callers.new) }
+    ensures refused { IfErr result (λ code. (code ≡ RefusedMemory) × (callers.new ≡ callers.old)) }
+{
+    match boxed(alloc, desk, passes) {
+        Ok(held) => {
+            put_all(callers, held);
+            Ok(())
+        }
+        Err(_) => Err(Code::NoMemory),
+    }
+}
+
+/// The callers of a new desk, as they are put behind handles.
+fn boxed(alloc: Global, desk: Desk, passes: Vec<Pass>) -> Result<Vec<Box<Object>>, AllocError>
+    requires { All (λ p. p.table ≡ desk.table) passes.items }
+    ensures { IfOk result (λ held. AreBoxed desk passes.items held.items) }
+{
+    let shared = match Arc::new(alloc, desk) {
+        Ok(shared) => shared,
+        Err(_) => return Err(AllocError),
+    };
+    let mut held = Vec::with_capacity(alloc, passes.len())?;
+    let mut rest = passes.into_iter();
+    'next: while let Some(pass) = rest.next() {
+        let caller = seat(alloc, &shared, pass)?;
+        held.push_reserved(caller);
+    }
+    Ok(held)
+}
+
+/// The caller with this pass.
+fn seat(alloc: Global, desk: &Arc<Desk, Global>, pass: Pass) -> Result<Box<Object>, AllocError>
+    requires { pass.table ≡ (arc_value desk.now).table }
+    ensures { IfOk result (λ held. IsCallerOf (arc_value desk.now) pass held.value) }
+{
+    let desk = Arc::try_clone(desk)?;
+    match Box::new(alloc, Object::Caller(Caller { desk, pass })) {
+        Ok(held) => Ok(held),
+        Err(_) => Err(AllocError),
+    }
+}
+
+/// Puts these behind as many handles.
+fn put_all(handles: &mut [CfHandle], held: Vec<Box<Object>>)
+    requires { vec_len held ≡ length handles.old }
+    ensures { ArePut held.items handles.new }
+{
+    let mut rest = held.into_iter();
+    'next: for i in 0..handles.len() {
+        if let Some(held) = rest.next() {
+            handles[i].put(held);
+        }
+    }
+}

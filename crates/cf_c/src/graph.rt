@@ -1,0 +1,262 @@
+//! A graph that one caller has alone.
+ghost use Rattle.std.specs.Prelude.{◌≡◌, ◌↔◌, IsTrue, Ok};
+ghost use Rattle.cf_model.specs.declared.events.Event.TheVariants.{Complete as Completes, Fail as Fails, Cancel as Cancels, Claim as Claims, Finish as Finishes, Tick as Ticks};
+ghost use Rattle.cf_desk.specs.Faults.{IsOverfull};
+ghost use Rattle.cf_c.specs.Answers.{Does, Tells};
+ghost use Rattle.cf_c.specs.Building.{GraphOf, Opens};
+ghost use Rattle.cf_c.specs.EventWords.{event_at};
+ghost use Rattle.cf_c.specs.Graphs.{Answers, Asked, Restarts, function_told, now_told, outcome_told, ready_told, stages_told, turns_told};
+ghost use Rattle.cf_c.specs.Plans.{attach_event};
+ghost use Rattle.cf_c.specs.Values.{answer_of, value_of};
+
+mod asking;
+
+use crate::code::{Code, plan_code};
+use crate::handle::CfHandle;
+use crate::handle::object::Object;
+use crate::handle::with_handle::{ask, code_of, fill, give, tell};
+use crate::values::attaching::attach_event;
+use crate::values::event::event_at;
+use crate::values::{CfAnswer, CfNow, CfOutcome, CfReply, CfValue, answer_of, value_of};
+use cf_core::Graph;
+use cf_model::Event;
+use cf_plan::{MAX_EDGES, MAX_STAGES, Plan};
+use std::alloc::Global;
+
+/// Puts the graph of the plan behind one handle behind another, which is empty.
+#[unsafe(no_mangle)]
+pub extern "C" fn cf_graph_new(
+    alloc: Global,
+    plan: &mut CfHandle,
+    room: u16,
+    graph: &mut CfHandle,
+) -> u32
+    ensures { Opens (GraphOf room) plan.old.inner.held plan.new.inner.held result graph.old.inner.held graph.new.inner.held }
+{
+    match plan.take(alloc) {
+        None => fill(alloc, graph, Err(Code::Empty)),
+        Some(held) => {
+            let made = graph_of(alloc, &held, room);
+            plan.put(held);
+            fill(alloc, graph, made)
+        }
+    }
+}
+
+/// Completes a stage with a value.
+#[unsafe(no_mangle)]
+pub extern "C" fn cf_complete(
+    alloc: Global,
+    h: &mut CfHandle,
+    stage: u16,
+    value: CfValue,
+    reply: &mut CfReply,
+) -> u32
+    ensures { Tells (Answers (Ok (Completes 0 stage (value_of value)))) h.old.inner.held h.new.inner.held result reply.old reply.new }
+{
+    let value = value_of(value);
+    let event = Event::Complete {
+        who: 0,
+        stage,
+        value,
+    };
+    tell!(alloc, h, reply, held => asking::answer(&mut held, Ok(event)))
+}
+
+/// Fails a stage with a code.
+#[unsafe(no_mangle)]
+pub extern "C" fn cf_fail(
+    alloc: Global,
+    h: &mut CfHandle,
+    stage: u16,
+    code: u32,
+    reply: &mut CfReply,
+) -> u32
+    ensures { Tells (Answers (Ok (Fails 0 stage code))) h.old.inner.held h.new.inner.held result reply.old reply.new }
+{
+    let event = Event::Fail {
+        who: 0,
+        stage,
+        code,
+    };
+    tell!(alloc, h, reply, held => asking::answer(&mut held, Ok(event)))
+}
+
+/// Cancels a stage.
+#[unsafe(no_mangle)]
+pub extern "C" fn cf_cancel(alloc: Global, h: &mut CfHandle, stage: u16, reply: &mut CfReply) -> u32
+    ensures { Tells (Answers (Ok (Cancels 0 stage))) h.old.inner.held h.new.inner.held result reply.old reply.new }
+{
+    let event = Event::Cancel { who: 0, stage };
+    tell!(alloc, h, reply, held => asking::answer(&mut held, Ok(event)))
+}
+
+/// Claims a ready stage for a caller.
+#[unsafe(no_mangle)]
+pub extern "C" fn cf_claim(
+    alloc: Global,
+    h: &mut CfHandle,
+    who: u8,
+    stage: u16,
+    reply: &mut CfReply,
+) -> u32
+    ensures { Tells (Answers (Ok (Claims who stage))) h.old.inner.held h.new.inner.held result reply.old reply.new }
+{
+    let event = Event::Claim { who, stage };
+    tell!(alloc, h, reply, held => asking::answer(&mut held, Ok(event)))
+}
+
+/// Finishes a stage that a caller has claimed.
+#[unsafe(no_mangle)]
+pub extern "C" fn cf_finish(
+    alloc: Global,
+    h: &mut CfHandle,
+    who: u8,
+    stage: u16,
+    answer: CfAnswer,
+    reply: &mut CfReply,
+) -> u32
+    ensures { Tells (Answers (Ok (Finishes who stage (answer_of answer)))) h.old.inner.held h.new.inner.held result reply.old reply.new }
+{
+    let answer = answer_of(answer);
+    let event = Event::Finish { who, stage, answer };
+    tell!(alloc, h, reply, held => asking::answer(&mut held, Ok(event)))
+}
+
+/// Lets it be this moment.
+#[unsafe(no_mangle)]
+pub extern "C" fn cf_tick(alloc: Global, h: &mut CfHandle, now: u32, reply: &mut CfReply) -> u32
+    ensures { Tells (Answers (Ok (Ticks 0 now))) h.old.inner.held h.new.inner.held result reply.old reply.new }
+{
+    let event = Event::Tick {
+        who: 0,
+        moment: now,
+    };
+    tell!(alloc, h, reply, held => asking::answer(&mut held, Ok(event)))
+}
+
+/// Attaches a stage.
+#[unsafe(no_mangle)]
+pub extern "C" fn cf_attach(
+    alloc: Global,
+    h: &mut CfHandle,
+    form: u32,
+    of: &[u16],
+    function: u32,
+    reply: &mut CfReply,
+) -> u32
+    ensures { Tells (Answers (attach_event form of.now function)) h.old.inner.held h.new.inner.held result reply.old reply.new }
+{
+    let event = attach_event(form, of, function);
+    tell!(alloc, h, reply, held => asking::answer(&mut held, event))
+}
+
+/// Does the event of a word to a graph.
+#[unsafe(no_mangle)]
+pub extern "C" fn cf_apply(alloc: Global, h: &mut CfHandle, word: u64, reply: &mut CfReply) -> u32
+    ensures { Tells (Answers (event_at word)) h.old.inner.held h.new.inner.held result reply.old reply.new }
+{
+    let event = event_at(word);
+    tell!(alloc, h, reply, held => asking::answer(&mut held, event))
+}
+
+/// The outcome of a stage, or that there is none yet.
+#[unsafe(no_mangle)]
+pub extern "C" fn cf_get(
+    alloc: Global,
+    h: &mut CfHandle,
+    stage: u16,
+    outcome: &mut CfOutcome,
+) -> u32
+    ensures { Tells (Asked (outcome_told stage)) h.old.inner.held h.new.inner.held result outcome.old outcome.new }
+{
+    tell!(alloc, h, outcome, held => asking::outcome(&mut held, stage))
+}
+
+/// What a stage gives at present, or this value where it isn't settled.
+#[unsafe(no_mangle)]
+pub extern "C" fn cf_get_now(
+    alloc: Global,
+    h: &mut CfHandle,
+    stage: u16,
+    absent: CfValue,
+    now: &mut CfNow,
+) -> u32
+    ensures { Tells (Asked (now_told stage (value_of absent))) h.old.inner.held h.new.inner.held result now.old now.new }
+{
+    let absent = value_of(absent);
+    tell!(alloc, h, now, held => asking::now(&mut held, stage, absent))
+}
+
+/// The lowest ready stage.
+#[unsafe(no_mangle)]
+pub extern "C" fn cf_lowest_ready(alloc: Global, h: &mut CfHandle, stage: &mut u16) -> u32
+    ensures { Tells (Asked ready_told) h.old.inner.held h.new.inner.held result stage.old stage.new }
+{
+    tell!(alloc, h, stage, held => asking::lowest_ready(&mut held))
+}
+
+/// The number of a stage's function.
+#[unsafe(no_mangle)]
+pub extern "C" fn cf_function(
+    alloc: Global,
+    h: &mut CfHandle,
+    stage: u16,
+    function: &mut u16,
+) -> u32
+    ensures { Tells (Asked (function_told stage)) h.old.inner.held h.new.inner.held result function.old function.new }
+{
+    tell!(alloc, h, function, held => asking::function(&mut held, stage))
+}
+
+/// How many stages there are by now.
+#[unsafe(no_mangle)]
+pub extern "C" fn cf_stages(alloc: Global, h: &mut CfHandle, stages: &mut u16) -> u32
+    ensures { Tells (Asked stages_told) h.old.inner.held h.new.inner.held result stages.old stages.new }
+{
+    tell!(alloc, h, stages, held => asking::stages(&mut held))
+}
+
+/// How many turns were taken since the graph was opened or last restarted.
+#[unsafe(no_mangle)]
+pub extern "C" fn cf_turns(alloc: Global, h: &mut CfHandle, turns: &mut u64) -> u32
+    ensures { Tells (Asked turns_told) h.old.inner.held h.new.inner.held result turns.old turns.new }
+{
+    tell!(alloc, h, turns, held => asking::turns(&mut held))
+}
+
+/// Starts a graph again.
+#[unsafe(no_mangle)]
+pub extern "C" fn cf_restart(alloc: Global, h: &mut CfHandle) -> u32
+    ensures { Does Restarts h.old.inner.held h.new.inner.held result }
+{
+    ask!(alloc, h, held => asking::restart(&mut held))
+}
+
+/// The graph of a plan with so much room.
+fn graph_of(alloc: Global, held: &Object, room: u16) -> Result<Object, Code>
+    ensures { GraphOf room held.now result }
+{
+    let Object::Plan(plan) = held else {
+        return Err(Code::WrongKind);
+    };
+    if is_overfull(plan, room) {
+        return Err(Code::Room);
+    }
+    let copy = match plan.copy() {
+        Ok(copy) => copy,
+        Err(fault) => return Err(plan_code(fault)),
+    };
+    match Graph::new_growing(alloc, copy, room) {
+        Ok(graph) => Ok(Object::Graph(graph)),
+        Err(_) => Err(Code::NoMemory),
+    }
+}
+
+/// Whether the stages with so much room, or their edges with two for each place, are too many.
+pub(crate) fn is_overfull(plan: &Plan, room: u16) -> bool
+    ensures { IsTrue result ↔ IsOverfull plan.now.stages room }
+{
+    plan.stages() as usize + room as usize > MAX_STAGES
+        || plan.edges() as usize + 2 * room as usize > MAX_EDGES
+}

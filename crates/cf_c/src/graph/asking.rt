@@ -1,0 +1,158 @@
+//! What a graph behind a handle is asked.
+ghost use Rattle.std.specs.Prelude.{◌≡◌, ◌<◌, ◌↔◌, All, IsTrue, MatchOption, None, Some, if◌then◌else◌};
+ghost use Rattle.cf_plan.specs.Plans.{sources_of};
+ghost use Rattle.cf_c.specs.declared.code.Code.TheVariants.{NoStage};
+ghost use Rattle.cf_model.specs.Ranges.{EventFits};
+ghost use Rattle.cf_c.specs.Graphs.{Answers, Asked, IsRefused, Restarts, function_told, now_told, outcome_told, ready_told, stages_told, turns_told};
+
+use crate::code::Code;
+use crate::handle::object::Object;
+use crate::values::{CfNow, CfOutcome, CfReply, as_now, as_outcome, as_reply};
+use cf_model::Event;
+use cf_outcome::Value;
+use cf_plan::{Of, fits_form};
+
+/// Hands a graph an event, unless there is a reason why there is none.
+pub(crate) fn answer(held: &mut Object, event: Result<Event, Code>) -> Result<CfReply, Code>
+    ensures { Answers event held.old result held.new }
+{
+    let Object::Graph(graph) = held else {
+        return Err(Code::WrongKind);
+    };
+    let event = match event {
+        Ok(event) => event,
+        Err(code) => return Err(code),
+    };
+    match refusal_of(graph.stages(), &event) {
+        Some(code) => Err(code),
+        None => Ok(as_reply(graph.answer(&event))),
+    }
+}
+
+/// Why an event isn't done to a graph of so many stages, if it isn't.
+fn refusal_of(stages: u16, event: &Event) -> Option<Code>
+    ensures { MatchOption result (EventFits stages event.now) (IsRefused stages event.now) }
+{
+    match *event {
+        Event::Complete { stage, .. } => unless(stage < stages),
+        Event::Fail { stage, .. } => unless(stage < stages),
+        Event::Cancel { stage, .. } => unless(stage < stages),
+        Event::Claim { stage, .. } => unless(stage < stages),
+        Event::Finish { stage, .. } => unless(stage < stages),
+        Event::Tick { .. } => None,
+        Event::Attach {
+            form,
+            of,
+            function,
+            ..
+        } => {
+            if !are_below(of, stages) {
+                return Some(Code::NoStage);
+            }
+            if !fits_form(form, of.count(), function.is_some()) {
+                return Some(Code::BadAttach);
+            }
+            None
+        }
+    }
+}
+
+/// The outcome of a stage of a graph.
+pub(crate) fn outcome(held: &mut Object, stage: u16) -> Result<CfOutcome, Code>
+    ensures { Asked (outcome_told stage) held.old result held.new }
+{
+    let Object::Graph(graph) = held else {
+        return Err(Code::WrongKind);
+    };
+    if !graph.has(stage) {
+        return Err(Code::NoStage);
+    }
+    Ok(as_outcome(graph.outcome(stage)))
+}
+
+/// What a stage of a graph gives at present.
+pub(crate) fn now(held: &mut Object, stage: u16, absent: Value) -> Result<CfNow, Code>
+    ensures { Asked (now_told stage absent) held.old result held.new }
+{
+    let Object::Graph(graph) = held else {
+        return Err(Code::WrongKind);
+    };
+    if !graph.has(stage) {
+        return Err(Code::NoStage);
+    }
+    Ok(as_now(graph.now(stage, absent)))
+}
+
+/// The lowest ready stage of a graph.
+pub(crate) fn lowest_ready(held: &mut Object) -> Result<u16, Code>
+    ensures { Asked ready_told held.old result held.new }
+{
+    let Object::Graph(graph) = held else {
+        return Err(Code::WrongKind);
+    };
+    graph.lowest_ready().ok_or(Code::Nothing)
+}
+
+/// The number of a stage's function.
+pub(crate) fn function(held: &mut Object, stage: u16) -> Result<u16, Code>
+    ensures { Asked (function_told stage) held.old result held.new }
+{
+    let Object::Graph(graph) = held else {
+        return Err(Code::WrongKind);
+    };
+    if !graph.has(stage) {
+        return Err(Code::NoStage);
+    }
+    graph.function(stage).ok_or(Code::Nothing)
+}
+
+/// How many stages a graph has by now.
+pub(crate) fn stages(held: &mut Object) -> Result<u16, Code>
+    ensures { Asked stages_told held.old result held.new }
+{
+    match held {
+        Object::Graph(graph) => Ok(graph.stages()),
+        _ => Err(Code::WrongKind),
+    }
+}
+
+/// How many turns a graph has taken.
+pub(crate) fn turns(held: &mut Object) -> Result<u64, Code>
+    ensures { Asked turns_told held.old result held.new }
+{
+    match held {
+        Object::Graph(graph) => Ok(graph.turns()),
+        _ => Err(Code::WrongKind),
+    }
+}
+
+/// Starts a graph again.
+pub(crate) fn restart(held: &mut Object) -> Result<(), Code>
+    ensures { Restarts held.old result held.new }
+{
+    match held {
+        Object::Graph(graph) => {
+            graph.restart();
+            Ok(())
+        }
+        _ => Err(Code::WrongKind),
+    }
+}
+
+/// Refuses a stage that isn't there.
+fn unless(there: bool) -> Option<Code>
+    ensures { result ≡ (if there then None else Some NoStage) }
+{
+    if there { None } else { Some(Code::NoStage) }
+}
+
+/// Whether these stages are below so many.
+fn are_below(of: Of, stages: u16) -> bool
+    ensures { IsTrue result ↔ All (λ j. j < stages) (sources_of of) }
+{
+    match of {
+        Of::None => true,
+        Of::One(a) => a < stages,
+        Of::Two(a, b) => a < stages && b < stages,
+    }
+}

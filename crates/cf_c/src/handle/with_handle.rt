@@ -1,0 +1,81 @@
+//! How a call looks behind its handle, and what it gives C.
+ghost use Rattle.cf_c.specs.Answers.{Codes, Gives};
+ghost use Rattle.cf_c.specs.Building.{Fills};
+
+use crate::code::Code;
+use crate::handle::CfHandle;
+use crate::handle::object::Object;
+use std::alloc::Global;
+
+/// Asks what stands behind a handle, and gives C the code, and where that is 0 the answer.
+macro_rules! tell {
+    ($alloc:expr, $h:expr, $out:expr, $held:ident => $ask:expr) => {
+        match $h.take($alloc) {
+            None => Code::Empty.number(),
+            Some(mut $held) => {
+                let told = $ask;
+                $h.put($held);
+                give(told, $out)
+            }
+        }
+    };
+}
+
+/// The same where a code is all that C gets.
+macro_rules! ask {
+    ($alloc:expr, $h:expr, $held:ident => $ask:expr) => {
+        match $h.take($alloc) {
+            None => Code::Empty.number(),
+            Some(mut $held) => {
+                let done = $ask;
+                $h.put($held);
+                code_of(done)
+            }
+        }
+    };
+}
+
+pub(crate) use ask;
+pub(crate) use tell;
+
+/// Gives C what it is told: the code, and where that is 0 the answer.
+pub(crate) fn give<X: Drop>(told: Result<X, Code>, out: &mut X) -> u32
+    ensures { Gives told result out.old out.new }
+{
+    match told {
+        Ok(answer) => {
+            *out = answer;
+            0
+        }
+        Err(code) => code.number(),
+    }
+}
+
+/// The code of what was done or not.
+pub(crate) fn code_of(done: Result<(), Code>) -> u32
+    ensures { Codes done result }
+{
+    match done {
+        Ok(()) => 0,
+        Err(code) => code.number(),
+    }
+}
+
+/// Puts what was made behind a handle, if that is empty: 0, or why not.
+pub(crate) fn fill(alloc: Global, h: &mut CfHandle, made: Result<Object, Code>) -> u32
+    ensures { Fills made h.old.inner.held result h.new.inner.held }
+{
+    if h.is_full() {
+        return Code::Full.number();
+    }
+    match made {
+        Err(code) => code.number(),
+        Ok(held) => match Box::new(alloc, held) {
+            Ok(held) => {
+                h.put(held);
+                0
+            }
+            Err(_) => Code::NoMemory.number(),
+        },
+    }
+}
