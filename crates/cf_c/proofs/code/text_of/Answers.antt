@@ -1,4 +1,4 @@
-use Rattle.std.proofs.Common.{◌≡◌, ◌<◌, arith}
+use Rattle.std.proofs.Common.{◌<◌, arith}
 use Rattle.cf_c.proofs.CodeNames.{no_text}
 use Rattle.cf_c.proofs.code.text_of.Goals as goal
 

@@ -1,4 +1,4 @@
-use Rattle.std.proofs.Common.{rules, refl}
+use Rattle.std.proofs.Common.{rules}
 use Rattle.cf_c.specs.Desks.{IsLeft}
 use Rattle.cf_c.proofs.Callers.{at_caller}
 use Rattle.cf_c.proofs.desk.caller.left.Goals as goal
