@@ -1,11 +1,13 @@
 -- Bytes are JSON where they are UTF-8 and a text of JSON.
-use Rattle.std.proofs.Common.{◌≡◌, ◌≤◌, ℕ, List, length, nat_lt, arith, Option, Some, None, Bool, true, false, refl, ap, ◌∙◌, IsUtf8, if◌then◌else◌}
+use Rattle.std.proofs.Common.{◌≡◌, ◌≤◌, ◌<◌, ℕ, List, length, nat_lt, arith, Option, Some, None, Err, Bool, true, false, refl, ap, ◌∙◌, IsUtf8, if◌then◌else◌}
+use Rattle.std.proofs.lemmas.Bool.{lt-ltb}
 use Rattle.std.proofs.lemmas.Str.{IsUtf8-from_is_utf8, is_utf8-from_IsUtf8}
 use Rattle.std.proofs.lemmas.Bool.Decides.{nat_tests}
 use Rattle.std.specs.Str.{is_utf8}
 use Rattle.serde_json.specs.Data.{Data}
 use Rattle.serde_json.specs.Read.{read}
 use Rattle.cf_reading.specs.declared.purpose.Purpose.{Purpose}
+use Rattle.cf_reading.specs.declared.fault.ReadingFault.TheVariants as faults
 use Rattle.cf_reading.specs.Reading.{json_of, outline, reading_for, script_of}
 
 pub json_found : (bytes : List ℕ) (d : Data) → IsUtf8 bytes → read bytes ≡ Some d → json_of bytes ≡ Some d
@@ -25,3 +27,15 @@ reading_is purpose bytes d few u e =
     let short : nat_lt 1048576 (length bytes) ≡ false = grind (arith, nat_tests) in
     let said : json_of bytes ≡ Some d = json_found bytes d u e in
     rw (short, said) refl
+
+-- bytes that are too many, or no JSON
+pub reading_too_long : (purpose : Purpose) (bytes : List ℕ) → 1048576 < length bytes → reading_for purpose bytes ≡ Err faults.TooLong
+unfolding outline
+reading_too_long purpose bytes many = rw (lt-ltb 1048576 (length bytes) many) refl
+
+pub reading_not_json : (purpose : Purpose) (bytes : List ℕ) → length bytes ≤ 1048576 → (IsUtf8 bytes → read bytes ≡ None) → reading_for purpose bytes ≡ Err faults.NotJson
+unfolding outline
+reading_not_json purpose bytes few h =
+    let short : nat_lt 1048576 (length bytes) ≡ false = grind (arith, nat_tests) in
+    let none : json_of bytes ≡ None = json_missing bytes h in
+    rw (short, none) refl
