@@ -8,7 +8,8 @@ use Rattle.serde_json.specs.Data.{Data}
 use Rattle.serde_json.specs.Read.{read}
 use Rattle.cf_reading.specs.declared.purpose.Purpose.{Purpose}
 use Rattle.cf_reading.specs.declared.fault.ReadingFault.TheVariants as faults
-use Rattle.cf_reading.specs.Reading.{json_of, outline, reading_for, script_of}
+use Rattle.cf_reading.specs.declared.purpose.Purpose.TheVariants.{Race, Run}
+use Rattle.cf_reading.specs.Reading.{json_of, outline, race_reading, reading, reading_for, script_of, script_said}
 
 pub json_found : (bytes : List ℕ) (d : Data) → IsUtf8 bytes → read bytes ≡ Some d → json_of bytes ≡ Some d
 json_found bytes d u e = ap (λ b. if b then read bytes else None) (is_utf8-from_IsUtf8 bytes u) ∙ e
@@ -28,14 +29,23 @@ reading_is purpose bytes d few u e =
     let said : json_of bytes ≡ Some d = json_found bytes d u e in
     rw (short, said) refl
 
--- bytes that are too many, or no JSON
-pub reading_too_long : (purpose : Purpose) (bytes : List ℕ) → 1048576 < length bytes → reading_for purpose bytes ≡ Err faults.TooLong
-unfolding outline
-reading_too_long purpose bytes many = rw (lt-ltb 1048576 (length bytes) many) refl
+-- the same of a run, and of bytes that are too many or no JSON
+pub reading_said : (bytes : List ℕ) (d : Data) → length bytes ≤ 1048576 → IsUtf8 bytes → read bytes ≡ Some d → reading bytes ≡ script_said d
+reading_said bytes d few u e = reading_is Run bytes d few u e
 
-pub reading_not_json : (purpose : Purpose) (bytes : List ℕ) → length bytes ≤ 1048576 → (IsUtf8 bytes → read bytes ≡ None) → reading_for purpose bytes ≡ Err faults.NotJson
+too_long : (purpose : Purpose) (bytes : List ℕ) → 1048576 < length bytes → reading_for purpose bytes ≡ Err faults.TooLong
 unfolding outline
-reading_not_json purpose bytes few h =
+too_long purpose bytes many = rw (lt-ltb 1048576 (length bytes) many) refl
+
+pub reading_too_long : (bytes : List ℕ) → 1048576 < length bytes → reading bytes ≡ Err faults.TooLong
+reading_too_long bytes many = too_long Run bytes many
+
+pub race_too_long : (bytes : List ℕ) → 1048576 < length bytes → race_reading bytes ≡ Err faults.TooLong
+race_too_long bytes many = too_long Race bytes many
+
+pub reading_not_json : (bytes : List ℕ) → length bytes ≤ 1048576 → (IsUtf8 bytes → read bytes ≡ None) → reading bytes ≡ Err faults.NotJson
+unfolding outline
+reading_not_json bytes few h =
     let short : nat_lt 1048576 (length bytes) ≡ false = grind (arith, nat_tests) in
     let none : json_of bytes ≡ None = json_missing bytes h in
     rw (short, none) refl
