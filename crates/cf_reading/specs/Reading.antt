@@ -71,6 +71,10 @@ with_steps purpose o = fold_items (step_next purpose o.version) (progress_start 
 unfoldable pub script_of : Purpose → Data → Result Script ReadingFault
 script_of purpose d = outline_of d >>= with_steps purpose
 
+-- what it says to a run
+abbrev pub script_said : Data → Result Script ReadingFault
+script_said d = script_of Run d
+
 -- the JSON value of the bytes, where they are UTF-8 and JSON
 abbrev pub json_of : List ℕ → Option Data
 json_of bytes = if is_utf8 bytes then read bytes else None

@@ -3,6 +3,7 @@ ghost use Rattle.std.specs.Prelude.{◌≡◌, ◌≤◌, length};
 ghost use Rattle.cf_reading.specs.Faults.{part_name, part_position};
 
 use cf_plan::PlanFault;
+use std::alloc::{AllocError, AllocFailed};
 use std::fmt;
 use thiserror::Error;
 
@@ -54,6 +55,28 @@ pub enum ReadingFault {
     /// A growth was refused.
     #[error("NoMemory")]
     NoMemory,
+}
+
+/// A growth that was refused.
+impl From<AllocError> for ReadingFault {
+    ghost use Rattle.cf_reading.specs.declared.fault.ReadingFault.TheVariants.{NoMemory};
+
+    ghost from_gives = { λ _ fault. fault ≡ NoMemory };
+
+    fn from(_refused: AllocError) -> ReadingFault {
+        ReadingFault::NoMemory
+    }
+}
+
+/// An element for which there was no room.
+impl<T: Drop> From<AllocFailed<T>> for ReadingFault {
+    ghost use Rattle.cf_reading.specs.declared.fault.ReadingFault.TheVariants.{NoMemory};
+
+    ghost from_gives = { λ _ fault. fault ≡ NoMemory };
+
+    fn from(_refused: AllocFailed<T>) -> ReadingFault {
+        ReadingFault::NoMemory
+    }
 }
 
 impl Part {

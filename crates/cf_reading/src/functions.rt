@@ -112,9 +112,6 @@ pub(crate) fn keep(functions: &mut Vec<Func>, function: Option<Func>) -> Result<
 {
     match function {
         None => Ok(()),
-        Some(f) => match functions.push(f) {
-            Ok(()) => Ok(()),
-            Err(_) => Err(ReadingFault::NoMemory),
-        },
+        Some(f) => Ok(functions.push(f)?),
     }
 }

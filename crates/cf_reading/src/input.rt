@@ -34,9 +34,7 @@ pub fn read_input<R: Read>(alloc: Global, r: &mut R) -> Result<Vec<u8>, ReadingF
             Ok(n) => n,
             Err(_) => return Err(ReadingFault::Read),
         };
-        if found.extend_from_slice(&room[..n]).is_err() {
-            return Err(ReadingFault::NoMemory);
-        }
+        found.extend_from_slice(&room[..n])?;
     }
     Err(ReadingFault::TooLong)
 }

@@ -5,7 +5,7 @@ ghost use Rattle.cf_reading.specs.Checks.{Gives};
 ghost use Rattle.cf_reading.specs.Scripts.{FunctionFits};
 ghost use Rattle.cf_reading.specs.Purposes.{IsForRace, IsTaken};
 ghost use Rattle.cf_plan.specs.Plans.{has_place};
-ghost use Rattle.cf_reading.specs.Reading.{drafted_of, items_said, race_reading, reading, reading_for, script_of};
+ghost use Rattle.cf_reading.specs.Reading.{drafted_of, items_said, race_reading, reading, reading_for, script_of, script_said};
 
 use crate::draft::Draft;
 use crate::fault::{Part, ReadingFault};
@@ -96,6 +96,14 @@ fn script(alloc: Global, purpose: Purpose, json: &Json) -> Result<Script, Readin
     };
     read_steps(purpose, version, &mut progress, steps)?;
     Ok(Script::new(plan, room, progress.functions, progress.steps))
+}
+
+/// The script that a JSON value says, or the first fault in it: what `read_script` answers of a text of at most
+/// `MAX_BYTES` that says this value. `TooLong`, `NotJson` and `Read` never come.
+pub fn script_of(alloc: Global, json: &Json) -> Result<Script, ReadingFault>
+    ensures { Gives (λ s. s) result (script_said (view json.now)) }
+{
+    script(alloc, Purpose::Run, json)
 }
 
 /// The script that the bytes say, or the first fault in them.

@@ -25,9 +25,7 @@ fn add_source(found: &mut Vec<u16>, json: &Json, k: u32) -> Result<(), ReadingFa
     let Some(n) = small(json) else {
         return Err(ReadingFault::Shape(Part::Stage(k)));
     };
-    if found.push(n).is_err() {
-        return Err(ReadingFault::NoMemory);
-    }
+    found.push(n)?;
     Ok(())
 }
 

@@ -151,9 +151,7 @@ fn add_step(
         return Err(ReadingFault::Step(k as u32));
     };
     keep(&mut progress.functions, function)?;
-    if progress.steps.push(step).is_err() {
-        return Err(ReadingFault::NoMemory);
-    }
+    progress.steps.push(step)?;
     let (stages, room) = extent_after(step, progress.stages, progress.room);
     progress.stages = stages;
     progress.room = room;

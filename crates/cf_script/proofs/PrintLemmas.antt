@@ -2,7 +2,6 @@
 use Rattle.std.proofs.Common.{◌≡◌, [], ℕ, ◌<◌, List, length, Option, Some, None, Result, Ok, Err, IfSome, refl, sym, subst, String, arith, append-nil}
 use Rattle.std.specs.Prelude.{replicate}
 use Rattle.std.specs.Result.{IsErrAnd}
-use Rattle.std.proofs.lemmas.Bool.{lt-ltb}
 use Rattle.std.proofs.lemmas.List.{length-replicate}
 use Rattle.std.specs.Io.KnownBytes.{Appends}
 use Rattle.std.specs.declared.alloc.Global.{Global}
@@ -11,8 +10,9 @@ use Rattle.cf_reading.specs.declared.fault.ReadingFault.{ReadingFault}
 use Rattle.cf_reading.specs.declared.fault.ReadingFault.TheVariants as readings
 use Rattle.cf_reading.specs.Checks.{Fails}
 use Rattle.cf_reading.specs.Input.{IsOfInput}
-use Rattle.cf_reading.specs.Reading.{outline, race_reading, reading}
+use Rattle.cf_reading.specs.Reading.{race_reading, reading}
 use Rattle.cf_reading.specs.Scripts.{Script}
+use Rattle.cf_reading.proofs.Texts.{race_too_long, reading_too_long}
 use Rattle.cf_script.specs.declared.fault.ScriptFault.{ScriptFault}
 use Rattle.cf_script.specs.declared.fault.ScriptFault.TheVariants as faults
 use Rattle.cf_script.specs.Faults.{fault_line, fault_of_reading}
@@ -25,12 +25,10 @@ abbrev pub TooLong : (List ℕ → Result Script ReadingFault) → Type 0
 TooLong read = (bytes : List ℕ) → 1048576 < length bytes → read bytes ≡ Err readings.TooLong
 
 pub too_long_to_run : TooLong reading
-unfolding outline
-too_long_to_run bytes lt = rw (lt-ltb 1048576 (length bytes) lt) refl
+too_long_to_run bytes lt = reading_too_long bytes lt
 
 pub too_long_to_race : TooLong race_reading
-unfolding outline
-too_long_to_race bytes lt = rw (lt-ltb 1048576 (length bytes) lt) refl
+too_long_to_race bytes lt = race_too_long bytes lt
 
 some_long : (n : ℕ) → 1048576 < n → (bytes : List ℕ) × (1048576 < length bytes)
 some_long n lt = (replicate n 0, subst (λ k. 1048576 < k) (sym (length-replicate n 0)) lt)

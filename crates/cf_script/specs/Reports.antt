@@ -9,15 +9,28 @@ use Rattle.cf_reading.specs.declared.func.Func.{Func}
 use Rattle.cf_reading.specs.declared.script.Step.{Step}
 use Rattle.cf_reading.specs.declared.script.Step.TheVariants.{Does, Asks, Work, Nudge}
 use Rattle.cf_reading.specs.Scripts.{Script, opening}
+use Rattle.cf_script.specs.declared.steps.StepAnswer.{StepAnswer}
+use Rattle.cf_script.specs.declared.steps.StepAnswer.TheVariants as answers
 use Rattle.cf_script.specs.Texts.{line, reply_text, settled_text, told_text}
 use Rattle.cf_script.specs.Working.{worked}
 
+-- what a step is answered
+abbrev pub step_answer : List Func → State → Step → StepAnswer
+step_answer functions s (Does e) = answers.Replied ((answered s e).0)
+step_answer functions s (Asks a) = answers.Told (told s a)
+step_answer functions s Work = answers.Worked ((worked functions s).0)
+step_answer functions s (Nudge k) = answers.Nudged
+
+-- the text of that
+abbrev pub answer_text : StepAnswer → List ℕ
+answer_text (answers.Replied reply) = reply_text reply
+answer_text (answers.Told told) = told_text told
+answer_text (answers.Worked calls) = codes "worked " ++ decimal calls
+answer_text answers.Nudged = codes "nudged"
+
 -- what a step writes
 abbrev pub step_text : List Func → State → Step → List ℕ
-step_text functions s (Does e) = reply_text ((answered s e).0)
-step_text functions s (Asks a) = told_text (told s a)
-step_text functions s Work = codes "worked " ++ decimal ((worked functions s).0)
-step_text functions s (Nudge k) = codes "nudged"
+step_text functions s x = answer_text (step_answer functions s x)
 
 -- the state that a step leaves
 abbrev pub after_step : List Func → State → Step → State

@@ -7,6 +7,7 @@ ghost use Rattle.cf_script.specs.Faults.{fault_line, fault_text, plan_number};
 use cf_outcome::ShortText;
 use cf_plan::PlanFault;
 use cf_reading::{Part, ReadingFault};
+use std::alloc::AllocError;
 use std::error::Error;
 use std::{fmt, str};
 
@@ -51,6 +52,17 @@ impl From<ReadingFault> for ScriptFault {
             ReadingFault::Read => ScriptFault::Read,
             ReadingFault::NoMemory => ScriptFault::NoMemory,
         }
+    }
+}
+
+/// A growth that was refused.
+impl From<AllocError> for ScriptFault {
+    ghost use Rattle.cf_script.specs.declared.fault.ScriptFault.TheVariants.{NoMemory};
+
+    ghost from_gives = { λ _ fault. fault ≡ NoMemory };
+
+    fn from(_refused: AllocError) -> ScriptFault {
+        ScriptFault::NoMemory
     }
 }
 

@@ -20,8 +20,8 @@ mod printing;
 mod race;
 mod report;
 mod run;
+mod steps;
 mod texts;
-mod work;
 
 pub use cf_plan::PlanFault;
 pub use cf_pool::{Gate, NoGate};
@@ -29,3 +29,5 @@ pub use cf_reading::{Func, Part, ReadingFault, Script, Step, read_race, read_scr
 pub use fault::ScriptFault;
 pub use race::race_script;
 pub use run::run_script;
+pub use steps::{StepAnswer, WORKER, do_step};
+pub use texts::{write_reply, write_settled, write_told};

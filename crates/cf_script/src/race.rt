@@ -47,9 +47,7 @@ fn graph_of<R: Threads + Wait + Sync, G: Gate + Sync>(
     ensures refused { IfErr result (IsRaceRefused workers script) }
 {
     let (plan, room, functions, steps) = script.into_parts();
-    let Ok(events) = events(alloc, &steps) else {
-        return Err(ScriptFault::NoMemory);
-    };
+    let events = events(alloc, &steps)?;
     match race(rt, alloc, plan, room, &events, &functions, gate, workers) {
         Ok(graph) => Ok(graph),
         Err(RaceFault::NoMemory) => Err(ScriptFault::NoMemory),
@@ -81,10 +79,7 @@ fn raced<R: Threads + Wait + Sync, I: Read, G: Gate + Sync>(
     let input = read_input(alloc, r)?;
     let script = read_race(alloc, &input)?;
     let graph = graph_of(rt, alloc, script, gate, workers)?;
-    match lines_of(alloc, graph) {
-        Ok(text) => Ok(text),
-        Err(_) => Err(ScriptFault::NoMemory),
-    }
+    Ok(lines_of(alloc, graph)?)
 }
 
 /// Reads a script to its end, or to the first byte that is too many, races it with 1 to 32 workers on threads of their

@@ -5,8 +5,7 @@ ghost use Rattle.cf_reading.specs.Scripts.{StepFits, StepsFit, extent_of};
 ghost use Rattle.cf_script.specs.Texts.{line};
 ghost use Rattle.cf_script.specs.Reports.{after_step, after_steps, report, stage_text, stages_lines, step_text, steps_lines};
 
-use crate::texts::{write_reply, write_told};
-use crate::work::work;
+use crate::steps::{do_step, write_answer};
 use cf_core::Graph;
 use cf_reading::{Func, Script, Step};
 use std::alloc::{AllocError, Global};
@@ -23,18 +22,9 @@ fn write_step(
         (string_bytes text.new ≡ string_bytes text.old ++ line (step_text functions.now graph.old.state step)) }
     ensures state { graph.new.state ≡ after_step functions.now graph.old.state step }
 {
-    match step {
-        Step::Does(event) => write_reply(text, graph.answer(&event)),
-        Step::Asks(ask) => write_told(text, graph.tell(ask)),
-        Step::Work => {
-            let calls = work(graph, functions);
-            writeln!(text, "worked {calls}")
-        }
-        Step::Nudge(k) => {
-            graph.nudge(k);
-            writeln!(text, "nudged")
-        }
-    }
+    let answer = do_step(graph, functions, step);
+    write_answer(text, answer)?;
+    text.push_str("\n")
 }
 
 /// Does the steps in order, and adds their lines.

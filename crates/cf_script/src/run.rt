@@ -18,10 +18,7 @@ fn ran<R: Read>(alloc: Global, r: &mut R) -> Result<String, ScriptFault>
 {
     let input = read_input(alloc, r)?;
     let script = read_script(alloc, &input)?;
-    match report_of(alloc, script) {
-        Ok(text) => Ok(text),
-        Err(_) => Err(ScriptFault::NoMemory),
-    }
+    Ok(report_of(alloc, script)?)
 }
 
 /// Reads a script to its end, or to the first byte that is too many, runs it, and writes its report.

@@ -12,8 +12,8 @@ taken_more a b c found piece n most so_far more few =
     let part = length-take n piece in
     (found ++ take n piece, Consumes-trans a b c found (take n piece) so_far more, omega arith)
 
-pub returns-then-is_err-clause-taken : goal.returns-then-is_err-clause-taken
-returns-then-is_err-clause-taken g c =
+pub returns-in_err-extend_from_slice-clause-taken : goal.returns-in_err-extend_from_slice-clause-taken
+returns-in_err-extend_from_slice-clause-taken g c =
     let room = length-take c.min.result c.pieces.piece in
     let few : length (vec_items c.pieces.found) + c.in-Ok.n ≤ 1048577 = omega (arith, c.in-Ok.ensures.bound.0) in
     taken_more _ _ _ (vec_items c.pieces.found) c.read.new.buf c.in-Ok.n _ c.pieces.invariant.so_far c.in-Ok.ensures.bytes.0 few

@@ -12,23 +12,23 @@ pub race-requires-clause-steps : goal.race-requires-clause-steps
 race-requires-clause-steps g c κs within =
     let s = c.args.script in
     let parts = c.into_parts-plan.ensures in
-    let evs : c.deref-2.result.now ≡ events_of s.steps = c.deref-2.ensures.value ∙ c.in-Ok.ensures ∙ ap events_of (c.deref.ensures.value ∙ parts.steps) in
+    let evs : c.deref-2.result.now ≡ events_of s.steps = c.deref-2.ensures.value ∙ c.in_ok-events.ensures ∙ ap events_of (c.deref.ensures.value ∙ parts.steps) in
     let said = steps_taken (length s.functions) (opening s) s.steps c.requires.steps parts.said.called parts.said.steps_fit in
     let all : AreSteps (opening s) c.deref-2.result.now = subst (λ es. AreSteps (opening s) es) (sym evs) said in
     search rules
 
-pub returns-in-Ok-race-clause-ends : goal.returns-in-Ok-race-clause-ends
-returns-in-Ok-race-clause-ends g c =
+pub returns-in-Ok-clause-ends : goal.returns-in-Ok-clause-ends
+returns-in-Ok-clause-ends g c =
     let s = c.args.script in
     let parts = c.into_parts-plan.ensures in
-    let end = c.in-Ok-race.graph.state in
+    let end = c.in-Ok.graph.state in
     let es = c.deref-2.result.now in
-    let evs : es ≡ events_of s.steps = c.deref-2.ensures.value ∙ c.in-Ok.ensures ∙ ap events_of (c.deref.ensures.value ∙ parts.steps) in
+    let evs : es ≡ events_of s.steps = c.deref-2.ensures.value ∙ c.in_ok-events.ensures ∙ ap events_of (c.deref.ensures.value ∙ parts.steps) in
     let fns = c.deref-3.ensures.value ∙ parts.functions in
     let opened = ap (λ p. with_room p c.into_parts-plan.result.1) parts.plan ∙ ap (λ n. with_room s.plan n) parts.room in
     let raced : IsRaced (meanings_of func_answer s.functions) (opening s) es c.args.workers end =
     subst (λ fs. IsRaced (meanings_of func_answer fs) (opening s) es c.args.workers end) fns
-    (subst (λ p. IsRaced (meanings_of func_answer c.deref-3.result.now) p es c.args.workers end) opened c.in-Ok-race.ensures.raced) in
+    (subst (λ p. IsRaced (meanings_of func_answer c.deref-3.result.now) p es c.args.workers end) opened c.in-Ok.ensures.raced) in
     let size : log_words (length es) (length s.plan.stages + s.room) c.args.workers ≤ 65535 = search rules in
     ends_of c.args.workers s es end evs c.requires.steps raced size
 
@@ -36,6 +36,6 @@ pub returns-clause-refused : goal.returns-clause-refused
 returns-clause-refused g c =
     let s = c.args.script in
     let parts = c.into_parts-plan.ensures in
-    let evs : c.deref-2.result.now ≡ events_of s.steps = c.deref-2.ensures.value ∙ c.in-Ok.ensures ∙ ap events_of (c.deref.ensures.value ∙ parts.steps) in
+    let evs : c.deref-2.result.now ≡ events_of s.steps = c.deref-2.ensures.value ∙ c.in_ok-events.ensures ∙ ap events_of (c.deref.ensures.value ∙ parts.steps) in
     let size : 65535 < log_words (length c.deref-2.result.now) (length s.plan.stages + s.room) c.args.workers = search rules in
     too_long c.args.workers s c.deref-2.result.now evs c.requires.steps size
