@@ -4,11 +4,8 @@ use Rattle.std.specs.Prelude.{Some, Bool, true, false, cond, eqb, slice_get}
 use Rattle.cf_model.specs.declared.events.Event.{Event}
 use Rattle.cf_model.specs.Calls.{who_of}
 use Rattle.cf_event.specs.Events.{own}
+use Rattle.cf_event.proofs.Events.{none_there}
 use Rattle.cf_history.specs.Verdicts.{IsSkipped}
-
-kept_none : (b : Bool) (x : Event) (ys : List Event) → cond b (x ∷ ys) ys ≡ [] → ys ≡ []
-kept_none true x ys e = absurd (cc)
-kept_none false x ys e = e
 
 kept_some : (b : Bool) (x : Event) (ys : List Event) → b ≡ true → cond b (x ∷ ys) ys ≡ [] → ⊥
 kept_some true x ys is e = cc
@@ -20,7 +17,7 @@ own_there c n [] e at mine none = cc
 own_there c zero (x ∷ rest) e at mine none =
     let same : x ≡ e = cc in
     kept_some (eqb (who_of x) c) x (own c rest) (eq-eqb (who_of x) c (ap who_of same ∙ mine)) none
-own_there c (suc n) (x ∷ rest) e at mine none = own_there c n rest e at mine (kept_none (eqb (who_of x) c) x (own c rest) none)
+own_there c (suc n) (x ∷ rest) e at mine none = own_there c n rest e at mine (none_there c x rest (eqb (who_of x) c) none).1
 
 get_take : (n most : ℕ) (rest : List Event) → n < most → slice_get (take most rest) n ≡ slice_get rest n
 get_take n zero rest l = absurd (omega arith)
