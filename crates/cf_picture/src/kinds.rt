@@ -1,30 +1,5 @@
-//! Forms: their names, and the shapes by which a picture shows their kinds.
+//! The shapes by which a picture shows the kinds of forms.
 use cf_plan::Form;
-
-/// The name of a form, as scripts have it.
-pub(crate) fn name_of(form: Form) -> &'static str {
-    match form {
-        Form::Source => "source",
-        Form::Supply => "supply",
-        Form::RunAsync => "runAsync",
-        Form::Apply => "apply",
-        Form::Accept => "accept",
-        Form::ThenRun => "thenRun",
-        Form::Combine => "combine",
-        Form::AcceptBoth => "acceptBoth",
-        Form::RunBoth => "runBoth",
-        Form::ApplyEither => "applyEither",
-        Form::AcceptEither => "acceptEither",
-        Form::RunEither => "runEither",
-        Form::Compose => "compose",
-        Form::Handle => "handle",
-        Form::WhenComplete => "whenComplete",
-        Form::Exceptionally => "exceptionally",
-        Form::AllOf => "allOf",
-        Form::AnyOf => "anyOf",
-        Form::ExceptionallyCompose => "exceptionallyCompose",
-    }
-}
 
 /// The shape of a form's stages: an ellipse is settled from outside; a box has a function that is called with nothing or
 /// with the value of one source; a hexagon's function is told a fault too; a trapezium waits for all its sources; the first
@@ -39,11 +14,6 @@ pub(crate) fn shape_of(form: Form) -> &'static str {
         Form::ApplyEither | Form::AcceptEither | Form::RunEither | Form::AnyOf => "invhouse",
         Form::Compose | Form::ExceptionallyCompose => "parallelogram",
     }
-}
-
-/// Whether the stage takes the outcome of another that its function names.
-pub(crate) fn composes(form: Form) -> bool {
-    matches!(form, Form::Compose | Form::ExceptionallyCompose)
 }
 
 /// Whether the function takes the values of two sources, so that their order matters to it.

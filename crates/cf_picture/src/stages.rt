@@ -3,7 +3,7 @@ ghost use Rattle.std.specs.Prelude.{◌<◌, length};
 
 use crate::edges::{write_links, write_sources};
 use crate::functions::write_function;
-use crate::kinds::{name_of, shape_of};
+use crate::kinds::shape_of;
 use crate::notes::Notes;
 use crate::standing::{Standing, look_of, standing_of, write_standing};
 use cf_core::Graph;
@@ -121,7 +121,7 @@ fn write_node(text: &mut String, said: Said, standing: Standing) -> Result<(), A
         "  s{} [label=\"{} {}",
         said.number,
         said.number,
-        name_of(said.form)
+        said.form.name()
     )?;
     if let Some(function) = said.function {
         write_function(text, function)?;

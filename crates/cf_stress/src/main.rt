@@ -25,7 +25,6 @@
 
 mod args;
 mod caller;
-mod forms;
 mod hands;
 mod history;
 mod show;

@@ -1,5 +1,4 @@
 //! The text of a closed desk.
-use crate::forms::name_of;
 use crate::hands::{Asked, Refusal};
 use crate::texts::{write_reply, write_stage, write_told};
 use cf_core::Graph;
@@ -167,7 +166,7 @@ fn write_attach(
     of: Of,
     function: Option<u16>,
 ) -> Result<(), AllocError> {
-    let name = name_of(form);
+    let name = form.name();
     write!(text, "attach {name}")?;
     write_sources(text, of)?;
     match function {

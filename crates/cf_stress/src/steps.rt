@@ -1,10 +1,9 @@
 //! The steps that callers do.
-use crate::forms::form_named;
 use anyhow::{Result, anyhow};
 use cf_desk::Call;
 use cf_model::Ask;
 use cf_outcome::Value;
-use cf_plan::{Answer, Of};
+use cf_plan::{Answer, Form, Of};
 use serde_json::Value as Json;
 use std::alloc::Global;
 
@@ -78,7 +77,7 @@ fn settling(word: &str, stage: u16, handed: &Json) -> Option<Call> {
 
 /// `["attach",form,sources]`, with a function's number behind them if it has one.
 fn attach(form: &Json, json: &Json) -> Option<Call> {
-    let form = form_named(form.as_str()?)?;
+    let form = Form::named(form.as_str()?)?;
     let sources = of(json.get(2usize)?)?;
     let function = match json.get(3usize) {
         None => None,
