@@ -1,6 +1,7 @@
 -- What the verdict on a script is, and what is said of one that is refused.
 use Rattle.std.specs.Prelude.{◌≡◌, List, [], ◌∷◌, Option, Some, None, Result, Ok, Err, IsOk}
 use Rattle.cf_reading.specs.declared.fault.ReadingFault.{ReadingFault}
+use Rattle.cf_reading.specs.Scripts.{Script}
 use Rattle.cf_explain.specs.declared.verdict.Refusal.{Refusal}
 use Rattle.cf_explain.specs.declared.verdict.Verdict.{Verdict}
 use Rattle.cf_explain.specs.declared.verdict.Verdict.TheVariants.{Right, Refused, Odd}
@@ -11,6 +12,10 @@ use Rattle.cf_explain.specs.Places.{area_of}
 abbrev pub Tells : {A : Type 0} → Option Refusal → Result A ReadingFault → Type 0
 Tells None said = IsOk said
 Tells (Some refusal) said = (said ≡ Err refusal.fault) × (refusal.place.area ≡ area_of refusal.fault)
+
+-- what bytes say that are refused for this fault
+abbrev pub refused_for : ReadingFault → Result Script ReadingFault
+refused_for fault = Err fault
 
 -- the verdict, by the refusal and by what is remarked
 abbrev pub verdict_of : {A B : Type 0} → Option A → List B → Verdict

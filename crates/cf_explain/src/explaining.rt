@@ -1,19 +1,19 @@
 //! The explanation of a script.
 ghost use Rattle.std.specs.Prelude.{IfOk};
-ghost use Rattle.cf_reading.specs.Reading.{reading};
-ghost use Rattle.cf_explain.specs.Places.{IsIn};
-ghost use Rattle.cf_explain.specs.Verdicts.{Tells};
+ghost use Rattle.serde_json.specs.View.{view};
+ghost use Rattle.cf_reading.specs.Reading.{reading, script_said};
+ghost use Rattle.cf_explain.specs.Verdicts.{Tells, refused_for};
 
 use crate::behind::remark_behind;
 use crate::idle::remark_idle;
 use crate::place::{Place, area_of};
-use crate::refusing::{Wrong, found, wrong_at};
+use crate::refusing::{Wrong, found};
 use crate::remark::Remark;
 use crate::twice::remark_twice;
 use crate::unread::remark_unread;
 use crate::verdict::{Explanation, Refusal};
 use crate::why::Why;
-use cf_reading::{ReadingFault, Script, read_script};
+use cf_reading::{MAX_BYTES, ReadingFault, Script, script_of};
 use serde_json::Value as Json;
 use std::alloc::{AllocError, Global};
 use std::str;
@@ -25,20 +25,46 @@ use std::str;
 pub fn explain(alloc: Global, bytes: &[u8]) -> Result<Explanation, AllocError>
     ensures verdict { IfOk result (λ e. Tells e.refusal (reading bytes.now)) }
 {
-    match read_script(alloc, bytes) {
+    if bytes.len() > MAX_BYTES {
+        return Ok(unread(alloc, ReadingFault::TooLong, Why::TooLong));
+    }
+    match Json::from_slice(alloc, bytes) {
+        Ok(json) => explain_json(alloc, bytes, &json),
+        Err(error) if error.is_memory() => Err(AllocError),
+        Err(error) => Ok(unread(alloc, ReadingFault::NotJson, Why::NotJson(error))),
+    }
+}
+
+/// That bytes are refused whole, before anything in them is looked at.
+fn unread(alloc: Global, fault: ReadingFault, why: Why) -> Explanation
+    ensures { Tells result.refusal (refused_for fault) }
+{
+    let place = Place::of(area_of(fault));
+    let refusal = Refusal { fault, place, why };
+    Explanation {
+        refusal: Some(refusal),
+        remarks: Vec::new(alloc),
+    }
+}
+
+/// What is wrong with a script that is this JSON value, and what is odd about it as these bytes write it.
+fn explain_json(alloc: Global, bytes: &[u8], json: &Json) -> Result<Explanation, AllocError>
+    ensures verdict { IfOk result (λ e. Tells e.refusal (script_said (view json.now))) }
+{
+    match script_of(alloc, json) {
         Ok(script) => Ok(Explanation {
             refusal: None,
-            remarks: remarks_of(alloc, bytes, script)?,
+            remarks: remarks_of(alloc, bytes, json, script)?,
         }),
         Err(ReadingFault::NoMemory) => Err(AllocError),
         Err(fault) => {
-            let mut remarks = Vec::new(alloc);
             let place = Place::of(area_of(fault));
-            let found = refused(alloc, bytes, fault, place, &mut remarks)?;
-            let (place, why) = match found {
+            let (place, why) = match found(alloc, fault, place, json)? {
                 Some(Wrong { place, why }) => (place, why),
                 None => (place, Why::Unsaid),
             };
+            let mut remarks = Vec::new(alloc);
+            remark_written(alloc, bytes, json, &mut remarks)?;
             Ok(Explanation {
                 refusal: Some(Refusal { fault, place, why }),
                 remarks,
@@ -47,40 +73,18 @@ pub fn explain(alloc: Global, bytes: &[u8]) -> Result<Explanation, AllocError>
     }
 }
 
-/// What is odd about a script, whose bytes are JSON.
-fn remarks_of(alloc: Global, bytes: &[u8], script: Script) -> Result<Vec<Remark>, AllocError> {
-    let mut remarks = Vec::new(alloc);
-    let Ok(json) = Json::from_slice(alloc, bytes) else {
-        return Err(AllocError);
-    };
-    remark_written(alloc, bytes, &json, &mut remarks)?;
-    remark_behind(alloc, &json, &mut remarks)?;
-    remark_idle(alloc, script, &mut remarks)?;
-    Ok(remarks)
-}
-
-/// What is wrong in this part of bytes that are refused for this fault; remarks what is odd about them if they are JSON.
-fn refused(
+/// What is odd about a script that is right.
+fn remarks_of(
     alloc: Global,
     bytes: &[u8],
-    fault: ReadingFault,
-    place: Place,
-    remarks: &mut Vec<Remark>,
-) -> Result<Option<Wrong>, AllocError>
-    ensures { IfOk result (IsIn place.area) }
-{
-    if fault == ReadingFault::TooLong {
-        return Ok(wrong_at(place, Why::TooLong));
-    }
-    match Json::from_slice(alloc, bytes) {
-        Ok(json) => {
-            let found = found(alloc, fault, place, &json)?;
-            remark_written(alloc, bytes, &json, remarks)?;
-            Ok(found)
-        }
-        Err(error) if error.is_memory() => Err(AllocError),
-        Err(error) => Ok(wrong_at(place, Why::NotJson(error))),
-    }
+    json: &Json,
+    script: Script,
+) -> Result<Vec<Remark>, AllocError> {
+    let mut remarks = Vec::new(alloc);
+    remark_written(alloc, bytes, json, &mut remarks)?;
+    remark_behind(alloc, json, &mut remarks)?;
+    remark_idle(alloc, script, &mut remarks)?;
+    Ok(remarks)
 }
 
 /// Remarks what is odd about a script as it is written: members given twice, and members that nobody reads.

@@ -1,10 +1,11 @@
 //! What is wrong with a script, in words: why `cf run` would refuse it, where that sits, and what would be right there;
 //! and of a script that would be run what nobody reads in it, and which steps and limits can never do anything.
 //!
-//! The verdict is that of `cf_reading::read_script`, which is asked first: `explain` is proved to say that a script is
-//! refused exactly where its bytes are, and for the same fault. Only then the JSON value is walked, to find the member by
+//! The verdict is that of `cf_reading`, which is asked first: `explain` is proved to say that a script is refused exactly
+//! where `read_script` refuses its bytes, and for the same fault. Only then the JSON value is walked, to find the member by
 //! which the fault came (`refusing.rt` and what it calls): a place in the part that the fault names, which is proved too. So a walk
-//! that went astray would name another member there, and never another verdict.
+//! that went astray would name another member there, and never another verdict. The bytes are made a JSON value once, and
+//! their text is gone over once more for what that value has lost: members that are given twice (`twice.rt`).
 //!
 //! What may stand where, and by which names, is in tables: functions, answers, kinds and members in `vocabulary.rt`, the
 //! steps in `steps.rt`.
