@@ -7,13 +7,12 @@ use Rattle.cf_outcome.specs.declared.outcome.Value.TheVariants.{Nil, Int}
 use Rattle.cf_plan.specs.declared.forms.Answer.{Answer}
 use Rattle.cf_plan.specs.declared.forms.Answer.TheVariants.{Give, Throw, Link}
 use Rattle.cf_plan.specs.declared.forms.Form.{Form}
-use Rattle.cf_plan.specs.declared.forms.Form.TheVariants.{Source, Supply, RunAsync, Apply, Accept, ThenRun, Combine, AcceptBoth, RunBoth, ApplyEither, AcceptEither, RunEither, Compose, Handle, WhenComplete, Exceptionally, AllOf, AnyOf, ExceptionallyCompose}
 use Rattle.cf_plan.specs.declared.forms.Of.{Of}
 use Rattle.cf_plan.specs.declared.forms.Of.TheVariants.{None as NoSource, One, Two}
 use Rattle.cf_model.specs.declared.events.Event.{Event}
 use Rattle.cf_model.specs.declared.events.Event.TheVariants.{Complete as Completes, Fail as Fails, Cancel as Cancels, Claim as Claims, Finish as Finishes, Tick as Ticks, Attach as Attaches}
 use Rattle.cf_event.specs.Words.{IsEvent, count_of, first_of, second_of}
-use Rattle.cf_plan.specs.Naming.{form_number}
+use Rattle.cf_plan.proofs.NamingLemmas.{form_back}
 use Rattle.cf_c.specs.Answers.{Gives}
 use Rattle.cf_c.specs.Plans.{as_function, event_with, form_of, function_of, parts_with, sources_with}
 use Rattle.cf_c.specs.Values.{answer_of, as_answer, as_value, value_of}
@@ -29,27 +28,6 @@ answer_back : (a : Answer) → answer_of (as_answer a) ≡ a
 answer_back (Give v) = ap Give (value_back v)
 answer_back (Throw code) = refl
 answer_back (Link stage) = refl
-
-form_back : (form : Form) → form_of (form_number form) ≡ Some form
-form_back Source = refl
-form_back Supply = refl
-form_back RunAsync = refl
-form_back Apply = refl
-form_back Accept = refl
-form_back ThenRun = refl
-form_back Combine = refl
-form_back AcceptBoth = refl
-form_back RunBoth = refl
-form_back ApplyEither = refl
-form_back AcceptEither = refl
-form_back RunEither = refl
-form_back Compose = refl
-form_back Handle = refl
-form_back WhenComplete = refl
-form_back Exceptionally = refl
-form_back AllOf = refl
-form_back AnyOf = refl
-form_back ExceptionallyCompose = refl
 
 sources_back : (of : Of) → sources_with (count_of of) (first_of of) (second_of of) ≡ Some of
 sources_back NoSource = refl

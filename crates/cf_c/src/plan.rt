@@ -8,7 +8,7 @@ use crate::code::{Code, plan_code};
 use crate::handle::CfHandle;
 use crate::handle::object::Object;
 use crate::handle::with_handle::{ask, code_of, fill, give, tell};
-use crate::values::attaching::{form_of, function_of};
+use crate::values::attaching::function_of;
 use crate::values::{CfValue, value_of};
 use cf_plan::{Form, LimitKind, PlanBuilder};
 use std::alloc::Global;
@@ -43,7 +43,7 @@ pub extern "C" fn cf_builder_stage(
 ) -> u32
     ensures { Tells (AddsStage (form_of form) of.now (function_of function)) builder.old.inner.held builder.new.inner.held result stage.old stage.new }
 {
-    let form = form_of(form);
+    let form = Form::numbered(form);
     let function = function_of(function);
     tell!(alloc, builder, stage, held => add_stage(&mut held, form, of, function))
 }

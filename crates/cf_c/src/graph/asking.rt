@@ -1,6 +1,5 @@
 //! What a graph behind a handle is asked.
-ghost use Rattle.std.specs.Prelude.{◌≡◌, ◌<◌, ◌↔◌, All, IsTrue, MatchOption, None, Some, if◌then◌else◌};
-ghost use Rattle.cf_plan.specs.Plans.{sources_of};
+ghost use Rattle.std.specs.Prelude.{◌≡◌, MatchOption, None, Some, if◌then◌else◌};
 ghost use Rattle.cf_c.specs.declared.code.Code.TheVariants.{NoStage};
 ghost use Rattle.cf_model.specs.Ranges.{EventFits};
 ghost use Rattle.cf_c.specs.Graphs.{Answers, Asked, IsRefused, Restarts, function_told, now_told, outcome_told, ready_told, stages_told, turns_told};
@@ -10,7 +9,7 @@ use crate::handle::object::Object;
 use crate::values::{CfNow, CfOutcome, CfReply, as_now, as_outcome, as_reply};
 use cf_model::Event;
 use cf_outcome::Value;
-use cf_plan::{Of, fits_form};
+use cf_plan::fits_form;
 
 /// Hands a graph an event, unless there is a reason why there is none.
 pub(crate) fn answer(held: &mut Object, event: Result<Event, Code>) -> Result<CfReply, Code>
@@ -46,7 +45,7 @@ fn refusal_of(stages: u16, event: &Event) -> Option<Code>
             function,
             ..
         } => {
-            if !are_below(of, stages) {
+            if !of.are_below(stages) {
                 return Some(Code::NoStage);
             }
             if !fits_form(form, of.count(), function.is_some()) {
@@ -144,15 +143,4 @@ fn unless(there: bool) -> Option<Code>
     ensures { result ≡ (if there then None else Some NoStage) }
 {
     if there { None } else { Some(Code::NoStage) }
-}
-
-/// Whether these stages are below so many.
-fn are_below(of: Of, stages: u16) -> bool
-    ensures { IsTrue result ↔ All (λ j. j < stages) (sources_of of) }
-{
-    match of {
-        Of::None => true,
-        Of::One(a) => a < stages,
-        Of::Two(a, b) => a < stages && b < stages,
-    }
 }

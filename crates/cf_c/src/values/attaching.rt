@@ -1,47 +1,12 @@
 //! Forms, sources and functions as C has them, and the stage that they attach.
 ghost use Rattle.std.specs.Prelude.{◌≡◌};
-ghost use Rattle.cf_plan.specs.Naming.{form_number};
 ghost use Rattle.cf_c.specs.Desks.{call_with};
-ghost use Rattle.cf_c.specs.Plans.{as_function, attach_event, event_with, form_of, function_of, parts_of, parts_with, sources_as, sources_with};
+ghost use Rattle.cf_c.specs.Plans.{as_function, attach_event, event_with, function_of, parts_of, parts_with, sources_as, sources_with};
 
 use crate::code::Code;
 use cf_desk::Call;
 use cf_model::Event;
 use cf_plan::{Form, Of};
-
-/// All forms, by their numbers.
-const FORMS: [Form; 19] = [
-    Form::Source,
-    Form::Supply,
-    Form::RunAsync,
-    Form::Apply,
-    Form::Accept,
-    Form::ThenRun,
-    Form::Combine,
-    Form::AcceptBoth,
-    Form::RunBoth,
-    Form::ApplyEither,
-    Form::AcceptEither,
-    Form::RunEither,
-    Form::Compose,
-    Form::Handle,
-    Form::WhenComplete,
-    Form::Exceptionally,
-    Form::AllOf,
-    Form::AnyOf,
-    Form::ExceptionallyCompose,
-];
-
-/// The form of a number.
-pub(crate) fn form_of(form: u32) -> Option<Form>
-    ensures { result ≡ form_of form }
-{
-    if (form as usize) < FORMS.len() {
-        Some(FORMS[form as usize])
-    } else {
-        None
-    }
-}
 
 /// A function's number, or none where it is above 65,535.
 pub(crate) fn function_of(function: u32) -> Option<u16>
@@ -62,13 +27,6 @@ pub(crate) fn as_function(function: Option<u16>) -> u32
         None => u32::MAX,
         Some(function) => u32::from(function),
     }
-}
-
-/// The number of a form.
-pub(crate) fn form_number(form: Form) -> u32
-    ensures { result ≡ form_number form }
-{
-    form as u32
 }
 
 /// The sources of an attached stage, of which there are at most two.
@@ -107,7 +65,7 @@ pub struct AttachParts {
 fn parts_of(form: u32, of: &[u16], function: u32) -> Result<AttachParts, Code>
     ensures { result ≡ parts_of form of.now function }
 {
-    parts_with(form_of(form), sources_as(of), function)
+    parts_with(Form::numbered(form), sources_as(of), function)
 }
 
 /// The same of a form and sources that were looked up.

@@ -6,14 +6,12 @@ ghost use Rattle.cf_c.specs.EventWords.{GivesWord, HasWord, IsWordOf, as_event, 
 
 use crate::code::Code;
 use crate::handle::with_handle::give;
-use crate::values::attaching::{
-    as_function, event_with, form_number, form_of, parts_with, sources_with,
-};
+use crate::values::attaching::{as_function, event_with, parts_with, sources_with};
 use crate::values::{CfAnswer, CfValue, answer_of, as_answer, as_value, value_of};
 use cf_event::{decode, encode, is_event};
 use cf_model::Event;
 use cf_outcome::Value;
-use cf_plan::{Answer, Of};
+use cf_plan::{Answer, Form, Of};
 
 /// A changing call of a caller: complete (0), fail (1), cancel (2), claim (3), finish (4), tick (5), attach (6).
 ///
@@ -86,7 +84,7 @@ pub(crate) fn event_of(e: CfEvent) -> Result<Event, Code>
         5 => Ok(Event::Tick { who, moment: e.now }),
         6 => {
             let of = sources_with(e.sources, e.first, e.second);
-            event_with(who, parts_with(form_of(e.form), of, e.function))
+            event_with(who, parts_with(Form::numbered(e.form), of, e.function))
         }
         _ => Err(Code::NoSuchNumber),
     }
@@ -121,7 +119,7 @@ pub(crate) fn as_event(e: Event) -> CfEvent
             of,
             function,
         } => attaching(
-            form_number(form),
+            u32::from(form.number()),
             of,
             as_function(function),
             bare(6, who, 0),
