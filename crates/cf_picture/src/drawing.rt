@@ -15,10 +15,7 @@ pub fn draw_script(alloc: Global, bytes: &[u8]) -> Result<String, ScriptFault>
     ensures { Draws (reading bytes.now) result }
 {
     let script = read_script(alloc, bytes)?;
-    match drawing_of(alloc, script) {
-        Ok(text) => Ok(text),
-        Err(_) => Err(ScriptFault::NoMemory),
-    }
+    Ok(drawing_of(alloc, script)?)
 }
 
 /// The picture of a script.

@@ -8,10 +8,8 @@ use crate::notes::Notes;
 use cf_core::Graph;
 use cf_plan::Plan;
 use cf_reading::{Func, Script, Step};
+use cf_script::{StepAnswer, do_step};
 use std::alloc::{AllocError, Global};
-
-/// The caller that does a script's work.
-const WORKER: u8 = 63;
 
 /// A script whose steps are done.
 #[derive(Drop)]
@@ -49,19 +47,13 @@ pub(crate) fn run_of(alloc: Global, script: Script) -> Result<RunScript, AllocEr
 }
 
 /// Does a step, and notes what it did to a claim.
-fn do_step(graph: &mut Graph, functions: &[Func], notes: &mut Notes, step: Step)
+fn do_one(graph: &mut Graph, functions: &[Func], notes: &mut Notes, step: Step)
     requires { StepFits (length graph.old.state.plan.stages) step }
     ensures { graph.new.state ≡ after_step functions.now graph.old.state step }
 {
-    match step {
-        Step::Does(event) => {
-            let reply = graph.answer(&event);
-            notes.note(event, reply);
-        }
-        Step::Work => {
-            let _calls = graph.work(WORKER, functions);
-        }
-        Step::Asks(_) | Step::Nudge(_) => {}
+    let answer = do_step(graph, functions, step);
+    if let (Step::Does(event), StepAnswer::Replied(reply)) = (step, answer) {
+        notes.note(event, reply);
     }
 }
 
@@ -71,6 +63,6 @@ fn do_steps(graph: &mut Graph, functions: &[Func], notes: &mut Notes, steps: &[S
     ensures { graph.new.state ≡ after_steps functions.now graph.old.state steps.now }
 {
     'steps: for step in steps {
-        do_step(graph, functions, notes, *step);
+        do_one(graph, functions, notes, *step);
     }
 }

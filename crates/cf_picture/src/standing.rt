@@ -5,10 +5,8 @@ use crate::notes::Note;
 use cf_core::Graph;
 use cf_model::Claimed;
 use cf_outcome::{Cause, Outcome};
+use cf_script::WORKER;
 use std::alloc::AllocError;
-
-/// The caller that asks whether a stage is ready, once all steps are done.
-const ASKER: u8 = 63;
 
 /// What became of a stage.
 #[derive(Clone, Copy, Debug, PartialEq, Eq)]
@@ -24,15 +22,15 @@ pub(crate) enum Standing {
     Settled(Outcome),
 }
 
-/// What has become of a stage, of which this was noted. Whether it is ready is asked by a claim, which changes nothing for
-/// any other stage.
+/// What has become of a stage, of which this was noted. Whether it is ready is asked by a claim of the caller that
+/// does the work, which changes nothing for any other stage.
 pub(crate) fn standing_of(graph: &mut Graph, note: Note, i: u16) -> Standing
     requires { i < length graph.old.state.plan.stages }
 {
     if let Some(o) = graph.outcome(i) {
         return Standing::Settled(o);
     }
-    match graph.claim(ASKER, i) {
+    match graph.claim(WORKER, i) {
         Claimed::Granted(_) => Standing::Ready,
         Claimed::NotReady => Standing::Pending,
         Claimed::Taken | Claimed::Settled => {
