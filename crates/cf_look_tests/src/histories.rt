@@ -1,0 +1,7 @@
+//! Tests of verdicts on histories.
+//!
+//! There is one good history of two callers over a source and what is applied to it. A row changes one thing in it, and has
+//! the verdict on what that leaves.
+mod changes;
+mod good;
+mod rows;
