@@ -1,5 +1,5 @@
 //! A change of the good history, and the verdict on what it leaves.
-use crate::good::{history, plan};
+use crate::histories::good::{history, plan};
 use cf_history::{History, Record, Verdict, check};
 use cf_outcome::Outcome;
 use std::alloc::{AllocError, Global};

@@ -1,7 +1,7 @@
 //! Each row of each table is explained as it says.
-use crate::odd::{LIMITS, MEMBERS, RIGHT, STEPS};
-use crate::wrong::{FUNCTIONS, JSON, LIMIT_SHAPES, PARTS, PLANS, STAGES};
-use crate::wrong_steps::{ATTACHES, ELEMENTS, WORDS};
+use crate::explanations::odd::{LIMITS, MEMBERS, RIGHT, STEPS};
+use crate::explanations::wrong::{FUNCTIONS, JSON, LIMIT_SHAPES, PARTS, PLANS, STAGES};
+use crate::explanations::wrong_steps::{ATTACHES, ELEMENTS, WORDS};
 use cf_explain::{Verdict, explain};
 use cf_reading::read_script;
 use std::alloc::{AllocError, Global};

@@ -1,5 +1,5 @@
 //! Scripts that are refused, but for their steps.
-use crate::checks::Row;
+use crate::explanations::checks::Row;
 
 /// What is no JSON.
 pub(crate) const JSON: [Row; 4] = [

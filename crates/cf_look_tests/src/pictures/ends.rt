@@ -1,5 +1,5 @@
 //! Scripts whose stages end in each way, or do not, and their pictures.
-use crate::checks::Row;
+use crate::pictures::checks::Row;
 
 /// What stages end as.
 pub(crate) const ENDS: [Row; 4] = [

@@ -1,5 +1,5 @@
 //! Scripts with each form and each function, and their pictures.
-use crate::checks::Row;
+use crate::pictures::checks::Row;
 
 /// Nothing, and the forms that have no source.
 pub(crate) const NO_SOURCE: [Row; 5] = [

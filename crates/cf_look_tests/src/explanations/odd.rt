@@ -1,5 +1,5 @@
 //! Scripts that are read, and odd or right.
-use crate::checks::Row;
+use crate::explanations::checks::Row;
 
 /// Members that nobody reads, or given twice.
 pub(crate) const MEMBERS: [Row; 7] = [

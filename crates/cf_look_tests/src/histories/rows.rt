@@ -1,6 +1,6 @@
 //! The changes, and the verdict on each.
-use crate::changes::{Change, judge};
-use crate::good::{
+use crate::histories::changes::{Change, judge};
+use crate::histories::good::{
     CLAIM, COMPLETE, FINISH, GRANTED, NOT_READY, WON, did, gives, now, outcome, word,
 };
 use cf_history::{Misfit, Record, Unfit, Verdict};

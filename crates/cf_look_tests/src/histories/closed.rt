@@ -1,5 +1,5 @@
 //! What a closed desk hands out, as an account that is judged.
-use crate::good::{plan, word};
+use crate::histories::good::{plan, word};
 use cf_desk::Closed;
 use cf_example::take_turns;
 use cf_history::{Caller, History, Record, Verdict, check};

@@ -1,5 +1,5 @@
 //! Scripts with a step that is none.
-use crate::checks::Row;
+use crate::explanations::checks::Row;
 
 /// The words of steps.
 pub(crate) const WORDS: [Row; 6] = [

@@ -1,6 +1,6 @@
 //! Each row of each table is drawn, or refused, as it says.
-use crate::ends::{ENDS, LIMITS, LINKS, LOOKS};
-use crate::forms::{BOTH, FUNCTIONS, NO_SOURCE, ONE_SOURCE, WIDE};
+use crate::pictures::ends::{ENDS, LIMITS, LINKS, LOOKS};
+use crate::pictures::forms::{BOTH, FUNCTIONS, NO_SOURCE, ONE_SOURCE, WIDE};
 use cf_picture::draw_script;
 use cf_script::{Part, PlanFault, ScriptFault};
 use std::alloc::{AllocError, Global};

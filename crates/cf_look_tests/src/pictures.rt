@@ -1,0 +1,4 @@
+//! Tests of the pictures of scripts.
+mod checks;
+mod ends;
+mod forms;
