@@ -201,7 +201,7 @@ uint32_t cf_restart(cf_handle *graph);
 uint32_t cf_desk_open(cf_handle *plan, cf_handle *callers, size_t n, uint16_t log, uint16_t calls);
 
 /* The same with room for so many stages that callers attach later, whose functions have numbers below `functions`, and at most 4,095;
- * those of the plan have to be below it, too. After CF_CALLS: CF_ROOM, and then CF_FUNCTIONS or CF_NO_MEMORY, in no order. */
+ * those of the plan have to be below it, too. After CF_CALLS: CF_ROOM, CF_FUNCTIONS, CF_NO_MEMORY, the first that holds in this order. */
 uint32_t cf_desk_open_growing(cf_handle *plan, cf_handle *callers, size_t n, uint16_t log, uint16_t calls, uint16_t room,
                               uint32_t functions);
 

@@ -43,12 +43,16 @@ abbrev pub DidHasWord : ℕ × Event → Type 0
 DidHasWord d = HasWord d.1
 
 -- a record at a place
-pub call_at : (caller : ℕ) (records : List Rec) (i : ℕ) (r : Rec) → All DidHasWord (dids caller records) → slice_get records i ≡ Some r → CallHasWord caller r
+call_at : (caller : ℕ) (records : List Rec) (i : ℕ) (r : Rec) → All DidHasWord (dids caller records) → slice_get records i ≡ Some r → CallHasWord caller r
 call_at caller [] i r all at = cc
 call_at caller (Did place call reply ∷ records) zero r all at = let same : Did place call reply ≡ r = cc in subst (CallHasWord caller) same (All-head DidHasWord (place, event_by caller call) (dids caller records) all)
 call_at caller (Saw place ask answer ∷ records) zero r all at = let same : Saw place ask answer ≡ r = cc in subst (CallHasWord caller) same tt
 call_at caller (Did place call reply ∷ records) (suc i) r all at = call_at caller records i r (All-tail DidHasWord (place, event_by caller call) (dids caller records) all) at
 call_at caller (Saw place ask answer ∷ records) (suc i) r all at = call_at caller records i r all at
+
+-- the record of a pass at a place
+pub call_of : (k : KeptPass) (i : ℕ) (r : Rec) → CallsHaveWords k → slice_get k.records.items i ≡ Some r → CallHasWord k.caller r
+call_of k i r h at = call_at k.caller k.records.items i r h.calls at
 
 -- those of a desk's history, and of passes that fit it
 pub history_has : (t : Setting) (history : List Event) → AreLogged t history → All HasWord history
@@ -61,7 +65,7 @@ placed_has n (e ∷ events) h = All-cons DidHasWord (suc n, e) (placed (suc n) e
 pub passes_have : (plan : Planned) (history : List Event) (passes : List KeptPass) → All HasWord history → All (IsKeptFit plan history) (map pass_kept passes) → All CallsHaveWords passes
 passes_have plan history [] h fit = All-nil CallsHaveWords
 passes_have plan history (k ∷ passes) h fit = All-cons CallsHaveWords k passes
-    (subst (All DidHasWord) (sym (All-head (IsKeptFit plan history) (pass_kept k) (map pass_kept passes) fit).did) (All-filter (λ e. eqb (who_of e.1) k.caller) DidHasWord (placed 0 history) (placed_has 0 history h)))
+    (record { calls = subst (All DidHasWord) (sym (All-head (IsKeptFit plan history) (pass_kept k) (map pass_kept passes) fit).did) (All-filter (λ e. eqb (who_of e.1) k.caller) DidHasWord (placed 0 history) (placed_has 0 history h)) })
     (passes_have plan history passes h (All-tail (IsKeptFit plan history) (pass_kept k) (map pass_kept passes) fit))
 
 -- one more

@@ -4,9 +4,8 @@ use Rattle.std.specs.Arc.{arc_value}
 use Rattle.std.specs.Global.{Box}
 use Rattle.cf_plan.specs.Plans.{Planned, with_room}
 use Rattle.cf_desk.specs.declared.faults.OpenFault.{OpenFault}
-use Rattle.cf_desk.specs.declared.faults.OpenFault.TheVariants as opening
 use Rattle.cf_desk.specs.declared.row.Setting.{Setting}
-use Rattle.cf_desk.specs.Faults.{AreCounts, IsDueToGrow, IsDueToOpen, IsOverfull}
+use Rattle.cf_desk.specs.Faults.{AreCounts, IsDueToGrow, IsDueToOpen}
 use Rattle.cf_desk.specs.Functions.{function_bound}
 use Rattle.cf_desk.specs.Views.{Desk, Pass, opened}
 use Rattle.cf_c.specs.Answers.{Codes}
@@ -76,13 +75,12 @@ setting_of p callers = record { plan = p; callers = callers; functions = functio
 abbrev pub is_due : ℕ → ℕ → Planned → ℕ → OpenFault → Type 0
 is_due log calls p callers = IsDueToOpen callers log calls
 
--- with room, and so many functions; memory may be refused before the functions are looked at
+-- with room, and so many functions
 abbrev pub growing_of : ℕ → ℕ → Planned → ℕ → Setting
 growing_of room functions p callers = record { plan = with_room p room; callers = callers; functions = functions }
 
 abbrev pub is_due_to_grow : ℕ → ℕ → ℕ → ℕ → Planned → ℕ → OpenFault → Type 0
-is_due_to_grow log calls room functions p callers opening.NoMemory = AreCounts callers log calls × (¬ IsOverfull p.stages room)
-is_due_to_grow log calls room functions p callers fault = IsDueToGrow p.stages callers log calls room functions fault
+is_due_to_grow log calls room functions p callers = IsDueToGrow p.stages callers log calls room functions
 
 -- the plan stays behind its handle, and C gets the code
 pub record IsAskedFor (Opens : Object → List CfHandle → Result (Unit {0}) Code → List CfHandle → Type 0) (plan : Object) (kept : Option Object) (code : ℕ) (old new : List CfHandle) : Type 0 where

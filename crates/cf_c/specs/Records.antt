@@ -62,8 +62,8 @@ CallHasWord caller (Did place call reply) = HasWord (event_by caller call)
 CallHasWord caller (Saw place ask answer) = Unit {0}
 
 -- those of a pass do
-abbrev pub CallsHaveWords : KeptPass → Type 0
-CallsHaveWords k = All (λ (d : ℕ × Event). HasWord d.1) (dids k.caller k.records.items)
+pub record CallsHaveWords (k : KeptPass) : Type 0 where
+  pub calls : All (λ (d : ℕ × Event). HasWord d.1) (dids k.caller k.records.items)
 
 -- what the first of these passes that is this caller's has kept
 abbrev pub kept_of : List KeptPass → ℕ → Option KeptPass

@@ -254,7 +254,7 @@ fn graph_of(alloc: Global, held: &Object, room: u16) -> Result<Object, Code>
 }
 
 /// Whether the stages with so much room, or their edges with two for each place, are too many.
-pub(crate) fn is_overfull(plan: &Plan, room: u16) -> bool
+fn is_overfull(plan: &Plan, room: u16) -> bool
     ensures { IsTrue result ↔ IsOverfull plan.now.stages room }
 {
     plan.stages() as usize + room as usize > MAX_STAGES

@@ -1,7 +1,6 @@
 //! What a closed desk tells, and its records as C has them.
 ghost use Rattle.std.specs.Prelude.{◌≡◌, length, option_and_then, option_copied, option_map, slice_get};
 ghost use Rattle.cf_event.specs.Words.{word_of};
-ghost use Rattle.cf_desk.specs.Calls.{event_by};
 ghost use Rattle.cf_c.specs.Records.{CallHasWord, CallsHaveWords, as_record, bare, count_told, kept_of, record_of, with_ask, with_told};
 
 use crate::handle::object::ClosedDesk;
@@ -9,8 +8,8 @@ use crate::values::{
     CfNow, CfOutcome, CfReply, CfValue, as_now, as_outcome, as_reply, as_value, no_reply,
 };
 use cf_core::Graph;
-use cf_desk::{Ask, Call, Kept, Rec, Told};
-use cf_event::{Event, encode};
+use cf_desk::{Ask, Kept, Rec, Told, event_by};
+use cf_event::encode;
 use cf_outcome::Value;
 
 /// What a caller was told: a changing call as the word of its event (kind 0), with its reply, or a look (1).
@@ -96,7 +95,7 @@ fn count_told(kept: &Kept) -> u16
 }
 
 /// The record of a pass at a place, if there is one.
-#[tactic(auto, using(crate::proofs::ClosedLemmas::call_at))]
+#[tactic(auto, using(crate::proofs::ClosedLemmas::call_of))]
 fn record_of(kept: &Kept, at: u16) -> Option<CfRecord>
     requires { CallsHaveWords kept.now }
     ensures { result ≡ record_of at kept.now }
@@ -186,26 +185,6 @@ fn bare(kind: u32, place: u16) -> CfRecord
         now: CfNow {
             kind: 0,
             outcome: nothing,
-        },
-    }
-}
-
-/// A caller's call as an event.
-fn event_by(who: u8, call: Call) -> Event
-    ensures { result ≡ event_by who call }
-{
-    match call {
-        Call::Complete(stage, value) => Event::Complete { who, stage, value },
-        Call::Fail(stage, code) => Event::Fail { who, stage, code },
-        Call::Cancel(stage) => Event::Cancel { who, stage },
-        Call::Claim(stage) => Event::Claim { who, stage },
-        Call::Finish(stage, answer) => Event::Finish { who, stage, answer },
-        Call::Tick(moment) => Event::Tick { who, moment },
-        Call::Attach(form, of, function) => Event::Attach {
-            who,
-            form,
-            of,
-            function,
         },
     }
 }

@@ -1,14 +1,12 @@
 //! How desks are opened.
-ghost use Rattle.std.specs.Prelude.{◌≡◌, ◌≢◌, ◌↔◌, All, IfErr, IfOk, IsTrue, MatchOption, length, vec_len};
+ghost use Rattle.std.specs.Prelude.{◌≡◌, ◌↔◌, All, IfErr, IfOk, IsTrue, length, vec_len};
 ghost use Rattle.std.specs.Arc.{arc_value};
-ghost use Rattle.cf_desk.specs.Faults.{AreCounts, IsDueToOpen};
-ghost use Rattle.cf_desk.specs.declared.faults.OpenFault.TheVariants.{NoMemory};
+ghost use Rattle.cf_desk.specs.Faults.{AreCounts};
 ghost use Rattle.cf_desk.specs.Views.{opened};
-ghost use Rattle.cf_c.specs.declared.code.Code.TheVariants.{NoMemory as RefusedMemory};
+ghost use Rattle.cf_c.specs.declared.code.Code.TheVariants.{NoMemory};
 ghost use Rattle.cf_c.specs.Opening.{AreBehind, AreBoxed, AreEmpty, ArePut, DeskOf, IsCallerOf, OpensDesk, growing_of, is_due, is_due_to_grow, setting_of};
 
 use crate::code::{Code, open_code};
-use crate::graph::is_overfull;
 use crate::handle::CfHandle;
 use crate::handle::object::{Caller, Object};
 use crate::handle::with_handle::code_of;
@@ -107,7 +105,7 @@ fn open_growing(
     }
 }
 
-/// A desk of a plan that stays, and its passes.
+/// A desk of a plan with so many callers, and its passes.
 fn desk_of(
     alloc: Global,
     plan: &Plan,
@@ -120,12 +118,9 @@ fn desk_of(
     ensures counts { IfOk result (λ r. AreCounts callers log calls) }
     ensures fault { IfErr result (is_due log calls plan.now callers) }
 {
-    if let Some(fault) = count_fault(callers, log, calls) {
-        return Err(fault);
-    }
-    match plan.copy() {
-        Ok(copy) => Desk::open(alloc, copy, callers as u8, log, calls),
-        Err(_) => Err(OpenFault::NoMemory),
+    match u8::try_from(callers) {
+        Ok(callers) => Desk::open_of(alloc, plan, callers, log, calls),
+        Err(_) => Err(OpenFault::Callers),
     }
 }
 
@@ -144,32 +139,10 @@ fn growing_desk_of(
     ensures counts { IfOk result (λ r. AreCounts callers log calls) }
     ensures fault { IfErr result (is_due_to_grow log calls room functions plan.now callers) }
 {
-    if let Some(fault) = count_fault(callers, log, calls) {
-        return Err(fault);
+    match u8::try_from(callers) {
+        Ok(callers) => Desk::open_growing_of(alloc, plan, callers, log, calls, room, functions),
+        Err(_) => Err(OpenFault::Callers),
     }
-    if is_overfull(plan, room) {
-        return Err(OpenFault::Room);
-    }
-    match plan.copy() {
-        Ok(copy) => Desk::open_growing(alloc, copy, callers as u8, log, calls, room, functions),
-        Err(_) => Err(OpenFault::NoMemory),
-    }
-}
-
-/// Which of the counts is wrong, if one is.
-fn count_fault(callers: usize, log: u16, calls: u16) -> Option<OpenFault>
-    ensures { MatchOption result (AreCounts callers log calls) (λ fault. IsDueToOpen callers log calls fault × (fault ≢ NoMemory)) }
-{
-    if callers == 0 || callers > 64 {
-        return Some(OpenFault::Callers);
-    }
-    if log == 0 {
-        return Some(OpenFault::Log);
-    }
-    if calls == 0 {
-        return Some(OpenFault::Calls);
-    }
-    None
 }
 
 /// Whether nothing stands behind any of these handles.
@@ -195,7 +168,7 @@ fn seat_all(
     requires table { All (λ p. p.table ≡ desk.table) passes.items }
     requires count { vec_len passes ≡ length callers.old }
     ensures seated { IfOk result (λ done. AreBehind desk passes.items callers.new) }
-    ensures refused { IfErr result (λ code. (code ≡ RefusedMemory) × (callers.new ≡ callers.old)) }
+    ensures refused { IfErr result (λ code. (code ≡ NoMemory) × (callers.new ≡ callers.old)) }
 {
     match boxed(alloc, desk, passes) {
         Ok(held) => {
