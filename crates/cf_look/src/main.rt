@@ -18,13 +18,14 @@
 //! `cf_picture`, which are proved; this program reads in and writes out.
 #![tactic(auto)]
 
+mod args;
 mod history;
 mod script;
 mod show;
 mod texts;
-mod args;
 
 use anyhow::Result;
+use args::{Look, read_words};
 use cf_explain::Verdict as Said;
 use cf_history::Verdict;
 use history::judge;
@@ -32,7 +33,6 @@ use script::{draw, explain_script, script_in};
 use show::line_of;
 use std::process::ExitCode;
 use std::rt::Env;
-use args::{Look, read_words};
 
 /// All histories fit.
 const FITS: u8 = 0;
