@@ -6,7 +6,7 @@ use cf_history::{Caller, History, Record, Verdict, check};
 use cf_model::{Ask, Told};
 use cf_outcome::{Outcome, Value};
 use cf_plan::Plan;
-use cf_reading::read_script;
+use cf_reading::script_of;
 use serde_json::Value as Json;
 use std::alloc::Global;
 
@@ -33,9 +33,7 @@ pub(crate) fn judge(alloc: Global, bytes: &[u8]) -> Result<Verdict> {
 /// The plan, for how many stages it has room, and how many functions it brings.
 fn plan_of(alloc: Global, json: &Json) -> Result<(Plan, u16, u32)> {
     let said = json.get("plan").ok_or_else(|| anyhow!("plan"))?;
-    let text = said.to_string(alloc)?;
-    let script = read_script(alloc, text.as_bytes());
-    let script = script.map_err(|fault| anyhow!("plan: {fault}"))?;
+    let script = script_of(alloc, said).map_err(|fault| anyhow!("plan: {fault}"))?;
     let (plan, room, functions, steps) = script.into_parts();
     if !steps.is_empty() {
         return Err(anyhow!("plan: steps"));
