@@ -23,6 +23,7 @@
 //! It ends with status 2 where the words are no run's, and 1 where there is no such run.
 #![tactic(auto)]
 
+mod args;
 mod caller;
 mod forms;
 mod hands;
@@ -30,15 +31,15 @@ mod history;
 mod show;
 mod steps;
 mod texts;
-mod args;
 
 ghost use Rattle.std.specs.Prelude.{◌≡◌, All, IfOk, length, vec_len};
 
 use anyhow::{Result, anyhow};
+use args::{Run, Sizes, Words, read_words};
 use caller::{Shared, take_part, take_turns};
 use cf_desk::{Closed, Desk, Pass};
 use cf_plan::Plan;
-use cf_reading::{Func, read_input, read_script};
+use cf_reading::{Func, read_input, script_of};
 use hands::{Hand, Refusal, hands_of, parts_of};
 use history::history_of;
 use serde_json::Value as Json;
@@ -49,7 +50,6 @@ use std::sync::atomic::AtomicU32;
 use std::thread;
 use std::thread::Threads;
 use steps::{Step, read_steps};
-use args::{Run, Sizes, Words, read_words};
 
 fn main(rt: HostRuntime) -> Result<ExitCode> {
     match read_words(&rt)? {
@@ -74,7 +74,7 @@ struct Given {
 fn read_given<R: Input + AllocGlobal>(rt: &R) -> Result<Given> {
     let input = input_of(rt)?;
     let json = json_of(rt.alloc(), &input)?;
-    let (plan, functions) = plan_of(rt.alloc(), &input)?;
+    let (plan, functions) = plan_of(rt.alloc(), &json)?;
     let steps = read_steps(rt.alloc(), &json)?;
     Ok(Given {
         json,
@@ -99,8 +99,8 @@ fn json_of(alloc: Global, input: &[u8]) -> Result<Json> {
 }
 
 /// The plan of a script, and its functions.
-fn plan_of(alloc: Global, input: &[u8]) -> Result<(Plan, Vec<Func>)> {
-    match read_script(alloc, input) {
+fn plan_of(alloc: Global, json: &Json) -> Result<(Plan, Vec<Func>)> {
+    match script_of(alloc, json) {
         Ok(script) => {
             let (plan, _, functions, _) = script.into_parts();
             Ok((plan, functions))
