@@ -1,12 +1,13 @@
 //! The history of a closed desk as JSON, as docs/FORMATS.md has histories.
 use crate::args::Sizes;
-use crate::texts::{write_reply, write_stage, write_told};
+use crate::texts::write_stage;
 use anyhow::{Result, anyhow};
 use cf_core::Graph;
 use cf_desk::{Closed, Kept, Rec, event_by};
 use cf_event::{encode, is_event};
 use cf_model::{Ask, Event, Reply, Told};
 use cf_outcome::Value;
+use cf_script::{write_reply, write_told};
 use serde_json::{Map, Value as Json, put};
 use std::alloc::{AllocError, Global};
 

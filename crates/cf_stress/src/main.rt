@@ -38,7 +38,7 @@ use args::{Run, Sizes, Words, read_words};
 use caller::{Shared, take_part, take_turns};
 use cf_desk::{Closed, Desk, Pass};
 use cf_plan::Plan;
-use cf_reading::{Func, read_input, read_script};
+use cf_reading::{Func, read_input, script_of};
 use hands::{Hand, Refusal, hands_of, parts_of};
 use history::history_of;
 use serde_json::Value as Json;
@@ -73,7 +73,7 @@ struct Given {
 fn read_given<R: Input + AllocGlobal>(rt: &R) -> Result<Given> {
     let input = input_of(rt)?;
     let json = json_of(rt.alloc(), &input)?;
-    let (plan, functions) = plan_of(rt.alloc(), &input)?;
+    let (plan, functions) = plan_of(rt.alloc(), &json)?;
     let steps = read_steps(rt.alloc(), &json)?;
     Ok(Given {
         json,
@@ -98,8 +98,8 @@ fn json_of(alloc: Global, input: &[u8]) -> Result<Json> {
 }
 
 /// The plan of a script, and its functions.
-fn plan_of(alloc: Global, input: &[u8]) -> Result<(Plan, Vec<Func>)> {
-    match read_script(alloc, input) {
+fn plan_of(alloc: Global, json: &Json) -> Result<(Plan, Vec<Func>)> {
+    match script_of(alloc, json) {
         Ok(script) => {
             let (plan, _, functions, _) = script.into_parts();
             Ok((plan, functions))

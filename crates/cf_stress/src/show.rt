@@ -1,10 +1,11 @@
 //! The text of a closed desk.
 use crate::hands::{Asked, Refusal};
-use crate::texts::{write_reply, write_stage, write_told};
+use crate::texts::write_stage;
 use cf_core::Graph;
 use cf_desk::{Call, Closed, Kept, Rec};
 use cf_model::{Ask, Event, Reply, Told};
 use cf_plan::{Answer, Form, Of};
+use cf_script::{write_reply, write_told};
 use std::alloc::{AllocError, Global};
 
 /// A line for each event, for each pass with one for each of its records and refusals, and for each stage. Each pass held
