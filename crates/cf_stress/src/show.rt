@@ -31,7 +31,7 @@ fn write_events(text: &mut String, history: &[Event]) -> Result<(), AllocError> 
 }
 
 fn write_event(text: &mut String, event: &Event) -> Result<(), AllocError> {
-    let who = caller_of(*event);
+    let who = event.who();
     let call = Call::of(event);
     write!(text, "event {who} ")?;
     write_call(text, call)?;
