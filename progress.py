@@ -24,7 +24,7 @@ PROOFS = {
 TESTS = {
     "cf_script_tests": 714, "cf_event": 259, "cf_plan_tests": 552, "cf_desk_tests": 537, "cf_outcome": 187,
     "cf_pool_tests": 418, "cf_core_tests": 404, "cf_plain_tests": 306, "cf": 90,
-    "cf_reading_tests": 243, "cf_bits": 68, "cf_picture_tests": 91, "cf_history_tests": 90, "cf_explain_tests": 88,
+    "cf_reading_tests": 243, "cf_bits": 68, "cf_look_tests": 269,
 }  # fmt: skip
 OF_TESTS = 9  # to prove a crate that holds tests alone
 CALLERS = 420  # seconds, for the library for C and its callers, once rt ci has ended
