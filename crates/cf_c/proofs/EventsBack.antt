@@ -14,7 +14,7 @@ use Rattle.cf_model.specs.declared.events.Event.TheVariants.{Complete as Complet
 use Rattle.cf_event.specs.Words.{IsEvent, count_of, first_of, second_of}
 use Rattle.cf_plan.proofs.NamingLemmas.{form_back}
 use Rattle.cf_c.specs.Answers.{Gives}
-use Rattle.cf_c.specs.Plans.{as_function, event_with, form_of, function_of, parts_with, sources_with}
+use Rattle.cf_c.specs.Plans.{as_function, event_with, function_of, parts_with, sources_with}
 use Rattle.cf_c.specs.Values.{answer_of, as_answer, as_value, value_of}
 use Rattle.cf_c.specs.EventWords.{HasWord, as_event, event_of, told_event}
 use Rattle.cf_c.specs.declared.code.Code.{Code}
