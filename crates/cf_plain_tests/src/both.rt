@@ -1,4 +1,7 @@
 //! What is done to both graphs, which must answer alike.
+ghost use Rattle.std.specs.Prelude.{length};
+ghost use Rattle.cf_model.specs.Ranges.{EventFits};
+
 use cf_core::Graph;
 use cf_model::{Attached, Event, Finished, Reply, Ticked};
 use cf_outcome::{Cause, Outcome};
