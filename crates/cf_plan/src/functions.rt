@@ -1,9 +1,11 @@
 //! What a stage's function is.
-ghost use Rattle.std.specs.Prelude.{◌≡◌};
+ghost use Rattle.std.specs.Prelude.{◌≡◌, ℕ};
+ghost use Rattle.cf_plan.specs.Meanings.{meanings_of};
 ghost use Rattle.cf_plan.specs.declared.forms.Args.{Args};
 ghost use Rattle.cf_plan.specs.declared.forms.Answer.{Answer};
 
 use crate::forms::{Answer, Args};
+use cf_outcome::Value;
 
 /// The function of a stage. What it answers depends on the object and on the arguments alone: its `meaning`. So a
 /// function may be called on any thread, and a second call would answer the same.
@@ -13,4 +15,32 @@ pub trait StageFn {
     /// Calls it with these arguments, and answers its meaning of them.
     fn call(&self, args: &Args) -> Answer
         ensures { result ≡ meaning self.now args.now };
+}
+
+/// The functions of stages by their numbers, as one thing with one memory, which a call may change.
+pub trait Functions {
+    // From the first memory, the function of this number answers so to these arguments, and leaves the second memory.
+    ghost calls: { Self → ℕ → Args → Answer → Self → Type 0 };
+
+    /// Calls the function of this number.
+    fn call(&mut self, number: u16, args: &Args) -> Answer
+        ensures { calls self.old number args.now result self.new };
+}
+
+/// The functions of a list at their numbers, which remember nothing. A number without a function is answered by nil.
+#[derive(Drop)]
+pub struct Each<'a, F> {
+    /// The list.
+    pub functions: &'a [F],
+}
+
+impl<F: StageFn> Functions for Each<'_, F> {
+    ghost calls = { λ m number args answer n. (answer ≡ meanings_of F.meaning m.functions.now number args) × (n ≡ m) };
+
+    fn call(&mut self, number: u16, args: &Args) -> Answer {
+        match self.functions.get(number as usize) {
+            None => Answer::Give(Value::Nil),
+            Some(function) => function.call(args),
+        }
+    }
 }

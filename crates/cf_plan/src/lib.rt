@@ -33,7 +33,7 @@ pub use builder::{MAX_EDGES, MAX_LIMITS, MAX_STAGES, PlanBuilder};
 pub use faults::PlanFault;
 pub use fitting::fits_form;
 pub use forms::{Answer, Args, Due, Form, Landing, Of};
-pub use functions::StageFn;
+pub use functions::{Each, Functions, StageFn};
 pub use growing::GrowingPlan;
 pub use limits::{Limit, LimitKind};
 pub use plan::Plan;
