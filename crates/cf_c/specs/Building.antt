@@ -1,13 +1,12 @@
 -- How plans are built, and graphs of plans opened.
-use Rattle.std.specs.Prelude.{◌≡◌, ℕ, ◌⊎◌, ◌==◌, Option, Some, None, Result, Ok, Err, List, [], IfNone, IfSome, IsOkUnless, length, if◌then◌else◌}
+use Rattle.std.specs.Prelude.{◌≡◌, ℕ, ◌⊎◌, ◌==◌, true, false, Option, Some, None, Result, Ok, Err, List, [], IfNone, IfSome, IsOkUnless, length, if◌then◌else◌}
 use Rattle.cf_plan.specs.declared.faults.PlanFault.{PlanFault}
 use Rattle.cf_plan.specs.declared.faults.PlanFault.TheVariants as plan
 use Rattle.cf_plan.specs.declared.forms.Form.{Form}
 use Rattle.cf_plan.specs.declared.limits.LimitKind.{LimitKind}
 use Rattle.cf_plan.specs.declared.limits.LimitKind.TheVariants.{Timeout, Give}
-use Rattle.cf_plan.specs.Plans.{Planned, PlannedStage, edges_of, limit_fault, plan_of, stage_fault, with_limit, with_room, with_stage}
+use Rattle.cf_plan.specs.Plans.{Planned, PlannedStage, has_place, limit_fault, plan_of, stage_fault, with_limit, with_room, with_stage}
 use Rattle.cf_model.specs.States.{start}
-use Rattle.cf_desk.specs.Faults.{IsOverfull}
 use Rattle.cf_c.specs.Codes.{number_of, plan_code}
 use Rattle.cf_c.specs.Values.{value_of}
 use Rattle.cf_c.specs.declared.code.Code.{Code}
@@ -78,9 +77,9 @@ Builds held r new = (r ≡ Err WrongKind) × (new ≡ held)
 
 -- the graph of a plan with so much room, at its start
 abbrev pub GraphOf : ℕ → Object → Result Object Code → Type 0
-GraphOf room (Plan p) (Ok made) = (¬ IsOverfull p.stages room) × (made ≡ Graph (record { state = start (with_room p room); turns = 0 }))
-GraphOf room (Plan p) (Err Room) = IsOverfull p.stages room
-GraphOf room (Plan p) (Err fault) = (fault ≡ NoMemory) × (¬ IsOverfull p.stages room)
+GraphOf room (Plan p) (Ok made) = (has_place p.stages room ≡ true) × (made ≡ Graph (record { state = start (with_room p room); turns = 0 }))
+GraphOf room (Plan p) (Err Room) = has_place p.stages room ≡ false
+GraphOf room (Plan p) (Err fault) = (fault ≡ NoMemory) × (has_place p.stages room ≡ true)
 GraphOf room held r = r ≡ Err WrongKind
 
 -- of a plan, which stays behind its handle, something is made and put behind another handle

@@ -1,7 +1,6 @@
 //! A graph that one caller has alone.
-ghost use Rattle.std.specs.Prelude.{◌≡◌, ◌↔◌, IsTrue, Ok};
+ghost use Rattle.std.specs.Prelude.{Ok};
 ghost use Rattle.cf_model.specs.declared.events.Event.TheVariants.{Complete as Completes, Fail as Fails, Cancel as Cancels, Claim as Claims, Finish as Finishes, Tick as Ticks};
-ghost use Rattle.cf_desk.specs.Faults.{IsOverfull};
 ghost use Rattle.cf_c.specs.Answers.{Does, Tells};
 ghost use Rattle.cf_c.specs.Building.{GraphOf, Opens};
 ghost use Rattle.cf_c.specs.EventWords.{event_at};
@@ -20,7 +19,7 @@ use crate::values::event::event_at;
 use crate::values::{CfAnswer, CfNow, CfOutcome, CfReply, CfValue, answer_of, value_of};
 use cf_core::Graph;
 use cf_model::Event;
-use cf_plan::{MAX_EDGES, MAX_STAGES, Plan};
+use cf_plan::Plan;
 use std::alloc::Global;
 
 /// Puts the graph of the plan behind one handle behind another, which is empty.
@@ -240,7 +239,7 @@ fn graph_of(alloc: Global, held: &Object, room: u16) -> Result<Object, Code>
     let Object::Plan(plan) = held else {
         return Err(Code::WrongKind);
     };
-    if is_overfull(plan, room) {
+    if !plan.has_place(room) {
         return Err(Code::Room);
     }
     let copy = match plan.copy() {
@@ -251,12 +250,4 @@ fn graph_of(alloc: Global, held: &Object, room: u16) -> Result<Object, Code>
         Ok(graph) => Ok(Object::Graph(graph)),
         Err(_) => Err(Code::NoMemory),
     }
-}
-
-/// Whether the stages with so much room, or their edges with two for each place, are too many.
-fn is_overfull(plan: &Plan, room: u16) -> bool
-    ensures { IsTrue result ↔ IsOverfull plan.now.stages room }
-{
-    plan.stages() as usize + room as usize > MAX_STAGES
-        || plan.edges() as usize + 2 * room as usize > MAX_EDGES
 }

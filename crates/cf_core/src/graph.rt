@@ -8,9 +8,9 @@ mod settling;
 mod sweeping;
 mod working;
 
-ghost use Rattle.std.specs.Prelude.{◌≡◌, ◌+◌, ◌*◌, ◌<◌, ◌≤◌, ◌↔◌, IfOk, IsTrue, None, length, nat_lt, replicate, vec_capacity};
+ghost use Rattle.std.specs.Prelude.{◌≡◌, ◌+◌, ◌<◌, ◌≤◌, ◌↔◌, IfOk, IsTrue, None, length, nat_lt, replicate, true, vec_capacity};
 ghost use Rattle.cf_outcome.specs.Outcomes.{now_of};
-ghost use Rattle.cf_plan.specs.Plans.{IsGrowing, edges_of, function_at, opening_of, with_room};
+ghost use Rattle.cf_plan.specs.Plans.{IsGrowing, function_at, has_place, opening_of, with_room};
 ghost use Rattle.cf_model.specs.States.{lowest_ready_of, outcome_at, start};
 ghost use Rattle.cf_model.specs.Graphs.{most_turns};
 
@@ -67,6 +67,7 @@ impl Model for Graph {
 impl Graph {
     /// The graph of a plan, at its start. It takes all the memory that the graph will ever need, and fails only where there
     /// is none.
+    #[tactic(auto, using(cf_plan::proofs::PlanLemmas::place_for_none))]
     pub fn new(alloc: Global, plan: Plan) -> Result<Graph, GraphFault>
         ensures { IfOk result (λ graph. graph ≡ record { state = start plan; turns = 0 }) }
     {
@@ -78,8 +79,7 @@ impl Graph {
     /// The graph of a plan, at its start, with room for so many stages that are attached later. It takes all the memory
     /// that the graph will ever need, also for these, and fails only where there is none.
     pub fn new_growing(alloc: Global, plan: Plan, room: u16) -> Result<Graph, GraphFault>
-        requires stages { length plan.stages + room ≤ 4096 }
-        requires edges { edges_of plan.stages + 2 * room ≤ 16384 }
+        requires place { has_place plan.stages room ≡ true }
         ensures { IfOk result (λ graph. graph ≡ record { state = start (with_room plan room); turns = 0 }) }
     {
         Ok(graph_of(alloc, plan, room)?)
@@ -175,8 +175,7 @@ impl Graph {
 
 /// The graph of a plan with room for so many stages.
 fn graph_of(alloc: Global, plan: Plan, room: u16) -> Result<Graph, AllocError>
-    requires stages { length plan.stages + room ≤ 4096 }
-    requires edges { edges_of plan.stages + 2 * room ≤ 16384 }
+    requires place { has_place plan.stages room ≡ true }
     ensures { IfOk result (λ graph. graph ≡ record { state = start (with_room plan room); turns = 0 }) }
 {
     let plan = GrowingPlan::new(alloc, plan, room)?;

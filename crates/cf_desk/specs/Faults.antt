@@ -1,6 +1,6 @@
 -- When a fault is told.
-use Rattle.std.specs.Prelude.{◌≡◌, ℕ, ◌+◌, ◌*◌, ◌<◌, ◌≤◌, ◌⊎◌, true, is_some, unwrap_or, length, List, All}
-use Rattle.cf_plan.specs.Plans.{PlannedStage, edges_of, fits_form, sources_of}
+use Rattle.std.specs.Prelude.{◌≡◌, ℕ, ◌<◌, ◌≤◌, ◌⊎◌, true, false, is_some, unwrap_or, length, List, All}
+use Rattle.cf_plan.specs.Plans.{PlannedStage, fits_form, has_place, sources_of}
 use Rattle.cf_model.specs.declared.asks.Ask.{Ask}
 use Rattle.cf_model.specs.declared.events.Event.{Event}
 use Rattle.cf_model.specs.declared.events.Event.TheVariants.{Attach as Attaches}
@@ -67,16 +67,12 @@ IsDueToOpen callers log calls Room = ⊥
 IsDueToOpen callers log calls Functions = ⊥
 IsDueToOpen callers log calls NoMemory = AreCounts callers log calls
 
--- these stages and so much room are more than a plan may have, or may have edges
-abbrev pub IsOverfull : List PlannedStage → ℕ → Type 0
-IsOverfull stages room = (4096 < length stages + room) ⊎ (16384 < edges_of stages + 2 * room)
-
--- why a desk that grows isn't opened: for one of these counts, else for too much room, else a function of the plan isn't below the number
+-- why a desk that grows isn't opened: for one of these counts, else the plan has no place for the room, else a function of the plan isn't below the number
 -- of functions, else memory was refused
 abbrev pub IsDueToGrow : List PlannedStage → ℕ → ℕ → ℕ → ℕ → ℕ → OpenFault → Type 0
-IsDueToGrow stages callers log calls room functions Room = AreCounts callers log calls × IsOverfull stages room
+IsDueToGrow stages callers log calls room functions Room = AreCounts callers log calls × (has_place stages room ≡ false)
 IsDueToGrow stages callers log calls room functions Functions =
-    AreCounts callers log calls × (¬ IsOverfull stages room) × (functions < function_bound stages)
+    AreCounts callers log calls × (has_place stages room ≡ true) × (functions < function_bound stages)
 IsDueToGrow stages callers log calls room functions NoMemory =
-    AreCounts callers log calls × (¬ IsOverfull stages room) × (function_bound stages ≤ functions)
+    AreCounts callers log calls × (has_place stages room ≡ true) × (function_bound stages ≤ functions)
 IsDueToGrow stages callers log calls room functions fault = IsDueToOpen callers log calls fault

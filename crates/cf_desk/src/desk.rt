@@ -4,11 +4,11 @@ mod closing;
 mod reading;
 mod steps;
 
-ghost use Rattle.std.specs.Prelude.{◌≡◌, ◌≢◌, ◌<◌, ◌≤◌, ◌↔◌, All, IfErr, IfOk, IsTrue, MatchOption, [], length, vec_capacity, vec_len};
-ghost use Rattle.cf_plan.specs.Plans.{function_at, with_room};
+ghost use Rattle.std.specs.Prelude.{◌≡◌, ◌≢◌, ◌<◌, ◌≤◌, ◌↔◌, All, IfErr, IfOk, IsTrue, MatchOption, [], length, true, vec_capacity, vec_len};
+ghost use Rattle.cf_plan.specs.Plans.{function_at, has_place, with_room};
 ghost use Rattle.cf_model.specs.States.{start};
 ghost use Rattle.cf_desk.specs.declared.faults.OpenFault.TheVariants.{NoMemory};
-ghost use Rattle.cf_desk.specs.Faults.{AreCounts, IsDueToGrow, IsDueToOpen, IsOverfull};
+ghost use Rattle.cf_desk.specs.Faults.{AreCounts, IsDueToGrow, IsDueToOpen};
 ghost use Rattle.cf_desk.specs.Functions.{function_bound};
 ghost use Rattle.cf_desk.specs.Views.{IsOf, opened};
 
@@ -20,7 +20,7 @@ use crate::row::{GivesFirst, RowRule, Setting, Terms, View};
 use atomic_table::Table;
 use cf_core::Graph;
 use cf_model::{Ask, Event, Told};
-use cf_plan::{GrowingPlan, MAX_EDGES, MAX_STAGES, Plan};
+use cf_plan::{GrowingPlan, Plan};
 use std::alloc::{AllocError, Global};
 use std::marker::Model;
 
@@ -107,7 +107,7 @@ impl Desk {
         ensures opened { IfOk result (λ r. (r.0.setting ≡ record { plan = with_room plan room; callers = callers; functions = functions }) × (r.0.words ≡ log) × (r.1.items ≡ opened r.0.table r.0.setting calls)) }
         ensures passes { IfOk result (λ r. All (IsOf r.0) r.1.items × (vec_len r.1 ≡ callers)) }
         ensures table { IfOk result (λ r. All (λ p. p.table ≡ r.0.table) r.1.items × (r.0.table.words ≡ log)) }
-        ensures counts { IfOk result (λ r. AreCounts callers log calls × (¬ IsOverfull plan.stages room) × (function_bound plan.stages ≤ functions)) }
+        ensures counts { IfOk result (λ r. AreCounts callers log calls × (has_place plan.stages room ≡ true) × (function_bound plan.stages ≤ functions)) }
         ensures fault { IfErr result (IsDueToGrow plan.stages callers log calls room functions) }
     {
         Desk::open_growing_of(alloc, &plan, callers, log, calls, room, functions)
@@ -126,13 +126,13 @@ impl Desk {
         ensures opened { IfOk result (λ r. (r.0.setting ≡ record { plan = with_room plan.now room; callers = callers; functions = functions }) × (r.0.words ≡ log) × (r.1.items ≡ opened r.0.table r.0.setting calls)) }
         ensures passes { IfOk result (λ r. All (IsOf r.0) r.1.items × (vec_len r.1 ≡ callers)) }
         ensures table { IfOk result (λ r. All (λ p. p.table ≡ r.0.table) r.1.items × (r.0.table.words ≡ log)) }
-        ensures counts { IfOk result (λ r. AreCounts callers log calls × (¬ IsOverfull plan.now.stages room) × (function_bound plan.now.stages ≤ functions)) }
+        ensures counts { IfOk result (λ r. AreCounts callers log calls × (has_place plan.now.stages room ≡ true) × (function_bound plan.now.stages ≤ functions)) }
         ensures fault { IfErr result (IsDueToGrow plan.now.stages callers log calls room functions) }
     {
         if let Some(fault) = count_fault(callers, log, calls) {
             return Err(fault);
         }
-        if is_overfull(plan, room) {
+        if !plan.has_place(room) {
             return Err(OpenFault::Room);
         }
         if functions < function_bound(plan) {
@@ -197,17 +197,9 @@ fn count_fault(callers: u8, log: u16, calls: u16) -> Option<OpenFault>
     None
 }
 
-/// Whether the stages with so much room, or their edges with two for each place, are too many.
-fn is_overfull(plan: &Plan, room: u16) -> bool
-    ensures { IsTrue result ↔ IsOverfull plan.now.stages room }
-{
-    plan.stages() as usize + room as usize > MAX_STAGES
-        || plan.edges() as usize + 2 * room as usize > MAX_EDGES
-}
-
 /// The graph of a plan with so much room, at its start.
 fn graph_of(alloc: Global, plan: Plan, room: u16) -> Result<Graph, AllocError>
-    requires { ¬ IsOverfull plan.stages room }
+    requires { has_place plan.stages room ≡ true }
     ensures { IfOk result (λ g. g.state ≡ start (with_room plan room)) }
 {
     match Graph::new_growing(alloc, plan, room) {
@@ -218,7 +210,7 @@ fn graph_of(alloc: Global, plan: Plan, room: u16) -> Result<Graph, AllocError>
 
 /// The graph of a plan that stays, with so much room, at its start.
 fn copy_of(alloc: Global, plan: &Plan, room: u16) -> Result<Graph, AllocError>
-    requires { ¬ IsOverfull plan.now.stages room }
+    requires { has_place plan.now.stages room ≡ true }
     ensures { IfOk result (λ g. g.state ≡ start (with_room plan.now room)) }
 {
     match plan.copy() {
@@ -229,7 +221,7 @@ fn copy_of(alloc: Global, plan: &Plan, room: u16) -> Result<Graph, AllocError>
 
 /// A plan with so much room, as the row is told of it.
 fn growing(alloc: Global, plan: &Plan, room: u16) -> Result<GrowingPlan, AllocError>
-    requires { ¬ IsOverfull plan.now.stages room }
+    requires { has_place plan.now.stages room ≡ true }
     ensures { IfOk result (λ grown. grown ≡ with_room plan.now room) }
 {
     match plan.copy() {
@@ -274,7 +266,7 @@ fn open_with(
     functions: u32,
 ) -> Result<(Desk, Vec<Pass>), AllocError>
     requires counts { (0 < callers) × (callers ≤ 64) × (0 < log) }
-    requires room { ¬ IsOverfull plan.now.stages room }
+    requires place { has_place plan.now.stages room ≡ true }
     ensures words { IfOk result (λ r. r.0.table.words ≡ log) }
     ensures opened { IfOk result (λ r. (r.0.setting ≡ record { plan = with_room plan.now room; callers = callers; functions = functions }) × (r.0.words ≡ log) × (r.1.items ≡ opened r.0.table r.0.setting calls)) }
 {

@@ -1,6 +1,6 @@
 //! The verdict over a whole history.
-ghost use Rattle.std.specs.Prelude.{◌≡◌, ◌+◌, ◌*◌, ◌≤◌, ◌↔◌, IfNone, IfOk, MatchOption, Some, length};
-ghost use Rattle.cf_plan.specs.Plans.{edges_of, with_room};
+ghost use Rattle.std.specs.Prelude.{◌≡◌, ◌+◌, ◌↔◌, IfNone, IfOk, MatchOption, Some, length, true};
+ghost use Rattle.cf_plan.specs.Plans.{has_place, with_room};
 ghost use Rattle.cf_model.specs.States.{start};
 ghost use Rattle.cf_model.specs.Events.{state_after};
 ghost use Rattle.cf_model.specs.Ranges.{EventsFit};
@@ -31,8 +31,7 @@ pub fn check(
     room: u16,
     history: &History,
 ) -> Result<Verdict, AllocError>
-    requires stages { length plan.now.stages + room ≤ 4096 }
-    requires edges { edges_of plan.now.stages + 2 * room ≤ 16384 }
+    requires place { has_place plan.now.stages room ≡ true }
     ensures fits { IfOk result (λ verdict. (verdict ≡ Fits) ↔ FitsOneGraph (with_room plan.now room) history.now) }
     ensures tells { IfOk result (λ verdict. IsVerdict (with_room plan.now room) history.now verdict) }
 {
@@ -41,8 +40,7 @@ pub fn check(
 
 /// The verdict.
 fn verdict(alloc: Global, plan: &Plan, room: u16, history: &History) -> Result<Verdict, AllocError>
-    requires stages { length plan.now.stages + room ≤ 4096 }
-    requires edges { edges_of plan.now.stages + 2 * room ≤ 16384 }
+    requires place { has_place plan.now.stages room ≡ true }
     ensures { IfOk result (λ verdict. IsVerdict (with_room plan.now room) history.now verdict) }
 {
     let events = read_events(alloc, &history.words)?;
@@ -59,8 +57,7 @@ fn judge_events(
     events: &[Event],
     history: &History,
 ) -> Result<Verdict, AllocError>
-    requires stages { length plan.now.stages + room ≤ 4096 }
-    requires edges { edges_of plan.now.stages + 2 * room ≤ 16384 }
+    requires place { has_place plan.now.stages room ≡ true }
     requires start { graph.old.state ≡ start (with_room plan.now room) }
     requires read { events.now ≡ decoded history.now.words.items }
     ensures { IfOk result (λ verdict. IsVerdict (with_room plan.now room) history.now verdict) }
@@ -108,8 +105,7 @@ fn judge_words(
 
 /// A graph of the plan, at its start.
 fn graph_of(alloc: Global, plan: &Plan, room: u16) -> Result<Graph, AllocError>
-    requires stages { length plan.now.stages + room ≤ 4096 }
-    requires edges { edges_of plan.now.stages + 2 * room ≤ 16384 }
+    requires place { has_place plan.now.stages room ≡ true }
     ensures { IfOk result (λ graph. graph.state ≡ start (with_room plan.now room)) }
 {
     let Ok(own) = plan.copy() else {
@@ -129,8 +125,7 @@ fn judge_callers(
     events: &[Event],
     callers: &[Caller],
 ) -> Result<Option<Verdict>, AllocError>
-    requires stages { length plan.now.stages + room ≤ 4096 }
-    requires edges { edges_of plan.now.stages + 2 * room ≤ 16384 }
+    requires place { has_place plan.now.stages room ≡ true }
     requires fits { EventsFit (start (with_room plan.now room)) events.now }
     ensures { IfOk result (λ told. MatchOption told (AllRight (start (with_room plan.now room)) events.now 0 callers.now) (IsOfCallers (start (with_room plan.now room)) events.now callers.now)) }
 {
@@ -160,8 +155,7 @@ fn judge_one(
     caller: usize,
     records: &[Record],
 ) -> Result<Judged, AllocError>
-    requires stages { length plan.now.stages + room ≤ 4096 }
-    requires edges { edges_of plan.now.stages + 2 * room ≤ 16384 }
+    requires place { has_place plan.now.stages room ≡ true }
     requires fits { EventsFit (start (with_room plan.now room)) events.now }
     ensures { IfOk result (IsJudged caller (start (with_room plan.now room)) events.now records.now) }
 {

@@ -3,8 +3,8 @@ mod attaching;
 mod changes;
 mod limits;
 
-ghost use Rattle.std.specs.Prelude.{◌≡◌, ◌+◌, ◌*◌, ◌<◌, ◌≤◌, ◌↔◌, IfOk, IsTrue, None, length, position, replicate};
-ghost use Rattle.cf_plan.specs.Plans.{edges_of, with_room};
+ghost use Rattle.std.specs.Prelude.{◌≡◌, ◌<◌, ◌≤◌, ◌↔◌, IfOk, IsTrue, None, length, position, replicate, true};
+ghost use Rattle.cf_plan.specs.Plans.{has_place, with_room};
 ghost use Rattle.cf_model.specs.declared.stage.Stage.TheVariants.{Pending};
 ghost use Rattle.cf_model.specs.States.{is_ready, lowest_ready_of, outcome_at, start};
 
@@ -51,8 +51,7 @@ impl Plain {
     /// The plain graph of a plan, at its start, with room for so many stages that are attached later. It fails only where
     /// there is no memory.
     pub fn start_growing(alloc: Global, plan: Plan, room: u16) -> Result<Plain, AllocError>
-        requires stages { length plan.stages + room ≤ 4096 }
-        requires edges { edges_of plan.stages + 2 * room ≤ 16384 }
+        requires place { has_place plan.stages room ≡ true }
         ensures { IfOk result (λ plain. plain ≡ start (with_room plan room)) }
     {
         let plan = PlainPlan::new(alloc, plan, room)?;

@@ -1,6 +1,6 @@
 //! A plan that grows, as a list of its stages.
-ghost use Rattle.std.specs.Prelude.{◌≡◌, ◌+◌, ◌*◌, ◌<◌, ◌≤◌, true, All, IfOk, OnErr, is_some, length};
-ghost use Rattle.cf_plan.specs.Plans.{IsGrowing, and_stage, attached_stage, edges_of, fits_form, form_at, sources_at, sources_of, with_room};
+ghost use Rattle.std.specs.Prelude.{◌≡◌, ◌<◌, true, All, IfOk, OnErr, is_some, length};
+ghost use Rattle.cf_plan.specs.Plans.{IsGrowing, and_stage, attached_stage, fits_form, form_at, has_place, sources_at, sources_of, with_room};
 
 use cf_plan::{Form, Limit, Of, Plan};
 use std::alloc::{AllocError, Global};
@@ -46,8 +46,7 @@ impl Model for PlainPlan {
 impl PlainPlan {
     /// The plan with room for so many stages. It fails only where there is no memory.
     pub fn new(alloc: Global, opening: Plan, room: u16) -> Result<PlainPlan, AllocError>
-        requires stages { length opening.stages + room ≤ 4096 }
-        requires edges { edges_of opening.stages + 2 * room ≤ 16384 }
+        requires place { has_place opening.stages room ≡ true }
         ensures { IfOk result (λ plan. plan ≡ with_room opening room) }
     {
         let stages = stages_of(alloc, &opening)?;

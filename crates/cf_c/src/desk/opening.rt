@@ -1,7 +1,7 @@
 //! How desks are opened.
-ghost use Rattle.std.specs.Prelude.{◌≡◌, ◌≤◌, ◌↔◌, All, IfErr, IfOk, IsTrue, length, vec_len};
+ghost use Rattle.std.specs.Prelude.{◌≡◌, ◌≤◌, ◌↔◌, All, IfErr, IfOk, IsTrue, length, true, vec_len};
 ghost use Rattle.std.specs.Arc.{arc_value};
-ghost use Rattle.cf_desk.specs.Faults.{AreCounts, IsOverfull};
+ghost use Rattle.cf_desk.specs.Faults.{AreCounts};
 ghost use Rattle.cf_desk.specs.Functions.{function_bound};
 ghost use Rattle.cf_desk.specs.Views.{opened};
 ghost use Rattle.cf_c.specs.declared.code.Code.TheVariants.{NoMemory};
@@ -137,7 +137,7 @@ fn growing_desk_of(
 ) -> Result<(Desk, Vec<Pass>), OpenFault>
     ensures opened { IfOk result (λ r. (r.0.setting ≡ growing_of room functions plan.now callers) × (r.0.words ≡ log) × (r.1.items ≡ opened r.0.table r.0.setting calls)) }
     ensures table { IfOk result (λ r. All (λ p. p.table ≡ r.0.table) r.1.items × (vec_len r.1 ≡ callers)) }
-    ensures counts { IfOk result (λ r. AreCounts callers log calls × (¬ IsOverfull plan.now.stages room) × (function_bound plan.now.stages ≤ functions)) }
+    ensures counts { IfOk result (λ r. AreCounts callers log calls × (has_place plan.now.stages room ≡ true) × (function_bound plan.now.stages ≤ functions)) }
     ensures fault { IfErr result (is_due_to_grow log calls room functions plan.now callers) }
 {
     match u8::try_from(callers) {
