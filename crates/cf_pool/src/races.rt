@@ -5,7 +5,7 @@ mod sizes;
 
 ghost use Rattle.std.specs.Prelude.{◌≡◌, ◌+◌, ◌*◌, ◌<◌, ◌≤◌, IfErr, IfOk, length};
 ghost use Rattle.cf_plan.specs.Meanings.{meanings_of};
-ghost use Rattle.cf_plan.specs.Plans.{has_place, with_room};
+ghost use Rattle.cf_plan.specs.Plans.{edges_of, with_room};
 ghost use Rattle.cf_pool.specs.Races.{AreSteps, IsDueToRefuse, IsRaced, RacedIsExpression, RacesEndAlike, log_words};
 
 use crate::faults::PoolFault;
@@ -44,7 +44,7 @@ pub fn race<R: Threads + Wait + Sync, F: StageFn + Sync, G: Gate + Sync>(
     workers: u8,
 ) -> Result<Graph, RaceFault>
     requires workers { (0 < workers) × (workers ≤ 32) }
-    requires place { has_place plan.stages room ≡ true }
+    requires room { (length plan.stages + room ≤ 4096) × (edges_of plan.stages + 2 * room ≤ 16384) }
     requires steps { AreSteps (with_room plan room) steps.now }
     ensures raced { IfOk result (λ g. IsRaced (meanings_of F.meaning fns.now) (with_room plan room) steps.now workers g.state) }
     ensures size { IfOk result (λ g. log_words (length steps.now) (length plan.stages + room) workers ≤ 65535) }

@@ -206,7 +206,7 @@ pub(crate) fn raced<R: Threads + Wait + Sync, F: StageFn + Sync, G: Gate + Sync>
     workers: u8,
 ) -> Result<Graph, Fail>
     requires workers { (0 < workers) × (workers ≤ 32) }
-    requires place { has_place plan.stages room ≡ true }
+    requires room { (length plan.stages + room ≤ 4096) × (edges_of plan.stages + 2 * room ≤ 16384) }
     requires steps { AreSteps (with_room plan room) steps.now }
 {
     match race(rt, alloc, plan, room, steps, fns, gate, workers) {
