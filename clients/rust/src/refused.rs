@@ -8,7 +8,7 @@ use std::fmt;
 #[derive(Clone, Copy, PartialEq, Eq, Debug)]
 pub struct Refused(u32);
 
-const WORDS: [&str; 27] = [
+const WORDS: [&str; 28] = [
     "the plan has 4,096 stages already",
     "a source isn't below the new stage's number",
     "the number of sources isn't the form's",
@@ -36,6 +36,7 @@ const WORDS: [&str; 27] = [
     "callers of the desk weren't given back",
     "the word is no event's, or the event has no word",
     "the script has a fault",
+    "the desk is held all the same",
 ];
 
 impl Refused {
@@ -62,6 +63,7 @@ impl Refused {
     pub const NOT_ALL: Refused = Refused(25);
     pub const NO_WORD: Refused = Refused(26);
     pub const BAD_SCRIPT: Refused = Refused(27);
+    pub const STILL_SHARED: Refused = Refused(28);
 
     /// The number of the code in cf.h.
     pub fn code(self) -> u32 {

@@ -60,6 +60,7 @@ typedef enum {
   CF_NOT_ALL = 25,            /* callers of the desk weren't given back yet */
   CF_NO_WORD = 26,            /* the word is no event's, or the event has no word */
   CF_BAD_SCRIPT = 27,         /* the script has a fault, whose line stands in the report */
+  CF_STILL_SHARED = 28,       /* all callers were given back, and the desk is held all the same */
   CF_NULL = 255               /* a pointer is null that may not be; nothing was done */
 } cf_code;
 
@@ -249,7 +250,8 @@ uint32_t cf_close_begin(cf_handle *caller);
 /* Gives one more caller of the same desk back, whose handle is empty then. CF_OTHER_DESK leaves both as they were. */
 uint32_t cf_close_add(cf_handle *closing, cf_handle *caller);
 
-/* Ends it: the closing becomes a closed desk. CF_NOT_ALL where callers are missing. */
+/* Ends it: the closing becomes a closed desk. CF_NOT_ALL where callers are missing; CF_STILL_SHARED never comes where no other call is at
+ * work on the desk. */
 uint32_t cf_close_end(cf_handle *closing);
 
 /* What a caller was told. CF_DID: a changing call as the word of its event (cf_event_of), and its reply; `place` counts the history's

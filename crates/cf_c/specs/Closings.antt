@@ -1,5 +1,5 @@
 -- How a desk is closed, call by call, and what a closed desk tells.
-use Rattle.std.specs.Prelude.{◌≡◌, ℕ, ◌≤◌, Option, Some, None, Result, Ok, Err, [], ◌∷◌, ◌++◌, length, option_and_then, option_map, slice_get}
+use Rattle.std.specs.Prelude.{◌≡◌, ◌≢◌, ℕ, ◌≤◌, Option, Some, None, Result, Ok, Err, [], ◌∷◌, ◌++◌, length, option_and_then, option_map, slice_get}
 use Rattle.std.specs.Arc.{arc_value}
 use Rattle.cf_event.specs.Words.{word_of}
 use Rattle.cf_desk.specs.declared.calls.Closed.{Closed as Closed'}
@@ -11,7 +11,7 @@ use Rattle.cf_c.specs.Records.{count_told, kept_of, record_of}
 use Rattle.cf_c.specs.declared.handle.object.Caller.{Caller as Caller'}
 use Rattle.cf_c.specs.declared.handle.object.Closing.{Closing as Closing'}
 use Rattle.cf_c.specs.declared.code.Code.{Code}
-use Rattle.cf_c.specs.declared.code.Code.TheVariants.{Empty, Full, NoMemory, NotAll, OtherDesk, WrongKind}
+use Rattle.cf_c.specs.declared.code.Code.TheVariants.{Empty, Full, NoMemory, NotAll, OtherDesk, StillShared, WrongKind}
 use Rattle.cf_c.specs.declared.handle.object.Object.{Object}
 use Rattle.cf_c.specs.declared.handle.object.Object.TheVariants.{Caller, Closed, Closing, Graph}
 use Rattle.cf_c.specs.declared.close.closed.CfRecord.{CfRecord}
@@ -67,11 +67,17 @@ abbrev pub Adds : Option Object → Option Object → ℕ → Option Object → 
 Adds None given code new back = (code ≡ number_of Empty) × (new ≡ None) × (back ≡ given)
 Adds (Some held) given code new back = Done (Returns given back) held new code
 
--- a closing becomes its desk, closed, or where callers are missing stays
+-- why a closing doesn't end: callers are missing, or all were given back and the desk is held all the same
+abbrev pub IsKept : Closing' → Code → Type 0
+IsKept closing NotAll = length closing.passes.items ≢ (arc_value closing.desk).setting.callers
+IsKept closing StillShared = length closing.passes.items ≡ (arc_value closing.desk).setting.callers
+IsKept closing code = ⊥
+
+-- a closing becomes its desk, closed, or stays for one of these causes
 abbrev pub Ends : Object → Result (Unit {0}) Code → Object → Type 0
 Ends (Closing c) (Ok done) (Closed d) = IsClosed (arc_value c.desk) c.passes.items d.closed
 Ends (Closing c) (Ok done) new = ⊥
-Ends (Closing c) (Err fault) new = (fault ≡ NotAll) × (new ≡ Closing c)
+Ends (Closing c) (Err fault) new = IsKept c fault × (new ≡ Closing c)
 Ends held r new = (r ≡ Err WrongKind) × (new ≡ held)
 
 -- a closed desk is asked what this tells of it

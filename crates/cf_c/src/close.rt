@@ -33,7 +33,7 @@ pub extern "C" fn cf_close_add(alloc: Global, closing: &mut CfHandle, caller: &m
     ask!(alloc, closing, held => add(alloc, &mut held, caller))
 }
 
-/// Closes the desk, all of whose callers were given back.
+/// Closes the desk, all of whose callers were given back: else `NotAll`, or `StillShared` where it is held all the same.
 #[unsafe(no_mangle)]
 pub extern "C" fn cf_close_end(alloc: Global, closing: &mut CfHandle) -> u32
     ensures { Does Ends closing.old.inner.held closing.new.inner.held result }
@@ -181,13 +181,13 @@ fn ended(held: Object) -> (Object, Result<(), Code>)
     }
 }
 
-/// The closed desk of a closing, or where callers are missing the closing.
+/// The closed desk of a closing, or the closing where it doesn't end.
 fn end_closing(closing: Closing) -> (Object, Result<(), Code>)
     ensures { Ends (IsClosing closing) result.1 result.0 }
 {
     match closing.end() {
         Ok(closed) => (Object::Closed(closed), Ok(())),
-        Err(closing) => (Object::Closing(closing), Err(Code::NotAll)),
+        Err((closing, code)) => (Object::Closing(closing), Err(code)),
     }
 }
 

@@ -56,6 +56,8 @@ pub enum Code {
     NoWord,
     /// 27: the script has a fault.
     BadScript,
+    /// 28: all callers of a desk were given back, and it is held all the same.
+    StillShared,
 }
 
 impl Code {
@@ -100,6 +102,7 @@ pub(crate) fn text_of(number: u32) -> Option<&'static str>
         25 => Some("NotAll"),
         26 => Some("NoWord"),
         27 => Some("BadScript"),
+        28 => Some("StillShared"),
         255 => Some("Null"),
         _ => None,
     }

@@ -32,6 +32,7 @@ public enum Code {
     NOT_ALL(25),
     NO_WORD(26),
     BAD_SCRIPT(27),
+    STILL_SHARED(28),
     NULL(255);
 
     private final int number;

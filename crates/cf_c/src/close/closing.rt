@@ -2,7 +2,7 @@
 ghost use Rattle.std.specs.Prelude.{◌≡◌, ◌<◌, All, MatchOption, MatchResult, length};
 ghost use Rattle.std.specs.Arc.{arc_value};
 ghost use Rattle.cf_c.specs.Closed.{IsClosed};
-ghost use Rattle.cf_c.specs.Closings.{HasMore, IsBegun, IsRefused};
+ghost use Rattle.cf_c.specs.Closings.{HasMore, IsBegun, IsKept, IsRefused};
 
 use crate::code::Code;
 use crate::desk::caller::is_one_desk;
@@ -49,17 +49,17 @@ impl Closing {
         self.passes.push_reserved(pass);
     }
 
-    /// Closes the desk. Where callers are missing, the closing comes back.
-    pub(crate) fn end(self) -> Result<ClosedDesk, Closing>
-        ensures { MatchResult result (λ desk. IsClosed (arc_value self.desk) self.passes.items desk.closed) (λ back. back ≡ self) }
+    /// Closes the desk. Where callers are missing, or the desk is held all the same, the closing comes back.
+    pub(crate) fn end(self) -> Result<ClosedDesk, (Closing, Code)>
+        ensures { MatchResult result (λ desk. IsClosed (arc_value self.desk) self.passes.items desk.closed) (λ back. IsKept self back.1 × (back.0 ≡ self)) }
     {
         if self.passes.len() != usize::from(self.desk.callers()) {
-            return Err(self);
+            return Err((self, Code::NotAll));
         }
         let Closing { desk, passes } = self;
         match Arc::try_unwrap(desk) {
             Ok(desk) => Ok(closed_of(desk, passes)),
-            Err(desk) => Err(Closing { desk, passes }),
+            Err(desk) => Err((Closing { desk, passes }, Code::StillShared)),
         }
     }
 }
