@@ -169,7 +169,7 @@ one_new c before now e h other = record {
 wider : (low low' high high' : ℕ) (xs : List ℕ) → low' ≤ low → high ≤ high' → All (IsBetween low high) xs → All (IsBetween low' high') xs
 wider low low' high high' xs down up h = All-weaker (IsBetween low high) (IsBetween low' high') (λ x b. (let l = b.0 in omega arith, let g = b.1 in omega arith)) xs h
 
-caught_longer : (c : ℕ) (before now : List Event) → Catches c before now → length before ≤ length now
+pub caught_longer : (c : ℕ) (before now : List Event) → Catches c before now → length before ≤ length now
 caught_longer c before now h = let len = ap length h.joined in omega (arith, length-append before h.others)
 
 pub no_looks : (p : Pass) → p ≡ record p { known = record p.known { looks = p.known.looks ++ [] } }

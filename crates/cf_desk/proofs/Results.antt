@@ -1,16 +1,17 @@
 -- What calls do, once their pass has caught up.
-use Rattle.std.proofs.Common.{◌≡◌, ◌⊎◌, ◌<◌, inl, inr, Bool, true, false, rules, List, length, sym, ap, subst}
+use Rattle.std.proofs.Common.{◌≡◌, ◌⊎◌, ◌+◌, ◌<◌, ◌≤◌, ◌∙◌, ◌∷◌, ◌++◌, [], inl, inr, Bool, true, false, rules, List, length, length-append, sym, ap, arith, subst}
 use Rattle.std.specs.Bool.{IsTrue}
 use Rattle.cf_model.specs.declared.events.Reply.{Reply}
 use Rattle.cf_desk.specs.declared.calls.Call.{Call}
 use Rattle.cf_desk.specs.declared.calls.Rec.{Rec}
+use Rattle.cf_desk.specs.declared.calls.Rec.TheVariants.{Did}
 use Rattle.cf_desk.specs.declared.faults.DeskFault.{DeskFault}
 use Rattle.cf_desk.specs.declared.faults.DeskFault.TheVariants.{LogFull}
 use Rattle.cf_desk.specs.Calls.{event_by}
 use Rattle.cf_desk.specs.Faults.{HasRoom, IsDue, IsFitting, IsOnStage}
-use Rattle.cf_desk.specs.Results.{Answers, CaughtUp, Refuses}
+use Rattle.cf_desk.specs.Results.{Answers, CaughtUp, IsRecorded, Refuses}
 use Rattle.cf_desk.specs.Views.{Acts, Desk, Follows, IsSamePass, Pass, SeesFull}
-use Rattle.cf_desk.proofs.Passes.{caught_as, still_fitting, still_on_stage}
+use Rattle.cf_desk.proofs.Passes.{caught_as, caught_longer, still_fitting, still_on_stage}
 
 pub is_true : IsTrue true
 is_true = search rules
@@ -62,3 +63,27 @@ still_room p q f h =
 
 pub due_full : (d : Desk) (p q : Pass) (call : Call) → Follows p q → IsOnStage p (event_by p.known.caller call) → IsFitting p (event_by p.known.caller call) → HasRoom p → SeesFull d q → IsDue q d (event_by p.known.caller call) LogFull
 due_full d p q call f there fits room full = (still_on_stage p q (event_by p.known.caller call) f there, still_fitting p q (event_by p.known.caller call) f fits, still_room p q f room, full)
+
+-- ---- what a call that is answered adds
+
+found_longer : (d : Desk) (p q : Pass) (knows : Type 0) → CaughtUp d knows p q → length p.known.seen ≤ length q.known.seen
+found_longer d p q knows (inl h) = (let e = ap (λ (x : Pass). length x.known.seen) h.1 in omega (arith, e))
+found_longer d p q knows (inr h) = (let e = ap (λ (x : Pass). length x.known.seen) h.1.is in let more = caught_longer _ _ _ h.1.caught in omega (arith, e, more))
+
+found_records : (d : Desk) (p q : Pass) (knows : Type 0) → CaughtUp d knows p q → q.records ≡ p.records
+found_records d p q knows (inl h) = ap (λ (x : Pass). x.records) h.1
+found_records d p q knows (inr h) = ap (λ (x : Pass). x.records) h.1.is
+
+pub recorded : (d : Desk) (p q : Pass) (call : Call) (reply : Reply) → Answers d p call reply q → IsRecorded p call reply q
+recorded d p q call reply h =
+    let before = h.acts.before in
+    let e = event_by h.found.known.caller call in
+    let longer = found_longer d p h.found _ h.caught in
+    let more = caught_longer _ _ before h.acts.caught in
+    let seen = ap (λ (x : Pass). length x.known.seen) h.acts.is ∙ length-append before (e ∷ []) in
+    record {
+      place = length before + 1;
+      after = omega (arith, longer, more);
+      within = omega (arith, seen);
+      records = ap (λ (x : Pass). x.records) h.acts.is ∙ ap (λ l. l ++ Did (length before + 1) call reply ∷ []) (found_records d p h.found _ h.caught);
+    }

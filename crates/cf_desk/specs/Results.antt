@@ -1,11 +1,12 @@
 -- What a call does: the pass first catches up, where it doesn't know a stage that the call names, and is then answered or refused.
-use Rattle.std.specs.Prelude.{◌≡◌, ◌⊎◌, ℕ}
+use Rattle.std.specs.Prelude.{◌≡◌, ◌⊎◌, ℕ, ◌<◌, ◌≤◌, [], ◌∷◌, ◌++◌, length}
 use Rattle.cf_model.specs.declared.asks.Ask.{Ask}
 use Rattle.cf_model.specs.declared.asks.Ask.TheVariants.{Outcome as AsksOutcome}
 use Rattle.cf_model.specs.declared.asks.Told.{Told}
 use Rattle.cf_model.specs.declared.events.Reply.{Reply}
 use Rattle.cf_desk.specs.declared.calls.Call.{Call}
 use Rattle.cf_desk.specs.declared.calls.Joined.{Joined}
+use Rattle.cf_desk.specs.declared.calls.Rec.TheVariants.{Did}
 use Rattle.cf_desk.specs.declared.faults.DeskFault.{DeskFault}
 use Rattle.cf_desk.specs.declared.faults.DeskFault.TheVariants.{LogFull}
 use Rattle.cf_desk.specs.Calls.{event_by}
@@ -24,6 +25,13 @@ pub record Answers (d : Desk) (p : Pass) (call : Call) (reply : Reply) (q : Pass
   pub fits : IsFitting found (event_by p.known.caller call)
   pub room : HasRoom found
   pub acts : Acts found call reply q
+
+-- the call and its reply stand behind what the pass recorded before, at a place behind all that it had seen
+pub record IsRecorded (p : Pass) (call : Call) (reply : Reply) (q : Pass) : Type 0 where
+  pub place : ℕ
+  pub after : length p.known.seen < place
+  pub within : place ≤ length q.known.seen
+  pub records : q.records ≡ p.records ++ Did place call reply ∷ []
 
 -- a changing call is refused: it adds nothing, and only where the log is full it has seen more
 pub record Refuses (d : Desk) (p : Pass) (call : Call) (q : Pass) (fault : DeskFault) : Type 0 where

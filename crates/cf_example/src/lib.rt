@@ -7,6 +7,7 @@
 #![tactic(auto)]
 
 mod fault;
+pub mod headline;
 
 ghost use Rattle.std.specs.Prelude.{◌≡◌, All, IfOk, map};
 ghost use Rattle.cf_event.specs.Histories.{IsOneHistory};

@@ -1,7 +1,7 @@
 use Rattle.std.proofs.Common.{inl, inr, refl, arith}
 use Rattle.cf_desk.specs.declared.faults.DeskFault.TheVariants.{NoStage, BadAttach, PassFull, LogFull}
 use Rattle.cf_desk.proofs.Passes.{follows_itself}
-use Rattle.cf_desk.proofs.Results.{answered_there, refused_there, due_full, is_true, not_true}
+use Rattle.cf_desk.proofs.Results.{answered_there, recorded, refused_there, due_full, is_true, not_true}
 use Rattle.cf_desk.proofs.desk.Desk.act.Goals as goal
 
 pub returns-then-not-names-clause-refused : goal.returns-then-not-names-clause-refused
@@ -34,3 +34,6 @@ returns-in-None-clause-refused c =
     let seen = c.in-None.ensures in
     refused_there c.args.self.now c.args.p.now _ _ c.args.c c.names-known.result c.names-known.ensures.0 c.names-known.ensures.1 c.learn.ensures LogFull seen.0 seen.1 (inl refl)
     (due_full c.args.self.now _ _ c.args.c seen.0 ((c.if-not-names.ensures).0 is_true) ((c.if-not-fits.ensures).fits.0 is_true) (omega (arith, left, some)) seen.2)
+
+pub returns-in-Some-clause-recorded : goal.returns-in-Some-clause-recorded
+returns-in-Some-clause-recorded c = recorded c.args.self.now c.args.p.now _ c.args.c c.in-Some.reply (returns-in-Some-clause-done c)
