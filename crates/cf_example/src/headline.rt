@@ -2,25 +2,31 @@
 //! `Desk::close` and nothing beside it, for no proof stands in this crate.
 //!
 //! The plan in a clause is the desk's, with its room. So all of it holds in the same way where callers attach stages.
-ghost use Rattle.std.specs.Prelude.{◌≡◌, ℕ, ◌<◌, ◌≤◌, ◌++◌, ◌∷◌, [], All, IfOk, Some, length, map};
+ghost use Rattle.std.specs.Prelude.{◌≡◌, ℕ, ◌<◌, ◌≤◌, ◌++◌, ◌∷◌, [], All, IfOk, Some, length, map, true};
 ghost use Rattle.std.specs.List.{Contains};
 ghost use Rattle.cf_outcome.specs.declared.outcome.Outcome.{Outcome};
 ghost use Rattle.cf_plan.specs.Meanings.{Meanings};
-ghost use Rattle.cf_plan.specs.Plans.{IsBuilt};
+ghost use Rattle.cf_plan.specs.Plans.{IsBuilt, has_place, with_room};
 ghost use Rattle.cf_model.specs.Calls.{who_of};
 ghost use Rattle.cf_model.specs.Events.{state_at, state_after};
 ghost use Rattle.cf_model.specs.Laws.{grants_of};
 ghost use Rattle.cf_model.specs.States.{outcome_at, start};
 ghost use Rattle.cf_event.specs.Events.{AreEventsOf, own};
-ghost use Rattle.cf_event.specs.Histories.{InOrder, IsAnswered, dids, numbers_of};
+ghost use Rattle.cf_event.specs.Histories.{InOrder, IsAnswered, IsOneHistory, dids, numbers_of};
 ghost use Rattle.cf_expr.specs.Expressions.{expr};
 ghost use Rattle.cf_expr.specs.Histories.{IsPlain, IsPlainPlan, IsQuiet, nothing_granted};
 ghost use Rattle.cf_desk.specs.declared.calls.Rec.TheVariants.{Did};
 ghost use Rattle.cf_desk.specs.Keepings.{caller_kept};
 ghost use Rattle.cf_desk.specs.Laws.{StandsAt, call_of};
+ghost use Rattle.cf_history.specs.Laws.{Tells as SaysSo};
+ghost use Rattle.cf_history.specs.declared.verdict.Verdict.TheVariants.{Fits};
 
 use cf_desk::{Call, CloseFault, Closed, Desk, DeskFault, Pass};
+use cf_history::laws::one_histories_fit;
+use cf_history::{History, Verdict, check};
 use cf_model::Reply;
+use cf_plan::Plan;
+use std::alloc::{AllocError, Global};
 
 /// Closes a desk. It never fails where it gets every pass of the desk.
 pub fn close_all(desk: Desk, passes: Vec<Pass>) -> Result<Closed, CloseFault>
@@ -59,4 +65,21 @@ pub fn act_twice(desk: &Desk, pass: &mut Pass, one: Call, other: Call) -> Result
     let first = desk.act(pass, one)?;
     let second = desk.act(pass, other)?;
     Ok((first, second))
+}
+
+/// An account that says what a closed desk hands out, of the plan and room that the desk was opened with, is judged to fit.
+pub fn is_judged_to_fit(
+    alloc: Global,
+    plan: &Plan,
+    room: u16,
+    closed: &Closed,
+    account: &History,
+) -> Result<Verdict, AllocError>
+    requires place { has_place plan.now.stages room ≡ true }
+    requires one { IsOneHistory (with_room plan.now room) account.now.functions closed.now.history.items (map caller_kept closed.now.passes.items) }
+    requires says { SaysSo (with_room plan.now room) account.now.functions closed.now.history.items (map caller_kept closed.now.passes.items) account.now }
+    ensures { IfOk result (λ verdict. verdict ≡ Fits) }
+{
+    one_histories_fit();
+    check(alloc, plan, room, account)
 }
