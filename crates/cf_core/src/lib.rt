@@ -2,8 +2,9 @@
 //!
 //! `cf_model` says what a graph means. A contract sees a `Graph` as the `State` of that crate, in which all consequences have
 //! come to pass, and the turns that were taken. `Graph::answer` does any call, as an `Event`, and `Graph::tell` answers any
-//! question, as an `Ask`. `Graph::work` claims and finishes ready stages until there is none, by the functions that it is
-//! given. A graph that was opened with room takes more stages by `Graph::attach`; its plan then has grown.
+//! question, as an `Ask`. `Graph::work` claims and finishes ready stages until there is none, and calls the function of each
+//! of them once: any `Functions`, those of a list that remember nothing (`Each`) or closures that count, print or keep what
+//! they are called with. A graph that was opened with room takes more stages by `Graph::attach`; its plan then has grown.
 //!
 //! # How it is kept
 //!

@@ -7,6 +7,7 @@ pub mod Growing
 pub mod Firing
 pub mod LowestReady
 pub mod Working
+pub mod Calling
 pub mod Stable
 pub mod Closed
 pub mod Histories

@@ -1,7 +1,5 @@
 -- Work ends with nothing ready, and keeps the plan.
-use Rattle.std.proofs.Common.{◌≡◌, ℕ, ◌+◌, ◌<◌, ◌≤◌, true, Option, Some, None, zero, suc, length, arith, ap, sym, subst, ◌∙◌, refl, List, [], ◌∷◌, ◌++◌, false, length-append}
-use Rattle.std.specs.Prelude.{is_some}
-use Rattle.std.specs.Option.{option_map_or}
+use Rattle.std.proofs.Common.{◌≡◌, ℕ, ◌+◌, ◌<◌, ◌≤◌, Option, Some, None, zero, suc, length, arith, ap, sym, subst, ◌∙◌, refl}
 use Rattle.std.proofs.lemmas.List.Sums.{count_by-le-length}
 use Rattle.cf_plan.specs.Meanings.{Meanings, stage_answer}
 use Rattle.cf_model.specs.declared.replies.Claimed.TheVariants as claims
@@ -12,7 +10,6 @@ use Rattle.cf_model.specs.States.{State, lowest_ready_of}
 use Rattle.cf_model.specs.Events.{answered}
 use Rattle.cf_model.specs.Claims.{is_claimable, claimable_count}
 use Rattle.cf_model.specs.Growth.{SameShape}
-use Rattle.cf_model.specs.Working.{AreWorkedOn, Works}
 use Rattle.cf_model.specs.Working.{finished_after, worked_once, and_one, working, worked}
 use Rattle.cf_model.proofs.Claimable.{others-claimable, claiming-claimable, ready-granted}
 use Rattle.cf_model.proofs.LowestReady.{lowest_ready-is_ready}
@@ -118,65 +115,6 @@ at_last who m whole stages calls s e h =
     let none = working-none h.left who m s e in
     let sum : calls ≡ calls + 0 = omega arith in
     ap (λ n. (n, s)) sum ∙ ap (λ (done : ℕ × State). (calls + done.0, done.1)) (sym none) ∙ h.goes_on
-
--- ---- so many turns
-
-turns_done : (who : ℕ) (m : Meanings) (whole : ℕ × State) (stages calls : ℕ) (s t : State) (which : List ℕ) → AreWorkedOn who m s which t → IsBetweenTurns who m whole stages calls s → IsBetweenTurns who m whole stages (calls + length which) t
-turns_done who m whole stages calls s t [] h between =
-    let same : t ≡ s = h in
-    let none : calls + 0 ≡ calls = omega arith in
-    subst (λ n. IsBetweenTurns who m whole stages n t) (sym none) (subst (λ x. IsBetweenTurns who m whole stages calls x) (sym same) between)
-turns_done who m whole stages calls s t (i ∷ which) h between =
-    let sum : calls + 1 + length which ≡ calls + suc (length which) = omega arith in
-    subst (λ n. IsBetweenTurns who m whole stages n t) sum
-    (turns_done who m whole stages (calls + 1) (worked_once who m s i) t which h.1 (one_more who m whole stages calls s i h.0 between))
-
-between_then : (who : ℕ) (m : Meanings) (s t : State) (count : ℕ) → length s.stages ≡ length s.plan.stages → Works who m s count t → IsBetweenTurns who m (worked who m s) (length s.plan.stages) count t
-between_then who m s t count same h =
-    let from_start = turns_done who m (worked who m s) (length s.plan.stages) 0 s t h.which h.worked (at_first who m s (length s.plan.stages) refl same) in
-    let n : 0 + length h.which ≡ count = (let c = h.counted in omega (arith, c)) in
-    subst (λ k. IsBetweenTurns who m (worked who m s) (length s.plan.stages) k t) n from_start
-
--- there are at most as many as stages
-pub works_few : (who : ℕ) (m : Meanings) (s t : State) (count : ℕ) → length s.stages ≡ length s.plan.stages → Works who m s count t → count ≤ length s.plan.stages
-works_few who m s t count same h = let between = between_then who m s t count same h in let c = between.counted in omega (arith, c)
-
--- where none is ready then, they are all
-pub works_all : (who : ℕ) (m : Meanings) (s t : State) (count : ℕ) → length s.stages ≡ length s.plan.stages → Works who m s count t → lowest_ready_of t ≡ None → (count, t) ≡ worked who m s
-works_all who m s t count same h none = at_last who m (worked who m s) (length s.plan.stages) count t none (between_then who m s t count same h)
-
-AreWorkedOn-both : (who : ℕ) (m : Meanings) (s t u : State) (which more : List ℕ) → AreWorkedOn who m s which t → AreWorkedOn who m t more u → AreWorkedOn who m s (which ++ more) u
-AreWorkedOn-both who m s t u [] more h k = let same : t ≡ s = h in subst (λ x. AreWorkedOn who m x more u) same k
-AreWorkedOn-both who m s t u (i ∷ which) more h k = (h.0, AreWorkedOn-both who m (worked_once who m s i) t u which more h.1 k)
-
--- some, and then more
-pub works_on : (who : ℕ) (m : Meanings) (s t u : State) (count more : ℕ) → Works who m s count t → Works who m t more u → Works who m s (count + more) u
-works_on who m s t u count more h k = record {
-  which = h.which ++ k.which;
-  worked = AreWorkedOn-both who m s t u h.which k.which h.worked k.worked;
-  counted = (let n = length-append h.which k.which in let a = h.counted in let b = k.counted in omega (arith, n, a, b));
-}
-
-pub works_none : (who : ℕ) (m : Meanings) (s : State) → Works who m s 0 s
-works_none who m s = record { which = []; worked = refl; counted = refl }
-
-pub works_one : (who : ℕ) (m : Meanings) (s : State) (i : ℕ) → lowest_ready_of s ≡ Some i → Works who m s 1 (worked_once who m s i)
-works_one who m s i e = record { which = i ∷ []; worked = (e, refl); counted = refl }
-
--- a turn that tells which stage it worked on, if any
-pub turn_none : (who : ℕ) (m : Meanings) (s u : State) (x : Option ℕ) → u ≡ option_map_or (λ i. worked_once who m s i) x s → is_some x ≡ false → u ≡ s
-turn_none who m s u None is e = is
-turn_none who m s u (Some i) is e = cc
-
-pub turn_more : (who : ℕ) (m : Meanings) (r s u : State) (count : ℕ) (x : Option ℕ) → x ≡ lowest_ready_of s → u ≡ option_map_or (λ i. worked_once who m s i) x s → is_some x ≡ true →
-    Works who m r count s → Works who m r (count + 1) u
-turn_more who m r s u count None e is some h = cc
-turn_more who m r s u count (Some i) e is some h =
-    works_on who m r s u count 1 h (subst (λ y. Works who m s 1 y) (sym is) (works_one who m s i (sym e)))
-
-pub none_is : (x : Option ℕ) → is_some x ≡ false → x ≡ None
-none_is None e = refl
-none_is (Some i) e = cc
 
 -- ---- what work keeps and leaves
 

@@ -7,3 +7,4 @@ pub mod Laws
 pub mod Growth
 pub mod Graphs
 pub mod Working
+pub mod Calling

@@ -1,5 +1,5 @@
 -- Work: the functions of ready stages are called, the lowest stage first.
-use Rattle.std.specs.Prelude.{◌≡◌, ℕ, ◌+◌, zero, suc, List, [], ◌∷◌, Some, length}
+use Rattle.std.specs.Prelude.{ℕ, ◌+◌, zero, suc, length}
 use Rattle.std.specs.Option.{option_map_or}
 use Rattle.cf_plan.specs.Meanings.{Meanings, stage_answer}
 use Rattle.cf_model.specs.States.{State, lowest_ready_of}
@@ -33,14 +33,3 @@ working (suc most) who meanings s =
 -- are enough.
 abbrev pub worked : ℕ → Meanings → State → ℕ × State
 worked who meanings s = working (length s.plan.stages) who meanings s
-
--- these stages are worked on by a caller, each of which is then the lowest ready one
-abbrev pub AreWorkedOn : ℕ → Meanings → State → List ℕ → State → Type 0
-AreWorkedOn who meanings s [] t = t ≡ s
-AreWorkedOn who meanings s (i ∷ rest) t = (lowest_ready_of s ≡ Some i) × AreWorkedOn who meanings (worked_once who meanings s i) rest t
-
--- so many are
-pub record Works (who : ℕ) (meanings : Meanings) (s : State) (count : ℕ) (t : State) : Type 0 where
-  pub which : List ℕ
-  pub worked : AreWorkedOn who meanings s which t
-  pub counted : length which ≡ count

@@ -12,7 +12,8 @@
 //! rising number, has taken what its sources then give. `Events`: `answered` is the reply and the state of one event, and
 //! `told` what a question is told. `Ranges`: which events a graph takes. `Calls` and `Claims`: which events attach a stage,
 //! and which stages may be claimed. `Laws` and `Growth`: what is true of all runs of events, by these very definitions.
-//! `Graphs` and `Working`: what a contract sees of a graph that is kept, and of the work that it does.
+//! `Graphs`: what a contract sees of a graph that is kept. `Calling`: which functions its work calls, that of each stage
+//! once. `Working`: what that comes to where functions remember nothing.
 //!
 //! The definitions know no marks, no list of work and no loop. How a graph is kept, so that it answers so, is the question
 //! of `cf_core`; the laws are proved here, by the functions of `laws`.

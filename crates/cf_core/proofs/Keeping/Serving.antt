@@ -1,6 +1,6 @@
 -- A ready stage that lands at once lands as if it had been claimed before.
-use Rattle.std.proofs.Common.{◌≡◌, ◌≢◌, ◌==◌, ℕ, ◌+◌, ◌<◌, ◌∷◌, [], List, true, false, Option, Some, None, length, suc, zero, arith, ap, sym, ◌∙◌, refl, set, set-set, get_or}
-use Rattle.std.specs.Prelude.{option_and_then, position, slice_get, unwrap_or}
+use Rattle.std.proofs.Common.{◌≡◌, ◌≢◌, ◌==◌, ℕ, ◌+◌, ◌<◌, ◌∷◌, [], List, true, false, Option, Some, None, length, suc, zero, arith, ap, sym, subst, ◌∙◌, refl, set, set-set, get_or}
+use Rattle.std.specs.Prelude.{is_some, option_and_then, position, slice_get, unwrap_or}
 use Rattle.std.specs.Option.{option_map_or}
 use Rattle.std.proofs.lemmas.Bool.Decides.{nat_tests}
 use Rattle.std.proofs.lemmas.Option.{slice_get-get_or, slice_get_within}
@@ -12,24 +12,21 @@ use Rattle.cf_plan.specs.declared.forms.Answer.{Answer}
 use Rattle.cf_plan.specs.declared.forms.Landing.{Landing}
 use Rattle.cf_plan.specs.declared.forms.Landing.TheVariants.{Settles as Lands, Links}
 use Rattle.cf_plan.specs.Forms.{landing}
-use Rattle.cf_plan.specs.Meanings.{Meanings, stage_answer}
-use Rattle.cf_plan.specs.Plans.{PlannedStage, form_at, sources_at}
+use Rattle.cf_plan.specs.Plans.{PlannedStage, form_at, function_at, sources_at}
 use Rattle.cf_model.specs.declared.stage.Stage.{Stage}
 use Rattle.cf_model.specs.declared.stage.Stage.TheVariants.{Pending, Ready, Claimed, Linked, Settled}
 use Rattle.cf_model.specs.declared.replies.Claimed.TheVariants.{Granted}
 use Rattle.cf_model.specs.declared.replies.Finished.{Finished}
-use Rattle.cf_model.specs.declared.replies.Finished.TheVariants.{Won}
-use Rattle.cf_model.specs.declared.events.Event.TheVariants.{Claim as Claims}
-use Rattle.cf_model.specs.declared.events.Reply.{Reply}
 use Rattle.cf_model.specs.declared.events.Reply.TheVariants.{Claim as ToldClaim}
 use Rattle.cf_model.specs.States.{State, is_ready, outcome_of, outcome_in, new_states}
-use Rattle.cf_model.specs.Events.{answered, claimed_by, claiming, finishing, told_as}
-use Rattle.cf_model.specs.Working.{finished_after, worked_once}
+use Rattle.cf_model.specs.Events.{claimed_by, claiming, told_as}
+use Rattle.cf_model.specs.Calling.{CallsOf, Runs, RunsOnce}
 use Rattle.cf_core.specs.Keeping.Landings.{landed_stages, linked_stages}
-use Rattle.cf_core.specs.Keeping.Serving.{served, served_by}
+use Rattle.cf_core.specs.Keeping.Serving.{RunsNext, ServesOnce, served}
 use Rattle.cf_core.specs.Keeping.Sound.{AreTreated, kept_at}
 use Rattle.cf_core.specs.Keeping.SoundStages.{AreSound, settled_view_of}
 use Rattle.cf_core.specs.declared.stages.Stages.{Stages}
+use Rattle.cf_model.proofs.Calling.{runs_on, runs_one}
 use Rattle.cf_core.proofs.Keeping.Marking.{get-set_same}
 use Rattle.cf_core.proofs.Keeping.Lowest.{length-settled_view}
 use Rattle.cf_core.proofs.Keeping.GraphLemmas.{finishes_now, told_stage}
@@ -77,53 +74,40 @@ links-claimed plan xs new d j at args x is e told new_is =
 
 -- ---- what is done with a stage
 
-pub served_ready : (meanings : Meanings) (plan : List PlannedStage) (before xs new : List Stage) (i : ℕ) (args : Args) (answer : Answer) (at : Landing) → xs ≡ before → slice_get xs i ≡ Some (Ready args) →
-    answer ≡ stage_answer meanings plan i args → at ≡ landing (form_at plan i) i (option_and_then (outcome_in xs) (slice_get (sources_at plan i) 0)) answer → new ≡ landed_stages plan (set xs i Claimed) i at → new ≡ served meanings plan before i
-served_ready meanings plan before xs new i args answer at same e told lands is =
-    let source = option_and_then (outcome_in xs) (slice_get (sources_at plan i) 0) in
-    is ∙ ap (landed_stages plan (set xs i Claimed) i) (lands ∙ ap (landing (form_at plan i) i source) told)
-    ∙ sym (ap (λ x. served_by (unwrap_or x Pending) meanings plan xs i) e) ∙ ap (λ ys. served meanings plan ys i) same
+-- what is the lowest ready stage is ready
+not_ready : (x : Stage) → is_ready x ≡ true → ((args : Args) → x ≢ Ready args) → ⊥
+not_ready Pending e ne = cc
+not_ready (Ready args) e ne = ne args refl
+not_ready Claimed e ne = cc
+not_ready (Linked j) e ne = cc
+not_ready (Settled o) e ne = cc
 
-unready : (x : Stage) (meanings : Meanings) (plan : List PlannedStage) (xs : List Stage) (i : ℕ) → ((args : Args) → x ≢ Ready args) → served_by x meanings plan xs i ≡ xs
-unready Pending meanings plan xs i ne = refl
-unready (Ready args) meanings plan xs i ne = absurd (ne args refl)
-unready Claimed meanings plan xs i ne = refl
-unready (Linked j) meanings plan xs i ne = refl
-unready (Settled o) meanings plan xs i ne = refl
+pub never_unready : (before xs : List Stage) (i : ℕ) (x : Stage) → xs ≡ before → slice_get xs i ≡ Some x → position is_ready before ≡ Some i → ((args : Args) → x ≢ Ready args) → ⊥
+never_unready before xs i x same e lowest ne =
+    let found = position-Some is_ready before i Pending lowest in
+    let there : slice_get before i ≡ Some (get_or before i Pending) = slice_get-get_or before i Pending found.0 in
+    let both : Some x ≡ Some (get_or before i Pending) = sym e ∙ ap (λ ys. slice_get ys i) same ∙ there in
+    let is : get_or before i Pending ≡ x = cc in
+    not_ready x (ap is_ready (sym is) ∙ found.1) ne
 
-pub served_not : (meanings : Meanings) (plan : List PlannedStage) (before xs : List Stage) (i : ℕ) (x : Stage) → xs ≡ before → slice_get xs i ≡ Some x → ((args : Args) → x ≢ Ready args) → xs ≡ served meanings plan before i
-served_not meanings plan before xs i x same e ne =
-    sym (unready x meanings plan xs i ne) ∙ sym (ap (λ y. served_by (unwrap_or y Pending) meanings plan xs i) e) ∙ ap (λ ys. served meanings plan ys i) same
+-- one call of its function, and where the stage lands, as seen once it was treated
+pub serves_once : {M : Type 0} (calls : CallsOf M) (plan : List PlannedStage) (m n : M) (before xs new : List Stage) (i : ℕ) (args : Args) (answer : Answer) (at : Landing) → xs ≡ before → position is_ready before ≡ Some i → slice_get xs i ≡ Some (Ready args) →
+    calls m (unwrap_or (function_at plan i) 0) args answer n → at ≡ landing (form_at plan i) i (option_and_then (outcome_in xs) (slice_get (sources_at plan i) 0)) answer → new ≡ landed_stages plan (set xs i Claimed) i at →
+    ServesOnce calls plan before m i new n
+serves_once calls plan m n before xs new i args answer at same lowest e called lands is = record {
+  lowest = lowest;
+  args = args;
+  ready = ap (λ ys. slice_get ys i) (sym same) ∙ e;
+  answer = answer;
+  called = called;
+  lands = is ∙ ap (landed_stages plan (set xs i Claimed) i) lands ∙ ap (λ ys. served plan ys i answer) same;
+}
 
 -- ---- a claim and its finish
 
 has_claim : (claims : List (Option ℕ)) (who i : ℕ) → i < length claims → option_map_or (λ w. w == who) (unwrap_or (slice_get (set claims i (Some who)) i) None) false ≡ true
 has_claim claims who i l =
     ap (λ x. option_map_or (λ w. w == who) (unwrap_or x None) false) (get-set_same claims i (Some who) l) ∙ grind (arith, nat_tests)
-
-finished-as : (who : ℕ) (meanings : Meanings) (i : ℕ) (s : State) (x : Reply × State) (args : Args) (r : State) (f : Finished) (u : State) → x ≡ (ToldClaim (Granted args), r) →
-    (f, u) ≡ finishing r who i (stage_answer meanings r.plan.stages i args) → u ≡ finished_after who meanings i x
-finished-as who meanings i s x args r f u is e =
-    ap (λ (done : Finished × State). done.1) e ∙ sym (ap (finished_after who meanings i) is)
-
-served_as : (who : ℕ) (meanings : Meanings) (s : State) (i : ℕ) (x : Stage) → slice_get s.stages i ≡ Some x → is_ready x ≡ true → i < length s.stages → i < length s.claims →
-    record s { stages = served_by x meanings s.plan.stages s.stages i; claims = set s.claims i None } ≡ worked_once who meanings s i
-served_as who meanings s i (Ready args) e ready l lc =
-    let claimed : State = record s { stages = set s.stages i Claimed; claims = set s.claims i (Some who) } in
-    let answer = stage_answer meanings s.plan.stages i args in
-    let source = option_and_then (outcome_in s.stages) (slice_get (sources_at s.plan.stages i) 0) in
-    let at = landing (form_at s.plan.stages i) i source answer in
-    let none : outcome_in (set s.stages i Claimed) i ≡ None = claimed-outcome s.stages i i args e ∙ ap (option_and_then outcome_of) e in
-    let done = finishes_now claimed who i answer source at (set s.stages i Claimed) (landed_stages s.plan.stages (set s.stages i Claimed) i at) refl (has_claim s.claims who i lc) none
-    (claimed-source s.stages i args (slice_get (sources_at s.plan.stages i) 0) e) refl refl in
-    let granted : claiming s who i ≡ (Granted args, claimed) = ap (λ y. claimed_by (unwrap_or y Pending) s who i) e in
-    ap (λ claims. record s { stages = served_by (Ready args) meanings s.plan.stages s.stages i; claims = claims }) (sym (set-set s.claims i (Some who) None))
-    ∙ finished-as who meanings i s (answered s (Claims who i)) args claimed Won
-    (record claimed { stages = served_by (Ready args) meanings s.plan.stages s.stages i; claims = set (set s.claims i (Some who)) i None }) (ap (told_as ToldClaim) granted) done
-served_as who meanings s i Pending e ready l lc = cc
-served_as who meanings s i Claimed e ready l lc = cc
-served_as who meanings s i (Linked j) e ready l lc = cc
-served_as who meanings s i (Settled o) e ready l lc = cc
 
 -- the stage that was found is there
 pub found_within : (plan : List PlannedStage) (s : Stages) (i : ℕ) → AreSound plan s → Some i ≡ position is_ready (settled_view_of plan s) → i < length plan
@@ -133,12 +117,32 @@ found_within plan s i h told =
     omega (arith, found.0, all, h.all_kept)
 
 -- what is done with the lowest ready stage is what its claim and its finish do
-pub works : (s : State) (who : ℕ) (meanings : Meanings) (i : ℕ) (seen new : List Stage) → seen ≡ s.stages → Some i ≡ position is_ready s.stages → i < length s.claims → new ≡ served meanings s.plan.stages seen i →
-    record s { stages = new; claims = set s.claims i None } ≡ worked_once who meanings s i
-works s who meanings i seen new same told lc is =
-    let found = position-Some is_ready s.stages i Pending (sym told) in
-    let x = get_or s.stages i Pending in
-    let e : slice_get s.stages i ≡ Some x = slice_get-get_or s.stages i Pending found.0 in
-    ap (λ xs. record s { stages = xs; claims = set s.claims i None })
-    (is ∙ ap (λ xs. served meanings s.plan.stages xs i) same ∙ ap (λ y. served_by (unwrap_or y Pending) meanings s.plan.stages s.stages i) e)
-    ∙ served_as who meanings s i x e found.1 found.0 lc
+pub runs_once : {M : Type 0} (calls : CallsOf M) (who : ℕ) (s : State) (m n : M) (i : ℕ) (seen new : List Stage) → seen ≡ s.stages → i < length s.claims →
+    ServesOnce calls s.plan.stages seen m i new n → RunsOnce calls who s m i (record s { stages = new; claims = set s.claims i None }) n
+runs_once calls who s m n i seen new same lc h =
+    let e : slice_get s.stages i ≡ Some (Ready h.args) = ap (λ xs. slice_get xs i) (sym same) ∙ h.ready in
+    let claimed : State = record s { stages = set s.stages i Claimed; claims = set s.claims i (Some who) } in
+    let granted : claiming s who i ≡ (Granted h.args, claimed) = ap (λ y. claimed_by (unwrap_or y Pending) s who i) e in
+    let source = option_and_then (outcome_in s.stages) (slice_get (sources_at s.plan.stages i) 0) in
+    let at = landing (form_at s.plan.stages i) i source h.answer in
+    let none : outcome_in (set s.stages i Claimed) i ≡ None = claimed-outcome s.stages i i h.args e ∙ ap (option_and_then outcome_of) e in
+    let done = finishes_now claimed who i h.answer source at (set s.stages i Claimed) (landed_stages s.plan.stages (set s.stages i Claimed) i at) refl (has_claim s.claims who i lc) none
+    (claimed-source s.stages i h.args (slice_get (sources_at s.plan.stages i) 0) e) refl refl in
+    record {
+      lowest = ap (position is_ready) (sym same) ∙ h.lowest;
+      args = h.args;
+      claimed = claimed;
+      granted = ap (told_as ToldClaim) granted;
+      answer = h.answer;
+      called = h.called;
+      finished = ap (λ xs. record s { stages = xs; claims = set s.claims i None }) (h.lands ∙ ap (λ xs. served s.plan.stages xs i h.answer) same)
+          ∙ ap (λ claims. record s { stages = served s.plan.stages s.stages i h.answer; claims = claims }) (sym (set-set s.claims i (Some who) None))
+          ∙ ap (λ (done : Finished × State). done.1) done;
+    }
+
+-- ---- so many
+
+-- a stage more is run, if one was found
+pub run_more : {M : Type 0} (calls : CallsOf M) (who : ℕ) (r s u : State) (l m n : M) (count : ℕ) (x : Option ℕ) → RunsNext calls who s m x u n → is_some x ≡ true → Runs calls who r l count s m → Runs calls who r l (count + 1) u n
+run_more calls who r s u l m n count None is some h = cc
+run_more calls who r s u l m n count (Some i) is some h = runs_on calls who r s u l m n count 1 h (runs_one calls who s u m n i is)

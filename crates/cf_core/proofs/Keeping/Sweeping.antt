@@ -9,7 +9,6 @@ use Rattle.cf_bits.proofs.Positions.{position_is, position_is_none}
 use Rattle.cf_outcome.specs.declared.outcome.Outcome.{Outcome}
 use Rattle.cf_plan.specs.declared.forms.Args.{Args}
 use Rattle.cf_plan.specs.Forms.{composes}
-use Rattle.cf_plan.specs.Meanings.{Meanings}
 use Rattle.cf_plan.specs.Plans.{PlannedStage, dependents_of, form_at}
 use Rattle.cf_plan.proofs.DependentLemmas.{dependents_above}
 use Rattle.cf_model.specs.declared.stage.Stage.{Stage}
@@ -20,12 +19,10 @@ use Rattle.cf_core.specs.declared.stages.Stages.{Stages}
 use Rattle.cf_core.specs.Keeping.SoundStages.{AreSound}
 use Rattle.cf_core.specs.Keeping.Treatment.{IsSteady, dated_in, treated}
 use Rattle.cf_core.specs.Keeping.Links.{IsFree, list_at}
-use Rattle.cf_model.specs.Growth.{SameShape}
-use Rattle.cf_model.specs.Working.{worked_once}
-use Rattle.cf_core.specs.Keeping.Serving.{served}
-use Rattle.cf_model.specs.Working.{AreWorkedOn, Works}
+use Rattle.cf_model.specs.Calling.{AreRun, CallsOf, Runs}
+use Rattle.cf_core.specs.Keeping.Serving.{ServesOnce}
 use Rattle.cf_core.specs.Keeping.Sound.{AreTreated, IsSound, StayTaken, is_bound, is_waiting, kept_at, links_after, mark_all, mark_one, marks_after, settled_view}
-use Rattle.cf_core.specs.Keeping.Sweeps.{AreServed, AreSwept, IsReadyWith, IsSwept, Serves, ready_with, turns_after}
+use Rattle.cf_core.specs.Keeping.Sweeps.{AreServed, AreSwept, IsReadyWith, IsSwept, Serves, Visits, ready_with, turns_after}
 use Rattle.cf_core.specs.Keeping.Offers.{args_of}
 use Rattle.cf_core.specs.Keeping.Turns.{planned_at}
 use Rattle.cf_core.proofs.Keeping.Lowest.{all_flags, flag_at, get_is, ready_first, ready_none}
@@ -33,8 +30,8 @@ use Rattle.cf_core.proofs.Keeping.Marking.{get-set_other, get-set_same}
 use Rattle.cf_core.proofs.Keeping.Marks.{dated_in-set}
 use Rattle.cf_core.proofs.Keeping.Moves.{claim_sound, is_steady, link_room, link_sound, outcome_there, settled_view_at, settle_same, settle_sound, turn_same}
 use Rattle.cf_core.proofs.Keeping.Places.{StayTaken-set, kept_put, planned_there, ready_args, same_put, undated}
-use Rattle.cf_model.proofs.Working.{worked_once-shape}
-use Rattle.cf_core.proofs.Keeping.Serving.{works}
+use Rattle.cf_model.proofs.Calling.{all_run, run-shape}
+use Rattle.cf_core.proofs.Keeping.Serving.{runs_once}
 use Rattle.cf_core.proofs.Keeping.Soundness.{bound_free, idle_sound, turn_sound}
 use Rattle.cf_core.proofs.Keeping.Sums.{StepsUpTo-at, kept_there}
 use Rattle.cf_core.proofs.Keeping.Writes.{linking_is_alone}
@@ -400,46 +397,47 @@ treated_swept plan n s sound treated = record { marks = s.marks; ready = s.ready
 
 -- ---- the stages that were served
 
-pub none_served : (meanings : Meanings) (plan : List PlannedStage) (stages : List Stage) (claims : List (Option ℕ)) → Serves meanings plan stages claims 0 stages claims
-none_served meanings plan stages claims = record { which = []; served = (refl, refl); counted = refl }
-
-AreServed-push : (meanings : Meanings) (plan : List PlannedStage) (stages : List Stage) (claims : List (Option ℕ)) (which : List ℕ) (after : List Stage) (closed : List (Option ℕ)) (i : ℕ) →
-    AreServed meanings plan stages claims which after closed → position is_ready after ≡ Some i → AreServed meanings plan stages claims (which ++ i ∷ []) (served meanings plan after i) (set closed i None)
-AreServed-push meanings plan stages claims [] after closed i h e =
-    (ap (position is_ready) (sym h.0) ∙ e, (ap (λ xs. served meanings plan xs i) h.0, ap (λ xs. set xs i None) h.1))
-AreServed-push meanings plan stages claims (j ∷ which) after closed i h e = (h.0, AreServed-push meanings plan (served meanings plan stages j) (set claims j None) which after closed i h.1 e)
-
-pub one_more_served : (meanings : Meanings) (plan : List PlannedStage) (stages : List Stage) (claims : List (Option ℕ)) (count : ℕ) (after : List Stage) (closed : List (Option ℕ)) (i : ℕ) →
-    Serves meanings plan stages claims count after closed → position is_ready after ≡ Some i → Serves meanings plan stages claims (count + 1) (served meanings plan after i) (set closed i None)
-one_more_served meanings plan stages claims count after closed i h e = record {
-  which = h.which ++ i ∷ [];
-  served = AreServed-push meanings plan stages claims h.which after closed i h.served e;
-  counted = (let n = length-append h.which (i ∷ []) in let c = h.counted in omega (arith, n, c));
-}
+AreServed-push : {M : Type 0} (calls : CallsOf M) (plan : List PlannedStage) (stages : List Stage) (claims : List (Option ℕ)) (l m n : M) (which : List ℕ) (before after : List Stage) (opened : List (Option ℕ)) (i : ℕ) →
+    AreServed calls plan stages claims l which before opened m → ServesOnce calls plan before m i after n → AreServed calls plan stages claims l (which ++ i ∷ []) after (set opened i None) n
+AreServed-push calls plan stages claims l m n [] before after opened i h one =
+    let (same, closed, kept) = h in
+    (after, n, subst (λ x. ServesOnce calls plan stages x i after n) kept (subst (λ xs. ServesOnce calls plan xs m i after n) same one), (refl, ap (λ xs. set xs i None) closed, refl))
+AreServed-push calls plan stages claims l m n (j ∷ which) before after opened i h one =
+    let (next, k, first, rest) = h in
+    (next, k, first, AreServed-push calls plan next (set claims j None) k m n which before after opened i rest one)
 
 -- a visit of stage i, which was served or not
-pub visited : (meanings : Meanings) (plan : List PlannedStage) (stages : List Stage) (claims : List (Option ℕ)) (count : ℕ) (before after : List Stage) (opened closed : List (Option ℕ)) (i : ℕ) (b : Bool) →
-    Serves meanings plan stages claims count before opened → (b ≡ true → position is_ready before ≡ Some i) → after ≡ cond b (served meanings plan before i) before → closed ≡ cond b (set opened i None) opened →
-    Serves meanings plan stages claims (cond b (count + 1) count) after closed
-visited meanings plan stages claims count before after opened closed i true h e is none = rw (is, none) (one_more_served meanings plan stages claims count before opened i h (e refl))
-visited meanings plan stages claims count before after opened closed i false h e is none = rw (is, none) h
+pub visited : {M : Type 0} (calls : CallsOf M) (plan : List PlannedStage) (stages : List Stage) (claims : List (Option ℕ)) (l m n : M) (count : ℕ) (before after : List Stage) (opened closed : List (Option ℕ)) (i : ℕ) (b : Bool) →
+    Serves calls plan stages claims l count before opened m → Visits calls plan b before opened m i after closed n → Serves calls plan stages claims l (cond b (count + 1) count) after closed n
+visited calls plan stages claims l m n count before after opened closed i true h v =
+    subst (λ xs. Serves calls plan stages claims l (count + 1) after xs n) (sym v.1) (record {
+      which = h.which ++ i ∷ [];
+      served = AreServed-push calls plan stages claims l m n h.which before after opened i h.served v.0;
+      counted = (let k = length-append h.which (i ∷ []) in let c = h.counted in omega (arith, k, c));
+    })
+visited calls plan stages claims l m n count before after opened closed i false h v =
+    let (same, none, kept) = v in
+    subst (λ x. Serves calls plan stages claims l count after closed x) (sym kept)
+    (subst (λ xs. Serves calls plan stages claims l count after xs m) (sym none)
+    (subst (λ xs. Serves calls plan stages claims l count xs opened m) (sym same) h))
+
+pub visits-claims : {M : Type 0} (calls : CallsOf M) (plan : List PlannedStage) (b : Bool) (before after : List Stage) (opened closed : List (Option ℕ)) (m n : M) (i : ℕ) →
+    Visits calls plan b before opened m i after closed n → length closed ≡ length opened
+visits-claims calls plan true before after opened closed m n i v = ap length v.1 ∙ length-set opened i None
+visits-claims calls plan false before after opened closed m n i v = ap length v.1
 
 -- each of them is claimed and finished
-serves-works : (s : State) (who : ℕ) (meanings : Meanings) (which : List ℕ) (after : List Stage) (closed : List (Option ℕ)) → length s.stages ≡ length s.claims →
-    AreServed meanings s.plan.stages s.stages s.claims which after closed → AreWorkedOn who meanings s which (record s { stages = after; claims = closed })
-serves-works s who meanings [] after closed same h = rw (h.0, h.1) refl
-serves-works s who meanings (i ∷ which) after closed same h =
-    let found = position-Some is_ready s.stages i Pending h.0 in
-    let u : State = record s { stages = served meanings s.plan.stages s.stages i; claims = set s.claims i None } in
-    let e : u ≡ worked_once who meanings s i = works s who meanings i s.stages (served meanings s.plan.stages s.stages i) refl (sym h.0) (omega (arith, same, found.0)) refl in
-    let shape = subst (SameShape s) (sym e) (worked_once-shape who meanings s i) in
-    let rest = serves-works u who meanings which after closed (let a = shape.all_stages in let b = shape.all_claims in omega (arith, a, b, same)) h.1 in
-    (h.0, subst (λ x. AreWorkedOn who meanings x which (record s { stages = after; claims = closed })) e rest)
+serves-runs : {M : Type 0} (calls : CallsOf M) (who : ℕ) (s : State) (m n : M) (which : List ℕ) (after : List Stage) (closed : List (Option ℕ)) → length s.stages ≡ length s.claims →
+    AreServed calls s.plan.stages s.stages s.claims m which after closed n → AreRun calls who s m which (record s { stages = after; claims = closed }) n
+serves-runs calls who s m n [] after closed same h = let (e, f, kept) = h in (rw (e, f) refl, kept)
+serves-runs calls who s m n (i ∷ which) after closed same h =
+    let (next, k, one, rest) = h in
+    let found = position-Some is_ready s.stages i Pending one.lowest in
+    let u : State = record s { stages = next; claims = set s.claims i None } in
+    let run = runs_once calls who s m k i s.stages next refl (omega (arith, same, found.0)) one in
+    let shape = run-shape calls who s u m k i run in
+    (u, k, run, serves-runs calls who u k n which after closed (let a = shape.all_stages in let b = shape.all_claims in omega (arith, a, b, same)) rest)
 
-pub swept_works : (s : State) (who : ℕ) (meanings : Meanings) (count : ℕ) (after : List Stage) (closed : List (Option ℕ)) → length s.stages ≡ length s.claims →
-    Serves meanings s.plan.stages s.stages s.claims count after closed → Works who meanings s count (record s { stages = after; claims = closed })
-swept_works s who meanings count after closed same h = record {
-  which = h.which;
-  worked = serves-works s who meanings h.which after closed same h.served;
-  counted = h.counted;
-}
+pub swept_runs : {M : Type 0} (calls : CallsOf M) (who : ℕ) (s : State) (m n : M) (count : ℕ) (after : List Stage) (closed : List (Option ℕ)) → length s.stages ≡ length s.claims →
+    Serves calls s.plan.stages s.stages s.claims m count after closed n → Runs calls who s m count (record s { stages = after; claims = closed }) n
+swept_runs calls who s m n count after closed same h = all_run calls who s (record s { stages = after; claims = closed }) m n h.which count (serves-runs calls who s m n h.which after closed same h.served) h.counted

@@ -1,19 +1,31 @@
--- What becomes of the stages when a ready one is claimed and finished at once.
-use Rattle.std.specs.Prelude.{ℕ, List, option_and_then, slice_get, slice_set, unwrap_or}
+-- What becomes of the stages when a ready one is claimed, its function called, and the stage finished at once.
+use Rattle.std.specs.Prelude.{◌≡◌, ℕ, List, None, Option, Some, option_and_then, position, slice_get, slice_set, unwrap_or}
+use Rattle.cf_plan.specs.declared.forms.Args.{Args}
+use Rattle.cf_plan.specs.declared.forms.Answer.{Answer}
 use Rattle.cf_plan.specs.Forms.{landing}
-use Rattle.cf_plan.specs.Meanings.{Meanings, stage_answer}
-use Rattle.cf_plan.specs.Plans.{PlannedStage, form_at, sources_at}
+use Rattle.cf_plan.specs.Plans.{PlannedStage, form_at, function_at, sources_at}
 use Rattle.cf_model.specs.declared.stage.Stage.{Stage}
-use Rattle.cf_model.specs.declared.stage.Stage.TheVariants.{Claimed, Pending, Ready}
-use Rattle.cf_model.specs.States.{outcome_in}
+use Rattle.cf_model.specs.declared.stage.Stage.TheVariants.{Claimed, Ready}
+use Rattle.cf_model.specs.Calling.{CallsOf, RunsOnce}
+use Rattle.cf_model.specs.States.{State, is_ready, outcome_in}
 use Rattle.cf_core.specs.Keeping.Landings.{landed_stages}
 
--- stage i lands with what its function answers, if it is ready
-abbrev pub served_by : Stage → Meanings → List PlannedStage → List Stage → ℕ → List Stage
-served_by (Ready args) meanings plan stages i =
+-- stage i, which is ready, lands with this answer
+abbrev pub served : List PlannedStage → List Stage → ℕ → Answer → List Stage
+served plan stages i answer =
     landed_stages plan (slice_set stages i Claimed) i
-    (landing (form_at plan i) i (option_and_then (outcome_in stages) (slice_get (sources_at plan i) 0)) (stage_answer meanings plan i args))
-served_by stage meanings plan stages i = stages
+    (landing (form_at plan i) i (option_and_then (outcome_in stages) (slice_get (sources_at plan i) 0)) answer)
 
-abbrev pub served : Meanings → List PlannedStage → List Stage → ℕ → List Stage
-served meanings plan stages i = served_by (unwrap_or (slice_get stages i) Pending) meanings plan stages i
+-- stage i, the lowest ready one, lands with the answer of one call of its function, which takes the memory m to n
+pub record ServesOnce {M : Type 0} (calls : CallsOf M) (plan : List PlannedStage) (stages : List Stage) (m : M) (i : ℕ) (after : List Stage) (n : M) : Type 0 where
+  pub lowest : position is_ready stages ≡ Some i
+  pub args : Args
+  pub ready : slice_get stages i ≡ Some (Ready args)
+  pub answer : Answer
+  pub called : calls m (unwrap_or (function_at plan i) 0) args answer n
+  pub lands : after ≡ served plan stages i answer
+
+-- the stage that was found runs, if there was one
+abbrev pub RunsNext : {M : Type 0} → CallsOf M → ℕ → State → M → Option ℕ → State → M → Type 0
+RunsNext calls who s m (Some i) t n = RunsOnce calls who s m i t n
+RunsNext calls who s m None t n = (t ≡ s) × (n ≡ m)

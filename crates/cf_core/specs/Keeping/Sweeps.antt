@@ -1,14 +1,13 @@
 -- A sweep: all stages are treated and served in rising number, without a look at the marks.
-use Rattle.std.specs.Prelude.{◌≡◌, ◌+◌, ℕ, if◌then◌else◌, Bool, List, [], ◌∷◌, None, Option, Some, length, position, slice_set}
-use Rattle.cf_plan.specs.Meanings.{Meanings}
+use Rattle.std.specs.Prelude.{◌≡◌, ◌+◌, ℕ, if◌then◌else◌, Bool, true, false, List, [], ◌∷◌, None, Option, length, slice_set}
 use Rattle.cf_plan.specs.Plans.{PlannedStage}
 use Rattle.cf_plan.specs.declared.forms.Args.{Args}
 use Rattle.cf_model.specs.declared.stage.Stage.{Stage}
 use Rattle.cf_model.specs.declared.stage.Stage.TheVariants.{Ready}
 use Rattle.cf_core.specs.declared.kept.KeptStage.{KeptStage}
 use Rattle.cf_core.specs.declared.stages.Stages.{Stages}
-use Rattle.cf_model.specs.States.{is_ready}
-use Rattle.cf_core.specs.Keeping.Serving.{served}
+use Rattle.cf_model.specs.Calling.{CallsOf}
+use Rattle.cf_core.specs.Keeping.Serving.{ServesOnce}
 use Rattle.cf_core.specs.Keeping.Sound.{AreTreated, IsSound, is_waiting, kept_at, settled_view}
 
 -- The first n stages are treated, and of the first m none is ready, with the marks and the ready stages that there would
@@ -36,14 +35,19 @@ pub record IsReadyWith (plan : List PlannedStage) (m : ℕ) (args : Args) (s : S
   pub swept : IsSwept plan (m + 1) m (ready_with s.kept.items m args) s.links s.steps s.turns
   pub same : settled_view plan (ready_with s.kept.items m args) ≡ settled_view plan s.kept.items
 
--- these stages are served, each of which is then the lowest ready one, and no claim of them is open then
-abbrev pub AreServed : Meanings → List PlannedStage → List Stage → List (Option ℕ) → List ℕ → List Stage → List (Option ℕ) → Type 0
-AreServed meanings plan stages claims [] after closed = (after ≡ stages) × (closed ≡ claims)
-AreServed meanings plan stages claims (i ∷ rest) after closed =
-    (position is_ready stages ≡ Some i) × AreServed meanings plan (served meanings plan stages i) (slice_set claims i None) rest after closed
+-- stage i of a sweep is served, and no claim of it is open then; or it isn't ready, and nothing is called
+abbrev pub Visits : {M : Type 0} → CallsOf M → List PlannedStage → Bool → List Stage → List (Option ℕ) → M → ℕ → List Stage → List (Option ℕ) → M → Type 0
+Visits calls plan true stages claims m i after closed n = ServesOnce calls plan stages m i after n × (closed ≡ slice_set claims i None)
+Visits calls plan false stages claims m i after closed n = (after ≡ stages) × (closed ≡ claims) × (n ≡ m)
+
+-- these stages are served, one after another, and no claim of them is open then
+abbrev pub AreServed : {M : Type 0} → CallsOf M → List PlannedStage → List Stage → List (Option ℕ) → M → List ℕ → List Stage → List (Option ℕ) → M → Type 0
+AreServed calls plan stages claims m [] after closed n = (after ≡ stages) × (closed ≡ claims) × (n ≡ m)
+AreServed {M} calls plan stages claims m (i ∷ rest) after closed n =
+    (next : List Stage) × (k : M) × ServesOnce calls plan stages m i next k × AreServed calls plan next (slice_set claims i None) k rest after closed n
 
 -- so many are
-pub record Serves (meanings : Meanings) (plan : List PlannedStage) (stages : List Stage) (claims : List (Option ℕ)) (count : ℕ) (after : List Stage) (closed : List (Option ℕ)) : Type 0 where
+pub record Serves {M : Type 0} (calls : CallsOf M) (plan : List PlannedStage) (stages : List Stage) (claims : List (Option ℕ)) (m : M) (count : ℕ) (after : List Stage) (closed : List (Option ℕ)) (n : M) : Type 0 where
   pub which : List ℕ
-  pub served : AreServed meanings plan stages claims which after closed
+  pub served : AreServed calls plan stages claims m which after closed n
   pub counted : length which ≡ count

@@ -1,20 +1,18 @@
 //! Work on all stages in one sweep.
-ghost use Rattle.std.specs.Prelude.{◌≡◌, ℕ, ◌+◌, ◌<◌, ◌≤◌, IfSome, None, Option, Some, if◌then◌else◌, length, option_and_then, position, slice_get, slice_set, true, vec_capacity};
+ghost use Rattle.std.specs.Prelude.{◌≡◌, ℕ, ◌+◌, ◌<◌, ◌≤◌, IfSome, None, Option, length, option_and_then, position, slice_get, slice_set, true, vec_capacity};
 ghost use Rattle.cf_outcome.specs.declared.outcome.Outcome.TheVariants.{Value as Gives};
 ghost use Rattle.cf_plan.specs.declared.forms.Landing.TheVariants.{Links as LinksTo, Settles};
 ghost use Rattle.cf_plan.specs.Forms.{composes, landing};
-ghost use Rattle.cf_plan.specs.Meanings.{meanings_of};
 ghost use Rattle.cf_plan.specs.Plans.{form_at, sources_at};
 ghost use Rattle.cf_model.specs.declared.stage.Stage.TheVariants.{Claimed as IsClaimed};
+ghost use Rattle.cf_model.specs.Calling.{Runs};
 ghost use Rattle.cf_model.specs.States.{is_ready, lowest_ready_of, outcome_in};
 ghost use Rattle.cf_model.specs.Graphs.{most_turns};
 ghost use Rattle.cf_core.specs.Keeping.Graphs.{AreClaimed};
 ghost use Rattle.cf_core.specs.Keeping.Landings.{landed_stages};
-ghost use Rattle.cf_core.specs.Keeping.Serving.{served};
-ghost use Rattle.cf_model.specs.Working.{Works};
 ghost use Rattle.cf_core.specs.Keeping.Sound.{StayTakenBut, kept_at};
 ghost use Rattle.cf_core.specs.Keeping.SoundStages.{AreSound, SameRoom, settled_view_of};
-ghost use Rattle.cf_core.specs.Keeping.Sweeps.{AreSwept, IsReadyWith, Serves};
+ghost use Rattle.cf_core.specs.Keeping.Sweeps.{AreSwept, IsReadyWith, Serves, Visits};
 ghost use Rattle.cf_core.specs.Keeping.Offers.{keeps_value};
 
 use crate::graph::Graph;
@@ -22,12 +20,12 @@ use crate::graph::claims::landing_of;
 use crate::graph::working::answer_of;
 use crate::stages::Stages;
 use cf_outcome::{Outcome, Value, wrap};
-use cf_plan::{Answer, Args, Form, GrowingPlan, Landing, StageFn};
+use cf_plan::{Answer, Args, Form, Functions, GrowingPlan, Landing};
 
 impl Graph {
     /// Works for a caller until no stage is ready, in one sweep over all stages.
-    pub(super) fn sweep<F: StageFn>(&mut self, who: u8, functions: &[F]) -> u32
-        ensures worked { Works who (meanings_of F.meaning functions.now) self.old.state result self.new.state }
+    pub(super) fn sweep<F: Functions>(&mut self, who: u8, functions: &mut F) -> u32
+        ensures called { Runs F.calls who self.old.state functions.old result self.new.state functions.new }
         ensures none { lowest_ready_of self.new.state ≡ None }
         ensures counted { self.old.turns ≤ self.new.turns }
         ensures few { self.new.turns ≤ most_turns self.new.state.plan.stages }
@@ -38,16 +36,16 @@ impl Graph {
 }
 
 /// Treats and serves all stages in rising number, and says how many functions were called.
-fn sweep<F: StageFn>(
+fn sweep<F: Functions>(
     stages: &mut Stages,
     claims: &mut Vec<Option<u8>>,
     plan: &GrowingPlan,
-    functions: &[F],
+    functions: &mut F,
 ) -> u32
     requires sound { AreSound plan.now.stages stages.old }
     requires all_claims { length claims.old.items ≡ length plan.now.stages }
     requires claimed { AreClaimed claims.old.items stages.old.kept.items }
-    ensures served { Serves (meanings_of F.meaning functions.now) plan.now.stages (settled_view_of plan.now.stages stages.old) claims.old.items result (settled_view_of plan.now.stages stages.new) claims.new.items }
+    ensures served { Serves F.calls plan.now.stages (settled_view_of plan.now.stages stages.old) claims.old.items functions.old result (settled_view_of plan.now.stages stages.new) claims.new.items functions.new }
     ensures none { position is_ready (settled_view_of plan.now.stages stages.new) ≡ None }
     ensures all_claims { length claims.new.items ≡ length plan.now.stages }
     ensures claims_room { vec_capacity claims.new ≡ vec_capacity claims.old }
@@ -68,20 +66,18 @@ fn sweep<F: StageFn>(
 
 /// Treats the next stage of a sweep, and calls its function if it is ready then. It says whether it was.
 #[inline(always)]
-fn visit<F: StageFn>(
+fn visit<F: Functions>(
     stages: &mut Stages,
     claims: &mut Vec<Option<u8>>,
     plan: &GrowingPlan,
-    functions: &[F],
+    functions: &mut F,
     m: u16,
 ) -> bool
     requires swept { AreSwept plan.now.stages m m stages.old }
     requires stage { m < length plan.now.stages }
     requires all_claims { length claims.old.items ≡ length plan.now.stages }
     requires claimed { AreClaimed claims.old.items stages.old.kept.items }
-    ensures lowest { result ≡ true → position is_ready (settled_view_of plan.now.stages stages.old) ≡ Some m }
-    ensures served { settled_view_of plan.now.stages stages.new ≡ (if result then served (meanings_of F.meaning functions.now) plan.now.stages (settled_view_of plan.now.stages stages.old) m else settled_view_of plan.now.stages stages.old) }
-    ensures closed { claims.new.items ≡ (if result then slice_set claims.old.items m None else claims.old.items) }
+    ensures served { Visits F.calls plan.now.stages result (settled_view_of plan.now.stages stages.old) claims.old.items functions.old m (settled_view_of plan.now.stages stages.new) claims.new.items functions.new }
     ensures claims_room { vec_capacity claims.new ≡ vec_capacity claims.old }
     ensures claimed { AreClaimed claims.new.items stages.new.kept.items }
     ensures counted { stages.old.turns ≤ stages.new.turns }

@@ -1,35 +1,36 @@
 //! Work: the functions of ready stages are called.
-ghost use Rattle.std.specs.Prelude.{◌≡◌, ℕ, ◌+◌, ◌<◌, ◌≤◌, None, length, slice_set, true};
-ghost use Rattle.std.specs.Option.{option_map_or};
+ghost use Rattle.std.specs.Prelude.{◌≡◌, ℕ, ◌+◌, ◌<◌, ◌≤◌, None, Some, length, position, slice_set, true, unwrap_or};
 ghost use Rattle.cf_plan.specs.declared.forms.Landing.TheVariants.{Links as LinksTo};
 ghost use Rattle.cf_plan.specs.Forms.{composes};
-ghost use Rattle.cf_plan.specs.Meanings.{meanings_of, stage_answer};
-ghost use Rattle.cf_plan.specs.Plans.{form_at};
+ghost use Rattle.cf_plan.specs.Meanings.{Meanings};
+ghost use Rattle.cf_plan.specs.Plans.{form_at, function_at};
 ghost use Rattle.cf_model.specs.declared.stage.Stage.TheVariants.{Claimed as IsClaimed};
+ghost use Rattle.cf_model.specs.Calling.{AreStateless, Runs};
+ghost use Rattle.cf_model.specs.Graphs.{most_turns};
 ghost use Rattle.cf_model.specs.States.{is_ready, lowest_ready_of};
-ghost use Rattle.cf_model.specs.Working.{worked, worked_once};
+ghost use Rattle.cf_model.specs.Working.{worked};
 ghost use Rattle.cf_core.specs.Keeping.Landings.{landed_stages};
-ghost use Rattle.cf_core.specs.Keeping.Serving.{served};
-ghost use Rattle.cf_model.specs.Working.{Works};
+ghost use Rattle.cf_core.specs.Keeping.Serving.{RunsNext, ServesOnce};
 ghost use Rattle.cf_core.specs.Keeping.Sound.{AreTreated, StayTakenBut, kept_at};
 ghost use Rattle.cf_core.specs.Keeping.SoundStages.{AreSound, SameRoom, settled_view_of};
-ghost use Rattle.cf_model.specs.Graphs.{most_turns};
 
 use crate::graph::Graph;
 use crate::graph::claims::landing_of;
 use crate::stages::Stages;
 use cf_model::Stage;
-use cf_outcome::Value;
-use cf_plan::{Answer, Args, GrowingPlan, Landing, StageFn};
+use cf_plan::{Answer, Args, Functions, GrowingPlan, Landing};
 
 impl Graph {
-    /// Works for a caller until no stage is ready: the lowest ready stage is claimed, its function called, and the stage
-    /// finished with the answer. It says how many functions were called: at most one for each stage, since none is claimed
-    /// twice.
+    /// Works for a caller until no stage is ready: the lowest ready stage is claimed, its function called once with the
+    /// arguments of the claim, and the stage finished with the answer. No function is called else, and for no stage twice.
+    /// It says how many were called: at most one for each stage.
     ///
-    /// The functions stand at their numbers. A number without a function is answered by nil.
-    pub fn work<F: StageFn>(&mut self, who: u8, functions: &[F]) -> u32
-        ensures told { (result, self.new.state) ≡ worked who (meanings_of F.meaning functions.now) self.old.state }
+    /// The functions may remember what they were called with, as closures do. `Each` are those of a list that remember
+    /// nothing; the state is then the one that their meanings lead to.
+    pub fn work<F: Functions>(&mut self, who: u8, functions: &mut F) -> u32
+        ensures called { Runs F.calls who self.old.state functions.old result self.new.state functions.new }
+        ensures none { lowest_ready_of self.new.state ≡ None }
+        ensures stateless { (meanings : Meanings) → AreStateless F.calls functions.old meanings → (result, self.new.state) ≡ worked who meanings self.old.state }
         ensures counted { self.old.turns ≤ self.new.turns }
         ensures few { self.new.turns ≤ most_turns self.new.state.plan.stages }
     {
@@ -46,9 +47,9 @@ impl Graph {
     }
 
     /// Works on at most `few` stages. Where it says fewer, no stage is ready.
-    fn work_few<F: StageFn>(&mut self, who: u8, functions: &[F], few: u32) -> u32
+    fn work_few<F: Functions>(&mut self, who: u8, functions: &mut F, few: u32) -> u32
         ensures within { result ≤ few }
-        ensures worked { Works who (meanings_of F.meaning functions.now) self.old.state result self.new.state }
+        ensures called { Runs F.calls who self.old.state functions.old result self.new.state functions.new }
         ensures none { result < few → lowest_ready_of self.new.state ≡ None }
         ensures counted { self.old.turns ≤ self.new.turns }
         ensures few { self.new.turns ≤ most_turns self.new.state.plan.stages }
@@ -68,9 +69,9 @@ impl Graph {
     /// Claims and finishes the lowest ready stage, and says which it was. Its claim is open at no time in between that
     /// anyone could see, so nothing is written of it but that it is closed.
     #[inline(always)]
-    fn work_once<F: StageFn>(&mut self, who: u8, functions: &[F]) -> Option<u16>
+    fn work_once<F: Functions>(&mut self, who: u8, functions: &mut F) -> Option<u16>
         ensures next { result ≡ lowest_ready_of self.old.state }
-        ensures worked { self.new.state ≡ option_map_or (worked_once who (meanings_of F.meaning functions.now) self.old.state) result self.old.state }
+        ensures called { RunsNext F.calls who self.old.state functions.old result self.new.state functions.new }
         ensures counted { self.old.turns ≤ self.new.turns }
         ensures few { self.new.turns ≤ most_turns self.new.state.plan.stages }
     {
@@ -86,12 +87,13 @@ impl Graph {
     }
 }
 
-/// Calls the function of a stage that is ready, and lets the stage land with the answer.
+/// Calls the function of the lowest ready stage, and lets the stage land with the answer.
 #[inline(always)]
-fn serve<F: StageFn>(stages: &mut Stages, plan: &GrowingPlan, functions: &[F], i: u16)
+fn serve<F: Functions>(stages: &mut Stages, plan: &GrowingPlan, functions: &mut F, i: u16)
     requires sound { AreSound plan.now.stages stages.old }
     requires stage { i < length plan.now.stages }
-    ensures served { settled_view_of plan.now.stages stages.new ≡ served (meanings_of F.meaning functions.now) plan.now.stages (settled_view_of plan.now.stages stages.old) i }
+    requires lowest { position is_ready (settled_view_of plan.now.stages stages.old) ≡ Some i }
+    ensures served { ServesOnce F.calls plan.now.stages (settled_view_of plan.now.stages stages.old) functions.old i (settled_view_of plan.now.stages stages.new) functions.new }
     ensures taken { StayTakenBut i stages.old.kept.items stages.new.kept.items }
     ensures counted { stages.old.turns ≤ stages.new.turns }
     ensures room { SameRoom stages.old stages.new }
@@ -108,22 +110,18 @@ fn serve<F: StageFn>(stages: &mut Stages, plan: &GrowingPlan, functions: &[F], i
     }
 }
 
-/// What the function of a stage answers to these arguments.
+/// What the function of a stage answers to these arguments, by one call of it.
 #[inline(always)]
-pub(super) fn answer_of<F: StageFn>(
+pub(super) fn answer_of<F: Functions>(
     plan: &GrowingPlan,
-    functions: &[F],
+    functions: &mut F,
     i: u16,
     args: &Args,
 ) -> Answer
     requires { i < length plan.now.stages }
-    ensures { result ≡ stage_answer (meanings_of F.meaning functions.now) plan.now.stages i args.now }
+    ensures { F.calls functions.old (unwrap_or (function_at plan.now.stages i) 0) args.now result functions.new }
 {
-    let number = plan.function(i).unwrap_or(0);
-    match functions.get(number as usize) {
-        None => Answer::Give(Value::Nil),
-        Some(function) => function.call(args),
-    }
+    functions.call(plan.function(i).unwrap_or(0), args)
 }
 
 /// A ready stage lands as if it had been claimed before. No stage up to it waits for treatment.

@@ -1,6 +1,5 @@
 use Rattle.std.proofs.Common.{arith}
-use Rattle.cf_plan.specs.Meanings.{meanings_of}
-use Rattle.cf_model.proofs.Working.{turn_more}
+use Rattle.cf_core.proofs.Keeping.Serving.{run_more}
 use Rattle.cf_core.proofs.graph.Graph.work_few.Goals as goal
 
 pub loop-calls-preserved : goal.loop-calls-preserved
@@ -9,8 +8,8 @@ loop-calls-preserved g c =
     let before = h.counted in
     let turns = c.work_once.ensures.counted in
     record {
-      worked = turn_more c.args.who (meanings_of g.F.StageFn.meaning c.args.functions.now) c.args.self.now.state c.loop-calls.self.state c.work_once.new.self.state c.loop-calls.calls c.work_once.result
-          c.work_once.ensures.next c.work_once.ensures.worked c.if-is_none.ensures h.worked;
+      called = run_more g.F.Functions.calls c.args.who c.args.self.now.state c.loop-calls.self.state c.work_once.new.self.state c.args.functions.now c.loop-calls.functions c.work_once.new.functions c.loop-calls.calls c.work_once.result
+          c.work_once.ensures.called c.if-is_none.ensures h.called;
       within = omega (arith, c.loop-calls-test.true);
       counted = omega (arith, before, turns);
     }

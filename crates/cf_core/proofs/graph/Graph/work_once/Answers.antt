@@ -1,8 +1,7 @@
 use Rattle.std.proofs.Common.{◌<◌, ◌∙◌, None, arith, length, length-set}
-use Rattle.cf_plan.specs.Meanings.{meanings_of}
 use Rattle.cf_core.specs.Keeping.SoundStages.{settled_view_of}
 use Rattle.cf_core.proofs.Keeping.GraphLemmas.{AreClaimed-closed, AreClaimed-stay, room_stays}
-use Rattle.cf_core.proofs.Keeping.Serving.{found_within, works}
+use Rattle.cf_core.proofs.Keeping.Serving.{found_within, runs_once}
 use Rattle.cf_core.proofs.graph.Graph.work_once.Goals as goal
 
 pub index_mut-requires : goal.index_mut-requires
@@ -30,13 +29,13 @@ invariant_of-self-in-Some g c =
       few_used = h.few_used;
     }
 
-pub returns-in-Some-clause-worked : goal.returns-in-Some-clause-worked
-returns-in-Some-clause-worked g c =
+pub returns-in-Some-clause-called : goal.returns-in-Some-clause-called
+returns-in-Some-clause-called g c =
     let plan = c.self.inside.plan.stages in
     let s = c.self.inside.stages in
     let t = c.lowest_ready.new.self in
     let h = c.self.invariant in
     let l = found_within plan s c.in-Some.i h.sound c.in-Some.ensures.told in
     let lc : c.in-Some.i < length c.self.inside.claims.items = omega (arith, l, h.all_claims) in
-    rw (← c.self.view_is) (works _ c.args.who (meanings_of g.F.StageFn.meaning c.args.functions.now) c.in-Some.i (settled_view_of plan t) (settled_view_of plan c.serve.new.stages)
-    c.in-Some.ensures.same c.in-Some.ensures.told lc c.serve.ensures.served)
+    rw (← c.self.view_is) (runs_once g.F.Functions.calls c.args.who _ c.args.functions.now c.serve.new.functions c.in-Some.i (settled_view_of plan t) (settled_view_of plan c.serve.new.stages)
+    c.in-Some.ensures.same lc c.serve.ensures.served)

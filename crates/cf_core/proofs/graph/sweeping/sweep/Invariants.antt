@@ -1,6 +1,5 @@
 use Rattle.std.proofs.Common.{◌≡◌, ◌≤◌, length}
 use Rattle.std.specs.Vec.{vec_capacity}
-use Rattle.cf_plan.specs.Meanings.{meanings_of}
 use Rattle.cf_core.specs.Keeping.Graphs.{AreClaimed}
 use Rattle.cf_core.specs.Keeping.SoundStages.{SameRoom, settled_view_of}
 use Rattle.cf_core.specs.Keeping.Sweeps.{AreSwept, Serves}
@@ -10,7 +9,7 @@ use Rattle.cf_core.proofs.graph.sweeping.sweep.Given as goal
 abbrev pub invariant-loop-m : goal.invariant-loop-m
 invariant-loop-m g l = record {
   swept : AreSwept l.plan.stages l.m l.m l.stages;
-  served : Serves (meanings_of g.F.StageFn.meaning l.functions) l.plan.stages (settled_view_of l.plan.stages l.initial.stages) l.initial.claims.items l.calls (settled_view_of l.plan.stages l.stages) l.claims.items;
+  served : Serves g.F.Functions.calls l.plan.stages (settled_view_of l.plan.stages l.initial.stages) l.initial.claims.items l.initial.functions l.calls (settled_view_of l.plan.stages l.stages) l.claims.items l.functions;
   few : l.calls ≤ l.m;
   all_claims : length l.claims.items ≡ length l.plan.stages;
   claimed : AreClaimed l.claims.items l.stages.kept.items;

@@ -1,10 +1,9 @@
-use Rattle.std.proofs.Common.{◌≡◌, ◌+◌, ◌∙◌, arith, Some, ap, sym}
+use Rattle.std.proofs.Common.{◌≡◌, ◌+◌, ◌∙◌, Some, ap, sym}
 use Rattle.std.specs.Prelude.{slice_get}
-use Rattle.cf_plan.specs.Meanings.{meanings_of}
 use Rattle.cf_model.specs.declared.stage.Stage.TheVariants.{Ready}
 use Rattle.cf_core.specs.Keeping.SoundStages.{settled_view_of}
 use Rattle.cf_core.proofs.Keeping.GraphLemmas.{told_stage}
-use Rattle.cf_core.proofs.Keeping.Serving.{served_not, served_ready}
+use Rattle.cf_core.proofs.Keeping.Serving.{never_unready, serves_once}
 use Rattle.cf_core.proofs.Keeping.Sweeping.{treated_swept}
 use Rattle.cf_core.proofs.graph.working.serve.Goals as goal
 
@@ -18,19 +17,12 @@ returns-in-Ready-clause-served g c =
     let t = c.treat_up_to.new.self in
     let is : slice_get (settled_view_of plan t) c.args.i ≡ Some (Ready c.in-Ready.args) =
     told_stage plan t c.args.i c.treat_up_to.ensures.sound c.requires.stage c.treat_up_to.ensures.treated ∙ ap (λ x. Some x) (sym c.stage.ensures ∙ c.in-Ready.is) in
-    served_ready (meanings_of g.F.StageFn.meaning c.args.functions.now) plan (settled_view_of plan c.args.stages.now) (settled_view_of plan t) (settled_view_of plan c.land_ready.new.stages) c.args.i c.in-Ready.args
-    c.answer_of-answer.result c.landing_of-at.result c.treat_up_to.ensures.same is c.answer_of-answer.ensures c.landing_of-at.ensures c.land_ready.ensures.landed
+    serves_once g.F.Functions.calls plan c.args.functions.now c.answer_of-answer.new.functions (settled_view_of plan c.args.stages.now) (settled_view_of plan t) (settled_view_of plan c.land_ready.new.stages) c.args.i c.in-Ready.args
+    c.answer_of-answer.result c.landing_of-at.result c.treat_up_to.ensures.same c.requires.lowest is c.answer_of-answer.ensures c.landing_of-at.ensures c.land_ready.ensures.landed
 
 pub returns-in_default : goal.returns-in_default
 returns-in_default g c =
     let plan = c.args.plan.now.stages in
-    let s = c.args.stages.now in
     let t = c.treat_up_to.new.self in
     let told = told_stage plan t c.args.i c.treat_up_to.ensures.sound c.requires.stage c.treat_up_to.ensures.treated ∙ ap (λ x. Some x) (sym c.stage.ensures) in
-    record {
-      served = served_not (meanings_of g.F.StageFn.meaning c.args.functions.now) plan (settled_view_of plan s) (settled_view_of plan t) c.args.i c.stage.result c.treat_up_to.ensures.same told c.in_default.not-Ready;
-      taken = λ i ne. c.treat_up_to.ensures.taken i;
-      counted = let turns = c.treat_up_to.ensures.turns.turns in omega (arith, turns);
-      room = c.treat_up_to.ensures.room;
-      sound = c.treat_up_to.ensures.sound;
-    }
+    absurd (never_unready (settled_view_of plan c.args.stages.now) (settled_view_of plan t) c.args.i c.stage.result c.treat_up_to.ensures.same told c.requires.lowest c.in_default.not-Ready)
