@@ -7,6 +7,7 @@ ghost use Rattle.cf_script.specs.Working.{worked};
 use crate::texts::{write_reply, write_told};
 use cf_core::Graph;
 use cf_model::{Reply, Told};
+use cf_plan::Each;
 use cf_reading::{Func, Step};
 use std::alloc::AllocError;
 
@@ -26,12 +27,11 @@ pub enum StepAnswer {
     Nudged,
 }
 
-/// Works until no stage is ready, and says how many functions were called: at most one for each stage, since none is
-/// claimed twice.
+/// Works until no stage is ready, and says how many functions were called: that of each stage once.
 fn work(graph: &mut Graph, functions: &[Func]) -> u32
     ensures { (result, graph.new.state) ≡ worked functions.now graph.old.state }
 {
-    graph.work(WORKER, functions)
+    graph.work(WORKER, &mut Each { functions })
 }
 
 /// Does a step of a script whose functions these are: an event is answered, a question told, work goes on until no stage
