@@ -20,25 +20,25 @@ use Rattle.cf_history.specs.declared.verdict.Misfit.TheVariants.{Before, Behind,
 use Rattle.cf_event.specs.Events.{own}
 use Rattle.cf_event.specs.Histories.{place_of}
 use Rattle.cf_history.specs.Records.{AreRight, GoesOn, IsRight, state_in}
-use Rattle.cf_history.specs.Verdicts.{IsFirstMisfit, IsMisfit, IsNext, IsSkipped, LeavesOut}
+use Rattle.cf_history.specs.Verdicts.{IsFirstMisfit, IsMisfit, IsNext, IsReached, IsSkipped, LeavesOut}
 use Rattle.cf_history.proofs.Owns.{own_there, not_skipped}
 
 -- what doesn't fit isn't right
 pub not_right : (c : ℕ) (s : State) (rest : List Event) (at : ℕ) (r : Record) (why : Misfit) → IsMisfit c s rest at r why → IsRight c s rest at r → ⊥
 not_right c s rest at (Did place e reply) Before m ok = let l = ok.behind in omega arith
 not_right c s rest at (Did place e reply) Behind m ok = let l = slice_get_within rest (place - at - 1) e ok.there in let b = ok.behind in omega arith
-not_right c s rest at (Did place e reply) (Skips p) m ok = not_skipped c at (place - at - 1) p rest m ok.next
-not_right c s rest at (Did place e reply) Other m ok = m (ok.there, ok.mine, ok.event)
-not_right c s rest at (Did place e reply) (Replies given) m ok = m.1 (m.0 ∙ sym ok.replied)
+not_right c s rest at (Did place e reply) (Skips p) m ok = not_skipped c at (place - at - 1) p rest m.1 ok.next
+not_right c s rest at (Did place e reply) Other m ok = m.1 (ok.there, ok.mine, ok.event)
+not_right c s rest at (Did place e reply) (Replies given) m ok = m.3 (m.2 ∙ sym ok.replied)
 not_right c s rest at (Did place e reply) NoStage m ok = m
 not_right c s rest at (Did place e reply) (Tells given) m ok = m
 not_right c s rest at (Saw place ask answer) Before m ok = let l = ok.not_before in omega arith
 not_right c s rest at (Saw place ask answer) Behind m ok = let l = ok.within in omega arith
-not_right c s rest at (Saw place ask answer) (Skips p) m ok = not_skipped c at (place - at) p rest m ok.none
+not_right c s rest at (Saw place ask answer) (Skips p) m ok = not_skipped c at (place - at) p rest m.1 ok.none
 not_right c s rest at (Saw place ask answer) Other m ok = m
 not_right c s rest at (Saw place ask answer) (Replies given) m ok = m
-not_right c s rest at (Saw place ask answer) NoStage m ok = m ok.asks
-not_right c s rest at (Saw place ask answer) (Tells given) m ok = m.1 (m.0 ∙ sym ok.told_so)
+not_right c s rest at (Saw place ask answer) NoStage m ok = m.1 ok.asks
+not_right c s rest at (Saw place ask answer) (Tells given) m ok = m.3 (m.2 ∙ sym ok.told_so)
 
 -- where one doesn't fit, or an event is left out, not all is right
 pub not_all_right : (c : ℕ) (s : State) (rest : List Event) (at k : ℕ) (records : List Record) (why : Misfit) →
@@ -200,6 +200,11 @@ called_on c s rest at place passed e reply given now next lt within is none now_
       within = omega arith;
       state = ap (λ p. p.1) answer_is ∙ ap (λ (x : State). (answered x e).1) there ∙ sym all;
     }
+
+-- a call's place that was come to by events of others
+pub reached_call : (c : ℕ) (rest : List Event) (at place passed : ℕ) (e : Event) (reply : Reply) → at < place → place - at - 1 < length rest → passed ≡ place - at - 1 →
+    own c (take passed rest) ≡ [] → IsReached c rest at (Did place e reply)
+reached_call c rest at place passed e reply lt within is none = (lt, omega arith, subst (λ (n : ℕ). own c (take n rest) ≡ []) is none)
 
 -- an event that stands there fits
 pub there_fits : (now : State) (rest : List Event) (passed n : ℕ) (e : Event) → passed ≡ n → n < length rest → EventsFit now (drop passed rest) → slice_get rest n ≡ Some e → EventFits (length now.plan.stages) e

@@ -48,8 +48,8 @@ decoded_events (w ∷ ws) = events_with (event_of w) w (decoded ws) refl (decode
 not_event : (callers functions : ℕ) (s : State) (e : Event) (why : Unfit) → IsUnfit callers functions s e why → IsEventOf callers functions s e → ⊥
 not_event callers functions s e NoEvent u is = u
 not_event callers functions s e NoCaller u is = let l = is.caller in omega arith
-not_event callers functions s e NoStage u is = u is.fits
-not_event callers functions s e NoFunction u is = u is.function
+not_event callers functions s e NoStage u is = u.1 is.fits
+not_event callers functions s e NoFunction u is = u.2 is.function
 
 pub not_events : (callers functions : ℕ) (s : State) (k : ℕ) (events : List Event) (why : Unfit) → IsFirstUnfit callers functions s k events why → AreEventsOf callers functions s events → ⊥
 not_events callers functions s k [] why u are = u

@@ -1,4 +1,5 @@
--- What each verdict tells.
+-- What each verdict tells. Of several reasons that hold at one spot the first is told, in the order in which they stand in their type:
+-- each says that none before it holds. So there is one verdict on a history.
 use Rattle.std.specs.Prelude.{◌≡◌, ◌≢◌, ℕ, zero, suc, ◌+◌, ◌-◌, ◌<◌, ◌≤◌, Option, Some, None, List, [], ◌∷◌, length, take, drop, slice_get}
 use Rattle.cf_plan.specs.Plans.{Planned}
 use Rattle.cf_outcome.specs.declared.outcome.Outcome.{Outcome}
@@ -28,8 +29,8 @@ use Rattle.cf_history.specs.Histories.{AllRight, AreOutcomesOf, AreOutcomesTo, A
 abbrev pub IsUnfit : ℕ → ℕ → State → Event → Unfit → Type 0
 IsUnfit callers functions s e NoEvent = ⊥
 IsUnfit callers functions s e NoCaller = callers ≤ who_of e
-IsUnfit callers functions s e NoStage = ¬ EventFits (length s.plan.stages) e
-IsUnfit callers functions s e NoFunction = ¬ NamesFunction functions e
+IsUnfit callers functions s e NoStage = (who_of e < callers) × ¬ EventFits (length s.plan.stages) e
+IsUnfit callers functions s e NoFunction = (who_of e < callers) × EventFits (length s.plan.stages) e × ¬ NamesFunction functions e
 
 -- the event behind the first k of these can't stand there for this reason, and they can
 abbrev pub IsFirstUnfit : ℕ → ℕ → State → ℕ → List Event → Unfit → Type 0
@@ -63,22 +64,36 @@ pub record IsSkipped (c : ℕ) (rest : List Event) (at most place : ℕ) : Type 
   pub place_is : place ≡ at + before + 1
   pub next : IsNext c rest before
 
+-- the record's place is behind what the caller had been told of, and within the history, and no event of the caller comes first
+abbrev pub IsReached : ℕ → List Event → ℕ → Record → Type 0
+IsReached c rest at (Did place e reply) = (at < place) × (place ≤ at + length rest) × (own c (take (place - at - 1) rest) ≡ [])
+IsReached c rest at (Saw place ask answer) = (at ≤ place) × (place ≤ at + length rest) × (own c (take (place - at) rest) ≡ [])
+
+-- the event behind n others is this one, which has a word and is the caller's
+abbrev pub IsOwnAt : ℕ → List Event → ℕ → Event → Type 0
+IsOwnAt c rest n e = (slice_get rest n ≡ Some e) × (who_of e ≡ c) × IsEvent e
+
 -- why a record doesn't fit, where `at` events have come and left the graph in state s, and `rest` are still to come
 abbrev pub IsMisfit : ℕ → State → List Event → ℕ → Record → Misfit → Type 0
 IsMisfit c s rest at (Did place e reply) Before = place ≤ at
 IsMisfit c s rest at (Did place e reply) Behind = at + length rest < place
-IsMisfit c s rest at (Did place e reply) (Skips p) = IsSkipped c rest at (place - at - 1) p
-IsMisfit c s rest at (Did place e reply) Other = ¬ ((slice_get rest (place - at - 1) ≡ Some e) × (who_of e ≡ c) × IsEvent e)
-IsMisfit c s rest at (Did place e reply) (Replies given) = (given ≡ (answered (state_in s rest (place - at - 1)) e).0) × (given ≢ reply)
+IsMisfit c s rest at (Did place e reply) (Skips p) = (place ≤ at + length rest) × IsSkipped c rest at (place - at - 1) p
+IsMisfit c s rest at (Did place e reply) Other = IsReached c rest at (Did place e reply) × ¬ IsOwnAt c rest (place - at - 1) e
+IsMisfit c s rest at (Did place e reply) (Replies given) =
+    IsReached c rest at (Did place e reply) × IsOwnAt c rest (place - at - 1) e
+    × (given ≡ (answered (state_in s rest (place - at - 1)) e).0) × (given ≢ reply)
 IsMisfit c s rest at (Did place e reply) AsksNone = ⊥
 IsMisfit c s rest at (Did place e reply) (Tells given) = ⊥
 IsMisfit c s rest at (Saw place ask answer) Before = place < at
 IsMisfit c s rest at (Saw place ask answer) Behind = at + length rest < place
-IsMisfit c s rest at (Saw place ask answer) (Skips p) = IsSkipped c rest at (place - at) p
+IsMisfit c s rest at (Saw place ask answer) (Skips p) = (place ≤ at + length rest) × IsSkipped c rest at (place - at) p
 IsMisfit c s rest at (Saw place ask answer) Other = ⊥
 IsMisfit c s rest at (Saw place ask answer) (Replies given) = ⊥
-IsMisfit c s rest at (Saw place ask answer) AsksNone = ¬ AskFits (length (state_in s rest (place - at)).plan.stages) ask
-IsMisfit c s rest at (Saw place ask answer) (Tells given) = (given ≡ told (state_in s rest (place - at)) ask) × (given ≢ answer)
+IsMisfit c s rest at (Saw place ask answer) AsksNone =
+    IsReached c rest at (Saw place ask answer) × ¬ AskFits (length (state_in s rest (place - at)).plan.stages) ask
+IsMisfit c s rest at (Saw place ask answer) (Tells given) =
+    IsReached c rest at (Saw place ask answer) × AskFits (length (state_in s rest (place - at)).plan.stages) ask
+    × (given ≡ told (state_in s rest (place - at)) ask) × (given ≢ answer)
 
 -- the record behind the first k of these doesn't fit for this reason, and they do
 abbrev pub IsFirstMisfit : ℕ → State → List Event → ℕ → ℕ → List Record → Misfit → Type 0
@@ -106,8 +121,9 @@ IsOfCallers s events callers (Missing caller place) =
     (here : Caller) × ComesTo s events callers caller here × LeavesOut caller s events 0 here.records.items place
 IsOfCallers s events callers verdict = ⊥
 
--- the first stages have these outcomes, and the next has this one, which isn't what is said
+-- an outcome is said of each stage, the first stages have those, and the next has this one, which isn't what is said
 pub record IsFirstOther (s : State) (outcomes : List (Option Outcome)) (stage : ℕ) (outcome : Option Outcome) : Type 0 where
+  pub all : length outcomes ≡ length s.plan.stages
   pub before : AreOutcomesTo s outcomes stage
   pub is : outcome ≡ outcome_at s stage
   pub there : stage < length outcomes

@@ -1,8 +1,9 @@
 //! Tests of verdicts on histories.
 //!
 //! There is one good history of two callers over a source and what is applied to it. A row changes one thing in it, and has
-//! the verdict on what that leaves. And what two callers of a desk that was closed were told is judged.
+//! the verdict on what that leaves; where two reasons hold, that of the first. And what two callers of a desk that was closed were told is judged.
 mod changes;
 mod closed;
+mod firsts;
 mod good;
 mod rows;

@@ -1,7 +1,7 @@
 //! Plans of every kind of size, what is refused, and the tables of forms.
 ghost use Rattle.std.specs.Prelude.{◌≡◌};
 
-use cf_outcome::{Cause, Outcome, Value};
+use cf_outcome::{Cause, Outcome, Value, WriteFault};
 use cf_plan::{
     Answer, Args, Due, Form, Landing, Limit, LimitKind, MAX_EDGES, Of, Plan, PlanBuilder,
     PlanFault, StageFn, due_one, due_two, fits_form, landing,
@@ -484,6 +484,9 @@ fn faults_are_written_by_name(rt: HostRuntime) -> Result<(), Fail> {
         let written = format!(in rt.alloc(); "{fault}")?;
         assert_eq!(rt; written.as_str(), text);
     }
+    let fault = WriteFault;
+    let written = format!(in rt.alloc(); "{fault}")?;
+    assert_eq!(rt; written.as_str(), "WriteFault");
     Ok(())
 }
 

@@ -6,3 +6,5 @@
 mod growing;
 #[cfg(test)]
 mod reading;
+#[cfg(test)]
+mod texts;

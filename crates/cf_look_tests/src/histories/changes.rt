@@ -1,4 +1,4 @@
-//! A change of the good history, and the verdict on what it leaves.
+//! A change of the good history, or two, and the verdict on what they leave.
 use crate::histories::good::{history, plan};
 use cf_history::{History, Record, Verdict, check};
 use cf_outcome::Outcome;
@@ -95,16 +95,33 @@ pub(crate) fn judge(
     rows: &[(Change, Verdict)],
 ) -> Result<(), Fail> {
     for (at, (what, wanted)) in rows.iter().enumerate() {
-        let found = judged(rt, alloc, *what)?;
+        let found = judged(rt, alloc, *what, Change::Nothing)?;
         assert!(rt; found == *wanted, "row {at}: {what:?} has {found:?}");
     }
     Ok(())
 }
 
-/// The verdict on the good history with this change, over its plan with room for one stage more.
-fn judged(rt: &impl Abort, alloc: Global, what: Change) -> Result<Verdict, Fail> {
+/// Each two changes, of which each has a verdict of its own, leave what has this one.
+pub(crate) fn judge_both(
+    rt: &impl Abort,
+    alloc: Global,
+    rows: &[(Change, Change, Verdict)],
+) -> Result<(), Fail> {
+    for (at, (first, second, wanted)) in rows.iter().enumerate() {
+        let found = judged(rt, alloc, *first, *second)?;
+        assert!(rt;
+            found == *wanted,
+            "row {at}: {first:?} and {second:?} have {found:?}"
+        );
+    }
+    Ok(())
+}
+
+/// The verdict on the good history with these changes, over its plan with room for one stage more.
+fn judged(rt: &impl Abort, alloc: Global, first: Change, second: Change) -> Result<Verdict, Fail> {
     let mut history = history(alloc)?;
-    apply_to(&mut history, what)?;
+    apply_to(&mut history, first)?;
+    apply_to(&mut history, second)?;
     let plan = plan(alloc)?;
     assert!(rt; plan.stages() <= 4_000 && plan.edges() <= 16_000);
     Ok(check(alloc, &plan, 1, &history)?)

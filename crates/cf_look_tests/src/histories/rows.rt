@@ -12,7 +12,7 @@ use std::process::Abort;
 use std::test::Fail;
 
 /// The verdict on a record of a caller.
-fn at(caller: usize, record: usize, why: Misfit) -> Verdict {
+pub(crate) fn at(caller: usize, record: usize, why: Misfit) -> Verdict {
     Verdict::Record {
         caller,
         record,
@@ -21,7 +21,7 @@ fn at(caller: usize, record: usize, why: Misfit) -> Verdict {
 }
 
 /// The verdict on a word.
-fn word_at(place: usize, why: Unfit) -> Verdict {
+pub(crate) fn word_at(place: usize, why: Unfit) -> Verdict {
     Verdict::Event { place, why }
 }
 
