@@ -7,6 +7,8 @@
 #[cfg(test)]
 mod attaching;
 #[cfg(test)]
+mod calling;
+#[cfg(test)]
 mod graphs;
 #[cfg(test)]
 mod plans;

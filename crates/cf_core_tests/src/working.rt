@@ -8,7 +8,7 @@ use crate::steps::{Step, fault, give, gives, granted, take};
 use cf_core::Graph;
 use cf_model::{Claimed, Finished};
 use cf_outcome::{Cause, Outcome, Value};
-use cf_plan::{Answer, Args, Form, StageFn};
+use cf_plan::{Answer, Args, Each, Form, StageFn};
 use std::alloc::Global;
 use std::process::Abort;
 use std::test::Fail;
@@ -49,7 +49,9 @@ fn take_turns(rt: &impl Abort, graph: &mut Graph, functions: &[Fixed], turns: &[
     for turn in turns {
         match *turn {
             Turn::Takes(step) => take(rt, graph, &[step]),
-            Turn::Works(who, calls) => assert_eq!(rt; graph.work(who, functions), calls),
+            Turn::Works(who, calls) => {
+                assert_eq!(rt; graph.work(who, &mut Each { functions }), calls);
+            }
         }
     }
 }

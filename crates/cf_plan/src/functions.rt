@@ -44,3 +44,31 @@ impl<F: StageFn> Functions for Each<'_, F> {
         }
     }
 }
+
+/// What a closure is called by: a function's number and its arguments.
+type Call = Box<dyn FnMut(u16, Args) -> Answer>;
+
+/// A closure as the functions of all stages, by their numbers. It may change what it holds, as one that counts its calls does.
+#[derive(Drop)]
+pub struct Closure {
+    call: Call,
+    ghost callable: { IsAlwaysCallable call },
+}
+
+impl Closure {
+    /// The functions of a closure that takes any number and any arguments.
+    pub fn new(call: Call) -> Closure
+        requires { IsAlwaysCallable call }
+        ensures { result.call ≡ call }
+    {
+        Closure { call }
+    }
+}
+
+impl Functions for Closure {
+    ghost calls = { λ m number args answer n. step m.call number args answer n.call };
+
+    fn call(&mut self, number: u16, args: &Args) -> Answer {
+        (self.call)(number, *args)
+    }
+}

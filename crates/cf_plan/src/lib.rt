@@ -5,7 +5,9 @@
 //! sources of all stages stand in one block, and so do their dependents, so that both are looked up as slices. The
 //! forms are those of Java SE 17's `CompletionStage` and `CompletableFuture`; what a stage of a form does when its
 //! sources settle, and what becomes of its function's answer, is said by three tables: `due_one`, `due_two` and
-//! `landing`. What a stage's function does is a `StageFn`, whose answers depend on its arguments alone.
+//! `landing`. What a stage's function does is a `StageFn`, whose answers depend on its arguments alone. Functions that
+//! remember what they were called with are a `Functions`: all of a plan by their numbers, with one memory. A list of the
+//! former is one (`Each`), and so is a boxed closure (`Closure`) and any type that says what its calls do.
 //!
 //! A `GrowingPlan` is a built plan with room for stages that are attached later, each with at most two sources. They
 //! stand behind those of the opening, whose dependents stay where they are: each stage has beside them a list of the
@@ -33,7 +35,7 @@ pub use builder::{MAX_EDGES, MAX_LIMITS, MAX_STAGES, PlanBuilder};
 pub use faults::PlanFault;
 pub use fitting::fits_form;
 pub use forms::{Answer, Args, Due, Form, Landing, Of};
-pub use functions::{Each, Functions, StageFn};
+pub use functions::{Closure, Each, Functions, StageFn};
 pub use growing::GrowingPlan;
 pub use limits::{Limit, LimitKind};
 pub use plan::Plan;
