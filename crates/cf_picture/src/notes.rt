@@ -1,4 +1,7 @@
 //! What the steps did to claims, stage by stage.
+ghost use Rattle.std.specs.Prelude.{◌≡◌, IfOk, replicate, slice_set};
+ghost use Rattle.cf_picture.specs.Standings.{linked_by, no_note, note_at, noted};
+
 use cf_model::{Claimed, Event, Finished, Reply};
 use cf_plan::Answer;
 use std::alloc::{AllocError, Global};
@@ -7,14 +10,14 @@ use std::alloc::{AllocError, Global};
 #[derive(Clone, Copy)]
 pub(crate) struct Note {
     /// A step claimed it, and none has finished it since.
-    pub(crate) open: bool,
+    pub(crate) is_open: bool,
     /// The stage that the finish linked it to, if it did.
     pub(crate) link: Option<u16>,
 }
 
 /// Of a stage that no step claimed.
 const NONE: Note = Note {
-    open: false,
+    is_open: false,
     link: None,
 };
 
@@ -26,13 +29,17 @@ pub(crate) struct Notes {
 
 impl Notes {
     /// Notes for so many stages, of which none is claimed.
-    pub(crate) fn new(alloc: Global, count: usize) -> Result<Notes, AllocError> {
+    pub(crate) fn new(alloc: Global, count: usize) -> Result<Notes, AllocError>
+        ensures { IfOk result (λ made. made.notes.items ≡ replicate count no_note) }
+    {
         let notes = vec![in alloc; NONE; count]?;
         Ok(Notes { notes })
     }
 
     /// Notes what an event did that was answered so.
-    pub(crate) fn note(&mut self, event: Event, reply: Reply) {
+    pub(crate) fn note(&mut self, event: Event, reply: Reply)
+        ensures { self.new.notes.items ≡ noted event reply self.old.notes.items }
+    {
         match (event, reply) {
             (Event::Claim { stage, .. }, Reply::Claim(Claimed::Granted(_))) => {
                 self.put(stage, true, None)
@@ -44,14 +51,18 @@ impl Notes {
         }
     }
 
-    fn put(&mut self, stage: u16, open: bool, link: Option<u16>) {
+    fn put(&mut self, stage: u16, is_open: bool, link: Option<u16>)
+        ensures { self.new.notes.items ≡ slice_set self.old.notes.items stage (record { is_open = is_open; link = link }) }
+    {
         if let Some(note) = self.notes.get_mut(stage as usize) {
-            *note = Note { open, link };
+            *note = Note { is_open, link };
         }
     }
 
     /// The note of a stage.
-    pub(crate) fn of(&self, stage: u16) -> Note {
+    pub(crate) fn of(&self, stage: u16) -> Note
+        ensures { result ≡ note_at self.now.notes.items stage }
+    {
         match self.notes.get(stage as usize) {
             Some(note) => *note,
             None => NONE,
@@ -60,7 +71,9 @@ impl Notes {
 }
 
 /// The stage that an answer links to.
-fn linked_by(answer: Answer) -> Option<u16> {
+fn linked_by(answer: Answer) -> Option<u16>
+    ensures { result ≡ linked_by answer }
+{
     match answer {
         Answer::Link(j) => Some(j),
         _ => None,

@@ -1,5 +1,7 @@
 //! What became of a stage, and how that looks.
-ghost use Rattle.std.specs.Prelude.{◌<◌, length};
+ghost use Rattle.std.specs.Prelude.{◌≡◌, ◌<◌, length};
+ghost use Rattle.cf_model.specs.States.{stage_at};
+ghost use Rattle.cf_picture.specs.Standings.{IsElsewhereAs, standing_in};
 
 use crate::notes::Note;
 use cf_core::Graph;
@@ -26,6 +28,9 @@ pub(crate) enum Standing {
 /// does the work, which changes nothing for any other stage.
 pub(crate) fn standing_of(graph: &mut Graph, note: Note, i: u16) -> Standing
     requires { i < length graph.old.state.plan.stages }
+    ensures stands { result ≡ standing_in (stage_at graph.old.state i) note.is_open }
+    ensures elsewhere { IsElsewhereAs i graph.old.state graph.new.state }
+    ensures plan { graph.new.state.plan ≡ graph.old.state.plan }
 {
     if let Some(o) = graph.outcome(i) {
         return Standing::Settled(o);
@@ -34,7 +39,7 @@ pub(crate) fn standing_of(graph: &mut Graph, note: Note, i: u16) -> Standing
         Claimed::Granted(_) => Standing::Ready,
         Claimed::NotReady => Standing::Pending,
         Claimed::Taken | Claimed::Settled => {
-            if note.open {
+            if note.is_open {
                 Standing::Claimed
             } else {
                 Standing::Linked
