@@ -10,6 +10,7 @@ ghost use Rattle.cf_plan.specs.Meanings.{meanings_of};
 use crate::faults::PoolFault;
 use crate::gate::Gate;
 use crate::worker::work;
+use crate::workers::Shared;
 use cf_desk::{Closed, Desk, DeskFault, Pass};
 use cf_plan::StageFn;
 use std::alloc::{AllocError, Global};
@@ -72,7 +73,11 @@ fn work_on<F: StageFn, G: Gate>(
     requires patience { 0 < patience }
     ensures { IsWorkedFrom (meanings_of F.meaning fns.now) desk.now patience pass result }
 {
-    let fault = work(desk, &mut pass, fns, gate, patience).err();
+    let mut worker = Shared {
+        functions: fns,
+        gate,
+    };
+    let fault = work(desk, &mut pass, &mut worker, patience).err();
     Worked { pass, fault }
 }
 
