@@ -1,12 +1,16 @@
 -- Which functions a worker calls, and what its gate is told.
 use Rattle.std.specs.Prelude.{◌≡◌, ℕ, ◌+◌, ◌<◌, ◌≤◌, ◌==◌, Some, None, List, [], ◌∷◌, ◌++◌, length, unwrap_or, if◌then◌else◌}
+use Rattle.cf_outcome.specs.declared.outcome.Value.TheVariants.{Nil}
 use Rattle.cf_plan.specs.declared.forms.Answer.{Answer}
+use Rattle.cf_plan.specs.declared.forms.Answer.TheVariants.{Give}
+use Rattle.std.specs.List.{All}
 use Rattle.cf_plan.specs.declared.forms.Args.{Args}
+use Rattle.cf_plan.specs.Meanings.{Meanings}
 use Rattle.cf_plan.specs.Plans.{PlannedStage, function_at}
 use Rattle.cf_desk.specs.declared.calls.Call.TheVariants.{Finish}
 use Rattle.cf_desk.specs.declared.calls.Rec.{Rec}
 use Rattle.cf_desk.specs.declared.calls.Rec.TheVariants.{Did}
-use Rattle.cf_desk.specs.Views.{Pass, state_of}
+use Rattle.cf_desk.specs.Views.{Pass}
 use Rattle.cf_pool.specs.Works.{Owed, owed_by}
 
 -- what calls do: from the first memory, the function of this number answers so to these arguments, and leaves the second memory
@@ -53,15 +57,30 @@ abbrev pub calls_of : ℕ → List Rec → ℕ
 calls_of i [] = 0
 calls_of i (r ∷ rs) = calls_by i (owed_by r) + calls_of i rs
 
--- The pass has these records more, and they are all for which the memory has changed from m to n.
-pub record Calls {M : Type 0} (tells : TellsOf M) (calls : CallsOf M) (p q : Pass) (m n : M) : Type 0 where
+-- This caller's records went on, and they are all for which the memory has changed from m to n.
+pub record Calls {M : Type 0} (tells : TellsOf M) (calls : CallsOf M) (stages : List PlannedStage) (who : ℕ) (records now : List Rec) (m n : M) : Type 0 where
   pub more : List Rec
-  pub records : q.records ≡ p.records ++ more
-  pub called : AreCalled tells calls (state_of q.known).plan.stages p.known.caller more m n
+  pub is : now ≡ records ++ more
+  pub called : AreCalled tells calls stages who more m n
 
--- For each claim that the worker was granted, in turn, and never else: the gate was told of it, and then the function of the stage was
--- called once with the claim's arguments, and the stage finished with the answer, unless that finish was refused. No stage's function
--- was called twice.
-pub record CallsOnce {M : Type 0} (tells : TellsOf M) (calls : CallsOf M) (p q : Pass) (m n : M) : Type 0 where
-  pub each : Calls tells calls p q m n
+-- For each claim that this caller was granted since, in turn, and never else: the gate was told of it, and then the function of the
+-- stage was called once with the claim's arguments, and the stage finished with the answer, unless that finish was refused. No stage's
+-- function was called twice.
+pub record CallsOnce {M : Type 0} (tells : TellsOf M) (calls : CallsOf M) (stages : List PlannedStage) (who : ℕ) (records now : List Rec) (m n : M) : Type 0 where
+  pub each : Calls tells calls stages who records now m n
   pub once : (i : ℕ) → calls_of i each.more ≤ 1
+
+-- the same of each of these passes, with its records now, as the memory of its worker goes from one to the other
+abbrev pub EachCalls : {M : Type 0} → TellsOf M → CallsOf M → List PlannedStage → List Pass → List (List Rec) → List M → List M → Type 0
+EachCalls tells calls stages [] [] [] [] = Unit {0}
+EachCalls tells calls stages (p ∷ ps) (rs ∷ rss) (m ∷ ms) (n ∷ ns) = CallsOnce tells calls stages p.known.caller p.records rs m n × EachCalls tells calls stages ps rss ms ns
+EachCalls tells calls stages ps rss ms ns = ⊥
+
+-- what the functions of the first of these workers mean; nil where there is none
+abbrev pub first_meanings : {M : Type 0} → (M → Meanings) → List M → Meanings
+first_meanings meanings [] = λ number args. Give Nil
+first_meanings meanings (m ∷ ms) = meanings m
+
+-- the functions of all of them mean the same
+abbrev pub MeanAlike : {M : Type 0} → (M → Meanings) → List M → Type 0
+MeanAlike {M} meanings ms = All (λ (m : M). meanings m ≡ first_meanings meanings ms) ms

@@ -53,7 +53,7 @@ pub fn work<W: Worker>(
     ensures nothing_ready { OnOk result (lowest_ready_of (state_of pass.new.known) ≡ None) }
     ensures waits { OnOk result (Waits desk.now patience pass.old pass.new) }
     ensures stops { IfErr result (Stops (W.meanings worker.old) desk.now pass.old pass.new) }
-    ensures called { CallsOnce W.tells W.calls pass.old pass.new worker.old worker.new }
+    ensures called { CallsOnce W.tells W.calls (state_of pass.new.known).plan.stages pass.old.known.caller pass.old.records pass.new.records worker.old worker.new }
     ensures keeps { W.meanings worker.new ≡ W.meanings worker.old }
 {
     let room = pass.left();
@@ -104,7 +104,7 @@ fn take_job<W: Worker>(
     ensures more { OnOk result (length pass.old.records < length pass.new.records) }
     ensures looks { OnOk result (pass.new.known.looks ≡ pass.old.known.looks) }
     ensures stops { IfErr result (StopsJob (W.meanings worker.old) desk.now pass.old pass.new) }
-    ensures called { Calls W.tells W.calls pass.old pass.new worker.old worker.new }
+    ensures called { Calls W.tells W.calls (state_of pass.new.known).plan.stages pass.old.known.caller pass.old.records pass.new.records worker.old worker.new }
     ensures keeps { W.meanings worker.new ≡ W.meanings worker.old }
 {
     let reply = desk.act(pass, Call::Claim(stage))?;

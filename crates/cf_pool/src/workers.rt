@@ -1,12 +1,14 @@
 //! What a worker works with: functions and a gate, with one memory.
-ghost use Rattle.std.specs.Prelude.{◌≡◌, ℕ};
+ghost use Rattle.std.specs.Prelude.{◌≡◌, ◌<◌, ℕ, IfOk, vec_len};
 ghost use Rattle.std.proofs.Common.{ap};
 ghost use Rattle.cf_plan.specs.declared.forms.Answer.{Answer};
 ghost use Rattle.cf_plan.specs.declared.forms.Args.{Args};
 ghost use Rattle.cf_plan.specs.Meanings.{Meanings, meanings_of};
+ghost use Rattle.cf_pool.specs.Calling.{MeanAlike, first_meanings};
 
 use crate::gate::Gate;
 use cf_plan::{Answer, Args, Each, Functions, StageFn};
+use std::alloc::{AllocError, Global};
 
 /// The functions of stages and a gate, with one memory, which a call and the gate may change. So a worker may count and
 /// keep what it is called with. But what its functions answer depends on their number and the arguments alone: their
@@ -58,4 +60,22 @@ impl<F: StageFn, G: Gate> Worker for Shared<'_, F, G> {
     }
 
     ghost means = { λ m n number args answer h. (h.0, ap (λ w. meanings_of F.meaning w.functions.now) h.1) };
+}
+
+/// So many workers that share a list of functions and a gate.
+pub fn share<'a, F: StageFn, G: Gate>(
+    alloc: Global,
+    functions: &'a [F],
+    gate: &'a G,
+    count: u8,
+) -> Result<Vec<Shared<'a, F, G>>, AllocError>
+    ensures count { IfOk result (λ v. vec_len v ≡ count) }
+    ensures alike { IfOk result (λ v. MeanAlike (λ w. meanings_of F.meaning w.functions.now) v.items) }
+    ensures means { IfOk result (λ v. 0 < count → first_meanings (λ w. meanings_of F.meaning w.functions.now) v.items ≡ meanings_of F.meaning functions.now) }
+{
+    let mut workers = Vec::with_capacity(alloc, count as usize)?;
+    'workers: for _ in 0..count {
+        workers.push(Shared { functions, gate })?;
+    }
+    Ok(workers)
 }
