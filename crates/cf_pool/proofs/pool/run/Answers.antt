@@ -1,4 +1,4 @@
-use Rattle.std.proofs.Common.{◌≡◌, IfErr, IfOk, List, length, map, sym, ap, ◌∙◌, subst, arith}
+use Rattle.std.proofs.Common.{IfErr, IfOk, List, length, map, sym, ap, subst, arith}
 use Rattle.std.specs.List.{All}
 use Rattle.std.proofs.lemmas.List.{length-map}
 use Rattle.cf_desk.specs.Views.{IsOf, Pass}

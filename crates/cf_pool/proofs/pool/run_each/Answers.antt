@@ -8,7 +8,7 @@ use Rattle.cf_pool.specs.Calling.{EachCalls, MeanAlike, first_meanings}
 use Rattle.cf_pool.specs.Closings.{IsTold, RanOut}
 use Rattle.cf_pool.specs.Runs.{IsFirst, IsWorkedFrom, first_with, stop_of}
 use Rattle.cf_pool.proofs.Pools.{all_mapped}
-use Rattle.cf_pool.proofs.Runs.{Back, Shut, all_from, back_calls, back_of, back_out, back_told, first_and, shut_of, worked_of, zip_length}
+use Rattle.cf_pool.proofs.Runs.{Back, all_from, back_calls, back_of, back_out, back_told, first_and, shut_of, worked_of, zip_length}
 use Rattle.cf_pool.proofs.pool.run_each.Given.{Over}
 use Rattle.cf_pool.proofs.pool.run_each.Goals as goal
 use Rattle.cf_pool.proofs.pool.run_each.Goals.{After-put_first-workers, After-remove-one, In-Ok-spread}
