@@ -150,7 +150,7 @@ acts_on p q call reply a =
     let e = event_by p.known.caller call in
     ap (λ (h : Pass). h.known.seen) a.is ∙ ap (λ l. l ++ e ∷ []) a.caught.joined ∙ append_assoc p.known.seen a.caught.others (e ∷ [])
 
-acts_grow : (p q : Pass) (call : Call) (reply : Reply) → Acts p call reply q → Grows (state_of p.known) (state_of q.known)
+pub acts_grow : (p q : Pass) (call : Call) (reply : Reply) → Acts p call reply q → Grows (state_of p.known) (state_of q.known)
 acts_grow p q call reply a = pass_grows p q (a.caught.others ++ event_by p.known.caller call ∷ []) (same_acts p q call reply a).1 (acts_on p q call reply a)
 
 -- a stage that it knew is still there

@@ -3,11 +3,9 @@ use Rattle.std.proofs.Common.{◌≡◌, ℕ, suc, ◌+◌, ◌<◌, ◌≤◌, 
 use Rattle.std.specs.Prelude.{nat_lt, slice_index_or}
 use Rattle.std.specs.List.{AllZip}
 use Rattle.std.proofs.lemmas.List.{take_more}
-use Rattle.std.proofs.lemmas.List.Elements.{All-head, All-tail, All-push, All-weaker, Contains-append_left, Contains-push, filter-append}
+use Rattle.std.proofs.lemmas.List.Elements.{All-cons, All-head, All-nil, All-tail, All-push, All-weaker, Contains-append_left, Contains-push, filter-append}
 use borrow.Author.Tests.{ltb-true, ltb-false}
 use mathlib.Core.List.{map-append}
-use Rattle.cf_plan.specs.declared.forms.Answer.{Answer}
-use Rattle.cf_plan.specs.declared.forms.Args.{Args}
 use Rattle.cf_desk.specs.declared.faults.DeskFault.{DeskFault}
 use Rattle.cf_model.specs.declared.events.Event.{Event}
 use Rattle.cf_model.specs.Calls.{who_of}
@@ -19,8 +17,9 @@ use Rattle.cf_desk.proofs.Meets.{short_more}
 use Rattle.cf_desk.proofs.Passes.{none_new}
 use Rattle.cf_pool.specs.declared.pool.Met.{Met}
 use Rattle.cf_pool.specs.declared.pool.Worked.{Worked}
-use Rattle.cf_pool.specs.Runs.{EndsIf, IsFirst, IsWorkedFrom, SeesMore, Stop, first_with, lower_of, stop_of}
-use Rattle.cf_plan.specs.Meanings.{meanings_of}
+use Rattle.cf_pool.specs.Runs.{EndsIf, IsFirst, IsWorkedBy, SeesMore, Stop, first_with, lower_of, stop_of}
+use Rattle.cf_plan.specs.Meanings.{Meanings}
+use Rattle.cf_pool.specs.Calling.{CallsOf, TellsOf}
 
 -- ---- the lowest caller that was stopped
 
@@ -54,8 +53,8 @@ zip_push R [] (b ∷ ys) x y h r = absurd h
 zip_push R (a ∷ xs) [] x y h r = absurd h
 zip_push R (a ∷ xs) (b ∷ ys) x y h r = (h.0, zip_push R xs ys x y h.1 r)
 
-pub zip_kept : {H : Type 0} (P : H → Type 0) (f : H → Pass) (W : Pass → Worked → Type 0) (hs : List H) (ws : List Worked) → length ws ≡ length hs → All P hs
-    → ((i : ℕ) (d : Worked) → i < length hs → (h : H) × (h ≡ slice_index_or hs i h) × (P h → W (f h) (slice_index_or ws i d))) → AllZip W (map f hs) ws
+pub zip_kept : {H X Y : Type 0} (P : H → Type 0) (f : H → X) (W : X → Y → Type 0) (hs : List H) (ws : List Y) → length ws ≡ length hs → All P hs
+    → ((i : ℕ) (d : Y) → i < length hs → (h : H) × (h ≡ slice_index_or hs i h) × (P h → W (f h) (slice_index_or ws i d))) → AllZip W (map f hs) ws
 zip_kept P f W [] [] same all each = tt
 zip_kept P f W [] (w ∷ ws) same all each = absurd (omega arith)
 zip_kept P f W (h ∷ hs) [] same all each = absurd (omega arith)
@@ -64,6 +63,10 @@ zip_kept P f W (h ∷ hs) (w ∷ ws) same all each =
       subst (λ y. W (f y) w) x.1 (x.2 (subst P (sym x.1) (All-head P h hs all))),
       zip_kept P f W hs ws (omega arith) (All-tail P h hs all) (λ i d l. each (suc i) d (omega arith)),
     )
+
+pub all_mapped : {A B : Type 0} (P : B → Type 0) (f : A → B) (xs : List A) → All P (map f xs) → All (λ x. P (f x)) xs
+all_mapped P f [] h = All-nil (λ x. P (f x))
+all_mapped P f (x ∷ xs) h = All-cons (λ y. P (f y)) x xs (All-head P (f x) (map f xs) h) (all_mapped P f xs (All-tail P (f x) (map f xs) h))
 
 -- ---- passes that see more
 
@@ -113,7 +116,7 @@ short_met p q p' q' qs m h =
     subst (AllShort (length p'.known.seen)) (sym (map-append (λ (x : Pass). x.known) qs (q' ∷ [])))
     (short_push (length p'.known.seen) (knowns qs) q'.known (short_more (length p.known.seen) (length p'.known.seen) n (knowns qs) h) (omega arith))
 
-pub stop_step : (ws : List Worked) (i caller : ℕ) (w : Worked) (met now : Option Met) → i < length ws → w ≡ get_or ws i w → caller ≡ w.pass.known.caller → now ≡ first_with met caller w.fault → IsFirst (map stop_of (take i ws)) met → IsFirst (map stop_of (take (i + 1) ws)) now
+pub stop_step : {M : Type 0} (ws : List (Worked M)) (i caller : ℕ) (w : Worked M) (met now : Option Met) → i < length ws → w ≡ get_or ws i w → caller ≡ w.pass.known.caller → now ≡ first_with met caller w.fault → IsFirst (map stop_of (take i ws)) met → IsFirst (map stop_of (take (i + 1) ws)) now
 stop_step ws i caller w met now l is by_caller by_fault h =
     let more : take (i + 1) ws ≡ take i ws ++ w ∷ [] = take_more ws i w l ∙ ap (λ x. take i ws ++ x ∷ []) (sym is) in
     let stops : map stop_of (take (i + 1) ws) ≡ map stop_of (take i ws) ++ stop_of w ∷ [] = ap (map stop_of) more ∙ map-append stop_of (take i ws) (w ∷ []) in
@@ -121,13 +124,12 @@ stop_step ws i caller w met now l is by_caller by_fault h =
     subst (λ m. IsFirst (map stop_of (take (i + 1) ws)) m) (sym then)
     (subst (λ s. IsFirst s (first_with met w.pass.known.caller w.fault)) (sym stops) (first_more (map stop_of (take i ws)) met w.pass.known.caller w.fault h))
 
-pub parts_step : {H : Type 0} (f : H → Pass) (hs now : List H) (h : H) (p : Pass) (rest all : List Pass) → all ≡ map f hs ++ p ∷ rest → f h ≡ p → now ≡ hs ++ h ∷ [] → all ≡ map f now ++ rest
+pub parts_step : {H X : Type 0} (f : H → X) (hs now : List H) (h : H) (p : X) (rest all : List X) → all ≡ map f hs ++ p ∷ rest → f h ≡ p → now ≡ hs ++ h ∷ [] → all ≡ map f now ++ rest
 parts_step f hs now h p rest all parts same items =
     parts ∙ ap (λ x. map f hs ++ x ∷ rest) (sym same) ∙ sym (append_assoc (map f hs) (f h ∷ []) rest) ∙ ap (λ x. x ++ rest) (sym (ap (map f) items ∙ map-append f hs (h ∷ [])))
 
 pub all_step : {H : Type 0} (P : H → Type 0) (hs now : List H) (h : H) → now ≡ hs ++ h ∷ [] → All P hs → P h → All P now
 all_step P hs now h items all one = subst (All P) (sym items) (All-push P hs h all one)
 
-pub work_same : {F : Type 0} (meaning : F → Args → Answer) (fns now : List F) (d e : Desk) (patience : ℕ) (p : Pass) (w : Worked) → d ≡ e → fns ≡ now → IsWorkedFrom (meanings_of meaning fns) d patience p w → IsWorkedFrom (meanings_of meaning now) e patience p w
-work_same meaning fns now d e patience p w same_desk same_fns h =
-    subst (λ (x : Desk). IsWorkedFrom (meanings_of meaning now) x patience p w) same_desk (subst (λ fs. IsWorkedFrom (meanings_of meaning fs) d patience p w) same_fns h)
+pub work_same : {M : Type 0} (tells : TellsOf M) (calls : CallsOf M) (meanings : M → Meanings) (d e : Desk) (patience : ℕ) (h : Pass × M) (w : Worked M) → d ≡ e → IsWorkedBy tells calls meanings d patience h w → IsWorkedBy tells calls meanings e patience h w
+work_same tells calls meanings d e patience h w same is = subst (λ (x : Desk). IsWorkedBy tells calls meanings x patience h w) same is

@@ -1,6 +1,7 @@
 -- What the passes of a run come to.
 use Rattle.std.proofs.Common.{◌≡◌, ℕ, zero, suc, ◌+◌, ◌<◌, ◌≤◌, leb, ⊎_elim, Bool, true, false, Option, Some, None, List, [], ◌∷◌, ◌++◌, length, map, All, sym, refl, ap, ◌∙◌, subst, append-nil, append_assoc, length-append, take, drop, arith}
 use Rattle.std.specs.Prelude.{slice_index_or}
+use Rattle.std.proofs.lemmas.Simd.{map-map}
 use Rattle.std.specs.List.{AllZip, Contains, insert}
 use Rattle.std.proofs.lemmas.List.Elements.{All-head, All-tail, All-nil, All-cons, All-contains, Contains-append_cases, Contains-append_left, Contains-append_right}
 use Rattle.cf_model.specs.declared.events.Event.{Event}
@@ -14,7 +15,7 @@ use Rattle.cf_desk.specs.declared.faults.DeskFault.TheVariants.{BadAttach, LogFu
 use Rattle.cf_desk.specs.declared.row.Known.{Known}
 use Rattle.cf_desk.specs.Calls.{event_by}
 use Rattle.cf_desk.specs.Faults.{AttachFits, IsDue, IsOnStage}
-use Rattle.cf_desk.specs.Keepings.{AllFit, AreKept, IsKeptFit, pass_kept}
+use Rattle.cf_desk.specs.Keepings.{AllFit, AreKept, IsKeptFit, pass_did, pass_kept}
 use Rattle.cf_desk.specs.Log.{Catches, state_from}
 use Rattle.cf_desk.specs.Rule.{AllShort, longer_if, longest}
 use Rattle.cf_desk.specs.Views.{Closes, Follows, IsOf, Pass, Desk, knowns, state_of}
@@ -26,11 +27,19 @@ use Rattle.cf_desk.proofs.Passes.{same_follows, still_on_stage}
 use Rattle.cf_plan.specs.Meanings.{Meanings}
 use Rattle.cf_pool.specs.declared.pool.Met.{Met}
 use Rattle.cf_pool.specs.declared.pool.Worked.{Worked}
+use Rattle.cf_pool.specs.Calling.{CallsOf, CallsOnce, EachCalls, TellsOf}
 use Rattle.cf_pool.specs.Closings.{IsDueToTell, IsTold, Ran, RanOut}
-use Rattle.cf_pool.specs.Runs.{EndsBelow, EndsIf, HasEnded, HasWorked, IsFirst, IsLowest, IsMet, IsWorkedFrom, OfEach, SeesMore, SeesOn, Stop, WasStopped, first_with, stop_of}
+use Rattle.cf_pool.specs.Runs.{EndsBelow, EndsIf, HasEnded, HasWorked, IsFirst, IsLowest, IsMet, IsWorkedBy, IsWorkedFrom, OfEach, SeesMore, SeesOn, Stop, WasStopped, first_with, stop_of}
 use Rattle.cf_pool.specs.Stops.{IsNextCall, Stops}
 use Rattle.cf_pool.specs.Waits.{Ends, Waits, last_place}
 use Rattle.cf_pool.specs.Works.{Owed, Works, WorksOut, owed_after}
+use Rattle.cf_model.specs.Events.{state_after}
+use Rattle.cf_model.specs.Growth.{Grows}
+use Rattle.cf_model.proofs.Histories.{state_after-append}
+use Rattle.cf_model.proofs.Shape.{state_after-grows}
+use Rattle.cf_desk.specs.declared.calls.Rec.{Rec}
+use Rattle.cf_desk.specs.declared.row.Setting.{Setting}
+use Rattle.cf_pool.proofs.Calling.{once_grown}
 use Rattle.cf_pool.proofs.OpenClaims.{were_open}
 use Rattle.cf_pool.proofs.Pools.{first_more, sees_itself, sees_longer}
 use Rattle.cf_pool.proofs.Waiting.{idles_since, last_place-mono, looks_from}
@@ -91,7 +100,7 @@ worked_after meanings d patience p q r (Some fault) s h = record { works = works
 
 -- ---- one pass after another
 
-pub all_work : (meanings : Meanings) (d : Desk) (patience : ℕ) (ps qs : List Pass) (ws : List Worked) → AllZip (IsWorkedFrom meanings d patience) ps ws → AllZip SeesOn ws qs → AllZip (Works meanings) ps qs
+pub all_work : {M : Type 0} (meanings : Meanings) (d : Desk) (patience : ℕ) (ps qs : List Pass) (ws : List (Worked M)) → AllZip (IsWorkedFrom meanings d patience) ps ws → AllZip SeesOn ws qs → AllZip (Works meanings) ps qs
 all_work meanings d patience [] [] [] f g = tt
 all_work meanings d patience [] [] (w ∷ ws) f g = absurd f
 all_work meanings d patience [] (q ∷ qs) [] f g = absurd g
@@ -108,7 +117,7 @@ ended meanings d patience p q (Some fault) e h = cc
 has_ended : (meanings : Meanings) (d : Desk) (patience : ℕ) (p r q : Pass) (fault : Option DeskFault) → HasWorked meanings d patience p r fault → SeesMore r q → fault ≡ None → HasEnded meanings d patience p q
 has_ended meanings d patience p r q fault h s none = record { ended = r; ends = ended meanings d patience p r fault none h; since = s }
 
-all_ended : (meanings : Meanings) (d : Desk) (patience : ℕ) (ps qs : List Pass) (ws : List Worked) → AllZip (IsWorkedFrom meanings d patience) ps ws → AllZip SeesOn ws qs → All (λ (x : Stop). x.1 ≡ None) (map stop_of ws) → AllZip (HasEnded meanings d patience) ps qs
+all_ended : {M : Type 0} (meanings : Meanings) (d : Desk) (patience : ℕ) (ps qs : List Pass) (ws : List (Worked M)) → AllZip (IsWorkedFrom meanings d patience) ps ws → AllZip SeesOn ws qs → All (λ (x : Stop). x.1 ≡ None) (map stop_of ws) → AllZip (HasEnded meanings d patience) ps qs
 all_ended meanings d patience [] [] [] f g h = tt
 all_ended meanings d patience [] [] (w ∷ ws) f g h = absurd f
 all_ended meanings d patience [] (q ∷ qs) [] f g h = absurd g
@@ -124,7 +133,7 @@ all_ended meanings d patience (p ∷ ps) (q ∷ qs) (w ∷ ws) f g h = (
 ends_below : (meanings : Meanings) (d : Desk) (caller patience : ℕ) (p r q : Pass) (fault : Option DeskFault) → HasWorked meanings d patience p r fault → SeesMore r q → EndsIf caller (r.known.caller, fault) → EndsBelow meanings d caller patience p q
 ends_below meanings d caller patience p r q fault h s below l = has_ended meanings d patience p r q fault h s (below (let same = s.same.2 in omega arith))
 
-all_below : (meanings : Meanings) (d : Desk) (caller patience : ℕ) (ps qs : List Pass) (ws : List Worked) → AllZip (IsWorkedFrom meanings d patience) ps ws → AllZip SeesOn ws qs → All (EndsIf caller) (map stop_of ws) → AllZip (EndsBelow meanings d caller patience) ps qs
+all_below : {M : Type 0} (meanings : Meanings) (d : Desk) (caller patience : ℕ) (ps qs : List Pass) (ws : List (Worked M)) → AllZip (IsWorkedFrom meanings d patience) ps ws → AllZip SeesOn ws qs → All (EndsIf caller) (map stop_of ws) → AllZip (EndsBelow meanings d caller patience) ps qs
 all_below meanings d caller patience [] [] [] f g h = tt
 all_below meanings d caller patience [] [] (w ∷ ws) f g h = absurd f
 all_below meanings d caller patience [] (q ∷ qs) [] f g h = absurd g
@@ -140,14 +149,14 @@ all_below meanings d caller patience (p ∷ ps) (q ∷ qs) (w ∷ ws) f g h = (
 -- ---- the worker that was stopped
 
 -- what stopped it, whatever its patience was
-StopsAs : Meanings → Desk → Pass → Worked → Type 0
+StopsAs : {M : Type 0} → Meanings → Desk → Pass → Worked M → Type 0
 StopsAs meanings d p w = (fault : DeskFault) → w.fault ≡ Some fault → Stops meanings d p w.pass fault
 
 stops_as : (meanings : Meanings) (d : Desk) (patience : ℕ) (p q : Pass) (fault : Option DeskFault) → HasWorked meanings d patience p q fault → (x : DeskFault) → fault ≡ Some x → Stops meanings d p q x
 stops_as meanings d patience p q None h x e = cc
 stops_as meanings d patience p q (Some fault) h x e = let same : fault ≡ x = cc in subst (Stops meanings d p q) same h.met
 
-all_stops : (meanings : Meanings) (d : Desk) (patience : ℕ) (ps : List Pass) (ws : List Worked) → AllZip (IsWorkedFrom meanings d patience) ps ws → AllZip (StopsAs meanings d) ps ws
+all_stops : {M : Type 0} (meanings : Meanings) (d : Desk) (patience : ℕ) (ps : List Pass) (ws : List (Worked M)) → AllZip (IsWorkedFrom meanings d patience) ps ws → AllZip (StopsAs meanings d) ps ws
 unfolding StopsAs
 all_stops meanings d patience [] [] f = tt
 all_stops meanings d patience [] (w ∷ ws) f = absurd f
@@ -171,7 +180,7 @@ stopped_more : (meanings : Meanings) (d : Desk) (p q : Pass) (ps qs : List Pass)
 stopped_more meanings d p q ps qs caller fault s =
     record { before = s.before; was_there = Contains-append_right (p ∷ []) ps s.before s.was_there; after = s.after; there = Contains-append_right (q ∷ []) qs s.after s.there; is = s.is; stopped = s.stopped }
 
-stopped_at : (meanings : Meanings) (d : Desk) (caller : ℕ) (fault : DeskFault) (ps qs : List Pass) (ws : List Worked) → AllZip (StopsAs meanings d) ps ws → AllZip SeesOn ws qs
+stopped_at : {M : Type 0} (meanings : Meanings) (d : Desk) (caller : ℕ) (fault : DeskFault) (ps qs : List Pass) (ws : List (Worked M)) → AllZip (StopsAs meanings d) ps ws → AllZip SeesOn ws qs
     → (k : ℕ) → k < length (map stop_of ws) → slice_index_or (map stop_of ws) k (caller, Some fault) ≡ (caller, Some fault) → Stopped meanings d ps qs caller fault
 unfolding StopsAs
 stopped_at meanings d caller fault ps qs [] f g k l e = absurd (omega arith)
@@ -189,15 +198,15 @@ stopped_at meanings d caller fault (p ∷ ps) (q ∷ qs) (w ∷ ws) f g zero l e
 stopped_at meanings d caller fault (p ∷ ps) (q ∷ qs) (w ∷ ws) f g (suc k) l e = stopped_more meanings d p q ps qs caller fault (stopped_at meanings d caller fault ps qs ws f.1 g.1 k (omega arith) e)
 
 -- the caller's own worker, with its patience, and the others with theirs
-pub all_met : (meanings : Meanings) (d : Desk) (p q : Pass) (fault : Option DeskFault) (ps qs : List Pass) (ws : List Worked) (first : Option Met) → HasWorked meanings d 1 p q fault → AllZip (IsWorkedFrom meanings d 1000) ps ws → AllZip SeesOn ws qs
+pub all_met : {M : Type 0} (m : M) (meanings : Meanings) (d : Desk) (p q : Pass) (fault : Option DeskFault) (ps qs : List Pass) (ws : List (Worked M)) (first : Option Met) → HasWorked meanings d 1 p q fault → AllZip (IsWorkedFrom meanings d 1000) ps ws → AllZip SeesOn ws qs
     → IsFirst ((q.known.caller, fault) ∷ map stop_of ws) first → IsMet meanings d (p ∷ ps) (q ∷ qs) first
 unfolding StopsAs
-all_met meanings d p q fault ps qs ws None own f g h = (
+all_met m meanings d p q fault ps qs ws None own f g h = (
   has_ended meanings d 1 p q q fault own (sees_itself q) (All-head (λ (x : Stop). x.1 ≡ None) (q.known.caller, fault) (map stop_of ws) h),
   all_ended meanings d 1000 ps qs ws f g (All-tail (λ (x : Stop). x.1 ≡ None) (q.known.caller, fault) (map stop_of ws) h),
 )
-all_met meanings d p q fault ps qs ws (Some met) own f g h =
-    let mine : Worked = record { pass = q; fault = fault } in
+all_met {M} m meanings d p q fault ps qs ws (Some met) own f g h =
+    let mine : Worked M = record { pass = q; worker = m; fault = fault } in
     let s = stopped_at meanings d met.caller met.fault (p ∷ ps) (q ∷ qs) (mine ∷ ws) (stops_as meanings d 1 p q fault own, all_stops meanings d 1000 ps ws f) (sees_itself q, g) h.0.0 h.0.1 h.0.2 in
     record {
       before = s.before;
@@ -225,7 +234,8 @@ first_rotated stops stop (Some met) h = (
 )
 
 -- what is known when all have come back
-pub record Back (meanings : Meanings) (d : Desk) (mine met done : Pass) (ps qs : List Pass) (ws : List Worked) (others : Option Met) (fault : Option DeskFault) : Type 0 where
+pub record Back {M : Type 0} (meanings : Meanings) (d : Desk) (mine met done : Pass) (ps qs : List Pass) (ws : List (Worked M)) (others : Option Met) (fault : Option DeskFault) : Type 0 where
+  pub worker : M
   pub of : All (IsOf d) (mine ∷ ps)
   pub work : AllZip (IsWorkedFrom meanings d 1000) ps ws
   pub sees : AllZip SeesOn ws qs
@@ -234,16 +244,16 @@ pub record Back (meanings : Meanings) (d : Desk) (mine met done : Pass) (ps qs :
   pub short : AllShort (length met.known.seen) (knowns qs)
   pub first : IsFirst (map stop_of ws) others
 
-back_own : (meanings : Meanings) (d : Desk) (mine met done : Pass) (ps qs : List Pass) (ws : List Worked) (others : Option Met) (fault : Option DeskFault) → Back meanings d mine met done ps qs ws others fault → HasWorked meanings d 1 mine done fault
+back_own : {M : Type 0} (meanings : Meanings) (d : Desk) (mine met done : Pass) (ps qs : List Pass) (ws : List (Worked M)) (others : Option Met) (fault : Option DeskFault) → Back meanings d mine met done ps qs ws others fault → HasWorked meanings d 1 mine done fault
 back_own meanings d mine met done ps qs ws others fault b = worked_after meanings d 1 mine met done fault b.mine_sees b.mine_works
 
-pub back_works : (meanings : Meanings) (d : Desk) (mine met done : Pass) (ps qs : List Pass) (ws : List Worked) (others : Option Met) (fault : Option DeskFault) → Back meanings d mine met done ps qs ws others fault → AllZip (Works meanings) (mine ∷ ps) (done ∷ qs)
+pub back_works : {M : Type 0} (meanings : Meanings) (d : Desk) (mine met done : Pass) (ps qs : List Pass) (ws : List (Worked M)) (others : Option Met) (fault : Option DeskFault) → Back meanings d mine met done ps qs ws others fault → AllZip (Works meanings) (mine ∷ ps) (done ∷ qs)
 back_works meanings d mine met done ps qs ws others fault b = ((back_own meanings d mine met done ps qs ws others fault b).works, all_work meanings d 1000 ps qs ws b.work b.sees)
 
-pub back_met : (meanings : Meanings) (d : Desk) (mine met done : Pass) (ps qs : List Pass) (ws : List Worked) (others : Option Met) (fault : Option DeskFault) → Back meanings d mine met done ps qs ws others fault
+pub back_met : {M : Type 0} (meanings : Meanings) (d : Desk) (mine met done : Pass) (ps qs : List Pass) (ws : List (Worked M)) (others : Option Met) (fault : Option DeskFault) → Back meanings d mine met done ps qs ws others fault
     → IsMet meanings d (mine ∷ ps) (done ∷ qs) (first_with others done.known.caller fault)
 back_met meanings d mine met done ps qs ws others fault b =
-    all_met meanings d mine done fault ps qs ws (first_with others done.known.caller fault) (back_own meanings d mine met done ps qs ws others fault b) b.work b.sees
+    all_met b.worker meanings d mine done fault ps qs ws (first_with others done.known.caller fault) (back_own meanings d mine met done ps qs ws others fault b) b.work b.sees
     (first_rotated (map stop_of ws) (done.known.caller, fault) (first_with others done.known.caller fault) (first_more (map stop_of ws) others done.known.caller fault b.first))
 
 -- the passes are still of the desk
@@ -255,16 +265,16 @@ still_of meanings d (p ∷ ps) (q ∷ qs) h f =
     let x = All-head (IsOf d) p ps h in
     All-cons (IsOf d) q qs (f.0.same.0 ∙ x.0, f.0.same.1 ∙ x.1) (still_of meanings d ps qs (All-tail (IsOf d) p ps h) f.1)
 
-pub back_of : (meanings : Meanings) (d : Desk) (mine met done : Pass) (ps qs : List Pass) (ws : List Worked) (others : Option Met) (fault : Option DeskFault) → Back meanings d mine met done ps qs ws others fault → All (IsOf d) (done ∷ qs)
+pub back_of : {M : Type 0} (meanings : Meanings) (d : Desk) (mine met done : Pass) (ps qs : List Pass) (ws : List (Worked M)) (others : Option Met) (fault : Option DeskFault) → Back meanings d mine met done ps qs ws others fault → All (IsOf d) (done ∷ qs)
 back_of meanings d mine met done ps qs ws others fault b = still_of meanings d (mine ∷ ps) (done ∷ qs) b.of (back_works meanings d mine met done ps qs ws others fault b)
 
 -- the passes that come from the workers are of the desk
-pub worked_of : (meanings : Meanings) (d : Desk) (ps : List Pass) (ws : List Worked) → All (IsOf d) ps → AllZip (IsWorkedFrom meanings d 1000) ps ws → All (λ (w : Worked). w.pass.table ≡ d.table) ws
-worked_of meanings d [] [] h f = All-nil (λ (w : Worked). w.pass.table ≡ d.table)
+pub worked_of : {M : Type 0} (meanings : Meanings) (d : Desk) (ps : List Pass) (ws : List (Worked M)) → All (IsOf d) ps → AllZip (IsWorkedFrom meanings d 1000) ps ws → All (λ (w : Worked M). w.pass.table ≡ d.table) ws
+worked_of {M} meanings d [] [] h f = All-nil (λ (w : Worked M). w.pass.table ≡ d.table)
 worked_of meanings d [] (w ∷ ws) h f = absurd f
 worked_of meanings d (p ∷ ps) [] h f = absurd f
-worked_of meanings d (p ∷ ps) (w ∷ ws) h f =
-    All-cons (λ (w : Worked). w.pass.table ≡ d.table) w ws (f.0.works.same.0 ∙ (All-head (IsOf d) p ps h).0) (worked_of meanings d ps ws (All-tail (IsOf d) p ps h) f.1)
+worked_of {M} meanings d (p ∷ ps) (w ∷ ws) h f =
+    All-cons (λ (w : Worked M). w.pass.table ≡ d.table) w ws (f.0.works.same.0 ∙ (All-head (IsOf d) p ps h).0) (worked_of meanings d ps ws (All-tail (IsOf d) p ps h) f.1)
 
 pub zip_length : {A B : Type 0} (R : A → B → Type 0) (xs : List A) (ys : List B) → AllZip R xs ys → length ys ≡ length xs
 zip_length R [] [] f = refl
@@ -310,7 +320,7 @@ shut_of d qs items history kept graph same closes are fit is = record {
   graph_is = is;
 }
 
-back_ran : (meanings : Meanings) (d : Desk) (mine met done : Pass) (ps qs : List Pass) (ws : List Worked) (others : Option Met) (fault : Option DeskFault) → Back meanings d mine met done ps qs ws others fault
+back_ran : {M : Type 0} (meanings : Meanings) (d : Desk) (mine met done : Pass) (ps qs : List Pass) (ws : List (Worked M)) (others : Option Met) (fault : Option DeskFault) → Back meanings d mine met done ps qs ws others fault
     → (history : List Event) (kept : List Kept) (graph : State) → Shut d (done ∷ qs) history kept graph → Ran meanings d (mine ∷ ps) history kept graph
 back_ran meanings d mine met done ps qs ws others fault b history kept graph s = record {
   qs = done ∷ qs;
@@ -341,7 +351,7 @@ first_none (Some met) caller None e = refl
 first_none None caller (Some fault) e = cc
 first_none (Some met) caller (Some fault) e = cc
 
-pub back_out : (meanings : Meanings) (d : Desk) (mine met done : Pass) (ps qs : List Pass) (ws : List Worked) (others : Option Met) (fault : Option DeskFault) → Back meanings d mine met done ps qs ws others fault
+pub back_out : {M : Type 0} (meanings : Meanings) (d : Desk) (mine met done : Pass) (ps qs : List Pass) (ws : List (Worked M)) (others : Option Met) (fault : Option DeskFault) → Back meanings d mine met done ps qs ws others fault
     → (history : List Event) (kept : List Kept) (graph : State) → Shut d (done ∷ qs) history kept graph → first_with others done.known.caller fault ≡ None → RanOut meanings d (mine ∷ ps) history kept graph
 unfolding back_ran
 back_out meanings d mine met done ps qs ws others fault b history kept graph s none =
@@ -377,7 +387,7 @@ due_told d qs stood stopped after history call BadAttach c there f s fits stage 
 due_told d qs stood stopped after history call NoStage c there f s fits stage due =
     absurd (due (still_on_stage stood stopped (event_by stood.known.caller call) f stage))
 
-pub back_told : (meanings : Meanings) (d : Desk) (mine met done : Pass) (ps qs : List Pass) (ws : List Worked) (others : Option Met) (fault : Option DeskFault) → Back meanings d mine met done ps qs ws others fault
+pub back_told : {M : Type 0} (meanings : Meanings) (d : Desk) (mine met done : Pass) (ps qs : List Pass) (ws : List (Worked M)) (others : Option Met) (fault : Option DeskFault) → Back meanings d mine met done ps qs ws others fault
     → (closed : Closed) → Shut d (done ∷ qs) closed.history.items closed.passes.items closed.graph.state
     → (first : Met) → first_with others done.known.caller fault ≡ Some first
     → IsTold meanings d (mine ∷ ps) first.fault closed
@@ -392,6 +402,67 @@ back_told meanings d mine met done ps qs ws others fault b closed shut first som
       caller = first.caller;
       lowest = lowest;
     }
+
+-- ---- the calls
+
+-- all workers' functions mean what the first's do
+pub all_from : {M : Type 0} (tells : TellsOf M) (calls : CallsOf M) (meanings : M → Meanings) (first : Meanings) (d : Desk) (hs : List (Pass × M)) (ws : List (Worked M)) → All (λ (m : M). meanings m ≡ first) (map (λ (h : Pass × M). h.1) hs) → AllZip (IsWorkedBy tells calls meanings d 1000) hs ws
+    → AllZip (IsWorkedFrom first d 1000) (map (λ (h : Pass × M). h.0) hs) ws
+all_from tells calls meanings first d [] [] alike f = tt
+all_from tells calls meanings first d [] (w ∷ ws) alike f = absurd f
+all_from tells calls meanings first d (h ∷ hs) [] alike f = absurd f
+all_from {M} tells calls meanings first d (h ∷ hs) (w ∷ ws) alike f = (
+  subst (λ (x : Meanings). IsWorkedFrom x d 1000 h.0 w) (All-head (λ (m : M). meanings m ≡ first) h.1 (map (λ (k : Pass × M). k.1) hs) alike) f.0.from,
+  all_from tells calls meanings first d hs ws (All-tail (λ (m : M). meanings m ≡ first) h.1 (map (λ (k : Pass × M). k.1) hs) alike) f.1,
+)
+
+-- the plan that a pass has seen last grows to that of the whole history
+grows_whole : (d : Desk) (q : Pass) (history : List Event) → IsOf d q → Catches q.known.caller q.known.seen history → Grows (state_of q.known) (state_from d.setting.plan history)
+grows_whole d q history of c =
+    let was : state_of q.known ≡ state_from d.setting.plan q.known.seen = ap (λ (x : Setting). state_from x.plan q.known.seen) of.1 in
+    let now : state_from d.setting.plan history ≡ state_after (state_from d.setting.plan q.known.seen) c.others = ap (state_from d.setting.plan) c.joined ∙ state_after-append (start d.setting.plan) q.known.seen c.others in
+    subst (λ (s : State). Grows s (state_from d.setting.plan history)) (sym was)
+    (subst (Grows (state_from d.setting.plan q.known.seen)) (sym now) (state_after-grows (state_from d.setting.plan q.known.seen) c.others))
+
+-- a worker's calls, as the passes and the desk are then
+whole_calls : {M : Type 0} (tells : TellsOf M) (calls : CallsOf M) (d : Desk) (who : ℕ) (records : List Rec) (p q : Pass) (m n : M) (history : List Event) → SeesMore p q → IsOf d q → Catches q.known.caller q.known.seen history
+    → CallsOnce tells calls (state_of p.known).plan.stages who records p.records m n → CallsOnce tells calls (state_from d.setting.plan history).plan.stages who records q.records m n
+whole_calls tells calls d who records p q m n history s of c h =
+    subst (λ (l : List Rec). CallsOnce tells calls (state_from d.setting.plan history).plan.stages who records l m n) (sym s.records)
+    (once_grown tells calls (state_of q.known) (state_from d.setting.plan history) who records p.records m n (grows_whole d q history of c)
+    (once_grown tells calls (state_of p.known) (state_of q.known) who records p.records m n (pass_grows p q s.caught.others s.same.1 s.caught.joined) h))
+
+each_calls : {M : Type 0} (tells : TellsOf M) (calls : CallsOf M) (meanings : M → Meanings) (d : Desk) (history : List Event) (hs : List (Pass × M)) (ws : List (Worked M)) (qs : List Pass) → AllZip (IsWorkedBy tells calls meanings d 1000) hs ws → AllZip SeesOn ws qs
+    → All (IsOf d) qs → All (λ (q : Pass). Catches q.known.caller q.known.seen history) qs
+    → EachCalls tells calls (state_from d.setting.plan history).plan.stages (map (λ (h : Pass × M). h.0) hs) (map (λ (q : Pass). q.records) qs) (map (λ (h : Pass × M). h.1) hs) (map (λ (w : Worked M). w.worker) ws)
+each_calls tells calls meanings d history [] [] [] f g of begins = tt
+each_calls tells calls meanings d history [] [] (q ∷ qs) f g of begins = absurd g
+each_calls tells calls meanings d history [] (w ∷ ws) qs f g of begins = absurd f
+each_calls tells calls meanings d history (h ∷ hs) [] qs f g of begins = absurd f
+each_calls tells calls meanings d history (h ∷ hs) (w ∷ ws) [] f g of begins = absurd g
+each_calls tells calls meanings d history (h ∷ hs) (w ∷ ws) (q ∷ qs) f g of begins = (
+  whole_calls tells calls d h.0.known.caller h.0.records w.pass q h.1 w.worker history g.0 (All-head (IsOf d) q qs of) (All-head (λ (x : Pass). Catches x.known.caller x.known.seen history) q qs begins) f.0.called,
+  each_calls tells calls meanings d history hs ws qs f.1 g.1 (All-tail (IsOf d) q qs of) (All-tail (λ (x : Pass). Catches x.known.caller x.known.seen history) q qs begins),
+)
+
+pub back_calls : {M : Type 0} (tells : TellsOf M) (calls : CallsOf M) (of_worker : M → Meanings) (meanings : Meanings) (d : Desk) (mine met done : Pass) (hs : List (Pass × M)) (qs : List Pass) (ws : List (Worked M)) (others : Option Met) (fault : Option DeskFault) (m n : M)
+    → Back meanings d mine met done (map (λ (h : Pass × M). h.0) hs) qs ws others fault → AllZip (IsWorkedBy tells calls of_worker d 1000) hs ws → CallsOnce tells calls (state_of done.known).plan.stages met.known.caller met.records done.records m n
+    → (history : List Event) (kept : List Kept) (graph : State) → Shut d (done ∷ qs) history kept graph
+    → EachCalls tells calls graph.plan.stages (mine ∷ map (λ (h : Pass × M). h.0) hs) (map (λ (k : Kept). k.records.items) kept) (m ∷ map (λ (h : Pass × M). h.1) hs) (n ∷ map (λ (w : Worked M). w.worker) ws)
+back_calls {M} tells calls of_worker meanings d mine met done hs qs ws others fault m n b f own history kept graph s =
+    let of : All (IsOf d) (done ∷ qs) = back_of meanings d mine met done (map (λ (h : Pass × M). h.0) hs) qs ws others fault b in
+    let stages = (state_from d.setting.plan history).plan.stages in
+    let own_as : CallsOnce tells calls (state_of done.known).plan.stages mine.known.caller mine.records done.records m n =
+    subst (λ (l : List Rec). CallsOnce tells calls (state_of done.known).plan.stages mine.known.caller l done.records m n) b.mine_sees.records
+    (subst (λ (c : ℕ). CallsOnce tells calls (state_of done.known).plan.stages c met.records done.records m n) b.mine_sees.same.2 own) in
+    let all : EachCalls tells calls stages (mine ∷ map (λ (h : Pass × M). h.0) hs) (map (λ (q : Pass). q.records) (done ∷ qs)) (m ∷ map (λ (h : Pass × M). h.1) hs) (n ∷ map (λ (w : Worked M). w.worker) ws) = (
+      whole_calls tells calls d mine.known.caller mine.records done done m n history (sees_itself done) (All-head (IsOf d) done qs of) (All-head (λ (x : Pass). Catches x.known.caller x.known.seen history) done qs s.closes.begins) own_as,
+      each_calls tells calls of_worker d history hs ws qs f b.sees (All-tail (IsOf d) done qs of) (All-tail (λ (x : Pass). Catches x.known.caller x.known.seen history) done qs s.closes.begins),
+    ) in
+    let records : map (λ (k : Kept). k.records.items) kept ≡ map (λ (q : Pass). q.records) (done ∷ qs) =
+    sym (map-map (λ (x : ℕ × List Rec). x.1) pass_kept kept) ∙ ap (map (λ (x : ℕ × List Rec). x.1)) s.kept_are ∙ map-map (λ (x : ℕ × List Rec). x.1) pass_did (done ∷ qs) in
+    subst (λ (g : State). EachCalls tells calls g.plan.stages (mine ∷ map (λ (h : Pass × M). h.0) hs) (map (λ (k : Kept). k.records.items) kept) (m ∷ map (λ (h : Pass × M). h.1) hs) (n ∷ map (λ (w : Worked M). w.worker) ws)) (sym s.graph_is)
+    (subst (λ (rss : List (List Rec)). EachCalls tells calls stages (mine ∷ map (λ (h : Pass × M). h.0) hs) rss (m ∷ map (λ (h : Pass × M). h.1) hs) (n ∷ map (λ (w : Worked M). w.worker) ws)) (sym records) all)
 
 -- a list as its first element and the others
 pub first_and : {A : Type 0} (xs rest : List A) (x : A) → 0 < length xs → x ≡ slice_index_or xs 0 x → rest ≡ take 0 xs ++ drop (0 + 1) xs → xs ≡ x ∷ rest

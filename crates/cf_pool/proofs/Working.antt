@@ -5,7 +5,7 @@ use Rattle.std.specs.Option.{option_map_or}
 use Rattle.cf_plan.specs.declared.forms.Answer.{Answer}
 use Rattle.cf_plan.specs.declared.forms.Args.{Args}
 use Rattle.cf_plan.specs.Meanings.{Meanings, stage_answer}
-use Rattle.cf_plan.specs.Plans.{Planned, PlannedStage}
+use Rattle.cf_plan.specs.Plans.{Planned, PlannedStage, function_at}
 use Rattle.cf_model.specs.declared.events.Event.{Event}
 use Rattle.cf_model.specs.declared.events.Reply.{Reply}
 use Rattle.cf_model.specs.declared.events.Reply.TheVariants.{Flag as ToldFlag, Claim as ToldClaim, Finish as ToldFinish, Tick as ToldTick, Attach as ToldAttach}
@@ -48,9 +48,12 @@ get_front [] ys i l = absurd (omega arith)
 get_front (x ∷ xs) ys zero l = refl
 get_front (x ∷ xs) ys (suc i) l = get_front xs ys i (omega arith)
 
+pub function_stays : (s r : State) (i : ℕ) → Grows s r → i < length s.plan.stages → unwrap_or (function_at s.plan.stages i) 0 ≡ unwrap_or (function_at r.plan.stages i) 0
+function_stays s r i g l =
+    sym (ap (λ stages. unwrap_or (function_at stages i) 0) g.stages ∙ ap (λ (x : Option PlannedStage). unwrap_or (option_map_or (λ (p : PlannedStage). p.function) x None) 0) (get_front s.plan.stages g.more i l))
+
 pub answer_stays : (meanings : Meanings) (s r : State) (i : ℕ) (args : Args) → Grows s r → i < length s.plan.stages → stage_answer meanings s.plan.stages i args ≡ stage_answer meanings r.plan.stages i args
-answer_stays meanings s r i args g l =
-    sym (ap (λ stages. stage_answer meanings stages i args) g.stages ∙ ap (λ (x : Option PlannedStage). meanings (unwrap_or (option_map_or (λ (p : PlannedStage). p.function) x None) 0) args) (get_front s.plan.stages g.more i l))
+answer_stays meanings s r i args g l = ap (λ (n : ℕ). meanings n args) (function_stays s r i g l)
 
 -- ---- a call on stages that the pass knows, for which it needn't look
 

@@ -9,6 +9,9 @@ use Rattle.cf_desk.specs.Laws.{call_of}
 use Rattle.cf_event.specs.Events.{own}
 use Rattle.cf_desk.specs.Records.{dids}
 use Rattle.cf_desk.specs.Views.{Desk, IsOf, Pass}
+use Rattle.cf_pool.specs.declared.pool.Left.{Left}
+use Rattle.cf_pool.specs.Calling.{CallsOf, TellsOf}
+use Rattle.cf_pool.specs.Closings.{HaveCalled}
 
 -- caller 0 has done the first of the steps in order, so many of them
 pub record HasTaken (d : Desk) (steps : List Event) (taken : ℕ) (p : Pass) : Type 0 where
@@ -55,3 +58,11 @@ pub record HaveBegun (d : Desk) (steps : List Event) (calls : ℕ) (ps : List Pa
   pub took : HasDoneSteps d steps first
   pub room : first.calls ≡ calls
   pub apart : All (IsApart d calls first.known.seen) others
+
+-- the passes began so, and then each worker has called its functions for the claims that its pass was granted
+pub record HaveCalledInRace {M : Type 0} (tells : TellsOf M) (calls : CallsOf M) (steps : List Event) (ms : List M) (left : Left M) : Type 0 where
+  pub desk : Desk
+  pub room : ℕ
+  pub passes : List Pass
+  pub begun : HaveBegun desk steps room passes
+  pub called : HaveCalled tells calls passes ms left

@@ -13,6 +13,8 @@ use Rattle.cf_desk.specs.Log.{state_from}
 use Rattle.cf_desk.specs.Views.{Closes, Desk, Pass}
 use Rattle.cf_pool.specs.declared.faults.PoolFault.{PoolFault}
 use Rattle.cf_pool.specs.declared.faults.PoolFault.TheVariants.{Desk as ToldDesk, NoMemory}
+use Rattle.cf_pool.specs.declared.pool.Left.{Left}
+use Rattle.cf_pool.specs.Calling.{CallsOf, EachCalls, TellsOf}
 use Rattle.cf_pool.specs.Claims.{WereOpen}
 use Rattle.cf_pool.specs.Runs.{HasEnded, IsLowest, OfEach}
 use Rattle.cf_pool.specs.Works.{Works}
@@ -47,6 +49,11 @@ pub record IsTold (meanings : Meanings) (d : Desk) (ps : List Pass) (fault : Des
   pub caller : ℕ
   pub lowest : IsLowest meanings d ps ran.qs caller fault
 
-abbrev pub IsRefused : Meanings → Desk → List Pass → PoolFault → Type 0
-IsRefused meanings d ps NoMemory = Unit {0}
-IsRefused meanings d ps (ToldDesk fault closed) = IsTold meanings d ps fault closed
+-- each worker has called its functions for the claims that its pass was granted
+abbrev pub HaveCalled : {M : Type 0} → TellsOf M → CallsOf M → List Pass → List M → Left M → Type 0
+HaveCalled tells calls ps ms left =
+    EachCalls tells calls left.closed.graph.state.plan.stages ps (map (λ (k : Kept). k.records.items) left.closed.passes.items) ms left.workers.items
+
+abbrev pub IsRefused : {M : Type 0} → TellsOf M → CallsOf M → Meanings → Desk → List Pass → List M → PoolFault M → Type 0
+IsRefused tells calls meanings d ps ms NoMemory = Unit {0}
+IsRefused tells calls meanings d ps ms (ToldDesk fault left) = IsTold meanings d ps fault left.closed × HaveCalled tells calls ps ms left

@@ -2,6 +2,7 @@ pub mod Works
 pub mod Stops
 pub mod Waits
 pub mod Jobs
+pub mod Calling
 pub mod Counting
 pub mod Claims
 pub mod Runs

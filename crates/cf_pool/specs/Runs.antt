@@ -4,7 +4,8 @@ use Rattle.std.specs.List.{All, AllZip, Contains}
 use Rattle.cf_plan.specs.Meanings.{Meanings}
 use Rattle.cf_desk.specs.declared.faults.DeskFault.{DeskFault}
 use Rattle.cf_desk.specs.Log.{Catches}
-use Rattle.cf_desk.specs.Views.{Pass, IsSamePass, Desk}
+use Rattle.cf_desk.specs.Views.{Pass, IsSamePass, Desk, state_of}
+use Rattle.cf_pool.specs.Calling.{CallsOf, CallsOnce, TellsOf}
 use Rattle.cf_pool.specs.declared.pool.Met.{Met}
 use Rattle.cf_pool.specs.declared.pool.Worked.{Worked}
 use Rattle.cf_pool.specs.Stops.{Stops}
@@ -16,8 +17,13 @@ pub record HasWorked (meanings : Meanings) (d : Desk) (patience : ℕ) (p q : Pa
   pub works : Works meanings p q
   pub met : MatchOption fault (Ends meanings d patience p q) (Stops meanings d p q)
 
-abbrev pub IsWorkedFrom : Meanings → Desk → ℕ → Pass → Worked → Type 0
+abbrev pub IsWorkedFrom : {M : Type 0} → Meanings → Desk → ℕ → Pass → Worked M → Type 0
 IsWorkedFrom meanings d patience p w = HasWorked meanings d patience p w.pass w.fault
+
+-- and it has called its functions for what its pass has more
+pub record IsWorkedBy {M : Type 0} (tells : TellsOf M) (calls : CallsOf M) (meanings : M → Meanings) (d : Desk) (patience : ℕ) (h : Pass × M) (w : Worked M) : Type 0 where
+  pub from : IsWorkedFrom (meanings h.1) d patience h.0 w
+  pub called : CallsOnce tells calls (state_of w.pass.known).plan.stages h.0.known.caller h.0.records w.pass.records h.1 w.worker
 
 -- the same pass, which has only seen more events of others, and looked for none
 pub record SeesMore (p q : Pass) : Type 0 where
@@ -27,7 +33,7 @@ pub record SeesMore (p q : Pass) : Type 0 where
   pub looks : q.known.looks ≡ p.known.looks
 
 -- a worker's pass, which has seen more since
-abbrev pub SeesOn : Worked → Pass → Type 0
+abbrev pub SeesOn : {M : Type 0} → Worked M → Pass → Type 0
 SeesOn w q = SeesMore w.pass q
 
 -- a worker ended, and its pass has seen more since
@@ -52,7 +58,7 @@ OfEach R ps qs = ⊥
 abbrev pub Stop : Type 0
 Stop = ℕ × Option DeskFault
 
-abbrev pub stop_of : Worked → Stop
+abbrev pub stop_of : {M : Type 0} → Worked M → Stop
 stop_of w = (w.pass.known.caller, w.fault)
 
 abbrev pub EndsIf : ℕ → Stop → Type 0

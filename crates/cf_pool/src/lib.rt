@@ -19,9 +19,11 @@ mod gate;
 mod pool;
 mod races;
 mod worker;
+mod workers;
 
 pub use faults::PoolFault;
 pub use gate::{Gate, NoGate};
-pub use pool::run;
+pub use pool::{Left, run};
 pub use races::{RaceFault, race, races_end_alike, races_end_as_expressions};
 pub use worker::{Done, work};
+pub use workers::{Shared, Worker, share};

@@ -1,17 +1,16 @@
 //! Workers on threads of their own.
-ghost use Rattle.std.specs.Prelude.{◌≡◌, ◌+◌, ◌<◌, ◌≤◌, nat_lt, [], All, IfErr, IfOk, map, length, vec_capacity, vec_len};
+ghost use Rattle.std.specs.Prelude.{◌≡◌, ◌+◌, ◌<◌, ◌≤◌, ◌∷◌, nat_lt, [], All, IfErr, IfOk, map, length, vec_capacity, vec_len};
 ghost use Rattle.std.specs.List.{AllZip};
 ghost use Rattle.cf_desk.specs.Rule.{AllShort};
 ghost use Rattle.cf_desk.specs.Views.{IsOf, knowns};
-ghost use Rattle.cf_pool.specs.Closings.{IsRefused, RanOut};
-ghost use Rattle.cf_pool.specs.Runs.{IsFirst, IsWorkedFrom, SeesMore, SeesOn, first_with, lower_of, stop_of};
-ghost use Rattle.cf_plan.specs.Meanings.{meanings_of};
+ghost use Rattle.cf_pool.specs.Calling.{MeanAlike, first_meanings};
+ghost use Rattle.cf_pool.specs.Closings.{HaveCalled, IsRefused, RanOut};
+ghost use Rattle.cf_pool.specs.Runs.{IsFirst, IsWorkedBy, SeesMore, SeesOn, first_with, lower_of, stop_of};
 
 use crate::faults::PoolFault;
-use crate::gate::Gate;
 use crate::worker::work;
+use crate::workers::Worker;
 use cf_desk::{Closed, Desk, DeskFault, Pass};
-use cf_plan::StageFn;
 use std::alloc::{AllocError, Global};
 use std::snapshot::Snapshot;
 use std::sync::Wait;
@@ -21,11 +20,19 @@ use std::thread::{Promise, PromisedHandle, Scope, Threads, join_promised};
 /// How many looks in a row that find nothing ready a worker of `run` makes before it ends.
 pub const PATIENCE: u32 = 1000;
 
-/// A pass with which a worker has worked, and the fault that stopped it, if one did.
+/// A pass with which a worker has worked, the worker then, and the fault that stopped it, if one did.
 #[derive(Drop)]
-pub struct Worked {
+pub struct Worked<W> {
     pub pass: Pass,
+    pub worker: W,
     pub fault: Option<DeskFault>,
+}
+
+/// What a run leaves: the closed desk, and the workers in the order in which they were handed in.
+#[derive(Drop)]
+pub struct Left<W> {
+    pub closed: Closed,
+    pub workers: Vec<W>,
 }
 
 /// A fault, and the caller that met it.
@@ -35,69 +42,59 @@ pub struct Met {
     pub fault: DeskFault,
 }
 
-/// That a worker of this desk, with these functions, has worked with this pass.
-pub struct WorkOf<'a, F> {
-    was: Snapshot<Pass>,
+/// That a worker of this desk has worked with this pass.
+pub struct WorkOf<'a, W> {
+    was: Snapshot<(Pass, W)>,
     desk: &'a Desk,
-    fns: &'a [F],
 }
 
-impl<'a, F> Drop for WorkOf<'a, F> {
+impl<'a, W> Drop for WorkOf<'a, W> {
     fn drop(self) {
-        let Self {
-            was,
-            desk: _,
-            fns: _,
-        } = self;
+        let Self { was, desk: _ } = self;
         drop(was);
     }
 }
 
-impl<'a, F: StageFn> Promise<Worked> for WorkOf<'a, F> {
-    ghost use Rattle.cf_pool.specs.Runs.{IsWorkedFrom};
-    ghost use Rattle.cf_plan.specs.Meanings.{meanings_of};
+impl<'a, W: Worker> Promise<Worked<W>> for WorkOf<'a, W> {
+    ghost use Rattle.cf_pool.specs.Runs.{IsWorkedBy};
 
-    ghost kept_by = { λ p r. IsWorkedFrom (meanings_of F.meaning p.fns.now) p.desk.now 1000 p.was.value r };
+    ghost kept_by = { λ p r. IsWorkedBy W.tells W.calls W.meanings p.desk.now 1000 p.was.value r };
 }
 
 /// Works with a pass, and tells what stopped it, if anything did.
-fn work_on<F: StageFn, G: Gate>(
-    desk: &Desk,
-    mut pass: Pass,
-    fns: &[F],
-    gate: &G,
-    patience: u32,
-) -> Worked
-    requires pass { IsOf desk.now pass }
+fn work_on<W: Worker>(desk: &Desk, one: (Pass, W), patience: u32) -> Worked<W>
+    requires pass { IsOf desk.now one.0 }
     requires patience { 0 < patience }
-    ensures { IsWorkedFrom (meanings_of F.meaning fns.now) desk.now patience pass result }
+    ensures { IsWorkedBy W.tells W.calls W.meanings desk.now patience one result }
 {
-    let fault = work(desk, &mut pass, fns, gate, patience).err();
-    Worked { pass, fault }
+    let (mut pass, mut worker) = one;
+    let fault = work(desk, &mut pass, &mut worker, patience).err();
+    Worked {
+        pass,
+        worker,
+        fault,
+    }
 }
 
 /// Starts a thread of the scope for one worker.
-fn start<'s, E, F: StageFn + Sync, G: Gate + Sync>(
+fn start<'s, E, W: Worker + Send + Drop + 's>(
     scope: &Scope<'s, E>,
     desk: &'s Desk,
-    pass: Pass,
-    fns: &'s [F],
-    gate: &'s G,
-) -> Result<PromisedHandle<Worked, WorkOf<'s, F>>, AllocError>
-    requires { IsOf desk.now pass }
-    ensures { IfOk result (λ h. (h.promise.was.value ≡ pass) × (h.promise.desk.now ≡ desk.now) × (h.promise.fns.now ≡ fns.now)) }
+    one: (Pass, W),
+) -> Result<PromisedHandle<Worked<W>, WorkOf<'s, W>>, AllocError>
+    requires { IsOf desk.now one.0 }
+    ensures { IfOk result (λ h. (h.promise.was.value ≡ one) × (h.promise.desk.now ≡ desk.now)) }
 {
     let promise = WorkOf {
-        was: Snapshot::of(&pass),
+        was: Snapshot::of(&one),
         desk,
-        fns,
     };
     let started = scope.spawn_with(
         promise,
-        move || -> Worked
-            requires { IsOf desk.now pass }
-            ensures { IsWorkedFrom (meanings_of F.meaning fns.entry.now) desk.entry.now 1000 pass result }
-        { work_on(desk, pass, fns, gate, PATIENCE) },
+        move || -> Worked<W>
+            requires { IsOf desk.now one.0 }
+            ensures { IsWorkedBy W.tells W.calls W.meanings desk.entry.now 1000 one result }
+        { work_on(desk, one, PATIENCE) },
     );
     match started {
         Ok(handle) => Ok(handle),
@@ -106,47 +103,43 @@ fn start<'s, E, F: StageFn + Sync, G: Gate + Sync>(
 }
 
 /// Starts a thread of the scope for each worker.
-fn start_all<'s, E, F: StageFn + Sync, G: Gate + Sync>(
+fn start_all<'s, E, W: Worker + Send + Drop + 's>(
     scope: &Scope<'s, E>,
     alloc: Global,
     desk: &'s Desk,
-    passes: Vec<Pass>,
-    fns: &'s [F],
-    gate: &'s G,
-) -> Result<Vec<PromisedHandle<Worked, WorkOf<'s, F>>>, AllocError>
-    requires { All (IsOf desk.now) passes.items }
-    ensures passes { IfOk result (λ v. map (λ h. h.promise.was.value) v.items ≡ passes.items) }
-    ensures same { IfOk result (λ v. All (λ h. (h.promise.desk.now ≡ desk.now) × (h.promise.fns.now ≡ fns.now)) v.items) }
+    workers: Vec<(Pass, W)>,
+) -> Result<Vec<PromisedHandle<Worked<W>, WorkOf<'s, W>>>, AllocError>
+    requires { All (λ w. IsOf desk.now w.0) workers.items }
+    ensures workers { IfOk result (λ v. map (λ h. h.promise.was.value) v.items ≡ workers.items) }
+    ensures same { IfOk result (λ v. All (λ h. h.promise.desk.now ≡ desk.now) v.items) }
 {
-    let mut handles = Vec::with_capacity(alloc, passes.len())?;
-    let mut rest = passes.into_iter();
-    'next: while let Some(pass) = rest.next() {
-        let handle = start(scope, desk, pass, fns, gate)?;
+    let mut handles = Vec::with_capacity(alloc, workers.len())?;
+    let mut rest = workers.into_iter();
+    'next: while let Some(one) = rest.next() {
+        let handle = start(scope, desk, one)?;
         handles.push(handle)?;
     }
     Ok(handles)
 }
 
-/// Lets each pass be worked with on a thread of its own, and joins them all, also where a later thread is refused.
-fn spread<R: Threads + Wait + Sync, F: StageFn + Sync, G: Gate + Sync>(
+/// Lets each worker work with its pass on a thread of its own, and joins them all, also where a later thread is refused.
+fn spread<R: Threads + Wait + Sync, W: Worker + Send + Drop>(
     rt: &R,
     alloc: Global,
     desk: &Desk,
-    passes: Vec<Pass>,
-    fns: &[F],
-    gate: &G,
-) -> Result<Vec<Worked>, AllocError>
-    requires { All (IsOf desk.now) passes.items }
-    ensures { IfOk result (λ v. AllZip (IsWorkedFrom (meanings_of F.meaning fns.now) desk.now 1000) passes.items v.items) }
+    workers: Vec<(Pass, W)>,
+) -> Result<Vec<Worked<W>>, AllocError>
+    requires { All (λ w. IsOf desk.now w.0) workers.items }
+    ensures { IfOk result (λ v. AllZip (IsWorkedBy W.tells W.calls W.meanings desk.now 1000) workers.items v.items) }
 {
     thread::scope(
         thread::scope_env(),
         rt,
-        |scope| -> Result<Vec<Worked>, AllocError>
-            requires { All (IsOf desk.now) passes.items }
-            ensures { IfOk result (λ v. AllZip (IsWorkedFrom (meanings_of F.meaning fns.entry.now) desk.entry.now 1000) passes.items v.items) }
+        |scope| -> Result<Vec<Worked<W>>, AllocError>
+            requires { All (λ w. IsOf desk.now w.0) workers.items }
+            ensures { IfOk result (λ v. AllZip (IsWorkedBy W.tells W.calls W.meanings desk.entry.now 1000) workers.items v.items) }
         {
-            let handles = start_all(scope, alloc, desk, passes, fns, gate)?;
+            let handles = start_all(scope, alloc, desk, workers)?;
             match join_promised(rt, handles) {
                 Ok(worked) => Ok(worked),
                 Err(_) => Err(AllocError),
@@ -156,7 +149,7 @@ fn spread<R: Threads + Wait + Sync, F: StageFn + Sync, G: Gate + Sync>(
 }
 
 /// The fault of the lowest caller that met one.
-fn first_fault(worked: &[Worked]) -> Option<Met>
+fn first_fault<W>(worked: &[Worked<W>]) -> Option<Met>
     ensures { IsFirst (map stop_of worked.now) result }
 {
     let mut first = None;
@@ -187,67 +180,148 @@ fn lower(old: Met, new: Met) -> Met
     if new.caller < old.caller { new } else { old }
 }
 
+/// The passes and the workers that have come back.
+#[derive(Drop)]
+struct Back<W> {
+    passes: Vec<Pass>,
+    workers: Vec<W>,
+}
+
+/// Room for so many that come back.
+fn room_for<W: Drop>(alloc: Global, count: usize) -> Result<Back<W>, AllocError>
+    ensures none { IfOk result (λ b. (b.passes.items ≡ []) × (b.workers.items ≡ [])) }
+    ensures room { IfOk result (λ b. (count ≤ vec_capacity b.passes) × (count ≤ vec_capacity b.workers)) }
+{
+    let passes = Vec::with_capacity(alloc, count)?;
+    let workers = Vec::with_capacity(alloc, count)?;
+    Ok(Back { passes, workers })
+}
+
 /// Lets the caller's pass and each other one see what they have seen.
-fn meet_all(desk: &Desk, mine: &mut Pass, worked: Vec<Worked>, mut back: Vec<Pass>) -> Vec<Pass>
+fn meet_all<W: Drop>(
+    desk: &Desk,
+    mine: &mut Pass,
+    worked: Vec<Worked<W>>,
+    mut back: Back<W>,
+) -> Back<W>
     requires table { (mine.old.table ≡ desk.now.table) × All (λ w. w.pass.table ≡ desk.now.table) worked.items }
-    requires back { (back.items ≡ []) × (vec_len worked ≤ vec_capacity back) }
+    requires none { (back.passes.items ≡ []) × (back.workers.items ≡ []) }
+    requires room { (vec_len worked ≤ vec_capacity back.passes) × (vec_len worked ≤ vec_capacity back.workers) }
     ensures mine { SeesMore mine.old mine.new }
-    ensures others { AllZip SeesOn worked.items result.items }
-    ensures short { AllShort (length mine.new.known.seen) (knowns result.items) }
-    ensures room { vec_capacity back ≤ vec_capacity result }
+    ensures others { AllZip SeesOn worked.items result.passes.items }
+    ensures workers { result.workers.items ≡ map (λ w. w.worker) worked.items }
+    ensures short { AllShort (length mine.new.known.seen) (knowns result.passes.items) }
+    ensures room { (vec_capacity back.passes ≤ vec_capacity result.passes) × (vec_capacity back.workers ≤ vec_capacity result.workers) }
 {
     let mut rest = worked.into_iter();
     'next: while let Some(w) = rest.next() {
-        let Worked { mut pass, fault: _ } = w;
+        let Worked {
+            mut pass,
+            worker,
+            fault: _,
+        } = w;
         desk.meet(mine, &mut pass);
-        if back.push(pass).is_err() {
-            unreachable!();
-        }
+        back.passes.push_reserved(pass);
+        back.workers.push_reserved(worker);
     }
     back
 }
 
-/// Starts a thread for each of 1 to 32 workers, which works with its pass, and joins them all. Then the caller's pass
-/// meets each other one and works until nothing is ready, and the desk is closed. The desk has a caller more than there
-/// are workers. `passes` holds all its passes, the caller's own first. A function's number without a function is
-/// answered by nil.
-///
-/// After it nothing is ready, each worker has waited for its patience, and no claim is open but those that were granted
-/// and not finished before. After a fault, which is that of the lowest caller of whom a call was refused, the desk is
-/// closed too, and a claim that was granted may be open.
-pub fn run<R: Threads + Wait + Sync, F: StageFn + Sync, G: Gate + Sync>(
-    rt: &R,
-    desk: Desk,
-    mut passes: Vec<Pass>,
-    fns: &[F],
-    gate: &G,
-    workers: u8,
-) -> Result<Closed, PoolFault>
-    requires workers { (0 < workers) × (workers ≤ 32) × (desk.setting.callers ≡ workers + 1) }
-    requires passes { All (IsOf desk) passes.items × (vec_len passes ≡ workers + 1) }
-    ensures ran { IfOk result (λ closed. RanOut (meanings_of F.meaning fns.now) desk passes.items closed.history.items closed.passes.items closed.graph.state) }
-    ensures refused { IfErr result (IsRefused (meanings_of F.meaning fns.now) desk passes.items) }
+/// Puts one more in front, where there is room.
+fn put_first<T: Drop>(mut xs: Vec<T>, x: T) -> Vec<T>
+    requires { vec_len xs < vec_capacity xs }
+    ensures { result.items ≡ x ∷ xs.items }
 {
-    let alloc = *passes.allocator();
-    let Ok(back) = Vec::with_capacity(alloc, workers as usize + 1) else {
+    if xs.insert(0, x).is_err() {
+        unreachable!();
+    }
+    xs
+}
+
+/// Each pass with its worker.
+fn pair<W: Drop>(
+    alloc: Global,
+    passes: Vec<Pass>,
+    workers: Vec<W>,
+) -> Result<Vec<(Pass, W)>, AllocError>
+    requires { vec_len passes ≡ vec_len workers }
+    ensures passes { IfOk result (λ v. map (λ w. w.0) v.items ≡ passes.items) }
+    ensures workers { IfOk result (λ v. map (λ w. w.1) v.items ≡ workers.items) }
+{
+    let mut pairs = Vec::with_capacity(alloc, passes.len())?;
+    let mut hands = workers.into_iter();
+    let mut rest = passes.into_iter();
+    'next: while let Some(pass) = rest.next() {
+        let Some(worker) = hands.next() else {
+            unreachable!();
+        };
+        pairs.push((pass, worker))?;
+    }
+    Ok(pairs)
+}
+
+/// Lets each worker but the first work on a thread of its own, and then the first on this one, and closes the desk.
+fn run_each<R: Threads + Wait + Sync, W: Worker + Send + Drop>(
+    rt: &R,
+    alloc: Global,
+    desk: Desk,
+    mut workers: Vec<(Pass, W)>,
+) -> Result<Left<W>, PoolFault<W>>
+    requires workers { (0 < vec_len workers) × (desk.setting.callers ≡ vec_len workers) }
+    requires passes { All (IsOf desk) (map (λ w. w.0) workers.items) }
+    requires alike { MeanAlike W.meanings (map (λ w. w.1) workers.items) }
+    ensures ran { IfOk result (λ left. RanOut (first_meanings W.meanings (map (λ w. w.1) workers.items)) desk (map (λ w. w.0) workers.items) left.closed.history.items left.closed.passes.items left.closed.graph.state) }
+    ensures called { IfOk result (HaveCalled W.tells W.calls (map (λ w. w.0) workers.items) (map (λ w. w.1) workers.items)) }
+    ensures refused { IfErr result (IsRefused W.tells W.calls (first_meanings W.meanings (map (λ w. w.1) workers.items)) desk (map (λ w. w.0) workers.items) (map (λ w. w.1) workers.items)) }
+{
+    let Ok(back) = room_for(alloc, workers.len()) else {
         return Err(PoolFault::NoMemory);
     };
-    let mut mine = passes.remove(0);
-    let Ok(worked) = spread(rt, alloc, &desk, passes, fns, gate) else {
+    let one = workers.remove(0);
+    let (mut mine, own) = one;
+    let Ok(worked) = spread(rt, alloc, &desk, workers) else {
         return Err(PoolFault::NoMemory);
     };
     let others = first_fault(worked.as_slice());
-    let mut back = meet_all(&desk, &mut mine, worked, back);
-    let Worked { pass, fault } = work_on(&desk, mine, fns, gate, 1);
-    let first = first_of(others, pass.caller(), fault);
-    if back.insert(0, pass).is_err() {
-        unreachable!();
-    }
-    let Ok(closed) = desk.close(back) else {
+    let back = meet_all(&desk, &mut mine, worked, back);
+    let done = work_on(&desk, (mine, own), 1);
+    let first = first_of(others, done.pass.caller(), done.fault);
+    let passes = put_first(back.passes, done.pass);
+    let workers = put_first(back.workers, done.worker);
+    let Ok(closed) = desk.close(passes) else {
         unreachable!();
     };
+    let left = Left { closed, workers };
     match first {
-        None => Ok(closed),
-        Some(met) => Err(PoolFault::Desk(met.fault, closed)),
+        None => Ok(left),
+        Some(met) => Err(PoolFault::Desk(met.fault, left)),
+    }
+}
+
+/// Starts a thread for each of 1 to 32 workers, which works with its pass, and joins them all. Then the caller's pass
+/// meets each other one and its worker works until nothing is ready, and the desk is closed. `passes` holds all passes
+/// of the desk, the caller's own first, and `workers` the worker of each. Their functions mean the same.
+///
+/// After it nothing is ready, each worker has waited for its patience, and no claim is open but those that were granted
+/// and not finished before. After a fault, which is that of the lowest caller of whom a call was refused, the desk is
+/// closed too, and a claim that was granted may be open. In both cases the workers come back, and each has called its
+/// functions for the claims that its pass was granted, once each, and never else.
+pub fn run<R: Threads + Wait + Sync, W: Worker + Send + Drop>(
+    rt: &R,
+    desk: Desk,
+    passes: Vec<Pass>,
+    workers: Vec<W>,
+) -> Result<Left<W>, PoolFault<W>>
+    requires workers { (1 < vec_len workers) × (vec_len workers ≤ 33) × (desk.setting.callers ≡ vec_len workers) }
+    requires alike { MeanAlike W.meanings workers.items }
+    requires passes { All (IsOf desk) passes.items × (vec_len passes ≡ vec_len workers) }
+    ensures ran { IfOk result (λ left. RanOut (first_meanings W.meanings workers.items) desk passes.items left.closed.history.items left.closed.passes.items left.closed.graph.state) }
+    ensures called { IfOk result (HaveCalled W.tells W.calls passes.items workers.items) }
+    ensures refused { IfErr result (IsRefused W.tells W.calls (first_meanings W.meanings workers.items) desk passes.items workers.items) }
+{
+    let alloc = *passes.allocator();
+    match pair(alloc, passes, workers) {
+        Ok(pairs) => run_each(rt, alloc, desk, pairs),
+        Err(_) => Err(PoolFault::NoMemory),
     }
 }

@@ -3,19 +3,18 @@
 mod beginning;
 mod sizes;
 
-ghost use Rattle.std.specs.Prelude.{◌≡◌, ◌+◌, ◌*◌, ◌<◌, ◌≤◌, IfErr, IfOk, length};
-ghost use Rattle.cf_plan.specs.Meanings.{meanings_of};
+ghost use Rattle.std.specs.Prelude.{◌≡◌, ◌+◌, ◌*◌, ◌<◌, ◌≤◌, IfErr, IfOk, length, vec_len};
 ghost use Rattle.cf_plan.specs.Plans.{edges_of, with_room};
+ghost use Rattle.cf_pool.specs.Calling.{MeanAlike, first_meanings};
+ghost use Rattle.cf_pool.specs.Beginnings.{HaveCalledInRace};
 ghost use Rattle.cf_pool.specs.Races.{AreSteps, IsDueToRefuse, IsRaced, RacedIsExpression, RacesEndAlike, log_words};
 
 use crate::faults::PoolFault;
-use crate::gate::Gate;
-use crate::pool::run;
+use crate::pool::{Left, run};
+use crate::workers::Worker;
 use beginning::begin;
-use cf_core::Graph;
-use cf_desk::Closed;
 use cf_model::Event;
-use cf_plan::{Plan, StageFn};
+use cf_plan::Plan;
 use sizes::sizes;
 use std::alloc::Global;
 use std::sync::Wait;
@@ -31,23 +30,26 @@ pub enum RaceFault {
 }
 
 /// Does these steps as caller 0's, in order, and then lets so many workers, 1 to 32, work on threads of their own until
-/// nothing is ready. There is room for so many stages that steps attach. No caller has a number above the workers'. It
-/// gives the graph as the whole history leaves it.
-pub fn race<R: Threads + Wait + Sync, F: StageFn + Sync, G: Gate + Sync>(
+/// nothing is ready. There is room for so many stages that steps attach. No caller has a number above the workers'.
+/// `hands` has the worker of caller 0 and then those of the others, whose functions mean the same. It leaves the desk,
+/// closed, and the workers, each of which has called its functions for the claims that its pass was granted, once each,
+/// and never else.
+pub fn race<R: Threads + Wait + Sync, W: Worker + Send + Drop>(
     rt: &R,
     alloc: Global,
     plan: Plan,
     room: u16,
     steps: &[Event],
-    fns: &[F],
-    gate: &G,
+    hands: Vec<W>,
     workers: u8,
-) -> Result<Graph, RaceFault>
-    requires workers { (0 < workers) × (workers ≤ 32) }
+) -> Result<Left<W>, RaceFault>
+    requires workers { (0 < workers) × (workers ≤ 32) × (vec_len hands ≡ workers + 1) }
+    requires alike { MeanAlike W.meanings hands.items }
     requires room { (length plan.stages + room ≤ 4096) × (edges_of plan.stages + 2 * room ≤ 16384) }
     requires steps { AreSteps (with_room plan room) steps.now }
-    ensures raced { IfOk result (λ g. IsRaced (meanings_of F.meaning fns.now) (with_room plan room) steps.now workers g.state) }
-    ensures size { IfOk result (λ g. log_words (length steps.now) (length plan.stages + room) workers ≤ 65535) }
+    ensures raced { IfOk result (λ left. IsRaced (first_meanings W.meanings hands.items) (with_room plan room) steps.now workers left.closed.graph.state) }
+    ensures called { IfOk result (HaveCalledInRace W.tells W.calls steps.now hands.items) }
+    ensures size { IfOk result (λ left. log_words (length steps.now) (length plan.stages + room) workers ≤ 65535) }
     ensures fault { IfErr result (IsDueToRefuse (log_words (length steps.now) (length plan.stages + room) workers)) }
 {
     let (log, calls) = match sizes(steps.len(), plan.stages() + room, workers) {
@@ -58,15 +60,8 @@ pub fn race<R: Threads + Wait + Sync, F: StageFn + Sync, G: Gate + Sync>(
         Ok(begun) => begun,
         Err(_) => return Err(RaceFault::NoMemory),
     };
-    match run(rt, desk, passes, fns, gate, workers) {
-        Ok(closed) => {
-            let Closed {
-                history: _,
-                passes: _,
-                graph,
-            } = closed;
-            Ok(graph)
-        }
+    match run(rt, desk, passes, hands) {
+        Ok(left) => Ok(left),
         Err(PoolFault::NoMemory) => Err(RaceFault::NoMemory),
         Err(PoolFault::Desk(..)) => unreachable!(),
     }

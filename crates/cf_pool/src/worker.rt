@@ -1,22 +1,23 @@
 //! What one worker does with its pass.
-ghost use Rattle.std.specs.Prelude.{◌≡◌, ◌<◌, IfErr, IfOk, IfSome, None, OnOk, Some, length};
+ghost use Rattle.std.specs.Prelude.{◌≡◌, ◌<◌, IfErr, IfOk, IfSome, None, OnOk, Some, length, unwrap_or};
 ghost use Rattle.cf_model.specs.States.{lowest_ready_of};
 ghost use Rattle.cf_desk.specs.declared.calls.Call.TheVariants.{Claim, Finish};
 ghost use Rattle.cf_desk.specs.Calls.{event_by};
 ghost use Rattle.cf_desk.specs.Faults.{HasRoom, IsOnStage};
 ghost use Rattle.cf_desk.specs.Views.{Acts, Follows, IsOf, IsSamePass, state_of};
+ghost use Rattle.cf_pool.specs.Calling.{Calls, CallsOnce, RunsStage};
 ghost use Rattle.cf_pool.specs.Counting.{EndedWith, late_by, won_by};
 ghost use Rattle.cf_pool.specs.Jobs.{AddsWork, DoesJob, StopsJob, granted_by};
-ghost use Rattle.cf_plan.specs.Meanings.{meanings_of, stage_answer};
+ghost use Rattle.cf_plan.specs.Meanings.{stage_answer};
+ghost use Rattle.cf_plan.specs.Plans.{function_at};
 ghost use Rattle.cf_pool.specs.Stops.{MeetsFault, Stops};
 ghost use Rattle.cf_pool.specs.Waits.{Idles, Waits};
 ghost use Rattle.cf_pool.specs.Works.{Owed, Works};
 
-use crate::gate::Gate;
+use crate::workers::Worker;
 use cf_desk::{Call, Desk, DeskFault, Pass};
 use cf_model::{Claimed, Finished, Reply};
-use cf_outcome::Value;
-use cf_plan::{Answer, Args, StageFn};
+use cf_plan::{Answer, Args};
 
 /// What a worker counted.
 #[derive(Clone, Copy, Debug, Drop, PartialEq, Eq)]
@@ -31,26 +32,29 @@ pub struct Done {
 
 /// Claims the lowest ready stage, lets the gate know, calls the stage's function and finishes the stage with its answer,
 /// again and again. A stage may be one that another caller attached after the worker had started. It ends after so many
-/// looks in a row that found nothing ready, at least one. The pass is one of this desk's. A function's number without a
-/// function is answered by nil.
+/// looks in a row that found nothing ready, at least one. The pass is one of this desk's.
+///
+/// For each claim that it is granted it tells the gate once and then calls the function once, with the claim's arguments,
+/// and calls nothing else. So no stage's function is called twice.
 ///
 /// It stops where its claim or its finish is refused, with that fault. The last claim that it was granted may then stay
-/// open.
-pub fn work<F: StageFn, G: Gate>(
+/// open; its function was called.
+pub fn work<W: Worker>(
     desk: &Desk,
     pass: &mut Pass,
-    fns: &[F],
-    gate: &G,
+    worker: &mut W,
     patience: u32,
 ) -> Result<Done, DeskFault>
     requires pass { IsOf desk.now pass.old }
     requires patience { 0 < patience }
     ensures same { IsSamePass pass.old pass.new }
-    ensures works { Works (meanings_of F.meaning fns.now) pass.old pass.new }
-    ensures done { IfOk result (λ done. EndedWith (meanings_of F.meaning fns.now) pass.old pass.new done) }
+    ensures works { Works (W.meanings worker.old) pass.old pass.new }
+    ensures done { IfOk result (λ done. EndedWith (W.meanings worker.old) pass.old pass.new done) }
     ensures nothing_ready { OnOk result (lowest_ready_of (state_of pass.new.known) ≡ None) }
     ensures waits { OnOk result (Waits desk.now patience pass.old pass.new) }
-    ensures stops { IfErr result (Stops (meanings_of F.meaning fns.now) desk.now pass.old pass.new) }
+    ensures stops { IfErr result (Stops (W.meanings worker.old) desk.now pass.old pass.new) }
+    ensures called { CallsOnce W.tells W.calls (state_of pass.new.known).plan.stages pass.old.known.caller pass.old.records pass.new.records worker.old worker.new }
+    ensures keeps { W.meanings worker.new ≡ W.meanings worker.old }
 {
     let room = pass.left();
     let mut done = Done {
@@ -59,7 +63,7 @@ pub fn work<F: StageFn, G: Gate>(
         late: 0,
     };
     'jobs: while let Some(stage) = next_ready(desk, pass, patience) {
-        let job = take_job(desk, pass, fns, gate, stage)?;
+        let job = take_job(desk, pass, worker, stage)?;
         done.run += job.run;
         done.won += job.won;
         done.late += job.late;
@@ -86,21 +90,22 @@ fn next_ready(desk: &Desk, pass: &mut Pass, patience: u32) -> Option<u16>
 }
 
 /// Claims a ready stage, and runs and finishes it where the claim is granted.
-fn take_job<F: StageFn, G: Gate>(
+fn take_job<W: Worker>(
     desk: &Desk,
     pass: &mut Pass,
-    fns: &[F],
-    gate: &G,
+    worker: &mut W,
     stage: u16,
 ) -> Result<Done, DeskFault>
     requires pass { IsOf desk.now pass.old }
     requires ready { lowest_ready_of (state_of pass.old.known) ≡ Some stage }
     requires there { IsOnStage pass.old (event_by pass.old.known.caller (Claim stage)) }
-    ensures adds { (owes : Owed) × AddsWork (meanings_of F.meaning fns.now) None pass.old pass.new owes }
-    ensures done { IfOk result (λ done. DoesJob (meanings_of F.meaning fns.now) pass.old pass.new done) }
+    ensures adds { (owes : Owed) × AddsWork (W.meanings worker.old) None pass.old pass.new owes }
+    ensures done { IfOk result (λ done. DoesJob (W.meanings worker.old) pass.old pass.new done) }
     ensures more { OnOk result (length pass.old.records < length pass.new.records) }
     ensures looks { OnOk result (pass.new.known.looks ≡ pass.old.known.looks) }
-    ensures stops { IfErr result (StopsJob (meanings_of F.meaning fns.now) desk.now pass.old pass.new) }
+    ensures stops { IfErr result (StopsJob (W.meanings worker.old) desk.now pass.old pass.new) }
+    ensures called { Calls W.tells W.calls (state_of pass.new.known).plan.stages pass.old.known.caller pass.old.records pass.new.records worker.old worker.new }
+    ensures keeps { W.meanings worker.new ≡ W.meanings worker.old }
 {
     let reply = desk.act(pass, Call::Claim(stage))?;
     match granted(reply) {
@@ -110,7 +115,7 @@ fn take_job<F: StageFn, G: Gate>(
             late: 0,
         }),
         Some(args) => {
-            let finished = finish(desk, pass, fns, gate, stage, args)?;
+            let finished = finish(desk, pass, worker, stage, args)?;
             Ok(count(finished))
         }
     }
@@ -127,23 +132,24 @@ fn granted(reply: Reply) -> Option<Args>
 }
 
 /// Runs the function of a stage with the arguments that were granted, and finishes the stage.
-fn finish<F: StageFn, G: Gate>(
+fn finish<W: Worker>(
     desk: &Desk,
     pass: &mut Pass,
-    fns: &[F],
-    gate: &G,
+    worker: &mut W,
     stage: u16,
     args: Args,
 ) -> Result<Reply, DeskFault>
     requires pass { IsOf desk.now pass.old }
     requires stage { stage < length (state_of pass.old.known).plan.stages }
-    ensures done { IfOk result (λ reply. Acts pass.old (Finish stage (stage_answer (meanings_of F.meaning fns.now) (state_of pass.old.known).plan.stages stage args)) reply pass.new) }
+    ensures done { IfOk result (λ reply. Acts pass.old (Finish stage (stage_answer (W.meanings worker.old) (state_of pass.old.known).plan.stages stage args)) reply pass.new) }
     ensures room { OnOk result (HasRoom pass.old) }
-    ensures meets { IfErr result (MeetsFault (meanings_of F.meaning fns.now) desk.now (Some (stage, args)) pass.old pass.new) }
+    ensures meets { IfErr result (MeetsFault (W.meanings worker.old) desk.now (Some (stage, args)) pass.old pass.new) }
     ensures looks { pass.new.known.looks ≡ pass.old.known.looks }
+    ensures called { RunsStage W.tells W.calls (state_of pass.old.known).plan.stages pass.old.known.caller stage args (stage_answer (W.meanings worker.old) (state_of pass.old.known).plan.stages stage args) worker.old worker.new }
+    ensures keeps { W.meanings worker.new ≡ W.meanings worker.old }
 {
-    gate.before(stage, pass.caller());
-    let answer = answer_of(pass, fns, stage, &args);
+    worker.before(stage, pass.caller());
+    let answer = answer_of(pass, worker, stage, &args);
     desk.act(pass, Call::Finish(stage, answer))
 }
 
@@ -161,14 +167,12 @@ fn count(finished: Reply) -> Done
     Done { run: 1, won, late }
 }
 
-/// What the function of a stage answers to these arguments.
-fn answer_of<F: StageFn>(pass: &Pass, fns: &[F], stage: u16, args: &Args) -> Answer
+/// What the function of a stage answers to these arguments, by one call of it.
+fn answer_of<W: Worker>(pass: &Pass, worker: &mut W, stage: u16, args: &Args) -> Answer
     requires { stage < length (state_of pass.now.known).plan.stages }
-    ensures { result ≡ stage_answer (meanings_of F.meaning fns.now) (state_of pass.now.known).plan.stages stage args.now }
+    ensures called { W.calls worker.old (unwrap_or (function_at (state_of pass.now.known).plan.stages stage) 0) args.now result worker.new }
+    ensures answers { result ≡ stage_answer (W.meanings worker.old) (state_of pass.now.known).plan.stages stage args.now }
+    ensures keeps { W.meanings worker.new ≡ W.meanings worker.old }
 {
-    let number = pass.function(stage).unwrap_or(0);
-    match fns.get(number as usize) {
-        None => Answer::Give(Value::Nil),
-        Some(function) => function.call(args),
-    }
+    worker.call(pass.function(stage).unwrap_or(0), args)
 }

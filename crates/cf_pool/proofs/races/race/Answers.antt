@@ -1,6 +1,6 @@
 use Rattle.std.proofs.Common.{◌+◌, ◌*◌, ◌∙◌, ap, length, ℕ, subst}
 use Rattle.cf_pool.specs.Closings.{IsRefused}
-use Rattle.cf_plan.specs.Meanings.{meanings_of}
+use Rattle.cf_pool.specs.Calling.{first_meanings}
 use Rattle.cf_plan.specs.Plans.{with_room}
 use Rattle.cf_pool.specs.Races.{log_words}
 use Rattle.cf_pool.proofs.Racing.Raced.{IsSized, growing-with_room, never_full, raced}
@@ -20,7 +20,16 @@ returns-in-Ok-run-clause-raced g c =
     raced _ _ (with_room c.args.plan c.args.room) c.args.steps.now _ c.args.workers _ _ _ _ (sized g (goal.at.returns-in-Ok-run-clause-raced g c).In-Ok) c.in-Ok.ensures.begun
     (growing-with_room c.args.plan c.args.room c.stages.ensures.built c.stages.ensures.whole c.requires.room.0 c.requires.room.1) c.in-Ok-run.ensures.ran
 
+pub returns-in-Ok-run-clause-called : goal.returns-in-Ok-run-clause-called
+returns-in-Ok-run-clause-called g c = record {
+  desk = c.in-Ok.begun.0;
+  room = c.in-Some.sizes.1;
+  passes = c.in-Ok.begun.1.items;
+  begun = c.in-Ok.ensures.begun;
+  called = c.in-Ok-run.ensures.called;
+}
+
 pub unreachable-requires : goal.unreachable-requires
 unreachable-requires g c =
-    let told = subst (IsRefused (meanings_of g.F.StageFn.meaning c.args.fns.now) c.in-Ok.begun.0 c.in-Ok.begun.1.items) c.in-Err-Desk.field-0-is c.in-Err-Desk.ensures.refused in
-    never_full _ c.in-Ok.begun.0 (with_room c.args.plan c.args.room) c.args.steps.now c.in-Some.sizes.1 c.args.workers c.in-Ok.begun.1.items _ _ _ (sized g (goal.at.unreachable-requires g c).In-Ok) c.in-Ok.ensures.begun c.in-Err-Desk.field-0-0 told.ran told.due
+    let told = subst (IsRefused g.W.Worker.tells g.W.Functions.calls (first_meanings g.W.Worker.meanings c.args.hands.items) c.in-Ok.begun.0 c.in-Ok.begun.1.items c.args.hands.items) c.in-Err-Desk.field-0-is c.in-Err-Desk.ensures.refused in
+    never_full _ c.in-Ok.begun.0 (with_room c.args.plan c.args.room) c.args.steps.now c.in-Some.sizes.1 c.args.workers c.in-Ok.begun.1.items _ _ _ (sized g (goal.at.unreachable-requires g c).In-Ok) c.in-Ok.ensures.begun c.in-Err-Desk.field-0-0 told.0.ran told.0.due

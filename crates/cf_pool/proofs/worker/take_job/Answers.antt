@@ -1,10 +1,11 @@
 use Rattle.std.proofs.Common.{◌∙◌, sym, Some, rules}
-use Rattle.cf_plan.specs.Meanings.{meanings_of}
 use Rattle.cf_desk.specs.declared.calls.Call.TheVariants.{Claim}
 use Rattle.cf_desk.specs.Faults.{HasRoom}
-use Rattle.cf_desk.specs.Views.{Acts}
+use Rattle.cf_desk.specs.Views.{Acts, state_of}
+use Rattle.cf_plan.specs.Meanings.{stage_answer}
 use Rattle.cf_pool.proofs.Jobs.{adds_claim, adds_granted, adds_stops, claim_meets, does_both, does_claim, finish_stops, ready_is, still_there}
-use Rattle.cf_pool.proofs.Working.{acts_known, acts_looks}
+use Rattle.cf_pool.proofs.Calling.{calls_both, calls_claim, calls_follows, calls_granted}
+use Rattle.cf_pool.proofs.Working.{acts_known, acts_looks, refuses_known}
 use Rattle.cf_pool.proofs.worker.take_job.Given.{Over}
 use Rattle.cf_pool.proofs.worker.take_job.Goals as goal
 use Rattle.cf_pool.proofs.worker.take_job.Goals.{In_ok-reply}
@@ -20,13 +21,13 @@ finish-requires-clause-stage g c =
 
 pub returns-in_err-reply-clause-adds : goal.returns-in_err-reply-clause-adds
 returns-in_err-reply-clause-adds g c =
-    adds_stops (meanings_of g.F.StageFn.meaning c.args.fns.now) c.args.desk.now c.args.pass.now c.act.new.p _
+    adds_stops (g.W.Worker.meanings c.args.worker.now) c.args.desk.now c.args.pass.now c.act.new.p _
     (claim_meets _ c.args.desk.now c.args.pass.now c.act.new.p c.args.stage _ c.requires.ready c.requires.there c.in_err-reply.ensures.refused)
 
 pub returns-in_err-reply-clause-stops : goal.returns-in_err-reply-clause-stops
 returns-in_err-reply-clause-stops g c =
     let e = c.in_err-reply.ensures in
-    let h = claim_meets (meanings_of g.F.StageFn.meaning c.args.fns.now) c.args.desk.now c.args.pass.now c.act.new.p c.args.stage _ c.requires.ready c.requires.there e.refused in
+    let h = claim_meets (g.W.Worker.meanings c.args.worker.now) c.args.desk.now c.args.pass.now c.act.new.p c.args.stage _ c.requires.ready c.requires.there e.refused in
     search (rules, h)
 
 pub returns-in_err-finished-in-Some-clause-adds : goal.returns-in_err-finished-in-Some-clause-adds
@@ -41,7 +42,7 @@ returns-in_err-finished-in-Some-clause-stops g c =
     let a = acted g (goal.at.returns-in_err-finished-in-Some-clause-stops g c).In_ok-reply in
     let given = sym c.granted.ensures ∙ c.in-Some.is in
     let first = adds_granted _ c.args.pass.now c.act.new.p c.args.stage c.in_ok-reply.reply c.in-Some.args a.0 c.requires.there (ready_is c.args.pass.now.known c.args.stage c.requires.ready) given in
-    let h = finish_stops (meanings_of g.F.StageFn.meaning c.args.fns.now) c.args.desk.now c.args.pass.now c.act.new.p c.finish.new.pass (Some (c.args.stage, c.in-Some.args)) _ first c.in_err-finished-in-Some.ensures.meets in
+    let h = finish_stops (g.W.Worker.meanings c.args.worker.now) c.args.desk.now c.args.pass.now c.act.new.p c.finish.new.pass (Some (c.args.stage, c.in-Some.args)) _ first c.in_err-finished-in-Some.ensures.meets in
     search (rules, h)
 
 pub returns-in-None-clause-adds : goal.returns-in-None-clause-adds
@@ -76,3 +77,24 @@ pub returns-in_ok-finished-in-Some-clause-looks : goal.returns-in_ok-finished-in
 returns-in_ok-finished-in-Some-clause-looks g c =
     let a = acted g (goal.at.returns-in_ok-finished-in-Some-clause-looks g c).In_ok-reply in
     c.finish.ensures.looks ∙ acts_looks c.args.pass.now c.act.new.p _ c.in_ok-reply.reply a.0
+
+pub returns-in_err-reply-clause-called : goal.returns-in_err-reply-clause-called
+returns-in_err-reply-clause-called g c =
+    calls_follows _ _ c.args.pass.now c.act.new.p _ (refuses_known c.args.desk.now c.args.pass.now c.act.new.p (Claim c.args.stage) _ c.requires.there c.in_err-reply.ensures.refused).0
+
+pub returns-in_err-finished-in-Some-clause-called : goal.returns-in_err-finished-in-Some-clause-called
+returns-in_err-finished-in-Some-clause-called g c =
+    let a = acted g (goal.at.returns-in_err-finished-in-Some-clause-called g c).In_ok-reply in
+    calls_granted g.W.Worker.tells g.W.Functions.calls c.args.pass.now c.act.new.p c.finish.new.pass c.args.worker.now c.finish.new.worker c.args.stage c.in_ok-reply.reply c.in-Some.args
+    (stage_answer (g.W.Worker.meanings c.args.worker.now) (state_of c.act.new.p.known).plan.stages c.args.stage c.in-Some.args) a.0 (sym c.granted.ensures ∙ c.in-Some.is) c.finish.ensures.called c.in_err-finished-in-Some.ensures.meets.left
+
+pub returns-in-None-clause-called : goal.returns-in-None-clause-called
+returns-in-None-clause-called g c =
+    let a = acted g (goal.at.returns-in-None-clause-called g c).In_ok-reply in
+    calls_claim _ _ c.args.pass.now c.act.new.p _ c.args.stage c.in_ok-reply.reply a.0 (sym c.granted.ensures ∙ c.in-None.is)
+
+pub returns-in_ok-finished-in-Some-clause-called : goal.returns-in_ok-finished-in-Some-clause-called
+returns-in_ok-finished-in-Some-clause-called g c =
+    let a = acted g (goal.at.returns-in_ok-finished-in-Some-clause-called g c).In_ok-reply in
+    calls_both g.W.Worker.tells g.W.Functions.calls c.args.pass.now c.act.new.p c.finish.new.pass c.args.worker.now c.finish.new.worker c.args.stage c.in_ok-reply.reply c.in_ok-finished-in-Some.finished c.in-Some.args
+    (stage_answer (g.W.Worker.meanings c.args.worker.now) (state_of c.act.new.p.known).plan.stages c.args.stage c.in-Some.args) a.0 (sym c.granted.ensures ∙ c.in-Some.is) c.finish.ensures.called c.in_ok-finished-in-Some.ensures.done

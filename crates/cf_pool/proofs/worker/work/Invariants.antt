@@ -1,11 +1,13 @@
 use Rattle.std.proofs.Common.{◌≡◌, ◌+◌, ◌-◌, length}
 use Rattle.cf_pool.proofs.Jobs.{Turned}
-use Rattle.cf_plan.specs.Meanings.{meanings_of}
+use Rattle.cf_pool.proofs.Calling.{CallsIn}
 use Rattle.cf_pool.proofs.worker.work.Given as goal
 
 abbrev pub invariant-jobs : goal.invariant-jobs
 invariant-jobs g l = record {
-  turned : Turned (meanings_of g.F.StageFn.meaning l.fns) l.initial.pass l.pass l.done;
+  turned : Turned (g.W.Worker.meanings l.initial.worker) l.initial.pass l.pass l.done;
+  called : CallsIn g.W.Worker.tells g.W.Functions.calls l.initial.pass l.pass l.initial.worker l.worker;
+  keeps : g.W.Worker.meanings l.worker ≡ g.W.Worker.meanings l.initial.worker;
   room : l.room + length l.initial.pass.records ≡ l.initial.pass.calls;
 }
 
