@@ -16,7 +16,8 @@ use Rattle.cf_desk.specs.declared.calls.Rec.{Rec}
 use Rattle.cf_desk.specs.declared.calls.Rec.TheVariants.{Did}
 use Rattle.cf_desk.specs.Views.{Acts, Follows, Pass, state_of}
 use Rattle.cf_desk.proofs.Passes.{same_acts, same_follows}
-use Rattle.cf_pool.specs.Calling.{AreCalled, Calls, CallsOf, CallsOnce, RunsGranted, MeanAlike, RunsStage, TellsOf, calls_by, calls_of, first_meanings}
+use Rattle.cf_model.specs.Calling.{CallsOf}
+use Rattle.cf_pool.specs.Calling.{AreCalled, Calls, CallsOnce, RunsGranted, MeanAlike, RunsStage, TellsOf, calls_by, calls_of, first_meanings}
 use Rattle.cf_pool.specs.Jobs.{AddsWork, granted_by}
 use Rattle.cf_pool.specs.Works.{AreWork, Owed, Works, claims_by, claims_of, owed_after, owed_by}
 use Rattle.cf_pool.proofs.Jobs.{acts_grow}

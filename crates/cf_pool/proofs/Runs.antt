@@ -27,7 +27,8 @@ use Rattle.cf_desk.proofs.Passes.{same_follows, still_on_stage}
 use Rattle.cf_plan.specs.Meanings.{Meanings}
 use Rattle.cf_pool.specs.declared.pool.Met.{Met}
 use Rattle.cf_pool.specs.declared.pool.Worked.{Worked}
-use Rattle.cf_pool.specs.Calling.{CallsOf, CallsOnce, EachCalls, TellsOf}
+use Rattle.cf_model.specs.Calling.{CallsOf}
+use Rattle.cf_pool.specs.Calling.{CallsOnce, EachCalls, TellsOf}
 use Rattle.cf_pool.specs.Closings.{IsDueToTell, IsTold, Ran, RanOut}
 use Rattle.cf_pool.specs.Runs.{EndsBelow, EndsIf, HasEnded, HasWorked, IsFirst, IsLowest, IsMet, IsWorkedBy, IsWorkedFrom, OfEach, SeesMore, SeesOn, Stop, WasStopped, first_with, stop_of}
 use Rattle.cf_pool.specs.Stops.{IsNextCall, Stops}

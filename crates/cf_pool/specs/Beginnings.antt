@@ -10,7 +10,8 @@ use Rattle.cf_event.specs.Events.{own}
 use Rattle.cf_desk.specs.Records.{dids}
 use Rattle.cf_desk.specs.Views.{Desk, IsOf, Pass}
 use Rattle.cf_pool.specs.declared.pool.Left.{Left}
-use Rattle.cf_pool.specs.Calling.{CallsOf, TellsOf}
+use Rattle.cf_model.specs.Calling.{CallsOf}
+use Rattle.cf_pool.specs.Calling.{TellsOf}
 use Rattle.cf_pool.specs.Closings.{HaveCalled}
 
 -- caller 0 has done the first of the steps in order, so many of them

@@ -7,15 +7,12 @@ use Rattle.std.specs.List.{All}
 use Rattle.cf_plan.specs.declared.forms.Args.{Args}
 use Rattle.cf_plan.specs.Meanings.{Meanings}
 use Rattle.cf_plan.specs.Plans.{PlannedStage, function_at}
+use Rattle.cf_model.specs.Calling.{CallsOf}
 use Rattle.cf_desk.specs.declared.calls.Call.TheVariants.{Finish}
 use Rattle.cf_desk.specs.declared.calls.Rec.{Rec}
 use Rattle.cf_desk.specs.declared.calls.Rec.TheVariants.{Did}
 use Rattle.cf_desk.specs.Views.{Pass}
 use Rattle.cf_pool.specs.Works.{Owed, owed_by}
-
--- what calls do: from the first memory, the function of this number answers so to these arguments, and leaves the second memory
-abbrev pub CallsOf : Type 0 → Type 1
-CallsOf M = M → ℕ → Args → Answer → M → Type 0
 
 -- what a gate does: from the first memory, being told that a caller runs a stage next leaves the second memory
 abbrev pub TellsOf : Type 0 → Type 1

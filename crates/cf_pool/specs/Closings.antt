@@ -14,7 +14,8 @@ use Rattle.cf_desk.specs.Views.{Closes, Desk, Pass}
 use Rattle.cf_pool.specs.declared.faults.PoolFault.{PoolFault}
 use Rattle.cf_pool.specs.declared.faults.PoolFault.TheVariants.{Desk as ToldDesk, NoMemory}
 use Rattle.cf_pool.specs.declared.pool.Left.{Left}
-use Rattle.cf_pool.specs.Calling.{CallsOf, EachCalls, TellsOf}
+use Rattle.cf_model.specs.Calling.{CallsOf}
+use Rattle.cf_pool.specs.Calling.{EachCalls, TellsOf}
 use Rattle.cf_pool.specs.Claims.{WereOpen}
 use Rattle.cf_pool.specs.Runs.{HasEnded, IsLowest, OfEach}
 use Rattle.cf_pool.specs.Works.{Works}

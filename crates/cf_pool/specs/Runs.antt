@@ -5,7 +5,8 @@ use Rattle.cf_plan.specs.Meanings.{Meanings}
 use Rattle.cf_desk.specs.declared.faults.DeskFault.{DeskFault}
 use Rattle.cf_desk.specs.Log.{Catches}
 use Rattle.cf_desk.specs.Views.{Pass, IsSamePass, Desk, state_of}
-use Rattle.cf_pool.specs.Calling.{CallsOf, CallsOnce, TellsOf}
+use Rattle.cf_model.specs.Calling.{CallsOf}
+use Rattle.cf_pool.specs.Calling.{CallsOnce, TellsOf}
 use Rattle.cf_pool.specs.declared.pool.Met.{Met}
 use Rattle.cf_pool.specs.declared.pool.Worked.{Worked}
 use Rattle.cf_pool.specs.Stops.{Stops}
