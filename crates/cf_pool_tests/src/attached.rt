@@ -9,7 +9,7 @@ use crate::stopped::{all_won, claim, finish};
 use cf_desk::{Call, Desk, Pass};
 use cf_model::Event;
 use cf_plan::{Form, Of};
-use cf_pool::{Done, Gate, NoGate, work};
+use cf_pool::{Done, Gate, NoGate, Shared, work};
 use std::alloc::Global;
 use std::sync::Wait;
 use std::sync::atomic::{AtomicBool, Ordering};
@@ -71,7 +71,11 @@ pub(crate) fn work_on<G: Gate>(desk: &Desk, pass: &mut Pass, gate: &G) -> Option
     requires { IsOf desk.now pass.old }
     ensures { IsOf desk.now pass.new }
 {
-    work(desk, pass, &FUNCTIONS, gate, 1).ok()
+    let mut worker = Shared {
+        functions: &FUNCTIONS,
+        gate,
+    };
+    work(desk, pass, &mut worker, 1).ok()
 }
 
 /// Caller 0 attaches a stage.

@@ -13,6 +13,8 @@ mod pools;
 #[cfg(test)]
 mod races;
 #[cfg(test)]
+mod recorded;
+#[cfg(test)]
 mod stopped;
 #[cfg(test)]
 mod watched;

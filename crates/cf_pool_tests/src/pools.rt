@@ -11,7 +11,7 @@ use cf_desk::{Closed, Desk, DeskFault, Pass};
 use cf_model::Event;
 use cf_outcome::Value;
 use cf_plan::{Answer, Args, Plan, StageFn};
-use cf_pool::{Done, Gate, PoolFault, race, run};
+use cf_pool::{Done, Gate, Left, PoolFault, race, run, share};
 use std::alloc::Global;
 use std::sync::Wait;
 use std::test::Fail;
@@ -153,6 +153,12 @@ pub(crate) fn ended_two(
     })
 }
 
+/// The closed desk of what a run leaves.
+fn closed_of<W: Drop>(left: Left<W>) -> Closed {
+    let Left { closed, workers: _ } = left;
+    closed
+}
+
 /// What a run of so many workers came to.
 pub(crate) fn ran<R: Threads + Wait + Sync, F: StageFn + Sync, G: Gate + Sync>(
     rt: &R,
@@ -165,16 +171,17 @@ pub(crate) fn ran<R: Threads + Wait + Sync, F: StageFn + Sync, G: Gate + Sync>(
     requires workers { (0 < workers) × (workers ≤ 32) × (desk.setting.callers ≡ workers + 1) }
     requires passes { All (IsOf desk) passes.items × (vec_len passes ≡ workers + 1) }
 {
-    match run(rt, desk, passes, fns, gate, workers) {
-        Ok(closed) => Ok(Ended {
+    let hands = share(*passes.allocator(), fns, gate, workers + 1)?;
+    match run(rt, desk, passes, hands) {
+        Ok(left) => Ok(Ended {
             fault: None,
             done: None,
-            closed,
+            closed: closed_of(left),
         }),
-        Err(PoolFault::Desk(fault, closed)) => Ok(Ended {
+        Err(PoolFault::Desk(fault, left)) => Ok(Ended {
             fault: Some(fault),
             done: None,
-            closed,
+            closed: closed_of(left),
         }),
         Err(PoolFault::NoMemory) => Err(Fail::from("the run was refused")),
     }
@@ -209,8 +216,16 @@ pub(crate) fn raced<R: Threads + Wait + Sync, F: StageFn + Sync, G: Gate + Sync>
     requires room { (length plan.stages + room ≤ 4096) × (edges_of plan.stages + 2 * room ≤ 16384) }
     requires steps { AreSteps (with_room plan room) steps.now }
 {
-    match race(rt, alloc, plan, room, steps, fns, gate, workers) {
-        Ok(graph) => Ok(graph),
+    let hands = share(alloc, fns, gate, workers + 1)?;
+    match race(rt, alloc, plan, room, steps, hands, workers) {
+        Ok(left) => {
+            let Closed {
+                history: _,
+                passes: _,
+                graph,
+            } = closed_of(left);
+            Ok(graph)
+        }
         Err(_) => Err(Fail::from("there was no race")),
     }
 }

@@ -8,7 +8,7 @@ use cf_core::Graph;
 use cf_model::Event;
 use cf_outcome::Value;
 use cf_plan::{Answer, Args, Form, Of, Plan, StageFn};
-use cf_pool::{NoGate, RaceFault, race};
+use cf_pool::{NoGate, RaceFault, race, share};
 use std::alloc::{AllocError, Global};
 use std::sync::Wait;
 use std::test::Fail;
@@ -168,7 +168,8 @@ fn race_behind<R: Threads + Wait + Sync>(
     count: usize,
 ) -> Result<Option<RaceFault>, Fail> {
     let steps = ticks(alloc, count)?;
-    Ok(race(rt, alloc, plan, 0, &steps, &FUNCTIONS, &NoGate, 32).err())
+    let hands = share(alloc, &FUNCTIONS, &NoGate, 33)?;
+    Ok(race(rt, alloc, plan, 0, &steps, hands, 32).err())
 }
 
 #[test]

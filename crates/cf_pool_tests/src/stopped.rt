@@ -9,7 +9,7 @@ use cf_desk::{Call, Desk, DeskFault, Pass};
 use cf_model::Event;
 use cf_outcome::Value;
 use cf_plan::Answer;
-use cf_pool::{Done, Gate, NoGate, work};
+use cf_pool::{Done, Gate, NoGate, Shared, work};
 use std::alloc::Global;
 use std::sync::atomic::{AtomicBool, Ordering};
 use std::test::Fail;
@@ -21,7 +21,11 @@ fn fault_of(desk: &Desk, pass: &mut Pass) -> Option<DeskFault>
     requires { IsOf desk.now pass.old }
     ensures { IsOf desk.now pass.new }
 {
-    work(desk, pass, &FUNCTIONS, &NoGate, 1).err()
+    let mut worker = Shared {
+        functions: &FUNCTIONS,
+        gate: &NoGate,
+    };
+    work(desk, pass, &mut worker, 1).err()
 }
 
 /// Caller 0 works until it is stopped, and caller 1 after it, over three supplies, where each pass has room for three records.

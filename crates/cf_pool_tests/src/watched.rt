@@ -9,7 +9,7 @@ use cf_desk::{Call, Desk, DeskFault, Kept, Pass, Rec};
 use cf_model::{Claimed, Reply};
 use cf_outcome::Value;
 use cf_plan::{Answer, Args, StageFn};
-use cf_pool::{Done, Gate, work};
+use cf_pool::{Done, Gate, Shared, work};
 use std::alloc::{AllocError, Global};
 use std::sync::Wait;
 use std::sync::atomic::{AtomicBool, AtomicU32, Ordering};
@@ -204,7 +204,11 @@ fn functions(alloc: Global, watch: &Watch, stages: u16) -> Result<Vec<Watched<'_
 fn work_with<F: StageFn, G: Gate>(desk: &Desk, pass: &mut Pass, fns: &[F], gate: &G) -> Option<Done>
     requires { IsOf desk.now pass.old }
 {
-    work(desk, pass, fns, gate, 1).ok()
+    let mut worker = Shared {
+        functions: fns,
+        gate,
+    };
+    work(desk, pass, &mut worker, 1).ok()
 }
 
 /// What one worker did with these functions over so many supplies, on the thread of its caller.

@@ -9,7 +9,7 @@ use cf_desk::{Desk, DeskFault, Joined, Pass};
 use cf_model::Event;
 use cf_outcome::Value;
 use cf_plan::Form;
-use cf_pool::{Done, Gate, NoGate, work};
+use cf_pool::{Done, Gate, NoGate, Shared, work};
 use std::alloc::Global;
 use std::sync::atomic::{AtomicBool, Ordering};
 use std::test::Fail;
@@ -146,7 +146,11 @@ fn does_chain(desk: &Desk, pass: &mut Pass) -> bool
         won: 2,
         late: 0,
     };
-    work(desk, pass, &FUNCTIONS, &NoGate, 2) == Ok(done)
+    let mut worker = Shared {
+        functions: &FUNCTIONS,
+        gate: &NoGate,
+    };
+    work(desk, pass, &mut worker, 2) == Ok(done)
         && pass.seen() == 4
         && desk.join(pass, 1, 1) == Ok(Joined::Value(Value::Int(7)))
 }
