@@ -1,5 +1,5 @@
 -- Which of two limits settles their stage first.
-use Rattle.std.specs.Prelude.{ℕ, Bool, false, Option, Some, ◌&&◌, ◌||◌, ◌==◌, nat_lt}
+use Rattle.std.specs.Prelude.{ℕ, ◌≡◌, ◌<◌, Bool, false, Option, Some, List, ◌&&◌, ◌||◌, ◌==◌, nat_lt, slice_get}
 use Rattle.cf_explain.specs.declared.behind.Firing.{Firing}
 
 -- limit j fires before limit k could, and on the same stage: earlier, or at the same moment and given before it
@@ -10,3 +10,7 @@ fires_before j other k limit = (other.stage == limit.stage) && (nat_lt other.at 
 abbrev pub is_before : ℕ → Option Firing → ℕ → Option Firing → Bool
 is_before j (Some other) k (Some limit) = fires_before j other k limit
 is_before j other k limit = false
+
+-- none of the first n limits fires before limit k could
+abbrev pub AreNoneBefore : List Firing → ℕ → ℕ → Type 0
+AreNoneBefore firings k n = (j : ℕ) → j < n → is_before j (slice_get firings j) k (slice_get firings k) ≡ false

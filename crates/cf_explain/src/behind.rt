@@ -1,6 +1,6 @@
 //! The limits that never fire, since another settles their stage first.
-ghost use Rattle.std.specs.Prelude.{◌≡◌, ◌<◌, true, IfSome, length, slice_get};
-ghost use Rattle.cf_explain.specs.Limits.{fires_before, is_before};
+ghost use Rattle.std.specs.Prelude.{◌≡◌, ◌<◌, true, IfNone, IfSome, length, slice_get};
+ghost use Rattle.cf_explain.specs.Limits.{AreNoneBefore, fires_before, is_before};
 
 use crate::place::Place;
 use crate::remark::Remark;
@@ -52,6 +52,8 @@ fn fires_before(j: usize, other: Firing, k: usize, limit: Firing) -> bool
 fn first_before(firings: &[Firing], k: usize) -> Option<usize>
     requires { k < length firings.now }
     ensures before { IfSome result (λ j. is_before j (slice_get firings.now j) k (slice_get firings.now k) ≡ true) }
+    ensures first { IfSome result (AreNoneBefore firings.now k) }
+    ensures none { IfNone result (AreNoneBefore firings.now k (length firings.now)) }
     ensures within { IfSome result (λ j. j < length firings.now) }
 {
     for j in 0..firings.len() {

@@ -1,4 +1,7 @@
 //! The steps that never do anything.
+ghost use Rattle.std.specs.Prelude.{◌≡◌, IfSome};
+ghost use Rattle.cf_explain.specs.Idles.{IsOfEvent, IsOfStep, not_later};
+
 use crate::place::Place;
 use crate::remark::{Idle, Remark};
 use cf_model::Event;
@@ -83,7 +86,9 @@ impl Seen {
     }
 
     /// Why the step never does anything, if it is known not to.
-    fn idle(&self, step: Step) -> Option<Idle> {
+    fn idle(&self, step: Step) -> Option<Idle>
+        ensures { IfSome result (IsOfStep step) }
+    {
         match step {
             Step::Does(event) => self.idle_event(event),
             Step::Work if !self.stages.iter().any(|known| known.called) => Some(Idle::NoWork),
@@ -92,7 +97,9 @@ impl Seen {
         }
     }
 
-    fn idle_event(&self, event: Event) -> Option<Idle> {
+    fn idle_event(&self, event: Event) -> Option<Idle>
+        ensures { IfSome result (IsOfEvent event) }
+    {
         match event {
             Event::Complete { stage, .. }
             | Event::Fail { stage, .. }
@@ -109,7 +116,9 @@ impl Seen {
         }
     }
 
-    fn idle_tick(&self, now: u32) -> Option<Idle> {
+    fn idle_tick(&self, now: u32) -> Option<Idle>
+        ensures tells { result ≡ not_later self.now.ticked now }
+    {
         match self.ticked {
             Some((k, before)) if now <= before => Some(Idle::NotLater(k)),
             _ => None,

@@ -1,5 +1,5 @@
 //! Where something stands in a script.
-ghost use Rattle.std.specs.Prelude.{◌≡◌};
+ghost use Rattle.std.specs.Prelude.{◌≡◌, ◌<◌};
 ghost use Rattle.cf_explain.specs.Places.{area_of};
 
 use cf_plan::PlanFault;
@@ -32,7 +32,9 @@ pub struct Place {
 }
 
 /// A position, of which none in a script is greater than a `u32`.
-fn position(k: usize) -> u32 {
+fn position(k: usize) -> u32
+    ensures { k < 4294967296 → result ≡ k }
+{
     u32::try_from(k).unwrap_or(u32::MAX)
 }
 
@@ -48,22 +50,30 @@ impl Place {
     }
 
     /// The whole script.
-    pub(crate) fn top() -> Place {
+    pub(crate) fn top() -> Place
+        ensures { result.area ≡ Area.Part Part.Top }
+    {
         Place::of(Area::Part(Part::Top))
     }
 
     /// The stage at this position.
-    pub(crate) fn stage(k: usize) -> Place {
+    pub(crate) fn stage(k: usize) -> Place
+        ensures { k < 4294967296 → result.area ≡ Area.Part (Part.Stage k) }
+    {
         Place::of(Area::Part(Part::Stage(position(k))))
     }
 
     /// The limit at this position.
-    pub(crate) fn limit(k: usize) -> Place {
+    pub(crate) fn limit(k: usize) -> Place
+        ensures { k < 4294967296 → result.area ≡ Area.Part (Part.Limit k) }
+    {
         Place::of(Area::Part(Part::Limit(position(k))))
     }
 
     /// The step at this position.
-    pub(crate) fn step(k: usize) -> Place {
+    pub(crate) fn step(k: usize) -> Place
+        ensures { k < 4294967296 → result.area ≡ Area.Step k }
+    {
         Place::of(Area::Step(position(k)))
     }
 

@@ -5,3 +5,4 @@ pub mod Words
 pub mod Alike
 pub mod Accounts
 pub mod Whole
+pub mod Single

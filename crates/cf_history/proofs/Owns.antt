@@ -19,7 +19,7 @@ own_there c zero (x ∷ rest) e at mine none =
     kept_some (eqb (who_of x) c) x (own c rest) (eq-eqb (who_of x) c (ap who_of same ∙ mine)) none
 own_there c (suc n) (x ∷ rest) e at mine none = own_there c n rest e at mine (none_there c x rest (eqb (who_of x) c) none).1
 
-get_take : (n most : ℕ) (rest : List Event) → n < most → slice_get (take most rest) n ≡ slice_get rest n
+pub get_take : {X : Type 0} (n most : ℕ) (rest : List X) → n < most → slice_get (take most rest) n ≡ slice_get rest n
 get_take n zero rest l = absurd (omega arith)
 get_take n (suc most) [] l = refl
 get_take zero (suc most) (x ∷ rest) l = refl

@@ -46,12 +46,12 @@ all_more s events i callers x at all more =
     subst (λ (n : ℕ). AllRight s events 0 (take n callers)) (let p : suc i ≡ i + 1 = omega arith in p)
     (all_suc s events 0 i callers x at all (subst (λ (n : ℕ). AreRight n s events 0 x.records.items) (let p : i ≡ 0 + i = omega arith in p) more))
 
-right_here : (s : State) (events : List Event) (k : ℕ) (callers : List Caller) (here : Caller) → AllRight s events 0 callers → slice_get callers k ≡ Some here →
+pub right_here : (s : State) (events : List Event) (k : ℕ) (callers : List Caller) (here : Caller) → AllRight s events 0 callers → slice_get callers k ≡ Some here →
     AreRight k s events 0 here.records.items
 right_here s events k callers here all is =
     subst (λ (n : ℕ). AreRight n s events 0 here.records.items) (let p : 0 + k ≡ k = omega arith in p) (right_at s events 0 k callers here all is)
 
-not_of_callers : (s : State) (events : List Event) (callers : List Caller) (v : Verdict) → IsOfCallers s events callers v → AllRight s events 0 callers → ⊥
+pub not_of_callers : (s : State) (events : List Event) (callers : List Caller) (v : Verdict) → IsOfCallers s events callers v → AllRight s events 0 callers → ⊥
 not_of_callers s events callers (AtRecord caller k why) told all =
     not_all_right caller s events 0 k told.0.records.items why told.2 (right_here s events caller callers told.0 all told.1.is)
 not_of_callers s events callers (Missing caller place) told all =

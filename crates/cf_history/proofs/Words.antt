@@ -45,7 +45,7 @@ decoded_events [] = All-nil IsEvent
 decoded_events (w ∷ ws) = events_with (event_of w) w (decoded ws) refl (decoded_events ws)
 
 -- an event that can't stand there is none that can
-not_event : (callers functions : ℕ) (s : State) (e : Event) (why : Unfit) → IsUnfit callers functions s e why → IsEventOf callers functions s e → ⊥
+pub not_event : (callers functions : ℕ) (s : State) (e : Event) (why : Unfit) → IsUnfit callers functions s e why → IsEventOf callers functions s e → ⊥
 not_event callers functions s e NoEvent u is = u
 not_event callers functions s e NoCaller u is = let l = is.caller in omega arith
 not_event callers functions s e NoStage u is = u.1 is.fits

@@ -1,4 +1,4 @@
--- Which histories fit.
+-- Which histories fit, and which verdict is told.
 use Rattle.std.specs.Prelude.{◌≡◌, ℕ, Some, List, length, map, slice_get}
 use Rattle.std.specs.List.{Contains}
 use Rattle.cf_plan.specs.Plans.{Planned}
@@ -10,7 +10,9 @@ use Rattle.cf_event.specs.Words.{word_of}
 use Rattle.cf_event.specs.Histories.{IsOneHistory}
 use Rattle.cf_history.specs.declared.history.Caller.{Caller}
 use Rattle.cf_history.specs.declared.history.History.{History}
+use Rattle.cf_history.specs.declared.verdict.Verdict.{Verdict}
 use Rattle.cf_history.specs.Histories.{AreOutcomesOf, FitsOneGraph, said}
+use Rattle.cf_history.specs.Verdicts.{IsVerdict}
 
 -- these callers are those of the list, which may stand there in any order, each under its number
 pub record AreCallersOf (told : List (ℕ × List Record)) (callers : List Caller) : Type 0 where
@@ -23,6 +25,10 @@ pub record Tells (plan : Planned) (functions : ℕ) (events : List Event) (told 
   pub words : h.words.items ≡ map word_of events
   pub callers : AreCallersOf told h.callers.items
   pub outcomes : AreOutcomesOf (state_after (start plan) events) (said h)
+
+-- there is one verdict on a history
+abbrev pub OneVerdict : Type 0
+OneVerdict = (plan : Planned) (h : History) (v w : Verdict) → IsVerdict plan h v → IsVerdict plan h w → v ≡ w
 
 -- where what callers were told is one history, a history that says so fits
 abbrev pub OneHistoriesFit : Type 0

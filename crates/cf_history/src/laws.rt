@@ -1,8 +1,13 @@
-//! What every history that fits shows. The contract of each function is the statement, and its body is empty.
-ghost use Rattle.cf_history.specs.Laws.{OneHistoriesFit};
+//! What every history that fits shows, and that there is one verdict. The contract of each function is the statement, and its body is empty.
+ghost use Rattle.cf_history.specs.Laws.{OneHistoriesFit, OneVerdict};
 
 /// A history that says what `IsOneHistory` of `cf_event` holds of, as it holds of each closed desk, is one that `check`
 /// answers `Fits`.
 pub fn one_histories_fit()
     ensures { OneHistoriesFit }
+{}
+
+/// `check` tells one verdict, of which each says that no earlier reason holds: no two hold of one history.
+pub fn one_verdict()
+    ensures { OneVerdict }
 {}

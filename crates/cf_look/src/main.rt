@@ -18,6 +18,8 @@
 //! `cf_picture`, which are proved; this program reads in and writes out.
 #![tactic(auto)]
 
+ghost use Rattle.std.specs.Prelude.{◌≡◌, ◌≢◌};
+
 mod args;
 mod history;
 mod script;
@@ -94,11 +96,7 @@ fn explain_one<R: Input + Print + AllocGlobal>(rt: &R) -> Result<u8> {
         println!(rt; "unreadable: standard input")?;
         return Ok(UNREADABLE);
     };
-    Ok(match explain_script(rt, bytes.as_slice())? {
-        Said::Right => RIGHT,
-        Said::Refused => REFUSED,
-        Said::Odd => ODD,
-    })
+    Ok(status_of_script(explain_script(rt, bytes.as_slice())?))
 }
 
 /// Draws the script on standard input.
@@ -120,15 +118,36 @@ fn check_one<R: Print + AllocGlobal>(rt: &R, text: &str) -> Result<u8> {
         Ok(verdict) => {
             let line = line_of(rt.alloc(), verdict)?;
             println!(rt; "{line}")?;
-            Ok(match verdict {
-                Verdict::Fits => FITS,
-                _ => FITS_NOT,
-            })
+            Ok(status_of(verdict))
         }
         Err(why) => {
             println!(rt; "unreadable: {why}")?;
             Ok(UNREADABLE)
         }
+    }
+}
+
+/// The status that tells a verdict on a history.
+fn status_of(verdict: Verdict) -> u8
+    ensures fits { verdict ≡ Verdict.Fits → result ≡ 0 }
+    ensures fits_not { verdict ≢ Verdict.Fits → result ≡ 1 }
+{
+    match verdict {
+        Verdict::Fits => FITS,
+        _ => FITS_NOT,
+    }
+}
+
+/// The status that tells a verdict on a script.
+fn status_of_script(said: Said) -> u8
+    ensures right { said ≡ Said.Right → result ≡ 0 }
+    ensures refused { said ≡ Said.Refused → result ≡ 1 }
+    ensures odd { said ≡ Said.Odd → result ≡ 3 }
+{
+    match said {
+        Said::Right => RIGHT,
+        Said::Refused => REFUSED,
+        Said::Odd => ODD,
     }
 }
 
