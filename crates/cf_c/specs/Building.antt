@@ -6,7 +6,7 @@ use Rattle.cf_plan.specs.declared.forms.Form.{Form}
 use Rattle.cf_plan.specs.declared.limits.LimitKind.{LimitKind}
 use Rattle.cf_plan.specs.declared.limits.LimitKind.TheVariants.{Timeout, Give}
 use Rattle.cf_plan.specs.Drafts.{Draft, HasRoom, KeepsRoom, no_draft}
-use Rattle.cf_plan.specs.Plans.{Planned, PlannedStage, has_place, limit_fault, plan_of, stage_fault, with_limit, with_room, with_stage}
+use Rattle.cf_plan.specs.Plans.{Planned, PlannedStage, edges_of, has_place, limit_fault, plan_of, stage_fault, with_limit, with_room, with_stage}
 use Rattle.cf_model.specs.States.{start}
 use Rattle.cf_c.specs.Codes.{number_of, plan_code}
 use Rattle.cf_c.specs.Values.{value_of}
