@@ -22,7 +22,7 @@ pub extern "C" fn cf_builder_new(
     stages: u16,
     edges: u16,
 ) -> u32
-    ensures { IsNewBuilder builder.old.inner.held result builder.new.inner.held }
+    ensures { IsNewBuilder stages edges builder.old.inner.held result builder.new.inner.held }
 {
     let made = match PlanBuilder::with_room(alloc, stages, edges) {
         Ok(builder) => Ok(Object::Builder(builder)),

@@ -1,3 +1,4 @@
+pub mod Drafts
 pub mod Forms
 pub mod Growing
 pub mod Laws

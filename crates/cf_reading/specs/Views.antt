@@ -5,7 +5,7 @@ use Rattle.cf_reading.specs.ReadingProgress.{Progress}
 use Rattle.cf_reading.specs.declared.progress.Progress.{Progress as Reads}
 
 abbrev pub drafted : Draft → Drafted
-drafted d = record { plan = d.plan; functions = d.functions.items }
+drafted d = record { plan = d.plan.plan; functions = d.functions.items }
 
 abbrev pub progressed : Reads → Progress
 progressed c = record { extent = record { stages = c.stages; room = c.room }; functions = c.functions.items; steps = c.steps.items }

@@ -9,6 +9,6 @@ use cf_plan::PlanBuilder;
 pub(crate) struct Draft {
     pub(crate) plan: PlanBuilder,
     pub(crate) functions: Vec<Func>,
-    ghost few: { length functions.items ≤ length plan.stages },
-    ghost no_limits: { length plan.limits ≡ 0 },
+    ghost few: { length functions.items ≤ length plan.plan.stages },
+    ghost no_limits: { length plan.plan.limits ≡ 0 },
 }

@@ -46,8 +46,8 @@ fn moment_said(json: &Json) -> Option<u32>
 /// Takes the next limit into the plan.
 #[tactic(auto, unfolding(crate::specs::Limits::limit_next))]
 fn add_limit(plan: &mut PlanBuilder, json: &Json) -> Result<(), ReadingFault>
-    ensures gives { Gives (λ _. plan.new) result (limit_next plan.old (view json.now)) }
-    ensures stages { OnOk result (plan.new.stages ≡ plan.old.stages) }
+    ensures gives { Gives (λ _. plan.new.plan) result (limit_next plan.old.plan (view json.now)) }
+    ensures stages { OnOk result (plan.new.plan.stages ≡ plan.old.plan.stages) }
 {
     let k = plan.limits().len() as u32;
     let Some(stage) = stage_said(json) else {
@@ -64,8 +64,8 @@ fn add_limit(plan: &mut PlanBuilder, json: &Json) -> Result<(), ReadingFault>
 
 /// Takes the limits of an array into the plan, in order.
 pub(crate) fn read_limits(plan: &mut PlanBuilder, list: &[Json]) -> Result<(), ReadingFault>
-    ensures gives { Gives (λ _. plan.new) result (fold_items limit_next plan.old (items_view list.now)) }
-    ensures stages { OnOk result (plan.new.stages ≡ plan.old.stages) }
+    ensures gives { Gives (λ _. plan.new.plan) result (fold_items limit_next plan.old.plan (items_view list.now)) }
+    ensures stages { OnOk result (plan.new.plan.stages ≡ plan.old.plan.stages) }
 {
     'limits: for json in list {
         if let Err(e) = add_limit(plan, json) {

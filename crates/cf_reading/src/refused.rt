@@ -25,11 +25,11 @@ pub(crate) fn plan_stage(
     of: &[u16],
     function: Option<u16>,
 ) -> Result<(), ReadingFault>
-    ensures gives { Gives (λ _. plan.new) result
-        (staged plan.old (record { form = form; sources = of.now; function = function })) }
+    ensures gives { Gives (λ _. plan.new.plan) result
+        (staged plan.old.plan (record { form = form; sources = of.now; function = function })) }
     ensures ok { OnOk result
-        (plan.new ≡ with_stage plan.old (record { form = form; sources = of.now; function = function })) }
-    ensures err { OnErr result (plan.new ≡ plan.old) }
+        (plan.new.plan ≡ with_stage plan.old.plan (record { form = form; sources = of.now; function = function })) }
+    ensures err { OnErr result (plan.new.plan ≡ plan.old.plan) }
 {
     let k = plan.stages() as u32;
     match plan.stage(form, of, function) {
@@ -45,9 +45,9 @@ pub(crate) fn plan_limit(
     at: u32,
     kind: LimitKind,
 ) -> Result<(), ReadingFault>
-    ensures gives { Gives (λ _. plan.new) result
-        (limited plan.old (record { stage = stage; at = at; kind = kind })) }
-    ensures stages { OnOk result (plan.new.stages ≡ plan.old.stages) }
+    ensures gives { Gives (λ _. plan.new.plan) result
+        (limited plan.old.plan (record { stage = stage; at = at; kind = kind })) }
+    ensures stages { OnOk result (plan.new.plan.stages ≡ plan.old.plan.stages) }
 {
     let k = plan.limits().len() as u32;
     match plan.limit(stage, at, kind) {

@@ -66,8 +66,8 @@ fn add_stage(
     json: &Json,
 ) -> Result<(), ReadingFault>
     ensures gives { Gives (λ _. drafted draft.new) result (stage_next version (drafted draft.old) (view json.now)) }
-    ensures numbered { OnOk result (All (FunctionFits (length draft.old.functions.items)) draft.old.plan.stages
-        → All (FunctionFits (length draft.new.functions.items)) draft.new.plan.stages) }
+    ensures numbered { OnOk result (All (FunctionFits (length draft.old.functions.items)) draft.old.plan.plan.stages
+        → All (FunctionFits (length draft.new.functions.items)) draft.new.plan.plan.stages) }
 {
     let k = draft.plan.stages() as u32;
     let Some(form) = form_of(version, json) else {
@@ -90,7 +90,7 @@ pub(crate) fn read_stages(
 ) -> Result<Draft, ReadingFault>
     ensures gives { Gives drafted result (fold_items (stage_next version) nothing_drafted (items_view list.now)) }
     ensures numbered { IfOk result
-        (λ draft. All (FunctionFits (length draft.functions.items)) draft.plan.stages) }
+        (λ draft. All (FunctionFits (length draft.functions.items)) draft.plan.plan.stages) }
 {
     let mut draft = Draft {
         plan: PlanBuilder::new(alloc),

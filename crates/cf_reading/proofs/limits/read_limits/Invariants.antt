@@ -7,6 +7,6 @@ use Rattle.cf_reading.proofs.limits.read_limits.Given as goal
 -- what the rest gives from here is what the whole gives from the start
 abbrev pub invariant-limits : goal.invariant-limits
 invariant-limits l = record {
-  stages : l.plan.stages ≡ l.initial.plan.stages;
-  so_far : fold_items limit_next l.plan (items_view (drop l.json-index l.list)) ≡ fold_items limit_next l.initial.plan (items_view l.list);
+  stages : l.plan.plan.stages ≡ l.initial.plan.plan.stages;
+  so_far : fold_items limit_next l.plan.plan (items_view (drop l.json-index l.list)) ≡ fold_items limit_next l.initial.plan.plan (items_view l.list);
 }

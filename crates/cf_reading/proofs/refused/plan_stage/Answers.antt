@@ -6,7 +6,7 @@ use Rattle.cf_reading.proofs.refused.plan_stage.Goals as goal
 
 pub returns-in-Err-clause-gives : goal.returns-in-Err-clause-gives
 returns-in-Err-clause-gives c =
-    let plan = c.args.plan.now in
+    let plan = c.args.plan.now.plan in
     let k = length plan.stages in
     let stage : PlannedStage = record { form = c.args.form; sources = c.args.of.now; function = c.args.function } in
     let cause = stage_fault k (edges_of plan.stages) stage in

@@ -9,6 +9,6 @@ use Rattle.cf_reading.proofs.stages.read_stages.Given as goal
 -- what the rest gives from here is what the whole gives from the start
 abbrev pub invariant-stages : goal.invariant-stages
 invariant-stages l = record {
-  numbered : All (FunctionFits (length l.draft.functions.items)) l.draft.plan.stages;
+  numbered : All (FunctionFits (length l.draft.functions.items)) l.draft.plan.plan.stages;
   so_far : fold_items (stage_next l.version) (drafted l.draft) (items_view (drop l.json-index l.list)) ≡ fold_items (stage_next l.version) nothing_drafted (items_view l.list);
 }
