@@ -58,7 +58,12 @@ pub fn close_all(desk: Desk, passes: Vec<Pass>) -> Result<Closed, CloseFault>
 }
 
 /// One caller's two calls in a row: two records are added, the second one's place behind the first one's.
-pub fn act_twice(desk: &Desk, pass: &mut Pass, one: Call, other: Call) -> Result<(Reply, Reply), DeskFault>
+pub fn act_twice(
+    desk: &Desk,
+    pass: &mut Pass,
+    one: Call,
+    other: Call,
+) -> Result<(Reply, Reply), DeskFault>
     requires { pass.old.table ≡ desk.now.table }
     ensures { IfOk result (λ replies. (p q : ℕ) × (p < q) × (pass.new.records ≡ pass.old.records ++ Did p one replies.0 ∷ Did q other replies.1 ∷ [])) }
 {
