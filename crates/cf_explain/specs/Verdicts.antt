@@ -1,5 +1,5 @@
 -- What the verdict on a script is, and what is said of one that is refused.
-use Rattle.std.specs.Prelude.{◌≡◌, List, [], ◌∷◌, Option, Some, None, Result, Ok, Err, IsOk}
+use Rattle.std.specs.Prelude.{◌≡◌, List, [], ◌∷◌, Option, Some, None, Result, Err, IsOk}
 use Rattle.cf_reading.specs.declared.fault.ReadingFault.{ReadingFault}
 use Rattle.cf_reading.specs.Scripts.{Script}
 use Rattle.cf_explain.specs.declared.verdict.Refusal.{Refusal}

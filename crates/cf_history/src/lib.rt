@@ -14,7 +14,8 @@
 //!
 //! When records fit is `IsOneHistory` of `cf_event`, which is also what a closed desk promises; `specs/Histories` says what
 //! a history holds beside its records; `specs/Records` says the same of the records one after another, as `check` reads
-//! them; `specs/Verdicts` says what each verdict tells, and a law that there is one. `check` gives the one verdict `Fits` exactly where all fits.
+//! them; `specs/Verdicts` says what each verdict tells, and a law that there is one. `check` gives the one verdict `Fits`
+//! exactly where all fits.
 #![tactic(auto)]
 
 mod caller;
