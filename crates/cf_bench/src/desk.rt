@@ -9,7 +9,7 @@ use anyhow::{Result, anyhow};
 use cf_desk::{Call, Closed, Desk, Pass};
 use cf_outcome::Value;
 use cf_plan::Plan;
-use cf_pool::{NoGate, work};
+use cf_pool::{NoGate, Shared, work};
 use std::alloc::Global;
 use std::time::{Clock, Instant};
 
@@ -28,7 +28,15 @@ fn use_desk(desk: &Desk, p: &mut Pass)
     ensures { IsOf desk.now p.new }
 {
     let _ = desk.act(p, Call::Complete(0, Value::Int(0)));
-    let _ = work(desk, p, [OneMore].as_slice(), &NoGate, 1);
+    let _ = work(
+        desk,
+        p,
+        &mut Shared {
+            functions: [OneMore].as_slice(),
+            gate: &NoGate,
+        },
+        1,
+    );
 }
 
 /// Lets each caller use the desk, one after another: the first does all the work, and the others see that it is done.

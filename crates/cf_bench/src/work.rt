@@ -6,7 +6,7 @@ use crate::shape::{Shape, sources_of};
 use cf_core::Graph;
 use cf_model::Claimed;
 use cf_outcome::{Cause, Outcome, Value};
-use cf_plan::{Answer, Args, StageFn};
+use cf_plan::{Answer, Args, Each, StageFn};
 
 /// The caller that does all the work.
 const WORKER: u8 = 0;
@@ -51,7 +51,12 @@ pub(crate) fn settle(graph: &mut Graph, shape: Shape, stages: u16) {
 /// The same in one call for all stages whose function is due.
 pub(crate) fn settle_at_once(graph: &mut Graph, shape: Shape, stages: u16) {
     settle_sources(graph, shape, stages);
-    graph.work(WORKER, [OneMore].as_slice());
+    graph.work(
+        WORKER,
+        &mut Each {
+            functions: [OneMore].as_slice(),
+        },
+    );
 }
 
 /// Runs the function of the lowest ready stage, if a stage is ready.

@@ -6,7 +6,7 @@ use cf_core::Graph;
 use cf_event::{decode, encode, is_event};
 use cf_model::{Event, Reply};
 use cf_outcome::Value;
-use cf_plan::{Answer, Form, Of, Plan};
+use cf_plan::{Answer, Each, Form, Of, Plan};
 use std::alloc::Global;
 
 /// One event of each kind, and what comes of each in the order in which they stand.
@@ -103,7 +103,12 @@ fn reply_of(graph: &mut Graph, event: &Event) -> Option<Reply> {
 fn show_others<R: Print>(rt: &R, graph: &mut Graph) -> Result<()> {
     let turns = graph.nudge(100);
     let ready = graph.lowest_ready();
-    let called = graph.work(0, [Four].as_slice());
+    let called = graph.work(
+        0,
+        &mut Each {
+            functions: [Four].as_slice(),
+        },
+    );
     println!(rt; "  {turns} turns, ready {ready:?}, called {called}")?;
     for i in 0..3 {
         if graph.has(i) {

@@ -4,7 +4,7 @@ ghost use Rattle.std.specs.Prelude.{◌≡◌};
 use crate::answers::Numbers;
 use cf_core::Graph;
 use cf_outcome::Value;
-use cf_plan::{Answer, Args, Form, Of, StageFn};
+use cf_plan::{Answer, Args, Each, Form, Of, StageFn};
 
 /// The function of all stages: it gives 4.
 #[derive(Clone, Copy, Debug)]
@@ -28,7 +28,12 @@ pub(crate) fn settled(mut graph: Graph) -> Numbers {
         graph.attach(Form::ThenRun, Of::One(0), Some(0));
         graph.complete(0, Value::Int(3));
     }
-    let calls = graph.work(0, [Four].as_slice());
+    let calls = graph.work(
+        0,
+        &mut Each {
+            functions: [Four].as_slice(),
+        },
+    );
     let stages = graph.stages();
     Numbers(
         usize::from(stages),

@@ -10,7 +10,7 @@ use cf_desk::{Call, Closed, Desk, OpenFault, Pass};
 use cf_model::Ask;
 use cf_outcome::Value;
 use cf_plan::{Form, Of, Plan, PlanBuilder, PlanFault};
-use cf_pool::{NoGate, work};
+use cf_pool::{NoGate, Shared, work};
 use std::alloc::Global;
 
 /// One step of a caller at a desk.
@@ -205,7 +205,15 @@ fn take_one<R: Print>(rt: &R, desk: &Desk, p: &mut Pass, step: Step) -> Result<(
             println!(rt; "  {ready:?}")?;
         }
         Step::Work => {
-            let done = work(desk, p, [Four].as_slice(), &NoGate, 3);
+            let done = work(
+                desk,
+                p,
+                &mut Shared {
+                    functions: [Four].as_slice(),
+                    gate: &NoGate,
+                },
+                3,
+            );
             println!(rt; "  {done:?}")?;
         }
     }

@@ -7,7 +7,7 @@ use crate::graphs::{Four, settled_stages};
 use cf_desk::{Call, Desk, Pass};
 use cf_outcome::Value;
 use cf_plan::{Form, Of, Plan, PlanBuilder, PlanFault};
-use cf_pool::{NoGate, PoolFault, run, work};
+use cf_pool::{NoGate, PoolFault, Shared, run, share, work};
 use std::alloc::Global;
 use std::sync::Wait;
 use std::thread::Threads;
@@ -44,7 +44,15 @@ fn use_by_one(desk: &Desk, p: &mut Pass)
 {
     let _ = desk.act(p, Call::Complete(0, Value::Int(3)));
     let _ = desk.act(p, Call::Attach(Form::ThenRun, Of::One(0), Some(0)));
-    let _ = work(desk, p, [Four].as_slice(), &NoGate, 1);
+    let _ = work(
+        desk,
+        p,
+        &mut Shared {
+            functions: [Four].as_slice(),
+            gate: &NoGate,
+        },
+        1,
+    );
 }
 
 /// Two functions that nothing waits for, and one over both.
@@ -64,8 +72,14 @@ pub(crate) fn run_by_three<R: Threads + Wait + Sync>(
 ) -> Result<Numbers, Want> {
     let plan = supplies(alloc)?;
     let (desk, passes) = Desk::open(alloc, plan, 4, 64, 64)?;
-    match run(rt, desk, passes, [Four].as_slice(), &NoGate, 3) {
-        Ok(mut closed) => Ok(Numbers(3, closed.passes.len(), settled_stages(&mut closed.graph, 3))),
+    let Ok(workers) = share(alloc, [Four].as_slice(), &NoGate, 4) else {
+        return Err(Want::Memory);
+    };
+    match run(rt, desk, passes, workers) {
+        Ok(left) => {
+            let passes = left.closed.passes.len();
+            Ok(Numbers(3, passes, settled_stages(&mut left.into_graph(), 3)))
+        }
         Err(PoolFault::NoMemory) => Err(Want::Memory),
         Err(PoolFault::Desk(_, _)) => Err(Want::Other),
     }

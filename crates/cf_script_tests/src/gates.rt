@@ -3,7 +3,7 @@ ghost use Rattle.std.specs.Prelude.{◌<◌, ◌≤◌};
 
 use cf_outcome::Value;
 use cf_plan::{Answer, Args, Form, Plan, PlanBuilder, StageFn};
-use cf_pool::race;
+use cf_pool::{race, share};
 use cf_script::{Gate, race_script};
 use std::alloc::{AllocError, Global};
 use std::process::Abort;
@@ -197,7 +197,8 @@ fn functions_are_called_once_behind_the_gate(rt: HostRuntime) -> Result<(), Fail
         }
         assert!(rt; workers >= 1 && workers <= 32);
         let plan = pairs(rt.alloc())?;
-        let raced = race(&rt, rt.alloc(), plan, 0, &[], &functions, &calls, workers);
+        let hands = share(rt.alloc(), &functions, &calls, workers + 1)?;
+        let raced = race(&rt, rt.alloc(), plan, 0, &[], hands, workers);
         assert!(rt; raced.is_ok());
         assert!(rt; !calls.is_early.load(Ordering::SeqCst), "{workers} workers");
         for called in calls.called.iter() {
