@@ -10,6 +10,7 @@ ghost use Rattle.cf_pool.specs.Runs.{IsFirst, IsWorkedBy, SeesMore, SeesOn, firs
 use crate::faults::PoolFault;
 use crate::worker::work;
 use crate::workers::Worker;
+use cf_core::Graph;
 use cf_desk::{Closed, Desk, DeskFault, Pass};
 use std::alloc::{AllocError, Global};
 use std::snapshot::Snapshot;
@@ -33,6 +34,21 @@ pub struct Worked<W> {
 pub struct Left<W> {
     pub closed: Closed,
     pub workers: Vec<W>,
+}
+
+impl<W: Drop> Left<W> {
+    /// The graph as all events leave it. What else the run leaves is dropped.
+    pub fn into_graph(self) -> Graph
+        ensures { result ≡ self.closed.graph }
+    {
+        let Self { closed, workers: _ } = self;
+        let Closed {
+            history: _,
+            passes: _,
+            graph,
+        } = closed;
+        graph
+    }
 }
 
 /// A fault, and the caller that met it.
