@@ -37,11 +37,11 @@ pub struct Left<W> {
 }
 
 impl<W: Drop> Left<W> {
-    /// The graph as the whole history leaves it.
+    /// The graph as all events leave it. What else the run leaves is dropped.
     pub fn into_graph(self) -> Graph
         ensures { result ≡ self.closed.graph }
     {
-        let Left { closed, workers: _ } = self;
+        let Self { closed, workers: _ } = self;
         let Closed {
             history: _,
             passes: _,

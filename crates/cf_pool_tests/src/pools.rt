@@ -218,14 +218,7 @@ pub(crate) fn raced<R: Threads + Wait + Sync, F: StageFn + Sync, G: Gate + Sync>
 {
     let hands = share(alloc, fns, gate, workers + 1)?;
     match race(rt, alloc, plan, room, steps, hands, workers) {
-        Ok(left) => {
-            let Closed {
-                history: _,
-                passes: _,
-                graph,
-            } = closed_of(left);
-            Ok(graph)
-        }
+        Ok(left) => Ok(left.into_graph()),
         Err(_) => Err(Fail::from("there was no race")),
     }
 }
