@@ -165,13 +165,30 @@ const EACH_COUNT: [Row<'static>; 4] = [
     Row(Form::Supply, Of::None, &[], Some(0)),
 ];
 
+/// Attaches these stages to the one plan, and adds them to the other, which is then the same. There is no room left.
+fn fill(
+    rt: &impl Abort,
+    alloc: Global,
+    plan: &mut GrowingPlan,
+    mut builder: PlanBuilder,
+    rows: &[Row<'_>],
+) -> Result<(), Fail> {
+    add_all(rt, plan, &mut builder, rows)?;
+    assert_full(rt, alloc, plan, builder)
+}
+
 #[test]
 fn stages_are_attached_behind_the_opening(rt: HostRuntime) -> Result<(), Fail> {
     let mut plan = with_four(&rt, rt.alloc())?;
-    let mut builder = opening(rt.alloc())?;
-    add_all(&rt, &mut plan, &mut builder, &EACH_COUNT)?;
+    fill(
+        &rt,
+        rt.alloc(),
+        &mut plan,
+        opening(rt.alloc())?,
+        &EACH_COUNT,
+    )?;
     assert!(rt; is_left(&plan, 0, 3, 1));
-    assert_full(&rt, rt.alloc(), &plan, builder)
+    Ok(())
 }
 
 /// Whether stage 1 has these attached dependents in this order, no other attached, and none in the opening.
@@ -214,20 +231,26 @@ fn add_most(
     Ok(())
 }
 
+/// Attaches a source and then those, and has as many edges as those name.
+fn fill_with_most(rt: &impl Abort, alloc: Global, plan: &mut GrowingPlan) -> Result<(), Fail> {
+    let mut builder = PlanBuilder::new(alloc);
+    add(
+        rt,
+        plan,
+        &mut builder,
+        Row(Form::Source, Of::None, &[], None),
+    )?;
+    add_most(rt, plan, &mut builder)?;
+    assert_full(rt, alloc, plan, builder)
+}
+
 #[test]
 fn as_many_are_attached_as_there_may_be(rt: HostRuntime) -> Result<(), Fail> {
     let empty = PlanBuilder::new(rt.alloc()).build()?;
     let mut plan = with_room(&rt, rt.alloc(), empty, MAX_STAGES as u16)?;
-    let mut builder = PlanBuilder::new(rt.alloc());
-    add(
-        &rt,
-        &mut plan,
-        &mut builder,
-        Row(Form::Source, Of::None, &[], None),
-    )?;
-    add_most(&rt, &mut plan, &mut builder)?;
+    fill_with_most(&rt, rt.alloc(), &mut plan)?;
     assert_eq!(rt; plan.edges(), 8_190);
-    assert_full(&rt, rt.alloc(), &plan, builder)
+    Ok(())
 }
 
 /// The plan is restarted, and then it is the one that was built whole, with room for four stages.
@@ -251,14 +274,13 @@ fn attach_three(plan: &mut GrowingPlan) -> bool {
         && plan.edges() == 5
 }
 
-/// The plan is restarted, and three times again after three stages were attached.
-fn restart_often(
+/// Restarts the plan three times, each time after three stages were attached.
+fn restart_thrice(
     rt: &impl Abort,
     alloc: Global,
     plan: &mut GrowingPlan,
     whole: &Plan,
 ) -> Result<(), AllocError> {
-    restart(rt, alloc, plan, whole)?;
     for _ in 0..3 {
         assert!(rt; attach_three(plan));
         restart(rt, alloc, plan, whole)?;
@@ -266,13 +288,18 @@ fn restart_often(
     Ok(())
 }
 
+/// Restarts the plan as it is, and after stages were attached.
+fn restart_often(rt: &impl Abort, alloc: Global, plan: &mut GrowingPlan) -> Result<(), Fail> {
+    let whole = opening(alloc)?.build()?;
+    restart(rt, alloc, plan, &whole)?;
+    restart_thrice(rt, alloc, plan, &whole)?;
+    Ok(())
+}
+
 #[test]
 fn a_restart_takes_out_what_was_attached(rt: HostRuntime) -> Result<(), Fail> {
-    let whole = opening(rt.alloc())?.build()?;
     let mut plan = with_four(&rt, rt.alloc())?;
-    restart_often(&rt, rt.alloc(), &mut plan, &whole)?;
-    let mut builder = opening(rt.alloc())?;
+    restart_often(&rt, rt.alloc(), &mut plan)?;
     let row = Row(Form::AllOf, Of::Two(0, 0), &[0, 0], None);
-    add_all(&rt, &mut plan, &mut builder, &[row; 4])?;
-    assert_full(&rt, rt.alloc(), &plan, builder)
+    fill(&rt, rt.alloc(), &mut plan, opening(rt.alloc())?, &[row; 4])
 }

@@ -146,15 +146,19 @@ fn walked(plan: &Plan) -> Option<usize> {
     Some(total)
 }
 
+/// Whether a plan has 4,096 stages and 16,384 dependents.
+fn is_largest(plan: &Plan) -> bool {
+    plan.stages() == 4_096 && walked(plan) == Some(16_384)
+}
+
 #[test]
 fn the_largest_plan_is_built_and_walked(rt: HostRuntime) -> Result<(), Fail> {
     let mut builder = largest(rt.alloc())?;
     let step = Step::Stage(Form::Source, &[], None, Err(PlanFault::TooManyStages));
     take(&rt, &mut builder, &[step]);
     let plan = builder.build()?;
-    check(&rt, &plan, &[Ask::Stages(4_096)]);
-    assert_eq!(rt; walked(&plan), Some(16_384));
-    assert_eq!(rt; walked(&plan.copy()?), Some(16_384));
+    assert!(rt; is_largest(&plan));
+    assert!(rt; is_largest(&plan.copy()?));
     Ok(())
 }
 
@@ -259,13 +263,19 @@ fn last_moment(limits: &[Limit]) -> Option<u32> {
     Some(last)
 }
 
+/// Whether those are 96 limits, of which the first is at the least moment and the last at the greatest.
+fn reach_all(limits: &[Limit]) -> bool {
+    let first = match limits.first() {
+        Some(limit) => limit.at == 0,
+        None => false,
+    };
+    first && limits.len() == 96 && last_moment(limits) == Some(u32::MAX)
+}
+
 #[test]
 fn moments_reach_from_the_least_to_the_greatest(rt: HostRuntime) -> Result<(), Fail> {
     let plan = limited(&rt, rt.alloc()).build()?;
-    let limits = plan.limits();
-    assert_eq!(rt; last_moment(limits), Some(u32::MAX));
-    assert_eq!(rt; limits.len(), 96);
-    assert_eq!(rt; limits.first().map(|limit| limit.at), Some(0));
+    assert!(rt; reach_all(plan.limits()));
     Ok(())
 }
 
