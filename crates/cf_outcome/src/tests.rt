@@ -2,6 +2,7 @@ use crate::{
     Cause, Now, Outcome, SHORT_ROOM, ShortText, Value, WriteFault, is_cancelled, is_exceptional,
     now_of, wrap, write_outcome, write_text,
 };
+use std::alloc::{AllocError, Global};
 use std::io;
 use std::io::{ErrorKind, Write};
 use std::test::Fail;
@@ -16,127 +17,158 @@ const WRAPPED_CANCEL: Outcome = Outcome::Fault {
     wrapped: true,
 };
 
+const THREE: Outcome = Outcome::Value(Value::Int(3));
+
+/// What outcomes are, and what becomes of them: wrapped, whether it is cancelled, whether it is exceptional, and what is
+/// told of it.
+const OUTCOMES: [(Outcome, Outcome, bool, bool, Now); 3] = [
+    (THREE, THREE, false, false, Now::Got(Value::Int(3))),
+    (RAW_CANCEL, WRAPPED_CANCEL, true, true, Now::Cancellation),
+    (
+        WRAPPED_CANCEL,
+        WRAPPED_CANCEL,
+        false,
+        true,
+        Now::Completion(Cause::Cancelled),
+    ),
+];
+
+/// Whether an outcome is cancelled and exceptional as said.
+fn is_so(outcome: Outcome, cancelled: bool, exceptional: bool) -> bool {
+    is_cancelled(outcome) == cancelled && is_exceptional(outcome) == exceptional
+}
+
 #[test]
 fn wraps_and_tells(rt: HostRuntime) {
-    let value = Outcome::Value(Value::Int(3));
-    assert_eq!(rt; wrap(value), value);
-    assert_eq!(rt; wrap(RAW_CANCEL), WRAPPED_CANCEL);
-    assert_eq!(rt; wrap(WRAPPED_CANCEL), WRAPPED_CANCEL);
-    assert!(rt; is_cancelled(RAW_CANCEL));
-    assert!(rt; !is_cancelled(WRAPPED_CANCEL));
-    assert!(rt; is_exceptional(WRAPPED_CANCEL));
-    assert!(rt; !is_exceptional(value));
+    for (outcome, wrapped, cancelled, exceptional, now) in &OUTCOMES {
+        assert_eq!(rt; wrap(*outcome), *wrapped);
+        assert!(rt; is_so(*outcome, *cancelled, *exceptional), "{outcome}");
+        assert_eq!(rt; now_of(Some(*outcome), Value::Nil), *now);
+    }
     assert_eq!(rt; now_of(None, Value::Int(-1)), Now::Absent(Value::Int(-1)));
-    assert_eq!(rt; now_of(Some(value), Value::Nil), Now::Got(Value::Int(3)));
-    assert_eq!(rt; now_of(Some(RAW_CANCEL), Value::Nil), Now::Cancellation);
-    assert_eq!(rt;
-        now_of(Some(WRAPPED_CANCEL), Value::Nil),
-        Now::Completion(Cause::Cancelled)
-    );
+}
+
+/// Whether an outcome is written so, to a writer and as a text.
+fn is_written(alloc: Global, outcome: Outcome, text: &str) -> Result<bool, AllocError> {
+    let mut out: Vec<u8> = Vec::new(alloc);
+    let written = write_outcome(&mut out, outcome).is_ok();
+    let shown = format!(in alloc; "{outcome}")?;
+    Ok(written && out.as_slice() == text.as_bytes() && shown.as_str() == text)
 }
 
 /// The values, each as it is written.
+const VALUES: [(Value, &str); 7] = [
+    (Value::Nil, "nil"),
+    (Value::Int(0), "0"),
+    (Value::Int(9), "9"),
+    (Value::Int(10), "10"),
+    (Value::Int(-1), "-1"),
+    (Value::Int(2147483647), "2147483647"),
+    (Value::Int(-2147483648), "-2147483648"),
+];
+
+/// Whether a value is written so, and its outcome with the word before it.
+fn is_value_written(alloc: Global, value: Value, text: &str) -> Result<bool, AllocError> {
+    let whole = format!(in alloc; "value {text}")?;
+    let shown = format!(in alloc; "{value}")?;
+    Ok(shown.as_str() == text && is_written(alloc, Outcome::Value(value), whole.as_str())?)
+}
+
 #[test]
 fn writes_each_value(rt: HostRuntime) -> Result<(), Fail> {
-    for (value, text) in [
-        (Value::Nil, "nil"),
-        (Value::Int(0), "0"),
-        (Value::Int(9), "9"),
-        (Value::Int(10), "10"),
-        (Value::Int(-1), "-1"),
-        (Value::Int(2147483647), "2147483647"),
-        (Value::Int(-2147483648), "-2147483648"),
-    ] {
-        let whole = format!(in rt.alloc(); "value {text}")?;
-        let mut out: Vec<u8> = Vec::new(rt.alloc());
-        let outcome = Outcome::Value(value);
-        write_outcome(&mut out, outcome).map_err(|_| "a text wasn't written")?;
-        assert_eq!(rt; out.as_slice(), whole.as_str().as_bytes());
-        assert_eq!(rt;
-            format!(in rt.alloc(); "{outcome}")?.as_str(),
-            whole.as_str()
-        );
-        assert_eq!(rt; format!(in rt.alloc(); "{value}")?.as_str(), text);
+    for (value, text) in &VALUES {
+        assert!(rt; is_value_written(rt.alloc(), *value, text)?, "{text}");
     }
     Ok(())
 }
 
 /// The causes, each as it is written raw and wrapped.
+const CAUSES: [(Cause, &str, &str); 6] = [
+    (
+        Cause::Thrown(0),
+        "fault thrown 0 raw",
+        "fault thrown 0 wrapped",
+    ),
+    (
+        Cause::Thrown(7),
+        "fault thrown 7 raw",
+        "fault thrown 7 wrapped",
+    ),
+    (
+        Cause::Thrown(4294967295),
+        "fault thrown 4294967295 raw",
+        "fault thrown 4294967295 wrapped",
+    ),
+    (
+        Cause::Cancelled,
+        "fault cancelled raw",
+        "fault cancelled wrapped",
+    ),
+    (
+        Cause::TimedOut,
+        "fault timeout raw",
+        "fault timeout wrapped",
+    ),
+    (
+        Cause::BadAnswer,
+        "fault badanswer raw",
+        "fault badanswer wrapped",
+    ),
+];
+
+fn fault(cause: Cause, wrapped: bool) -> Outcome {
+    Outcome::Fault { cause, wrapped }
+}
+
 #[test]
 fn writes_each_fault(rt: HostRuntime) -> Result<(), Fail> {
-    for (cause, raw, wrapped) in [
-        (
-            Cause::Thrown(0),
-            "fault thrown 0 raw",
-            "fault thrown 0 wrapped",
-        ),
-        (
-            Cause::Thrown(7),
-            "fault thrown 7 raw",
-            "fault thrown 7 wrapped",
-        ),
-        (
-            Cause::Thrown(4294967295),
-            "fault thrown 4294967295 raw",
-            "fault thrown 4294967295 wrapped",
-        ),
-        (
-            Cause::Cancelled,
-            "fault cancelled raw",
-            "fault cancelled wrapped",
-        ),
-        (
-            Cause::TimedOut,
-            "fault timeout raw",
-            "fault timeout wrapped",
-        ),
-        (
-            Cause::BadAnswer,
-            "fault badanswer raw",
-            "fault badanswer wrapped",
-        ),
-    ] {
-        for (is_wrapped, text) in [(false, raw), (true, wrapped)] {
-            let fault = Outcome::Fault {
-                cause,
-                wrapped: is_wrapped,
-            };
-            let mut out: Vec<u8> = Vec::new(rt.alloc());
-            write_outcome(&mut out, fault).map_err(|_| "a text wasn't written")?;
-            assert_eq!(rt; out.as_slice(), text.as_bytes());
-            assert_eq!(rt; format!(in rt.alloc(); "{fault}")?.as_str(), text);
-        }
+    for (cause, raw, wrapped) in &CAUSES {
+        assert!(rt; is_written(rt.alloc(), fault(*cause, false), raw)?, "{raw}");
+        assert!(rt;
+            is_written(rt.alloc(), fault(*cause, true), wrapped)?,
+            "{wrapped}"
+        );
     }
     Ok(())
 }
 
-/// What a caller is told, each as it is written, and the longest behind as much as there is room for.
+/// What a caller is told, each as it is written.
+const TOLD: [(Now, &str); 9] = [
+    (Now::Absent(Value::Int(4)), "absent 4"),
+    (Now::Absent(Value::Nil), "absent nil"),
+    (Now::Got(Value::Nil), "value nil"),
+    (Now::Got(Value::Int(-4)), "value -4"),
+    (Now::Completion(Cause::Thrown(7)), "completion thrown 7"),
+    (Now::Completion(Cause::Cancelled), "completion cancelled"),
+    (Now::Completion(Cause::TimedOut), "completion timeout"),
+    (Now::Completion(Cause::BadAnswer), "completion badanswer"),
+    (Now::Cancellation, "cancellation"),
+];
+
+/// Whether this is the short text of what a caller is told.
+fn is_short(told: Now, text: &str) -> bool {
+    let mut short = ShortText::new();
+    short.push_now(told);
+    short.as_bytes() == text.as_bytes()
+}
+
 #[test]
 fn writes_each_answer(rt: HostRuntime) -> Result<(), Fail> {
-    for (told, text) in [
-        (Now::Absent(Value::Int(4)), "absent 4"),
-        (Now::Absent(Value::Nil), "absent nil"),
-        (Now::Got(Value::Nil), "value nil"),
-        (Now::Got(Value::Int(-4)), "value -4"),
-        (Now::Completion(Cause::Thrown(7)), "completion thrown 7"),
-        (Now::Completion(Cause::Cancelled), "completion cancelled"),
-        (Now::Completion(Cause::TimedOut), "completion timeout"),
-        (Now::Completion(Cause::BadAnswer), "completion badanswer"),
-        (Now::Cancellation, "cancellation"),
-    ] {
-        assert_eq!(rt; format!(in rt.alloc(); "{told}")?.as_str(), text);
-        let mut short = ShortText::new();
-        short.push_now(told);
-        assert_eq!(rt; short.as_bytes(), text.as_bytes());
+    for (told, text) in &TOLD {
+        let shown = format!(in rt.alloc(); "{told}")?;
+        assert_eq!(rt; shown.as_str(), *text);
+        assert!(rt; is_short(*told, text), "{text}");
     }
+    Ok(())
+}
+
+/// The longest stands behind as much as there is room for.
+#[test]
+fn the_longest_has_room(rt: HostRuntime) {
     let mut short = ShortText::new();
     short.push("granted got 12345");
-    short.push_outcome(Outcome::Fault {
-        cause: Cause::Thrown(4294967295),
-        wrapped: true,
-    });
+    short.push_outcome(fault(Cause::Thrown(4294967295), true));
     assert_eq!(rt; short.as_bytes().len(), SHORT_ROOM);
-    Ok(())
 }
 
 /// Takes one byte a call. One call of `write` fails or takes nothing, and the first flush may fail. The next call would
@@ -207,43 +239,56 @@ fn write_it(out: &mut Stumbling, as_outcome: bool) -> Result<(), WriteFault> {
     }
 }
 
-/// What was taken is a front of the text. Behind a write that failed, or took no byte, nothing is written or flushed.
+/// What a writer took is a front of the text. Behind a write that failed, or took no byte, nothing is written or flushed.
+fn ended_at(out: &Stumbling, stumbles_at: usize) -> bool {
+    let whole = TEXT.len();
+    out.len == stumbles_at.min(whole)
+        && out.writes == stumbles_at.saturating_add(1).min(whole)
+        && out.flushes == (stumbles_at >= whole) as usize
+        && TEXT.starts_with(&out.held[..out.len.min(32)])
+}
+
+/// Whether a write that stumbles at this call ends there.
+fn ends_at(stumbles_at: usize, fails: bool, as_outcome: bool) -> bool {
+    let mut out = stumbles_once(stumbles_at, fails, false);
+    let written = write_it(&mut out, as_outcome).is_ok();
+    written == (stumbles_at >= TEXT.len()) && ended_at(&out, stumbles_at)
+}
+
 #[test]
 fn nothing_follows_a_failed_write(rt: HostRuntime) {
     for stumbles_at in 0..21usize {
         for fails in [false, true] {
-            for as_outcome in [false, true] {
-                let mut out = stumbles_once(stumbles_at, fails, false);
-                let result = write_it(&mut out, as_outcome);
-                let is_whole = stumbles_at >= TEXT.len();
-                assert_eq!(rt; result, if is_whole { Ok(()) } else { Err(WriteFault) });
-                assert_eq!(rt; out.len, stumbles_at.min(TEXT.len()));
-                assert_eq!(rt; out.writes, (stumbles_at + 1).min(TEXT.len()));
-                assert_eq!(rt; out.flushes, is_whole as usize);
-                let len = out.len.min(32);
-                assert!(rt; TEXT.starts_with(&out.held[..len]));
-            }
+            assert!(rt; ends_at(stumbles_at, fails, false), "{stumbles_at}");
+            assert!(rt; ends_at(stumbles_at, fails, true), "{stumbles_at}");
         }
     }
 }
 
-/// The whole text is flushed once, behind its last byte, and a flush that fails is a fault.
+/// Whether so many bytes were written one at a time and flushed once, behind the last.
+fn is_flushed(out: &Stumbling, written: usize) -> bool {
+    out.writes == written && out.flushes == 1 && out.len_at_flush == written
+}
+
+/// Whether the whole text is flushed once, behind its last byte, and a flush that fails is a fault.
+fn flushes_once(flush_fails: bool, as_outcome: bool) -> bool {
+    let mut out = stumbles_once(usize::MAX, false, flush_fails);
+    let written = write_it(&mut out, as_outcome).is_ok();
+    written != flush_fails && is_flushed(&out, TEXT.len())
+}
+
+/// The same of a text without a byte.
+fn flushes_nothing(flush_fails: bool) -> bool {
+    let mut out = stumbles_once(usize::MAX, false, flush_fails);
+    let written = write_text(&mut out, b"").is_ok();
+    written != flush_fails && is_flushed(&out, 0)
+}
+
 #[test]
 fn the_text_is_flushed_once(rt: HostRuntime) {
     for flush_fails in [false, true] {
-        let want = if flush_fails { Err(WriteFault) } else { Ok(()) };
-        for as_outcome in [false, true] {
-            let mut out = stumbles_once(usize::MAX, false, flush_fails);
-            let result = write_it(&mut out, as_outcome);
-            assert_eq!(rt; result, want);
-            assert_eq!(rt; out.writes, TEXT.len());
-            assert_eq!(rt; out.flushes, 1);
-            assert_eq!(rt; out.len_at_flush, TEXT.len());
-        }
-        let mut out = stumbles_once(usize::MAX, false, flush_fails);
-        let result = write_text(&mut out, b"");
-        assert_eq!(rt; result, want);
-        assert_eq!(rt; out.writes, 0);
-        assert_eq!(rt; out.flushes, 1);
+        assert!(rt; flushes_once(flush_fails, false));
+        assert!(rt; flushes_once(flush_fails, true));
+        assert!(rt; flushes_nothing(flush_fails));
     }
 }

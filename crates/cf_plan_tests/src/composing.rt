@@ -27,8 +27,8 @@ const FORMS: [(Form, bool); 19] = [
 
 #[test]
 fn two_forms_compose(rt: HostRuntime) -> Result<(), Fail> {
-    for (form, answers_a_stage) in FORMS {
-        assert_eq!(rt; composes(form), answers_a_stage);
+    for (form, answers_a_stage) in &FORMS {
+        assert_eq!(rt; composes(*form), *answers_a_stage);
     }
     Ok(())
 }

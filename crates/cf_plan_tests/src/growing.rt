@@ -6,22 +6,54 @@ use std::alloc::{AllocError, Global};
 use std::process::Abort;
 use std::test::Fail;
 
-/// Attaches a stage that fits, for which there is room.
-fn attach(rt: &impl Abort, plan: &mut GrowingPlan, form: Form, of: Of, function: Option<u16>) {
-    assert!(rt; plan.room() > 0);
-    assert!(rt; fits_form(form, of.count(), function.is_some()));
-    assert!(rt; of.are_below(plan.stages()));
-    plan.attach(form, of, function);
+/// A stage that is attached to the one plan and added to the other: its form, its sources as each takes them, and its
+/// function.
+#[derive(Clone, Copy, Debug)]
+struct Row<'a>(Form, Of, &'a [u16], Option<u16>);
+
+/// Attaches a stage where it fits and there is room, and says whether it did.
+fn attaches(plan: &mut GrowingPlan, form: Form, of: Of, function: Option<u16>) -> bool {
+    let fits = fits_form(form, of.count(), function.is_some());
+    if fits && of.are_below(plan.stages()) && plan.room() > 0 {
+        plan.attach(form, of, function);
+        true
+    } else {
+        false
+    }
 }
 
-/// The dependents of a stage in rising order, as those of a plan that was built whole.
-fn dependents(
+/// Attaches a stage to the one plan, and adds it to the other.
+fn add(
     rt: &impl Abort,
-    alloc: Global,
-    plan: &GrowingPlan,
-    i: u16,
-) -> Result<Vec<u16>, Fail> {
-    assert!(rt; i < plan.stages());
+    plan: &mut GrowingPlan,
+    builder: &mut PlanBuilder,
+    row: Row<'_>,
+) -> Result<(), PlanFault> {
+    let Row(form, of, list, function) = row;
+    assert!(rt; attaches(plan, form, of, function), "{row:?}");
+    builder.stage(form, list, function)?;
+    Ok(())
+}
+
+/// Attaches these stages to the one plan, and adds them to the other.
+fn add_all(
+    rt: &impl Abort,
+    plan: &mut GrowingPlan,
+    builder: &mut PlanBuilder,
+    rows: &[Row<'_>],
+) -> Result<(), PlanFault> {
+    for row in rows {
+        add(rt, plan, builder, *row)?;
+    }
+    Ok(())
+}
+
+/// The dependents of a stage in rising order, as those of a plan that was built whole, and none of a stage that isn't
+/// there.
+fn dependents(alloc: Global, plan: &GrowingPlan, i: u16) -> Result<Vec<u16>, AllocError> {
+    if i >= plan.stages() {
+        return Ok(Vec::new(alloc));
+    }
     let mut all = Vec::from_slice(alloc, plan.dependents(i))?;
     let first = all.len();
     let mut later = plan.attached_dependents(i);
@@ -35,24 +67,53 @@ fn dependents(
     Ok(all)
 }
 
+/// Whether a stage is there and has the form, the function and the sources that it has in the plan that was built whole.
+fn is_same(plan: &GrowingPlan, whole: &Plan, i: u16) -> bool {
+    i < plan.stages()
+        && i < whole.stages()
+        && plan.form(i) == whole.form(i)
+        && plan.function(i) == whole.function(i)
+        && plan.sources(i) == whole.sources(i)
+}
+
+/// Whether these are the dependents of a stage.
+fn has_dependents(whole: &Plan, i: u16, named: &[u16]) -> bool {
+    i < whole.stages() && named == whole.dependents(i)
+}
+
+/// Whether both have as many stages and edges, and the same limits.
+fn has_counts(plan: &GrowingPlan, whole: &Plan) -> bool {
+    plan.stages() == whole.stages()
+        && plan.edges() == whole.edges()
+        && plan.limits() == whole.limits()
+}
+
 /// The plan is the one that was built whole.
 fn assert_same(
     rt: &impl Abort,
     alloc: Global,
     plan: &GrowingPlan,
     whole: &Plan,
-) -> Result<(), Fail> {
-    assert_eq!(rt; plan.stages(), whole.stages());
-    assert_eq!(rt; plan.edges(), whole.edges());
-    assert_eq!(rt; plan.limits(), whole.limits());
+) -> Result<(), AllocError> {
+    assert!(rt; has_counts(plan, whole));
     for i in 0..whole.stages() {
-        assert!(rt; i < plan.stages());
-        assert_eq!(rt; plan.form(i), whole.form(i));
-        assert_eq!(rt; plan.function(i), whole.function(i));
-        assert_eq!(rt; plan.sources(i), whole.sources(i));
-        let named = dependents(rt, alloc, plan, i)?;
-        assert_eq!(rt; named.as_slice(), whole.dependents(i));
+        let named = dependents(alloc, plan, i)?;
+        let same = is_same(plan, whole, i) && has_dependents(whole, i, named.as_slice());
+        assert!(rt; same, "stage {i}");
     }
+    Ok(())
+}
+
+/// The plan is the one that is built here, with no room left.
+fn assert_full(
+    rt: &impl Abort,
+    alloc: Global,
+    plan: &GrowingPlan,
+    builder: PlanBuilder,
+) -> Result<(), Fail> {
+    assert_eq!(rt; plan.room(), 0);
+    let whole = builder.build()?;
+    assert_same(rt, alloc, plan, &whole)?;
     Ok(())
 }
 
@@ -77,96 +138,168 @@ fn with_room(
     GrowingPlan::new(alloc, plan, room)
 }
 
-/// The opening with room for four stages. Where memory is refused, it is asked for again.
-fn with_four(rt: &impl Abort, alloc: Global) -> Result<GrowingPlan, Fail> {
+/// The opening with room for four stages.
+fn roomy(rt: &impl Abort, alloc: Global) -> Result<Result<GrowingPlan, AllocError>, PlanFault> {
     let plan = opening(alloc)?.build()?;
-    match with_room(rt, alloc, plan, 4) {
+    Ok(with_room(rt, alloc, plan, 4))
+}
+
+/// The same. Where memory is refused, it is asked for again.
+fn with_four(rt: &impl Abort, alloc: Global) -> Result<GrowingPlan, Fail> {
+    match roomy(rt, alloc)? {
         Ok(plan) => Ok(plan),
-        Err(_) => {
-            let plan = opening(alloc)?.build()?;
-            Ok(with_room(rt, alloc, plan, 4)?)
-        }
+        Err(_) => Ok(roomy(rt, alloc)??),
     }
+}
+
+/// Whether the plan has room for so many stages, and its opening so many stages and edges.
+fn is_left(plan: &GrowingPlan, room: u16, stages: u16, edges: u32) -> bool {
+    let opening = plan.opening();
+    plan.room() == room && opening.stages() == stages && opening.edges() == edges
+}
+
+const EACH_COUNT: [Row<'static>; 4] = [
+    Row(Form::Combine, Of::Two(0, 0), &[0, 0], Some(7)),
+    Row(Form::AnyOf, Of::Two(3, 1), &[3, 1], None),
+    Row(Form::ExceptionallyCompose, Of::One(3), &[3], Some(8)),
+    Row(Form::Supply, Of::None, &[], Some(0)),
+];
+
+/// Attaches these stages to the one plan, and adds them to the other, which is then the same. There is no room left.
+fn fill(
+    rt: &impl Abort,
+    alloc: Global,
+    plan: &mut GrowingPlan,
+    mut builder: PlanBuilder,
+    rows: &[Row<'_>],
+) -> Result<(), Fail> {
+    add_all(rt, plan, &mut builder, rows)?;
+    assert_full(rt, alloc, plan, builder)
 }
 
 #[test]
 fn stages_are_attached_behind_the_opening(rt: HostRuntime) -> Result<(), Fail> {
     let mut plan = with_four(&rt, rt.alloc())?;
-    let mut builder = opening(rt.alloc())?;
-    for (form, of, list, function) in [
-        (Form::Combine, Of::Two(0, 0), [0u16, 0].as_slice(), Some(7)),
-        (Form::AnyOf, Of::Two(3, 1), [3, 1].as_slice(), None),
-        (
-            Form::ExceptionallyCompose,
-            Of::One(3),
-            [3].as_slice(),
-            Some(8),
-        ),
-        (Form::Supply, Of::None, [].as_slice(), Some(0)),
-    ] {
-        attach(&rt, &mut plan, form, of, function);
-        builder.stage(form, list, function)?;
+    fill(
+        &rt,
+        rt.alloc(),
+        &mut plan,
+        opening(rt.alloc())?,
+        &EACH_COUNT,
+    )?;
+    assert!(rt; is_left(&plan, 0, 3, 1));
+    Ok(())
+}
+
+/// Whether stage 1 has these attached dependents in this order, no other attached, and none in the opening.
+fn names_of_one(plan: &GrowingPlan, wanted: &[u16]) -> bool {
+    if plan.stages() < 2 {
+        return false;
     }
-    assert_eq!(rt; plan.room(), 0);
-    assert_eq!(rt; plan.opening().stages(), 3);
-    assert_eq!(rt; plan.opening().edges(), 1);
-    assert_same(&rt, rt.alloc(), &plan, &builder.build()?)
+    let mut later = plan.attached_dependents(1);
+    let mut right = plan.dependents(1).is_empty();
+    for k in wanted {
+        right = later.pop() == Some(*k) && right;
+    }
+    right && later.pop().is_none() && later.pop().is_none()
 }
 
 #[test]
 fn the_newest_comes_first(rt: HostRuntime) -> Result<(), Fail> {
     let mut plan = with_four(&rt, rt.alloc())?;
-    attach(&rt, &mut plan, Form::Apply, Of::One(1), Some(0));
-    attach(&rt, &mut plan, Form::AllOf, Of::Two(1, 1), None);
-    assert!(rt; plan.stages() == 5);
-    assert!(rt; plan.dependents(1).is_empty());
-    let mut later = plan.attached_dependents(1);
-    assert_eq!(rt; later.pop(), Some(4));
-    assert_eq!(rt; later.pop(), Some(4));
-    assert_eq!(rt; later.pop(), Some(3));
-    assert_eq!(rt; later.pop(), None);
-    assert_eq!(rt; later.pop(), None);
+    assert!(rt; attaches(&mut plan, Form::Apply, Of::One(1), Some(0)));
+    assert!(rt; attaches(&mut plan, Form::AllOf, Of::Two(1, 1), None));
+    assert!(rt; plan.stages() == 5 && names_of_one(&plan, &[4, 4, 3]));
     Ok(())
+}
+
+/// Adds an allOf of stage `i / 2` and the last, `i - 1`, to both plans, for each `i` from 1 on below 4,096.
+fn add_most(
+    rt: &impl Abort,
+    plan: &mut GrowingPlan,
+    builder: &mut PlanBuilder,
+) -> Result<(), PlanFault> {
+    for i in 1..4_096u16 {
+        let (half, last) = (i / 2, i - 1);
+        add(
+            rt,
+            plan,
+            builder,
+            Row(Form::AllOf, Of::Two(half, last), &[half, last], None),
+        )?;
+    }
+    Ok(())
+}
+
+/// Attaches a source and then those, and has as many edges as those name.
+fn fill_with_most(rt: &impl Abort, alloc: Global, plan: &mut GrowingPlan) -> Result<(), Fail> {
+    let mut builder = PlanBuilder::new(alloc);
+    add(
+        rt,
+        plan,
+        &mut builder,
+        Row(Form::Source, Of::None, &[], None),
+    )?;
+    add_most(rt, plan, &mut builder)?;
+    assert_full(rt, alloc, plan, builder)
 }
 
 #[test]
 fn as_many_are_attached_as_there_may_be(rt: HostRuntime) -> Result<(), Fail> {
     let empty = PlanBuilder::new(rt.alloc()).build()?;
     let mut plan = with_room(&rt, rt.alloc(), empty, MAX_STAGES as u16)?;
-    let mut builder = PlanBuilder::new(rt.alloc());
-    attach(&rt, &mut plan, Form::Source, Of::None, None);
-    builder.stage(Form::Source, &[], None)?;
-    for i in 1..4_096u16 {
-        attach(&rt, &mut plan, Form::AllOf, Of::Two(i / 2, i - 1), None);
-        builder.stage(Form::AllOf, &[i / 2, i - 1], None)?;
-    }
-    assert_eq!(rt; plan.room(), 0);
+    fill_with_most(&rt, rt.alloc(), &mut plan)?;
     assert_eq!(rt; plan.edges(), 8_190);
-    assert_same(&rt, rt.alloc(), &plan, &builder.build()?)
+    Ok(())
+}
+
+/// The plan is restarted, and then it is the one that was built whole, with room for four stages.
+fn restart(
+    rt: &impl Abort,
+    alloc: Global,
+    plan: &mut GrowingPlan,
+    whole: &Plan,
+) -> Result<(), AllocError> {
+    plan.restart();
+    assert_eq!(rt; plan.room(), 4);
+    assert_same(rt, alloc, plan, whole)
+}
+
+/// Attaches three stages, after which there is room for one more and there are five edges.
+fn attach_three(plan: &mut GrowingPlan) -> bool {
+    attaches(plan, Form::Supply, Of::None, Some(0))
+        && attaches(plan, Form::Combine, Of::Two(1, 3), Some(7))
+        && attaches(plan, Form::AllOf, Of::Two(4, 1), None)
+        && plan.room() == 1
+        && plan.edges() == 5
+}
+
+/// Restarts the plan three times, each time after three stages were attached.
+fn restart_thrice(
+    rt: &impl Abort,
+    alloc: Global,
+    plan: &mut GrowingPlan,
+    whole: &Plan,
+) -> Result<(), AllocError> {
+    for _ in 0..3 {
+        assert!(rt; attach_three(plan));
+        restart(rt, alloc, plan, whole)?;
+    }
+    Ok(())
+}
+
+/// Restarts the plan as it is, and after stages were attached.
+fn restart_often(rt: &impl Abort, alloc: Global, plan: &mut GrowingPlan) -> Result<(), Fail> {
+    let whole = opening(alloc)?.build()?;
+    restart(rt, alloc, plan, &whole)?;
+    restart_thrice(rt, alloc, plan, &whole)?;
+    Ok(())
 }
 
 #[test]
 fn a_restart_takes_out_what_was_attached(rt: HostRuntime) -> Result<(), Fail> {
-    let whole = opening(rt.alloc())?.build()?;
     let mut plan = with_four(&rt, rt.alloc())?;
-    plan.restart();
-    assert_eq!(rt; plan.room(), 4);
-    assert_same(&rt, rt.alloc(), &plan, &whole)?;
-    for _ in 0..3 {
-        attach(&rt, &mut plan, Form::Supply, Of::None, Some(0));
-        attach(&rt, &mut plan, Form::Combine, Of::Two(1, 3), Some(7));
-        attach(&rt, &mut plan, Form::AllOf, Of::Two(4, 1), None);
-        assert_eq!(rt; plan.room(), 1);
-        assert_eq!(rt; plan.edges(), 5);
-        plan.restart();
-        assert_eq!(rt; plan.room(), 4);
-        assert_same(&rt, rt.alloc(), &plan, &whole)?;
-    }
-    let mut builder = opening(rt.alloc())?;
-    for _ in 0..4 {
-        attach(&rt, &mut plan, Form::AllOf, Of::Two(0, 0), None);
-        builder.stage(Form::AllOf, &[0, 0], None)?;
-    }
-    assert_eq!(rt; plan.room(), 0);
-    assert_same(&rt, rt.alloc(), &plan, &builder.build()?)
+    restart_often(&rt, rt.alloc(), &mut plan)?;
+    let row = Row(Form::AllOf, Of::Two(0, 0), &[0, 0], None);
+    fill(&rt, rt.alloc(), &mut plan, opening(rt.alloc())?, &[row; 4])
 }

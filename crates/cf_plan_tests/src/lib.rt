@@ -12,3 +12,7 @@ mod naming;
 mod place;
 #[cfg(test)]
 mod plans;
+#[cfg(test)]
+mod rows;
+#[cfg(test)]
+mod tables;

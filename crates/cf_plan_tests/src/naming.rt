@@ -37,9 +37,9 @@ fn has_name(form: Form, name: &str) -> bool {
 
 #[test]
 fn each_form_has_its_number_and_its_name(rt: HostRuntime) -> Result<(), Fail> {
-    for (number, form, name) in FORMS {
-        assert!(rt; has_number(form, number));
-        assert!(rt; has_name(form, name));
+    for (number, form, name) in &FORMS {
+        assert!(rt; has_number(*form, *number));
+        assert!(rt; has_name(*form, name));
     }
     Ok(())
 }

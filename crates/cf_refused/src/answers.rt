@@ -6,7 +6,7 @@ use cf_plan::PlanFault;
 use std::fmt;
 
 /// Why a call gave nothing.
-#[derive(Clone, Copy, Debug, PartialEq, Eq)]
+#[derive(Clone, Copy)]
 pub(crate) enum Want {
     /// Memory was refused.
     Memory,
@@ -15,7 +15,7 @@ pub(crate) enum Want {
 }
 
 /// Three numbers, which sum up what a call gave.
-#[derive(Clone, Copy, Debug, PartialEq, Eq)]
+#[derive(Clone, Copy)]
 pub(crate) struct Numbers(pub(crate) usize, pub(crate) usize, pub(crate) usize);
 
 impl fmt::Display for Numbers {

@@ -46,61 +46,61 @@ const EVENTS: [Event; 8] = [
 /// Prints what a graph answers to each event, whether the event's word says the event, and what the other calls answer; or
 /// that memory was refused.
 pub(crate) fn show_calls<R: Print>(rt: &R, alloc: Global, plan: &Plan) -> Result<()> {
-    let Some(mut graph) = opened(alloc, plan) else {
-        println!(rt; "calls: no memory")?;
-        return Ok(());
-    };
-    println!(rt; "calls:")?;
-    for event in EVENTS {
-        show_event(rt, &mut graph, &event)?;
+    match opened(alloc, plan) {
+        Some(mut graph) => show_answers(rt, &mut graph),
+        None => Ok(println!(rt; "calls: no memory")?),
     }
-    show_others(rt, &mut graph)
 }
 
 /// A graph of the plan with room for one stage.
 fn opened(alloc: Global, plan: &Plan) -> Option<Graph> {
-    let plan = plan.copy().ok()?;
-    if plan.stages() != 2 || plan.edges() != 1 {
-        return None;
-    }
-    Graph::new_growing(alloc, plan, 1).ok()
-}
-
-/// Prints what a graph answers to an event, and whether the event's word says the event.
-fn show_event<R: Print>(rt: &R, graph: &mut Graph, event: &Event) -> Result<()> {
-    let is_told = is_event(event) && decode(encode(event)) == Some(*event);
-    let reply = reply_of(graph, event);
-    println!(rt; "  {reply:?}, its word says it: {is_told}")?;
-    Ok(())
-}
-
-/// What a graph answers to an event on a stage that is there. A stage is attached to stage 0.
-fn reply_of(graph: &mut Graph, event: &Event) -> Option<Reply> {
-    match *event {
-        Event::Complete { stage, value, .. } if graph.has(stage) => {
-            Some(Reply::Flag(graph.complete(stage, value)))
-        }
-        Event::Fail { stage, code, .. } if graph.has(stage) => {
-            Some(Reply::Flag(graph.fail(stage, code)))
-        }
-        Event::Cancel { stage, .. } if graph.has(stage) => Some(Reply::Flag(graph.cancel(stage))),
-        Event::Claim { who, stage } if graph.has(stage) => {
-            Some(Reply::Claim(graph.claim(who, stage)))
-        }
-        Event::Finish { who, stage, answer } if graph.has(stage) => {
-            Some(Reply::Finish(graph.finish(who, stage, answer)))
-        }
-        Event::Tick { moment, .. } => Some(Reply::Tick(graph.tick(moment))),
-        Event::Attach { .. } if graph.has(0) => {
-            let attached = graph.attach(Form::ThenRun, Of::One(0), Some(0));
-            Some(Reply::Attach(attached))
+    match plan.copy() {
+        Ok(plan) if plan.stages() == 2 && plan.edges() == 1 => {
+            Graph::new_growing(alloc, plan, 1).ok()
         }
         _ => None,
     }
 }
 
-/// Prints what the calls answer that no event makes.
-fn show_others<R: Print>(rt: &R, graph: &mut Graph) -> Result<()> {
+fn show_answers<R: Print>(rt: &R, graph: &mut Graph) -> Result<()> {
+    println!(rt; "calls:")?;
+    show_events(rt, graph)?;
+    show_work(rt, graph)?;
+    show_stages(rt, graph)?;
+    show_restarted(rt, graph)
+}
+
+fn show_events<R: Print>(rt: &R, graph: &mut Graph) -> Result<()> {
+    for event in &EVENTS {
+        show_event(rt, graph, event)?;
+    }
+    Ok(())
+}
+
+/// Prints what a graph answers to an event, and whether the event's word says the event.
+fn show_event<R: Print>(rt: &R, graph: &mut Graph, event: &Event) -> Result<()> {
+    let is_told = is_told(event);
+    let reply = reply_of(graph, event);
+    println!(rt; "  {reply:?}, its word says it: {is_told}")?;
+    Ok(())
+}
+
+/// Whether the event's word says the event.
+fn is_told(event: &Event) -> bool {
+    is_event(event) && decode(encode(event)) == Some(*event)
+}
+
+/// What a graph answers to an event on a stage that is there.
+fn reply_of(graph: &mut Graph, event: &Event) -> Option<Reply> {
+    if graph.takes(event) {
+        Some(graph.answer(event))
+    } else {
+        None
+    }
+}
+
+/// Prints what the calls answer that find and call ready functions, which no event makes.
+fn show_work<R: Print>(rt: &R, graph: &mut Graph) -> Result<()> {
     let turns = graph.nudge(100);
     let ready = graph.lowest_ready();
     let called = graph.work(
@@ -110,12 +110,22 @@ fn show_others<R: Print>(rt: &R, graph: &mut Graph) -> Result<()> {
         },
     );
     println!(rt; "  {turns} turns, ready {ready:?}, called {called}")?;
+    Ok(())
+}
+
+/// Prints what each stage has now.
+fn show_stages<R: Print>(rt: &R, graph: &mut Graph) -> Result<()> {
     for i in 0..3 {
         if graph.has(i) {
             let now = graph.now(i, Value::Nil);
             println!(rt; "  {now:?}")?;
         }
     }
+    Ok(())
+}
+
+/// Restarts a graph, and prints what it has then.
+fn show_restarted<R: Print>(rt: &R, graph: &mut Graph) -> Result<()> {
     graph.restart();
     let stages = graph.stages();
     let turns = graph.turns();

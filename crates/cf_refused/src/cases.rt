@@ -12,7 +12,7 @@ use std::sync::Wait;
 use std::thread::Threads;
 
 /// A call that takes memory, or that would if it were made another way.
-#[derive(Clone, Copy, Debug, PartialEq, Eq)]
+#[derive(Clone, Copy)]
 pub(crate) enum Case {
     Builder,
     RoomyBuilder,
@@ -40,17 +40,18 @@ pub(crate) const CASES: [Case; 9] = [
 
 impl fmt::Display for Case {
     fn fmt<W: fmt::Write>(&self, f: &mut fmt::Formatter<W>) -> fmt::Result {
-        match self {
-            Case::Builder => write!(f, "builder"),
-            Case::RoomyBuilder => write!(f, "builder with room"),
-            Case::PlanCopy => write!(f, "copy of a plan"),
-            Case::Graph => write!(f, "graph"),
-            Case::GrowingGraph => write!(f, "growing graph"),
-            Case::Desk => write!(f, "desk"),
-            Case::GrowingDesk => write!(f, "growing desk"),
-            Case::Run => write!(f, "run of three workers"),
-            Case::Words => write!(f, "words"),
-        }
+        let name = match self {
+            Case::Builder => "builder",
+            Case::RoomyBuilder => "builder with room",
+            Case::PlanCopy => "copy of a plan",
+            Case::Graph => "graph",
+            Case::GrowingGraph => "growing graph",
+            Case::Desk => "desk",
+            Case::GrowingDesk => "growing desk",
+            Case::Run => "run of three workers",
+            Case::Words => "words",
+        };
+        write!(f, "{name}")
     }
 }
 
@@ -64,10 +65,10 @@ pub(crate) fn numbers_of<R: Threads + Wait + Sync>(
     case: Case,
 ) -> Result<Numbers, Want> {
     match case {
-        Case::Builder => of_built(built(PlanBuilder::new(alloc))?),
-        Case::RoomyBuilder => of_built(built(PlanBuilder::with_room(alloc, 3, 3)?)?),
-        Case::PlanCopy => of_built((plan.copy()?, 0)),
-        Case::Graph => Ok(settled(Graph::new(alloc, plan.copy()?)?)),
+        Case::Builder => of_built(built(PlanBuilder::new(alloc))),
+        Case::RoomyBuilder => roomy(alloc),
+        Case::PlanCopy => copied(plan),
+        Case::Graph => graph(alloc, plan),
         Case::GrowingGraph => grown(alloc, plan),
         Case::Desk => shared(alloc, plan),
         Case::GrowingDesk => grown_and_shared(alloc, plan),
@@ -81,56 +82,80 @@ pub(crate) fn plan_of_three(alloc: Global) -> Result<Plan, PlanFault> {
     Ok(built(PlanBuilder::new(alloc))?.0)
 }
 
+/// The stages of that plan.
+const STAGES: [(Form, &[u16], Option<u16>); 3] = [
+    (Form::Source, &[], None),
+    (Form::Apply, &[0], Some(0)),
+    (Form::Combine, &[0, 1], Some(1)),
+];
+
+/// Adds those stages and a limit. It says how often a refused call was made again.
+fn add_all(builder: &mut PlanBuilder) -> Result<usize, PlanFault> {
+    let mut again = 0usize;
+    for (form, of, function) in &STAGES {
+        again = again.saturating_add(add(builder, *form, of, *function)?);
+    }
+    Ok(again.saturating_add(limit(builder)?))
+}
+
 /// That plan, and how often a refused call was made again.
 fn built(mut builder: PlanBuilder) -> Result<(Plan, usize), PlanFault> {
-    let mut again = 0usize;
-    for (form, of, function) in [
-        (Form::Source, &[][..], None),
-        (Form::Apply, &[0], Some(0)),
-        (Form::Combine, &[0, 1], Some(1)),
-    ] {
-        if add(&mut builder, form, of, function)? {
-            again = again.saturating_add(1);
-        }
-    }
-    if limit(&mut builder)? {
-        again = again.saturating_add(1);
-    }
+    let again = add_all(&mut builder)?;
     Ok((builder.build()?, again))
 }
 
-/// Adds a stage. It says whether memory was refused it, and the same call made once more.
+/// Adds a stage. It says how often memory was refused it, and the same call made once more: once, or never.
 fn add(
     builder: &mut PlanBuilder,
     form: Form,
     of: &[u16],
     function: Option<u16>,
-) -> Result<bool, PlanFault> {
+) -> Result<usize, PlanFault> {
     match builder.stage(form, of, function) {
         Err(PlanFault::NoMemory) => {
             builder.stage(form, of, function)?;
-            Ok(true)
+            Ok(1)
         }
         Err(fault) => Err(fault),
-        Ok(_) => Ok(false),
+        Ok(_) => Ok(0),
     }
 }
 
 /// Adds a limit, in the same way.
-fn limit(builder: &mut PlanBuilder) -> Result<bool, PlanFault> {
+fn limit(builder: &mut PlanBuilder) -> Result<usize, PlanFault> {
     match builder.limit(2, 10, LimitKind::Timeout) {
         Err(PlanFault::NoMemory) => {
             builder.limit(2, 10, LimitKind::Timeout)?;
-            Ok(true)
+            Ok(1)
         }
         Err(fault) => Err(fault),
-        Ok(()) => Ok(false),
+        Ok(()) => Ok(0),
     }
 }
 
-fn of_built(built: (Plan, usize)) -> Result<Numbers, Want> {
-    let (plan, again) = built;
-    Ok(Numbers(usize::from(plan.stages()), plan.edges() as usize, again))
+fn of_built(built: Result<(Plan, usize), PlanFault>) -> Result<Numbers, Want> {
+    let (plan, again) = built?;
+    Ok(of_plan(&plan, again))
+}
+
+fn of_plan(plan: &Plan, again: usize) -> Numbers {
+    Numbers(usize::from(plan.stages()), plan.edges() as usize, again)
+}
+
+fn roomy(alloc: Global) -> Result<Numbers, Want> {
+    let builder = PlanBuilder::with_room(alloc, 3, 3)?;
+    of_built(built(builder))
+}
+
+fn copied(plan: &Plan) -> Result<Numbers, Want> {
+    let copy = plan.copy()?;
+    Ok(of_plan(&copy, 0))
+}
+
+fn graph(alloc: Global, plan: &Plan) -> Result<Numbers, Want> {
+    let plan = plan.copy()?;
+    let graph = Graph::new(alloc, plan)?;
+    Ok(settled(graph))
 }
 
 fn grown(alloc: Global, plan: &Plan) -> Result<Numbers, Want> {
@@ -138,22 +163,26 @@ fn grown(alloc: Global, plan: &Plan) -> Result<Numbers, Want> {
     if plan.stages() != 3 || plan.edges() != 3 {
         return Err(Want::Other);
     }
-    Ok(settled(Graph::new_growing(alloc, plan, 2)?))
+    let graph = Graph::new_growing(alloc, plan, 2)?;
+    Ok(settled(graph))
 }
 
 fn shared(alloc: Global, plan: &Plan) -> Result<Numbers, Want> {
-    let (desk, passes) = Desk::open(alloc, plan.copy()?, 3, 16, 16)?;
+    let plan = plan.copy()?;
+    let (desk, passes) = Desk::open(alloc, plan, 3, 16, 16)?;
     used(desk, passes)
 }
 
 fn grown_and_shared(alloc: Global, plan: &Plan) -> Result<Numbers, Want> {
-    let (desk, passes) = Desk::open_growing(alloc, plan.copy()?, 3, 16, 16, 2, 4)?;
+    let plan = plan.copy()?;
+    let (desk, passes) = Desk::open_growing(alloc, plan, 3, 16, 16, 2, 4)?;
     used(desk, passes)
 }
 
 fn words(alloc: Global) -> Result<Numbers, Want> {
-    match read_command(alloc, &["race", "--workers", "2"])? {
-        Command::Run => Err(Want::Other),
-        Command::Race(workers) => Ok(Numbers(usize::from(workers), 0, 0)),
+    match read_command(alloc, &["race", "--workers", "2"]) {
+        Ok(Command::Race(workers)) => Ok(Numbers(usize::from(workers), 0, 0)),
+        Ok(Command::Run) => Err(Want::Other),
+        Err(fault) => Err(Want::from(fault)),
     }
 }

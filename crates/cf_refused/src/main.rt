@@ -12,11 +12,11 @@ mod graphs;
 mod rows;
 mod shared;
 
-use answers::Want;
+use answers::{Numbers, Want};
 use anyhow::{Result, anyhow};
 use calls::show_calls;
 use cases::{CASES, Case, numbers_of, plan_of_three};
-use cf_plan::Plan;
+use cf_plan::{Plan, PlanFault};
 use cf_script::{NoGate, ScriptFault, race_script, run_script};
 use rows::{ROWS, show_row, source_and_apply};
 use std::alloc::Global;
@@ -60,24 +60,40 @@ const SCRIPTS: [Told; 3] = [
 ];
 
 fn main(rt: HostRuntime) -> Result<()> {
-    let plan = source_and_apply(rt.alloc()).map_err(|_| anyhow!("no memory for a plan"))?;
-    show_free(&rt, rt.alloc(), &plan)?;
-    let plan = plan_of_three(rt.alloc()).map_err(|_| anyhow!("no memory for a plan"))?;
-    for case in CASES {
-        show_case(&rt, rt.alloc(), &plan, case)?;
+    show_free(&rt, rt.alloc())?;
+    show_cases(&rt, rt.alloc())?;
+    show_scripts(&rt, rt.alloc(), &mut io::writer(&rt))
+}
+
+/// A plan, or that there is no memory for it.
+fn made(plan: Result<Plan, PlanFault>) -> Result<Plan> {
+    match plan {
+        Ok(plan) => Ok(plan),
+        Err(_) => Err(anyhow!("no memory for a plan")),
     }
-    for script in SCRIPTS {
-        show_script(&rt, rt.alloc(), &mut io::writer(&rt), script)?;
+}
+
+/// Prints what the calls give that take no memory, once what they work on is opened.
+fn show_free<R: Print>(rt: &R, alloc: Global) -> Result<()> {
+    let plan = made(source_and_apply(alloc))?;
+    show_rows(rt, alloc, &plan)?;
+    show_calls(rt, alloc, &plan)
+}
+
+fn show_rows<R: Print>(rt: &R, alloc: Global, plan: &Plan) -> Result<()> {
+    for row in &ROWS {
+        show_row(rt, alloc, plan, row)?;
     }
     Ok(())
 }
 
-/// Prints what the calls give that take no memory, once what they work on is opened.
-fn show_free<R: Print>(rt: &R, alloc: Global, plan: &Plan) -> Result<()> {
-    for row in ROWS {
-        show_row(rt, alloc, plan, row)?;
+/// Prints what the calls give that take memory.
+fn show_cases<R: Print + Threads + Wait + Sync>(rt: &R, alloc: Global) -> Result<()> {
+    let plan = made(plan_of_three(alloc))?;
+    for case in &CASES {
+        show_case(rt, alloc, &plan, *case)?;
     }
-    show_calls(rt, alloc, plan)
+    Ok(())
 }
 
 /// Prints what a call gave, and where memory was refused it, what it gave then.
@@ -87,14 +103,31 @@ fn show_case<R: Print + Threads + Wait + Sync>(
     plan: &Plan,
     case: Case,
 ) -> Result<()> {
-    let mut gave = numbers_of(rt, alloc, plan, case);
-    if gave == Err(Want::Memory) {
-        println!(rt; "{case}: no memory")?;
-        gave = numbers_of(rt, alloc, plan, case);
+    match numbers_of(rt, alloc, plan, case) {
+        Err(Want::Memory) => {
+            println!(rt; "{case}: no memory")?;
+            show_gave(rt, case, numbers_of(rt, alloc, plan, case))
+        }
+        gave => show_gave(rt, case, gave),
     }
+}
+
+fn show_gave<R: Print>(rt: &R, case: Case, gave: Result<Numbers, Want>) -> Result<()> {
     match gave {
         Ok(numbers) => println!(rt; "{case}: {numbers}")?,
         Err(_) => println!(rt; "{case}: refused")?,
+    }
+    Ok(())
+}
+
+/// Prints the reports of the scripts.
+fn show_scripts<R: Print + Threads + Wait + Sync, W: Write>(
+    rt: &R,
+    alloc: Global,
+    w: &mut W,
+) -> Result<()> {
+    for script in &SCRIPTS {
+        show_script(rt, alloc, w, script)?;
     }
     Ok(())
 }
@@ -104,7 +137,7 @@ fn show_script<R: Print + Threads + Wait + Sync, W: Write>(
     rt: &R,
     alloc: Global,
     w: &mut W,
-    script: Told,
+    script: &Told,
 ) -> Result<()> {
     println!(rt; "{}:", script.name)?;
     if carried_out(rt, alloc, w, script) == Err(ScriptFault::NoMemory) {
@@ -119,7 +152,7 @@ fn carried_out<R: Threads + Wait + Sync, W: Write>(
     rt: &R,
     alloc: Global,
     w: &mut W,
-    script: Told,
+    script: &Told,
 ) -> Result<(), ScriptFault> {
     let mut input = script.text.as_bytes();
     if script.is_race {

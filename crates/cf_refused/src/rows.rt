@@ -6,7 +6,7 @@ ghost use Rattle.cf_desk.specs.Views.{IsOf};
 use crate::answers::Want;
 use crate::graphs::{Four, settled_stages};
 use anyhow::Result;
-use cf_desk::{Call, Closed, Desk, OpenFault, Pass};
+use cf_desk::{Call, Closed, Desk, Kept, Pass};
 use cf_model::Ask;
 use cf_outcome::Value;
 use cf_plan::{Form, Of, Plan, PlanBuilder, PlanFault};
@@ -89,40 +89,41 @@ pub(crate) fn source_and_apply(alloc: Global) -> Result<Plan, PlanFault> {
 }
 
 /// Prints what each step of a row's callers is answered, and what the closed desk has; or that memory was refused.
-pub(crate) fn show_row<R: Print>(rt: &R, alloc: Global, plan: &Plan, row: Row) -> Result<()> {
-    let name = row.name;
+pub(crate) fn show_row<R: Print>(rt: &R, alloc: Global, plan: &Plan, row: &Row) -> Result<()> {
     match opened(alloc, plan, row) {
-        Err(_) => println!(rt; "{name}: no memory")?,
-        Ok((desk, passes)) => {
-            println!(rt; "{name}:")?;
-            show_steps(rt, desk, passes, row)?;
-        }
+        Err(_) => Ok(println!(rt; "{}: no memory", row.name)?),
+        Ok((desk, passes)) => show_steps(rt, desk, passes, row),
     }
-    Ok(())
 }
 
 /// The desk of a row.
-fn opened(alloc: Global, plan: &Plan, row: Row) -> Result<(Desk, Vec<Pass>), Want>
+fn opened(alloc: Global, plan: &Plan, row: &Row) -> Result<(Desk, Vec<Pass>), Want>
     ensures all { IfOk result (λ r. All (IsOf r.0) r.1.items) }
     ensures callers { IfOk result (λ r. r.0.setting.callers ≡ 2) }
 {
-    let opened = Desk::open_growing(alloc, plan.copy()?, 2, row.log, row.calls, row.room, 4)?;
+    let plan = plan.copy()?;
+    let opened = Desk::open_growing(alloc, plan, 2, row.log, row.calls, row.room, 4)?;
     Ok(opened)
 }
 
 /// Prints what each step is answered, and what the closed desk has.
-fn show_steps<R: Print>(rt: &R, desk: Desk, passes: Vec<Pass>, row: Row) -> Result<()>
+fn show_steps<R: Print>(rt: &R, desk: Desk, passes: Vec<Pass>, row: &Row) -> Result<()>
     requires all { All (IsOf desk) passes.items }
     requires callers { desk.setting.callers ≡ 2 }
 {
     let Some((mut first, mut second, rest)) = both_of(&desk, passes) else {
         return Ok(());
     };
-    take(rt, &desk, &mut first, &mut second, row)?;
-    if let Some(mut closed) = close_two(desk, rest, first, second) {
-        show_end(rt, &mut closed)?;
+    let shown = take(rt, &desk, &mut first, &mut second, row);
+    show_closed(rt, close_two(desk, rest, first, second), shown)
+}
+
+/// Prints what a closed desk has, where its steps were shown.
+fn show_closed<R: Print>(rt: &R, closed: Option<Closed>, shown: Result<()>) -> Result<()> {
+    match (shown, closed) {
+        (Ok(()), Some(mut closed)) => show_end(rt, &mut closed),
+        (shown, _) => shown,
     }
-    Ok(())
 }
 
 /// The first and the second of two passes, which are both of one desk, and the list that they stood in.
@@ -151,21 +152,27 @@ fn close_two(desk: Desk, mut list: Vec<Pass>, first: Pass, second: Pass) -> Opti
 /// Prints how many events and records a closed desk has, and how many of its stages are settled.
 fn show_end<R: Print>(rt: &R, closed: &mut Closed) -> Result<()> {
     let events = closed.history.len();
-    let mut records = 0usize;
-    for kept in &closed.passes {
-        records = records.saturating_add(kept.records.len());
-    }
+    let records = records_of(closed.passes.as_slice());
     let stages = closed.graph.stages();
     let settled = settled_stages(&mut closed.graph, stages);
     println!(rt; "  closed: {events} events, {records} records, {settled} settled")?;
     Ok(())
 }
 
-/// The first caller's steps, the meeting and the second caller's steps.
-fn take<R: Print>(rt: &R, desk: &Desk, p: &mut Pass, q: &mut Pass, row: Row) -> Result<()>
+fn records_of(passes: &[Kept]) -> usize {
+    let mut records = 0usize;
+    for kept in passes {
+        records = records.saturating_add(kept.records.len());
+    }
+    records
+}
+
+/// The row's name, the first caller's steps, the meeting and the second caller's steps.
+fn take<R: Print>(rt: &R, desk: &Desk, p: &mut Pass, q: &mut Pass, row: &Row) -> Result<()>
     requires { IsOf desk.now p.old × IsOf desk.now q.old }
     ensures { IsOf desk.now p.new × IsOf desk.now q.new }
 {
+    println!(rt; "{}:", row.name)?;
     take_by(rt, desk, p, row.first)?;
     desk.meet(p, q);
     take_by(rt, desk, q, row.second)

@@ -1,6 +1,7 @@
 //! Events that attach stages: the words of all of them, and what they do to a graph with room.
 ghost use Rattle.std.specs.Prelude.{◌≡◌, ◌<◌, IfOk, length};
 
+use crate::tests::is_word;
 use crate::{Event, Reply, apply, decode, encode, is_event, replay};
 use cf_core::Graph;
 use cf_model::{Attached, Claimed};
@@ -49,51 +50,56 @@ const FUNCTIONS: [Option<u16>; 3] = [None, Some(0), Some(9)];
 /// each with one source, eight for each with two, seven for each that takes any.
 const FITTING: u32 = 1 + 2 * 2 + 8 * 4 + 6 * 8 + 2 * 7;
 
-/// An attaching has a word if the stage fits its form, and the word's form is its number.
-fn has_word(rt: &impl Abort, number: u64, event: Event, fits: bool) -> bool {
-    assert_eq!(rt; is_event(&event), fits);
-    if !is_event(&event) {
+/// Whether the word of an event that attaches has the form's number.
+fn is_numbered(event: &Event, number: u64) -> bool {
+    if !is_event(event) {
         return false;
     }
-    let word = encode(&event);
-    assert_eq!(rt; word / (1 << 24) % 256, number);
-    assert_eq!(rt; decode(word), Some(event));
-    true
+    let word = encode(event);
+    word / (1 << 24) % 256 == number && decode(word) == Some(*event)
+}
+
+/// An event that attaches a stage.
+fn attach(who: u8, form: Form, of: Of, function: Option<u16>) -> Event {
+    Event::Attach {
+        who,
+        form,
+        of,
+        function,
+    }
+}
+
+/// Whether a stage fits its form. If it does, its attaching has a word with the number of the form, and else it has none.
+fn fits(rt: &impl Abort, number: usize, form: Form, of: Of, function: Option<u16>) -> bool {
+    let fits = fits_form(form, of.count(), function.is_some());
+    let event = attach(3, form, of, function);
+    assert_eq!(rt; is_event(&event), fits, "{event:?}");
+    assert_eq!(rt; is_numbered(&event, number as u64), fits, "{event:?}");
+    fits
+}
+
+/// How many of those sources and functions fit the form of this number.
+fn count_fitting(rt: &impl Abort, number: usize, row: (Form, u16, u16, bool)) -> u32 {
+    let (form, least, most, called) = row;
+    let mut found: u32 = 0;
+    for of in &SOURCES {
+        let counts = least <= of.count() && of.count() <= most;
+        for function in &FUNCTIONS {
+            let wanted = counts && called == function.is_some();
+            assert_eq!(rt; fits(rt, number, form, *of, *function), wanted);
+            found = found.wrapping_add(wanted as u32);
+        }
+    }
+    found
 }
 
 #[test]
 fn stages_that_fit_their_form_have_words(rt: HostRuntime) {
     let mut found: u32 = 0;
-    for (number, (form, least, most, called)) in FORMS.into_iter().enumerate() {
-        for of in SOURCES {
-            for function in FUNCTIONS {
-                let count = of.count();
-                let fits = least <= count && count <= most && called == function.is_some();
-                assert_eq!(rt; fits_form(form, count, function.is_some()), fits);
-                let event = Event::Attach {
-                    who: 3,
-                    form,
-                    of,
-                    function,
-                };
-                if has_word(&rt, number as u64, event, fits) {
-                    found = found.wrapping_add(1);
-                }
-            }
-        }
+    for (number, row) in FORMS.iter().enumerate() {
+        found = found.wrapping_add(count_fitting(&rt, number, *row));
     }
     assert_eq!(rt; found, FITTING);
-}
-
-/// Whether a word is an event's, which then has this word.
-fn is_word(rt: &impl Abort, word: u64) -> bool {
-    match decode(word) {
-        None => false,
-        Some(event) => {
-            assert_eq!(rt; encode(&event), word);
-            true
-        }
-    }
 }
 
 /// Those are all words with these sources and functions: each form's number up to 255, with each number of sources up to 15.
@@ -102,39 +108,50 @@ fn no_other_word_attaches(rt: HostRuntime) {
     let mut found: u32 = 0;
     for form in 0..256u64 {
         for count in 0..16u64 {
-            for first in [0u64, 5 << 36] {
-                for second in [0u64, 7 << 12] {
-                    for function in [0u64, 9] {
-                        let low = form << 24 | second | function;
-                        let word = 0x0703000000000000 | first | count << 32 | low;
-                        if is_word(&rt, word) {
-                            found = found.wrapping_add(1);
-                        }
-                    }
-                }
-            }
+            found = found.wrapping_add(count_words(&rt, form, count));
         }
     }
     assert_eq!(rt; found, FITTING);
 }
 
+/// The sources and the functions of those events, as the bits of their words.
+const BITS: [u64; 8] = [
+    0,
+    9,
+    7 << 12,
+    7 << 12 | 9,
+    5 << 36,
+    5 << 36 | 9,
+    5 << 36 | 7 << 12,
+    5 << 36 | 7 << 12 | 9,
+];
+
+/// How many words attach a stage of the form of this number with so many sources.
+fn count_words(rt: &impl Abort, form: u64, count: u64) -> u32 {
+    let mut found: u32 = 0;
+    for bits in &BITS {
+        let word = 0x0703000000000000 | count << 32 | form << 24 | *bits;
+        found = found.wrapping_add(is_word(rt, word) as u32);
+    }
+    found
+}
+
+/// Attachings, and whether there is a word for each.
+const GREATEST: [(u8, Form, Of, Option<u16>, bool); 6] = [
+    (63, Form::RunBoth, Of::Two(4095, 4095), Some(4095), true),
+    (64, Form::RunBoth, Of::Two(0, 0), Some(0), false),
+    (0, Form::RunBoth, Of::Two(4096, 0), Some(0), false),
+    (0, Form::RunBoth, Of::Two(0, 4096), Some(0), false),
+    (0, Form::RunBoth, Of::Two(0, 0), Some(4096), false),
+    (0, Form::AnyOf, Of::One(4096), None, false),
+];
+
 #[test]
 fn words_have_no_room_for_greater_numbers(rt: HostRuntime) {
-    let attach = |who, form, of, function| {
-        Event::Attach {
-            who,
-            form,
-            of,
-            function,
-        }
-    };
-    let both = Form::RunBoth;
-    assert!(rt; is_event(&attach(63, both, Of::Two(4095, 4095), Some(4095))));
-    assert!(rt; !is_event(&attach(64, both, Of::Two(0, 0), Some(0))));
-    assert!(rt; !is_event(&attach(0, both, Of::Two(4096, 0), Some(0))));
-    assert!(rt; !is_event(&attach(0, both, Of::Two(0, 4096), Some(0))));
-    assert!(rt; !is_event(&attach(0, both, Of::Two(0, 0), Some(4096))));
-    assert!(rt; !is_event(&attach(0, Form::AnyOf, Of::One(4096), None)));
+    for (who, form, of, function, has) in &GREATEST {
+        let event = attach(*who, *form, *of, *function);
+        assert_eq!(rt; is_event(&event), *has, "{event:?}");
+    }
 }
 
 /// The graph of one source, with room for two stages.
@@ -159,25 +176,27 @@ fn answer(graph: &mut Graph, word: u64) -> Option<Reply> {
     }
 }
 
+/// Words, and what each is answered.
+const WORDS: [(u64, Option<Reply>); 6] = [
+    (0x0402001000000000, None),
+    (0x0700000103000006, Some(Reply::Attach(Attached::At(1)))),
+    (0x0700001110000000, Some(Reply::Attach(Attached::At(2)))),
+    (
+        0x0700000000000000,
+        Some(Reply::Attach(Attached::StagesFull)),
+    ),
+    (0x0101000100000005, Some(Reply::Flag(true))),
+    (
+        0x0402001000000000,
+        Some(Reply::Claim(Claimed::Granted(Args::One(Value::Int(5))))),
+    ),
+];
+
 #[test]
 fn events_of_words_name_attached_stages(rt: HostRuntime) -> Result<(), Fail> {
     let mut graph = growing(&rt, rt.alloc())?;
-    let rows = [
-        (0x0402001000000000, None),
-        (0x0700000103000006, Some(Reply::Attach(Attached::At(1)))),
-        (0x0700001110000000, Some(Reply::Attach(Attached::At(2)))),
-        (
-            0x0700000000000000,
-            Some(Reply::Attach(Attached::StagesFull)),
-        ),
-        (0x0101000100000005, Some(Reply::Flag(true))),
-        (
-            0x0402001000000000,
-            Some(Reply::Claim(Claimed::Granted(Args::One(Value::Int(5))))),
-        ),
-    ];
-    for (word, wanted) in rows {
-        assert_eq!(rt; answer(&mut graph, word), wanted, "{word}");
+    for (word, wanted) in &WORDS {
+        assert_eq!(rt; answer(&mut graph, *word), *wanted, "{word}");
     }
     assert_eq!(rt; graph.stages(), 3);
     Ok(())
