@@ -13,7 +13,7 @@ use crate::printing::print_given;
 use crate::report::write_stages;
 use cf_core::Graph;
 use cf_model::Event;
-use cf_pool::{Gate, RaceFault, race, share};
+use cf_pool::{Gate, RaceFault, race};
 use cf_reading::{MAX_BYTES, Script, Step, read_input, read_race};
 use std::alloc::{AllocError, Global};
 use std::io::{Read, Write};
@@ -48,9 +48,8 @@ fn graph_of<R: Threads + Wait + Sync, G: Gate + Sync>(
 {
     let (plan, room, functions, steps) = script.into_parts();
     let events = events(alloc, &steps)?;
-    let hands = share(alloc, &functions, gate, workers + 1)?;
-    match race(rt, alloc, plan, room, &events, hands, workers) {
-        Ok(left) => Ok(left.into_graph()),
+    match race(rt, alloc, plan, room, &events, &functions, gate, workers) {
+        Ok(graph) => Ok(graph),
         Err(RaceFault::NoMemory) => Err(ScriptFault::NoMemory),
         Err(RaceFault::Size) => Err(ScriptFault::RaceSize),
     }
