@@ -49,7 +49,7 @@ fn a_closed_desk_fits(rt: HostRuntime) -> Result<(), Fail> {
     };
     let mut account = account_of(alloc, &closed)?;
     let plan = plan(alloc)?;
-    assert!(rt; plan.stages() <= 4_000 && plan.edges() <= 16_000);
+    assert!(rt; plan.has_place(1));
     assert_eq!(rt; check(alloc, &plan, 1, &account)?, Verdict::Fits);
     let mut outcomes = Vec::new(alloc);
     for stage in 0..closed.graph.stages() {
