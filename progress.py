@@ -17,14 +17,14 @@ from crates import TOP, own
 
 OTHER = 150
 PROOFS = {
-    "cf_c": 856, "cf_core": 357, "cf_desk": 214, "cf_pool": 251, "cf_script": 185, "cf_reading": 245, "cf_plan": 196, "cf_bench": 568,
-    "cf_stress": 563, "cf_refused": 509, "cf_event": 48, "cf_outcome": 65, "cf_explain": 467, "cf_plain": 162, "cf_look": 401,
-    "cf_history": 138, "cf_example": 100, "cf": 115, "cf_command": 78, "cf_picture": 220, "cf_bits": 28, "cf_expr": 20,
+    "cf_c": 831, "cf_core": 280, "cf_desk": 204, "cf_pool": 253, "cf_script": 175, "cf_reading": 247, "cf_plan": 217, "cf_bench": 615,
+    "cf_stress": 534, "cf_refused": 419, "cf_event": 62, "cf_outcome": 85, "cf_explain": 376, "cf_plain": 122, "cf_look": 393,
+    "cf_history": 110, "cf_example": 114, "cf": 126, "cf_command": 78, "cf_picture": 221, "cf_bits": 28, "cf_expr": 20, "cf_model": 57,
 }  # fmt: skip
 TESTS = {
-    "cf_script_tests": 714, "cf_event": 259, "cf_plan_tests": 552, "cf_desk_tests": 537, "cf_outcome": 187,
-    "cf_pool_tests": 418, "cf_core_tests": 404, "cf_plain_tests": 306, "cf": 90,
-    "cf_reading_tests": 243, "cf_bits": 68, "cf_look_tests": 269,
+    "cf_script_tests": 602, "cf_event": 160, "cf_plan_tests": 252, "cf_desk_tests": 539, "cf_outcome": 203,
+    "cf_pool_tests": 576, "cf_core_tests": 418, "cf_plain_tests": 274, "cf": 97,
+    "cf_reading_tests": 189, "cf_bits": 88, "cf_look_tests": 424,
 }  # fmt: skip
 OF_TESTS = 9  # to prove a crate that holds tests alone
 CALLERS = 420  # seconds, for the library for C and its callers, once rt ci has ended
