@@ -13,9 +13,9 @@
 #include <string.h>
 
 static const uint32_t SIZES[] = {0, 1, 2, 3, 4, 5, 7, 8, 9, 15, 16, 17, 31, 32, 33, 63, 64, 65, 127, 128, 129, 255, 256, 257, 511, 512, 513,
-    1000, 1001, 1023, 1024, 1025, 2047, 2048, 2049, 4094, 4095, 4096, 4097, 8191, 8192, 8193, 16383, 16384, 16385, 32767, 32768, 32769,
+    1000, 1001, 1023, 1024, 1025, 2047, 2048, 2049, 4094, 4095, 4096, 4097, 8191, 8192, 8193, 16383, 16384, 16385, 20000, 20001, 32767, 32768, 32769,
     65534, 65535};
-enum { COUNT = sizeof SIZES / sizeof *SIZES, STAGES = 4096, EDGES = 16384, LIMITS = 4096, CALLERS = 64, TEXT = 1048576 };
+enum { COUNT = sizeof SIZES / sizeof *SIZES, STAGES = 4096, EDGES = 16384, LIMITS = 4096, CALLERS = 64, STEPS = 20000, TEXT = 1048576 };
 
 static long made, wrong;
 static int is_short;
@@ -169,13 +169,14 @@ static void scripts(void) {
     size_t n = (size_t)sprintf((char *)text, "{\"cf\": 1, \"stages\": [{\"form\": \"source\"}], \"steps\": [");
     for (uint32_t k = 0; k < SIZES[i]; ++k) n += (size_t)sprintf((char *)text + n, "%s[\"outcome\",0]", k ? "," : "");
     n += (size_t)sprintf((char *)text + n, "]}");
-    run(n, sizeof report, CF_OK, SIZES[i]);
-    run(n, 5, CF_OK, SIZES[i]);
-    run(n, 0, CF_OK, SIZES[i]);
+    uint32_t wanted = SIZES[i] > STEPS ? CF_BAD_SCRIPT : CF_OK;
+    run(n, sizeof report, wanted, SIZES[i]);
+    run(n, 5, wanted, SIZES[i]);
+    run(n, 0, wanted, SIZES[i]);
     if (i % (is_short ? 16 : 4) == 0) {
       memset(text + n, ' ', TEXT + 1 - n);
-      run(TEXT - 1, sizeof report, CF_OK, SIZES[i]);
-      run(TEXT, sizeof report, CF_OK, SIZES[i]);
+      run(TEXT - 1, sizeof report, wanted, SIZES[i]);
+      run(TEXT, sizeof report, wanted, SIZES[i]);
       run(TEXT + 1, sizeof report, CF_BAD_SCRIPT, SIZES[i]);
     }
   }
