@@ -24,3 +24,4 @@ pub mod TurnLemmas
 pub mod Attaching
 pub mod AttachSound
 pub mod Takes
+pub mod Resting

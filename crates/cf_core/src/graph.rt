@@ -12,7 +12,7 @@ ghost use Rattle.std.specs.Prelude.{◌≡◌, ◌+◌, ◌<◌, ◌≤◌, ◌�
 ghost use Rattle.cf_outcome.specs.Outcomes.{now_of};
 ghost use Rattle.cf_plan.specs.Plans.{IsGrowing, function_at, has_place, opening_of, with_room};
 ghost use Rattle.cf_model.specs.States.{lowest_ready_of, outcome_at, start};
-ghost use Rattle.cf_model.specs.Graphs.{most_turns};
+ghost use Rattle.cf_model.specs.Graphs.{NoneLeftFor, NoneLeftUpTo, most_turns};
 
 use crate::stages::Stages;
 use cf_outcome::{Now, Outcome, Value, now_of};
@@ -40,7 +40,7 @@ impl From<AllocError> for GraphFault {
 /// A graph of stages, of which each is pending, ready, claimed, linked or settled.
 ///
 /// A contract sees it as its state, in which all consequences have come to pass, whether they were worked out yet or not,
-/// and how many turns were taken.
+/// how many turns were taken, and the lowest stage that a turn is left for.
 #[derive(Drop)]
 pub struct Graph {
     plan: GrowingPlan,
@@ -55,11 +55,12 @@ impl Model for Graph {
 
     ghost Value = { Graph };
 
+    ghost use Rattle.std.specs.Prelude.{position};
     ghost use Rattle.std.specs.Vec.{vec_capacity};
     ghost use Rattle.cf_core.specs.Keeping.SoundStages.{settled_view_of};
     ghost use Rattle.cf_core.specs.Keeping.Graphs.{IsInStep};
 
-    ghost view = { λ g. record { state = record { plan = g.plan; stages = settled_view_of g.plan.stages g.stages; claims = g.claims.items; moment = g.moment; used = g.used }; turns = g.stages.turns } };
+    ghost view = { λ g. record { state = record { plan = g.plan; stages = settled_view_of g.plan.stages g.stages; claims = g.claims.items; moment = g.moment; used = g.used }; turns = g.stages.turns; left = position (λ b. b) g.stages.marks } };
 
     ghost invariant = { λ g. IsInStep g.plan g.stages g.claims.items (vec_capacity g.claims) g.used };
 }
@@ -69,7 +70,8 @@ impl Graph {
     /// is none.
     #[tactic(auto, using(cf_plan::proofs::PlanLemmas::place_for_none))]
     pub fn new(alloc: Global, plan: Plan) -> Result<Graph, GraphFault>
-        ensures { IfOk result (λ graph. graph ≡ record { state = start plan; turns = 0 }) }
+        ensures start { IfOk result (λ graph. graph.state ≡ start plan) }
+        ensures turns { IfOk result (λ graph. graph.turns ≡ 0) }
     {
         // A plan that was built is within its bounds.
         let _stages = plan.stages();
@@ -80,7 +82,8 @@ impl Graph {
     /// that the graph will ever need, also for these, and fails only where there is none.
     pub fn new_growing(alloc: Global, plan: Plan, room: u16) -> Result<Graph, GraphFault>
         requires place { has_place plan.stages room ≡ true }
-        ensures { IfOk result (λ graph. graph ≡ record { state = start (with_room plan room); turns = 0 }) }
+        ensures start { IfOk result (λ graph. graph.state ≡ start (with_room plan room)) }
+        ensures turns { IfOk result (λ graph. graph.turns ≡ 0) }
     {
         Ok(graph_of(alloc, plan, room)?)
     }
@@ -123,6 +126,7 @@ impl Graph {
         requires { i < length self.old.state.plan.stages }
         ensures told { result ≡ now_of (outcome_at self.old.state i) absent }
         ensures unchanged { self.new.state ≡ self.old.state }
+        ensures rests { NoneLeftUpTo i self.old.left → self.new ≡ self.old }
         ensures counted { self.old.turns ≤ self.new.turns }
         ensures few { self.new.turns ≤ most_turns self.new.state.plan.stages }
     {
@@ -134,6 +138,7 @@ impl Graph {
         requires { i < length self.old.state.plan.stages }
         ensures told { result ≡ outcome_at self.old.state i }
         ensures unchanged { self.new.state ≡ self.old.state }
+        ensures rests { NoneLeftUpTo i self.old.left → self.new ≡ self.old }
         ensures counted { self.old.turns ≤ self.new.turns }
         ensures few { self.new.turns ≤ most_turns self.new.state.plan.stages }
     {
@@ -148,15 +153,18 @@ impl Graph {
     pub fn lowest_ready(&mut self) -> Option<u16>
         ensures told { result ≡ lowest_ready_of self.old.state }
         ensures unchanged { self.new.state ≡ self.old.state }
+        ensures rests { NoneLeftFor result self.old.left → self.new ≡ self.old }
         ensures counted { self.old.turns ≤ self.new.turns }
         ensures few { self.new.turns ≤ most_turns self.new.state.plan.stages }
     {
         self.stages.lowest_ready(&self.plan)
     }
 
-    /// Does at most `k` turns of work that is left over, and says how many. It changes no answer but that of `turns`.
+    /// Does at most `k` turns of work that is left over, and says how many: fewer than `k` only where none is left then. It
+    /// changes no answer but that of `turns`.
     pub fn nudge(&mut self, k: u32) -> u32
         ensures at_most { result ≤ k }
+        ensures all { result < k → self.new.left ≡ None }
         ensures unchanged { self.new.state ≡ self.old.state }
         ensures counted { self.new.turns ≡ self.old.turns + result }
         ensures few { self.new.turns ≤ most_turns self.new.state.plan.stages }
@@ -176,7 +184,8 @@ impl Graph {
 /// The graph of a plan with room for so many stages.
 fn graph_of(alloc: Global, plan: Plan, room: u16) -> Result<Graph, AllocError>
     requires place { has_place plan.stages room ≡ true }
-    ensures { IfOk result (λ graph. graph ≡ record { state = start (with_room plan room); turns = 0 }) }
+    ensures start { IfOk result (λ graph. graph.state ≡ start (with_room plan room)) }
+    ensures turns { IfOk result (λ graph. graph.turns ≡ 0) }
 {
     let plan = GrowingPlan::new(alloc, plan, room)?;
     let stages = Stages::new(alloc, &plan)?;

@@ -8,6 +8,7 @@ ghost use Rattle.cf_plan.specs.declared.forms.Landing.TheVariants.{Links as Link
 ghost use Rattle.cf_plan.specs.Forms.{composes, starts};
 ghost use Rattle.cf_plan.specs.Plans.{dependents_of, form_at, sources_at};
 ghost use Rattle.cf_model.specs.declared.stage.Stage.TheVariants.{Claimed, Linked, Pending, Settled};
+ghost use Rattle.cf_model.specs.Graphs.{NoneLeftFor, NoneLeftUpTo};
 ghost use Rattle.cf_model.specs.States.{is_ready, new_states, outcome_in, outcome_of};
 ghost use Rattle.cf_core.specs.Keeping.Landings.{landed_stages};
 ghost use Rattle.cf_core.specs.Keeping.Links.{list_at};
@@ -167,6 +168,7 @@ impl Stages {
         ensures same { settled_view_of plan.now.stages self.new ≡ settled_view_of plan.now.stages self.old }
         ensures taken { StayTaken self.old.kept.items self.new.kept.items }
         ensures turns { TurnsUpTo plan.now.stages d self.old self.new }
+        ensures still { NoneLeftUpTo d (position (λ b. b) self.old.marks) → self.new ≡ self.old }
         ensures room { SameRoom self.old self.new }
         ensures sound { AreSound plan.now.stages self.new }
     {
@@ -179,6 +181,7 @@ impl Stages {
     pub fn treat_all(&mut self, plan: &GrowingPlan)
         requires sound { AreSound plan.now.stages self.old }
         ensures treated { AreTreated (length plan.now.stages) self.new.marks }
+        ensures still { position (λ b. b) self.old.marks ≡ None → self.new ≡ self.old }
         ensures same { settled_view_of plan.now.stages self.new ≡ settled_view_of plan.now.stages self.old }
         ensures taken { StayTaken self.old.kept.items self.new.kept.items }
         ensures counted { self.old.turns ≤ self.new.turns }
@@ -211,6 +214,7 @@ impl Stages {
         ensures same { settled_view_of plan.now.stages self.new ≡ settled_view_of plan.now.stages self.old }
         ensures taken { StayTaken self.old.kept.items self.new.kept.items }
         ensures turns { TurnsBelowReady plan.now.stages self.old self.new }
+        ensures still { NoneLeftFor result (position (λ b. b) self.old.marks) → self.new ≡ self.old }
         ensures room { SameRoom self.old self.new }
         ensures sound { AreSound plan.now.stages self.new }
     {

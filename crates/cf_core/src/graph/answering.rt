@@ -1,7 +1,7 @@
 //! Any call, as an event that is answered or a question that is told.
 ghost use Rattle.std.specs.Prelude.{◌≡◌, ◌≤◌, ◌↔◌, IsTrue, length};
 ghost use Rattle.cf_model.specs.Events.{answered, told};
-ghost use Rattle.cf_model.specs.Graphs.{most_turns};
+ghost use Rattle.cf_model.specs.Graphs.{NoneLeftUpTo, Rests, asked_stage, most_turns};
 ghost use Rattle.cf_model.specs.Ranges.{AskFits, EventFits};
 
 use crate::graph::Graph;
@@ -15,6 +15,7 @@ impl Graph {
     pub fn answer(&mut self, e: &Event) -> Reply
         requires { EventFits (length self.old.state.plan.stages) e.now }
         ensures told { (result, self.new.state) ≡ answered self.old.state e.now }
+        ensures rests { Rests e.now self.old self.new }
         ensures counted { self.old.turns ≤ self.new.turns }
         ensures few { self.new.turns ≤ most_turns self.new.state.plan.stages }
     {
@@ -46,6 +47,7 @@ impl Graph {
         requires { AskFits (length self.old.state.plan.stages) a }
         ensures told { result ≡ told self.old.state a }
         ensures unchanged { self.new.state ≡ self.old.state }
+        ensures rests { NoneLeftUpTo (asked_stage a) self.old.left → self.new ≡ self.old }
         ensures counted { self.old.turns ≤ self.new.turns }
         ensures few { self.new.turns ≤ most_turns self.new.state.plan.stages }
     {

@@ -7,7 +7,7 @@ ghost use Rattle.cf_model.specs.States.{outcome_in};
 ghost use Rattle.cf_model.specs.Events.{claiming, finishing};
 ghost use Rattle.cf_core.specs.Keeping.SoundStages.{settled_view_of};
 ghost use Rattle.cf_core.specs.Keeping.Sweeps.{AreSwept};
-ghost use Rattle.cf_model.specs.Graphs.{most_turns};
+ghost use Rattle.cf_model.specs.Graphs.{RestsUpTo, most_turns};
 
 use crate::graph::Graph;
 use crate::stages::Stages;
@@ -23,6 +23,7 @@ impl Graph {
     pub fn claim(&mut self, who: u8, i: u16) -> Claimed
         requires { i < length self.old.state.plan.stages }
         ensures told { (result, self.new.state) ≡ claiming self.old.state who i }
+        ensures rests { RestsUpTo i self.old self.new }
         ensures counted { self.old.turns ≤ self.new.turns }
         ensures few { self.new.turns ≤ most_turns self.new.state.plan.stages }
     {
@@ -47,6 +48,7 @@ impl Graph {
     pub fn finish(&mut self, who: u8, i: u16, answer: Answer) -> Finished
         requires { i < length self.old.state.plan.stages }
         ensures told { (result, self.new.state) ≡ finishing self.old.state who i answer }
+        ensures rests { RestsUpTo i self.old self.new }
         ensures counted { self.old.turns ≤ self.new.turns }
         ensures few { self.new.turns ≤ most_turns self.new.state.plan.stages }
     {

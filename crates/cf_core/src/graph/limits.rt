@@ -2,7 +2,7 @@
 ghost use Rattle.std.specs.Prelude.{◌≡◌, ◌+◌, ◌<◌, ◌≤◌, Some, drop, length, nat_le, slice_get, take};
 ghost use Rattle.std.specs.List.{prefix_len};
 ghost use Rattle.cf_model.specs.Events.{due_limits, firing, limit_outcome, settling, ticking};
-ghost use Rattle.cf_model.specs.Graphs.{most_turns};
+ghost use Rattle.cf_model.specs.Graphs.{RestsForLimits, RestsUpTo, most_turns};
 
 use crate::graph::Graph;
 use cf_model::Ticked;
@@ -15,6 +15,7 @@ impl Graph {
     /// (`CompletableFuture.orTimeout`, `completeOnTimeout`). The answer says how many settled their stage.
     pub fn tick(&mut self, now: u32) -> Ticked
         ensures told { (result, self.new.state) ≡ ticking self.old.state now }
+        ensures rests { RestsForLimits (due_limits self.old.state now) self.old self.new }
         ensures counted { self.old.turns ≤ self.new.turns }
         ensures few { self.new.turns ≤ most_turns self.new.state.plan.stages }
     {
@@ -40,6 +41,7 @@ impl Graph {
     fn fire_next(&mut self, count: usize) -> u16
         requires { self.old.state.used + count ≤ length self.old.state.plan.limits }
         ensures fired { (result, self.new.state) ≡ firing 0 self.old.state (take count (drop self.old.state.used self.old.state.plan.limits)) }
+        ensures rests { RestsForLimits (take count (drop self.old.state.used self.old.state.plan.limits)) self.old self.new }
         ensures counted { self.old.turns ≤ self.new.turns }
         ensures plan { self.new.state.plan ≡ self.old.state.plan }
         ensures used { self.new.state.used ≡ self.old.state.used }
@@ -78,6 +80,7 @@ impl Graph {
     fn fire(&mut self, limit: Limit) -> bool
         requires { limit.stage < length self.old.state.plan.stages }
         ensures told { (result, self.new.state) ≡ settling self.old.state limit.stage (limit_outcome limit.kind) }
+        ensures rests { RestsUpTo limit.stage self.old self.new }
         ensures counted { self.old.turns ≤ self.new.turns }
     {
         self.settle(limit.stage, outcome_of_limit(limit.kind))

@@ -9,7 +9,8 @@ impl Graph {
     /// Starts again: the graph is at the start of the plan that it was opened with, and its room is free again. Turns are
     /// counted from there. It takes no memory.
     pub fn restart(&mut self)
-        ensures { self.new ≡ record { state = start (reopened self.old.state.plan); turns = 0 } }
+        ensures start { self.new.state ≡ start (reopened self.old.state.plan) }
+        ensures turns { self.new.turns ≡ 0 }
     {
         self.plan.restart();
         self.stages.restart(&self.plan);

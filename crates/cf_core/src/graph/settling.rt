@@ -3,7 +3,7 @@ ghost use Rattle.std.specs.Prelude.{◌≡◌, ◌<◌, ◌≤◌, false, length
 ghost use Rattle.cf_outcome.specs.declared.outcome.Outcome.TheVariants.{Value as Gives, Fault};
 ghost use Rattle.cf_outcome.specs.declared.outcome.Cause.TheVariants.{Thrown};
 ghost use Rattle.cf_model.specs.Events.{cancelling, settling};
-ghost use Rattle.cf_model.specs.Graphs.{most_turns};
+ghost use Rattle.cf_model.specs.Graphs.{RestsUpTo, most_turns};
 
 use crate::graph::Graph;
 use cf_outcome::{Cause, Outcome, Value, is_cancelled};
@@ -17,6 +17,7 @@ impl Graph {
     pub fn complete(&mut self, i: u16, v: Value) -> bool
         requires { i < length self.old.state.plan.stages }
         ensures told { (result, self.new.state) ≡ settling self.old.state i (Gives v) }
+        ensures rests { RestsUpTo i self.old self.new }
         ensures counted { self.old.turns ≤ self.new.turns }
         ensures few { self.new.turns ≤ most_turns self.new.state.plan.stages }
     {
@@ -28,6 +29,7 @@ impl Graph {
     pub fn fail(&mut self, i: u16, code: u32) -> bool
         requires { i < length self.old.state.plan.stages }
         ensures told { (result, self.new.state) ≡ settling self.old.state i (Fault (Thrown code) false) }
+        ensures rests { RestsUpTo i self.old self.new }
         ensures counted { self.old.turns ≤ self.new.turns }
         ensures few { self.new.turns ≤ most_turns self.new.state.plan.stages }
     {
@@ -45,6 +47,7 @@ impl Graph {
     pub fn cancel(&mut self, i: u16) -> bool
         requires { i < length self.old.state.plan.stages }
         ensures told { (result, self.new.state) ≡ cancelling self.old.state i }
+        ensures rests { RestsUpTo i self.old self.new }
         ensures counted { self.old.turns ≤ self.new.turns }
         ensures few { self.new.turns ≤ most_turns self.new.state.plan.stages }
     {
@@ -66,6 +69,7 @@ impl Graph {
     pub(super) fn settle(&mut self, i: u16, o: Outcome) -> bool
         requires { i < length self.old.state.plan.stages }
         ensures told { (result, self.new.state) ≡ settling self.old.state i o }
+        ensures rests { RestsUpTo i self.old self.new }
         ensures counted { self.old.turns ≤ self.new.turns }
         ensures few { self.new.turns ≤ most_turns self.new.state.plan.stages }
     {

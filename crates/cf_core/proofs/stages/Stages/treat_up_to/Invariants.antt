@@ -1,16 +1,19 @@
 use Rattle.std.proofs.Common.{◌≡◌, ◌+◌, ◌-◌, length}
+use Rattle.std.specs.Prelude.{position}
 use Rattle.cf_plan.specs.Plans.{edges_of}
+use Rattle.cf_model.specs.Graphs.{NoneLeftUpTo}
 use Rattle.cf_core.specs.Keeping.Sound.{StayTaken}
 use Rattle.cf_core.specs.Keeping.Turns.{TurnsUpTo}
 use Rattle.cf_core.specs.Keeping.SoundStages.{AreSound, SameRoom, settled_view_of}
 use Rattle.cf_core.proofs.stages.Stages.treat_up_to.Given as goal
 
--- what the stages lead to stays, which were treated, and there are only so many turns in all
+-- what the stages lead to stays, which were treated, there are only so many turns in all, and none where none is left
 abbrev pub invariant-loop-m : goal.invariant-loop-m
 invariant-loop-m l = record {
   same : settled_view_of l.plan.stages l.self ≡ settled_view_of l.plan.stages l.initial.self;
   taken : StayTaken l.initial.self.kept.items l.self.kept.items;
   turns : TurnsUpTo l.plan.stages l.d l.initial.self l.self;
+  still : NoneLeftUpTo l.d (position (λ b. b) l.initial.self.marks) → l.self ≡ l.initial.self;
   room : SameRoom l.initial.self l.self;
   sound : AreSound l.plan.stages l.self;
 }
