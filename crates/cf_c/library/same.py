@@ -79,20 +79,25 @@ def main():
     exports = {}
     for name, inside, gives in EXPORT.findall(sources):
         parameters = re.findall(r"(\w+): ([^,]+)", inside)
-        exports[name] = (NUMBERS.get(gives, "void"), [word for field, kind in parameters if kind.strip() != "Global" for word in of_c(kind)])
-    declared = {name: (gives, [words(kind, is_pointer, said) for said, kind, is_pointer, _ in said_of]) for gives, name, said_of in declarations(HEADER.read_text(encoding="utf-8"))}
+        taken = [word for field, kind in parameters if kind.strip() != "Global" for word in of_c(kind)]
+        exports[name] = (NUMBERS.get(gives, "void"), taken)
+    declared = {}
+    for gives, name, said_of in declarations(HEADER.read_text(encoding="utf-8")):
+        declared[name] = (gives, [words(kind, is_pointer, said) for said, kind, is_pointer, _ in said_of])
     for name in sorted(exports.keys() | declared.keys()):
         if exports.get(name) != declared.get(name):
             wrong.append(f"{name}: {exports.get(name)} in the sources, {declared.get(name)} in the header")
 
     codes = {int(number): text for number, text in re.findall(r'^        (\d+) => Some\("(\w+)"\),', sources, re.M)}
     enum = re.search(r"typedef enum \{(.*?)\} cf_code;", header, re.S)[1]
-    if {number: snake(text) for number, text in codes.items()} != {number: name[3:].lower() for name, number in numbers_of(enum, "CF_").items()}:
+    named = {number: name[3:].lower() for name, number in numbers_of(enum, "CF_").items()}
+    if {number: snake(text) for number, text in codes.items()} != named:
         wrong.append("the codes differ")
 
     forms = re.search(r"pub enum Form \{(.*?)^\}", (CRATES / "cf_plan/src/forms.rt").read_text(encoding="utf-8"), re.S | re.M)[1]
     inside = next(it for it in re.findall(r"enum \{([^{}]*)\};", header) if "CF_SOURCE =" in it)
-    if {snake(it): number for number, it in enumerate(re.findall(r"^    (\w+),", forms, re.M))} != {name[3:].lower(): number for name, number in numbers_of(inside, "CF_").items()}:
+    numbered = {name[3:].lower(): number for name, number in numbers_of(inside, "CF_").items()}
+    if {snake(it): number for number, it in enumerate(re.findall(r"^    (\w+),", forms, re.M))} != numbered:
         wrong.append("the forms differ")
 
     print("\n".join(wrong) or f"{len(there)} structs, {len(exports)} calls, {len(codes)} codes and the forms are the same in both")
