@@ -29,8 +29,7 @@ import java.util.function.Function;
 
 /**
  * Runs scripts as java.util.concurrent.CompletableFutures, many in one run, and prints of each what `cf run` prints.
- * docs/JDK.md says which part of each line is the JDK's and which this program keeps count of; conformance/agree-jdk writes the
- * scripts and compares.
+ * conformance/agree-jdk writes the scripts and compares.
  *
  * A script comes as lines of words: `script WAY ROOM`, then `stage FORM SOURCE.. [: FUNCTION]`, `limit STAGE MOMENT
  * timeout` or `limit STAGE MOMENT value V`, the steps as scripts write them, with the words of an attached stage behind
@@ -44,6 +43,21 @@ import java.util.function.Function;
  *           many did since it was asked last
  *
  * One thread runs at a time, each handing on to the next, so a script's report is always the same.
+ *
+ * What the JDK says of each line:
+ *
+ *   true, false, settled, what is told now  the answers of its methods (isDone, getNow); a kept task is run first, and calls no function
+ *   an outcome, pending                     what handle on that future is told
+ *   granted ..                              that the function was called, and with what, wrapped or raw
+ *   notready                                no task was handed in
+ *   won, late                               whether the future was done before its function went on; a late one changed nothing
+ *   worked N                                which functions were called; direct, how many by then
+ *   fired N                                 how many tasks of its own clock settled their future; a tick runs them up to its moment
+ *   attached N                              the method makes a future, of sources as they are
+ *   badanswer                               how it is wrapped and passed on
+ *
+ * This program keeps count of the rest: which claim `granted` counts for, `taken`, `notyours`, that the lowest is next, the moment and
+ * `past`, an attached stage's number, `stagesfull`, `nudged`, and that a bad answer's function throws it.
  */
 public final class Agree {
     private static final int WORKER = 63;

@@ -7,7 +7,7 @@ from typing import Callable, List, Sequence
 NO_FUNCTION = 0xFFFFFFFF
 
 
-class Handle(c.Structure):
+class CHandle(c.Structure):
     """A handle: what stands behind it is the library's alone."""
 
     _fields_ = [("at", c.c_void_p), ("full", c.c_bool)]
@@ -60,7 +60,7 @@ def numbers(of: Sequence[int]) -> "c.Array[c.c_uint16]":
     return (c.c_uint16 * len(of))(*[in_range(stage, 0xFFFF) for stage in of])
 
 
-_H, _R, _OF = c.POINTER(Handle), c.POINTER(CReply), c.POINTER(c.c_uint16)
+_H, _R, _OF = c.POINTER(CHandle), c.POINTER(CReply), c.POINTER(c.c_uint16)
 _U8, _U16, _U32, _U64, _SIZE = c.c_uint8, c.c_uint16, c.c_uint32, c.c_uint64, c.c_size_t
 _U8_OUT, _U16_OUT, _U64_OUT = c.POINTER(c.c_uint8), c.POINTER(c.c_uint16), c.POINTER(c.c_uint64)
 _OUTCOME, _NOW, _TEXT = c.POINTER(COutcome), c.POINTER(CNow), [c.c_char_p, _SIZE, c.POINTER(_SIZE)]

@@ -3,10 +3,10 @@ import ctypes as c
 from dataclasses import dataclass
 from typing import List, Optional, Union
 
-from ._library import CRecord, Handle
+from ._library import CHandle, CRecord
 from .events import Event, event_of, reply_of
 from .graph import Graph
-from .held import Held
+from .handle import Handle
 from .values import Now, Outcome, Reply, Value, now_out, outcome_out, value_out
 
 
@@ -45,10 +45,10 @@ class SawNow:
 Record = Union[Did, Saw, SawNow]
 
 
-class Closed(Held):
+class Closed(Handle):
     """A desk that all its callers were given back to."""
 
-    def __init__(self, handle: Handle, callers: int) -> None:
+    def __init__(self, handle: CHandle, callers: int) -> None:
         super().__init__(handle)
         self.callers = callers
 

@@ -3,10 +3,10 @@ import ctypes as c
 import threading
 from typing import Iterable, Optional, Tuple
 
-from ._library import CNow, COutcome, Handle, library
+from ._library import CHandle, CNow, COutcome, library
 from .closed import Closed
 from .graph import there, value_of
-from .held import Calls, Held
+from .handle import Calls, Handle
 from .plan import Plan
 from .values import Cancelled, Code, Fault, Now, NowKind, Outcome, Refused, Value, check, now_out, outcome_out, value_in
 
@@ -36,7 +36,7 @@ class Caller(Calls):
 
     _prefix, _ready = "cf_desk_", "cf_desk_ready"
 
-    def __init__(self, handle: Handle) -> None:
+    def __init__(self, handle: CHandle) -> None:
         super().__init__(handle)
         self._lock = _Own()
         self.number: int = self._tell("cf_desk_caller", c.c_uint8()).value
@@ -119,7 +119,7 @@ class Desk:
     """The callers of one desk, by their numbers. At the end of a `with` those that weren't given back are freed."""
 
     def __init__(self, plan: Plan, callers: int, log: int, calls: int, room: int = 0, functions: Optional[int] = None) -> None:
-        handles = (Handle * callers)()
+        handles = (CHandle * callers)()
         if room == 0 and functions is None:
             plan.build()._call("cf_desk_open", handles, callers, log, calls)
         else:
@@ -127,7 +127,7 @@ class Desk:
             plan.build()._call("cf_desk_open_growing", handles, callers, log, calls, room, any_number)
         self.callers: Tuple[Caller, ...] = tuple(Caller(handle) for handle in handles)
         self._left = list(self.callers)
-        self._closing: Optional[Held] = None
+        self._closing: Optional[Handle] = None
         self._lock = threading.Lock()
 
     def close(self, callers: Optional[Iterable[Caller]] = None) -> Closed:
@@ -158,7 +158,7 @@ class Desk:
         with caller._lock:
             if self._closing is None:
                 caller._call("cf_close_begin")
-                self._closing = Held(caller._let_go())
+                self._closing = Handle(caller._let_go())
             else:
                 self._closing._call("cf_close_add", caller._at)
         self._left.remove(caller)

@@ -4,7 +4,7 @@ from dataclasses import dataclass
 from typing import Optional, Tuple, Union
 
 from ._library import NO_FUNCTION, CEvent, CReply, in_range, library
-from .held import function_in
+from .handle import function_in
 from .values import (Answer, Form, Reply, Value, answer_in, answer_out, check, claim_out, finish_out, flag_out, number_out, value_in,
                      value_out)
 

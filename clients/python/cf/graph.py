@@ -3,9 +3,9 @@ import ctypes as c
 from concurrent.futures import InvalidStateError
 from typing import Optional
 
-from ._library import CNow, COutcome, CReply, Handle
+from ._library import CHandle, CNow, COutcome, CReply
 from .events import reply_of
-from .held import Calls
+from .handle import Calls
 from .plan import Plan
 from .values import Cancelled, Fault, Now, Outcome, Reply, Value, now_out, outcome_out, value_in
 
@@ -22,7 +22,7 @@ class Graph(Calls):
         plan.build()._call("cf_graph_new", room, self._at)
 
     @classmethod
-    def _of(cls, handle: Handle) -> "Graph":
+    def _of(cls, handle: CHandle) -> "Graph":
         """A graph that stands behind a handle."""
         graph = cls.__new__(cls)
         Calls.__init__(graph, handle)

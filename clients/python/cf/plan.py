@@ -3,14 +3,14 @@ import ctypes as c
 from typing import TYPE_CHECKING, Optional
 
 from ._library import numbers
-from .held import Held, function_in
+from .handle import Handle, function_in
 from .values import Form, Value, value_in
 
 if TYPE_CHECKING:
     from .desk import Desk
 
 
-class Plan(Held):
+class Plan(Handle):
     """Stages, each of which depends on lower ones."""
 
     def __init__(self) -> None:

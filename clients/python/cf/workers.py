@@ -4,7 +4,7 @@ import time
 from typing import Iterable, List, Optional, Sequence, Tuple
 
 from .desk import Caller
-from .held import Function
+from .handle import Function
 from .values import Answer, Thrown
 
 

@@ -1,7 +1,7 @@
 //! Closed desks: what came, in its one order, and what each caller was told.
 use crate::event::{reply_out, Event};
 use crate::graph::Graph;
-use crate::held::Held;
+use crate::handle::Handle;
 use crate::refused::Refused;
 use crate::sys;
 use crate::values::*;
@@ -19,13 +19,13 @@ pub enum Record {
 
 /// A desk that all its callers were given back to.
 pub struct Closed {
-    held: Held,
+    handle: Handle,
     callers: u8,
 }
 
 impl Closed {
-    pub(crate) fn of(held: Held, callers: u8) -> Closed {
-        Closed { held, callers }
+    pub(crate) fn of(handle: Handle, callers: u8) -> Closed {
+        Closed { handle, callers }
     }
 
     pub fn callers(&self) -> u8 {
@@ -34,8 +34,8 @@ impl Closed {
 
     /// The words of all events, in the one order in which they came.
     pub fn words(&mut self) -> Result<Vec<u64>, Refused> {
-        let events = self.held.tell(|h, told| unsafe { sys::cf_closed_events(h, told) })?;
-        (0..events).map(|place| self.held.tell(|h, told| unsafe { sys::cf_closed_word(h, place, told) })).collect()
+        let events = self.handle.tell(|h, told| unsafe { sys::cf_closed_events(h, told) })?;
+        (0..events).map(|place| self.handle.tell(|h, told| unsafe { sys::cf_closed_word(h, place, told) })).collect()
     }
 
     /// The same events, read.
@@ -45,14 +45,14 @@ impl Closed {
 
     /// What the caller of a number, which is one of its callers', did and saw, in its order.
     pub fn records(&mut self, caller: u8) -> Result<Vec<Record>, Refused> {
-        let records = self.held.tell(|h, told| unsafe { sys::cf_closed_records(h, caller, told) })?;
-        (0..records).map(|at| record_out(self.held.tell(|h, told| unsafe { sys::cf_closed_record(h, caller, at, told) })?)).collect()
+        let records = self.handle.tell(|h, told| unsafe { sys::cf_closed_records(h, caller, told) })?;
+        (0..records).map(|at| record_out(self.handle.tell(|h, told| unsafe { sys::cf_closed_record(h, caller, at, told) })?)).collect()
     }
 
     /// The graph as all events leave it.
     pub fn graph(mut self) -> Result<Graph, Refused> {
-        self.held.call(|h| unsafe { sys::cf_closed_graph(h) })?;
-        Ok(Graph(self.held))
+        self.handle.call(|h| unsafe { sys::cf_closed_graph(h) })?;
+        Ok(Graph(self.handle))
     }
 }
 

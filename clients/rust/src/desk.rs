@@ -1,6 +1,6 @@
 //! Desks: graphs that callers on several threads share without a lock.
 use crate::closed::Closed;
-use crate::held::Held;
+use crate::handle::Handle;
 use crate::plan::{function_in, Form, Sizes};
 use crate::refused::{if_there, Refused};
 use crate::sys;
@@ -15,7 +15,7 @@ pub struct Desk(Arc<Sizes>);
 /// A caller of a desk: it goes to a thread, which has it alone. One that is dropped leaves the others as they are, but the desk can't
 /// be closed then. What it does and reads is recorded, until it holds as many records as it may.
 pub struct Caller {
-    held: Held,
+    handle: Handle,
     desk: Arc<Sizes>,
     number: u8,
 }
@@ -23,14 +23,14 @@ pub struct Caller {
 /// The desk and the callers that were opened behind these handles.
 pub(crate) fn opened(sizes: Sizes, handles: Vec<sys::Handle>) -> (Desk, Vec<Caller>) {
     let desk = Arc::new(sizes);
-    let callers = handles.into_iter().map(|handle| caller_of(Held::of(handle), desk.clone())).collect();
+    let callers = handles.into_iter().map(|handle| caller_of(Handle::of(handle), desk.clone())).collect();
     (Desk(desk), callers)
 }
 
-fn caller_of(mut held: Held, desk: Arc<Sizes>) -> Caller {
-    let number = held.tell(|h, told| unsafe { sys::cf_desk_caller(h, told) });
+fn caller_of(mut handle: Handle, desk: Arc<Sizes>) -> Caller {
+    let number = handle.tell(|h, told| unsafe { sys::cf_desk_caller(h, told) });
     let number = number.expect("a caller stands behind the handle");
-    Caller { held, desk, number }
+    Caller { handle, desk, number }
 }
 
 impl Desk {
@@ -46,13 +46,13 @@ impl Desk {
             return Err(NotClosed { why, desk: self, callers });
         }
         let numbers = callers.len() as u8;
-        if let Err(why) = callers[0].held.call(|h| unsafe { sys::cf_close_begin(h) }) {
+        if let Err(why) = callers[0].handle.call(|h| unsafe { sys::cf_close_begin(h) }) {
             return Err(NotClosed { why, desk: self, callers });
         }
         let mut rest = callers.into_iter();
-        let mut closing = rest.next().map(|caller| caller.held).unwrap_or_else(Held::empty);
+        let mut closing = rest.next().map(|caller| caller.handle).unwrap_or_else(Handle::empty);
         for mut caller in rest {
-            let added = closing.call(|closing| code_of(caller.held.call(|h| unsafe { sys::cf_close_add(closing, h) })));
+            let added = closing.call(|closing| code_of(caller.handle.call(|h| unsafe { sys::cf_close_add(closing, h) })));
             added.expect("all callers are of one desk");
         }
         closing.call(|h| unsafe { sys::cf_close_end(h) }).expect("all callers were given back");
@@ -110,64 +110,64 @@ impl Caller {
 
     /// Takes a ready stage, whose function is then to be called, and the stage to be finished.
     pub fn claim(&mut self, stage: u16) -> Result<Claimed, Refused> {
-        self.held.tell(|h, reply| unsafe { sys::cf_desk_claim(h, stage, reply) }).map(claimed_out)
+        self.handle.tell(|h, reply| unsafe { sys::cf_desk_claim(h, stage, reply) }).map(claimed_out)
     }
 
     pub fn finish(&mut self, stage: u16, answer: Answer) -> Result<Finished, Refused> {
-        self.held.tell(|h, reply| unsafe { sys::cf_desk_finish(h, stage, answer_in(answer), reply) }).map(finished_out)
+        self.handle.tell(|h, reply| unsafe { sys::cf_desk_finish(h, stage, answer_in(answer), reply) }).map(finished_out)
     }
 
     /// Lets it be this moment, in the unit of the plan's limits.
     pub fn tick(&mut self, now: u32) -> Result<Ticked, Refused> {
-        self.held.tell(|h, reply| unsafe { sys::cf_desk_tick(h, now, reply) }).map(ticked_out)
+        self.handle.tell(|h, reply| unsafe { sys::cf_desk_tick(h, now, reply) }).map(ticked_out)
     }
 
     /// Attaches a stage, and tells its number, or None where no room is left.
     pub fn attach(&mut self, form: Form, of: &[u16], function: Option<u16>) -> Result<Option<u16>, Refused> {
-        self.held
+        self.handle
             .tell(|h, reply| unsafe { sys::cf_desk_attach(h, form as u32, of.as_ptr(), of.len(), function_in(function), reply) })
             .map(attached_out)
     }
 
     /// What a stage is settled with, if it is, after a look at all that is there.
     pub fn read(&mut self, stage: u16) -> Result<Option<Outcome>, Refused> {
-        self.held.tell(|h, told| unsafe { sys::cf_desk_read(h, stage, told) }).map(outcome_out)
+        self.handle.tell(|h, told| unsafe { sys::cf_desk_read(h, stage, told) }).map(outcome_out)
     }
 
     /// What a stage gives at present, or `absent` where it isn't settled, after a look.
     pub fn read_now(&mut self, stage: u16, absent: Value) -> Result<Now, Refused> {
-        self.held.tell(|h, told| unsafe { sys::cf_desk_read_now(h, stage, value_in(absent), told) }).map(now_out)
+        self.handle.tell(|h, told| unsafe { sys::cf_desk_read_now(h, stage, value_in(absent), told) }).map(now_out)
     }
 
     /// Looks until the stage is settled, at most so many times, and tells what it gives then: `Absent` where it isn't. The last look is
     /// recorded.
     pub fn join(&mut self, stage: u16, looks: u32) -> Result<Now, Refused> {
-        self.held.tell(|h, told| unsafe { sys::cf_desk_join(h, stage, looks, told) }).map(now_out)
+        self.handle.tell(|h, told| unsafe { sys::cf_desk_join(h, stage, looks, told) }).map(now_out)
     }
 
     /// The lowest stage that can be claimed, after a look that isn't recorded.
     pub fn ready(&mut self) -> Result<Option<u16>, Refused> {
-        if_there(self.held.tell(|h, told| unsafe { sys::cf_desk_ready(h, told) }))
+        if_there(self.handle.tell(|h, told| unsafe { sys::cf_desk_ready(h, told) }))
     }
 
     /// Lets two callers of one desk see the longer of what either has seen.
     pub fn meet(&mut self, other: &mut Caller) -> Result<(), Refused> {
-        self.held.call(|h| code_of(other.held.call(|o| unsafe { sys::cf_desk_meet(h, o) })))
+        self.handle.call(|h| code_of(other.handle.call(|o| unsafe { sys::cf_desk_meet(h, o) })))
     }
 
     /// How many events it has seen.
     pub fn seen(&mut self) -> Result<u16, Refused> {
-        self.held.tell(|h, told| unsafe { sys::cf_desk_seen(h, told) })
+        self.handle.tell(|h, told| unsafe { sys::cf_desk_seen(h, told) })
     }
 
     /// How many records it still takes.
     pub fn left(&mut self) -> Result<u16, Refused> {
-        self.held.tell(|h, told| unsafe { sys::cf_desk_left(h, told) })
+        self.handle.tell(|h, told| unsafe { sys::cf_desk_left(h, told) })
     }
 
     /// The number of a stage's function, if it has one. The stage is one that the caller has seen.
     pub fn function(&mut self, stage: u16) -> Result<Option<u16>, Refused> {
-        if_there(self.held.tell(|h, told| unsafe { sys::cf_desk_function(h, stage, told) }))
+        if_there(self.handle.tell(|h, told| unsafe { sys::cf_desk_function(h, stage, told) }))
     }
 
     /// Its number: 0, 1, ..
@@ -190,6 +190,6 @@ impl Caller {
     }
 
     fn flag(&mut self, call: impl FnOnce(*mut sys::Handle, *mut sys::Reply) -> u32) -> Result<bool, Refused> {
-        self.held.tell(call).map(|reply| reply.answer != 0)
+        self.handle.tell(call).map(|reply| reply.answer != 0)
     }
 }

@@ -1,13 +1,13 @@
 //! A graph, which one owner has alone.
 use crate::event::{reply_out, Event};
-use crate::held::Held;
+use crate::handle::Handle;
 use crate::plan::{function_in, Form};
 use crate::refused::{if_there, Refused};
 use crate::sys;
 use crate::values::*;
 
 /// The graph of a plan. It may go to another thread, and one call at a time has it.
-pub struct Graph(pub(crate) Held);
+pub struct Graph(pub(crate) Handle);
 
 impl Graph {
     /// Settles a stage with a value, and says whether it did.

@@ -27,7 +27,7 @@ mod closed;
 mod desk;
 mod event;
 mod graph;
-mod held;
+mod handle;
 mod plan;
 mod refused;
 mod sys;

@@ -1,7 +1,7 @@
 //! Plans, and how they are built.
 use crate::desk::{opened, Caller, Desk};
 use crate::graph::Graph;
-use crate::held::Held;
+use crate::handle::Handle;
 use crate::refused::Refused;
 use crate::sys;
 use crate::values::{value_in, Value};
@@ -66,13 +66,13 @@ pub enum Limit {
 }
 
 /// Stages, each of which depends on lower ones.
-pub struct PlanBuilder(Held);
+pub struct PlanBuilder(Handle);
 
 impl PlanBuilder {
     pub fn new() -> Result<PlanBuilder, Refused> {
-        let mut held = Held::empty();
-        held.call(|h| unsafe { sys::cf_builder_new(h, 0, 0) })?;
-        Ok(PlanBuilder(held))
+        let mut handle = Handle::empty();
+        handle.call(|h| unsafe { sys::cf_builder_new(h, 0, 0) })?;
+        Ok(PlanBuilder(handle))
     }
 
     /// Adds a stage to these sources, and tells its number. `function` is the number by which you know its function.
@@ -99,12 +99,12 @@ pub(crate) fn function_in(function: Option<u16>) -> u32 {
 }
 
 /// What graphs are opened of. They share its memory, which stays until the last of them is dropped.
-pub struct Plan(Held);
+pub struct Plan(Handle);
 
 impl Plan {
     /// A graph at its start, with room for so many stages that are attached later.
     pub fn graph(&mut self, room: u16) -> Result<Graph, Refused> {
-        let mut graph = Held::empty();
+        let mut graph = Handle::empty();
         self.0.call(|plan| graph_code(graph.call(|h| unsafe { sys::cf_graph_new(plan, room, h) })))?;
         Ok(Graph(graph))
     }

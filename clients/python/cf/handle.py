@@ -3,7 +3,7 @@ import ctypes as c
 import threading
 from typing import Callable, Optional, Sequence, TypeVar, Union
 
-from ._library import NO_FUNCTION, CReply, Handle, in_range, library, numbers
+from ._library import NO_FUNCTION, CHandle, CReply, in_range, library, numbers
 from .values import (Answer, Args, ClaimReply, ClaimStatus, Code, FinishReply, Form, Link, Refused, Thrown, Value, answer_in, check, claim_out,
                      finish_out, flag_out, number_out, value_in)
 
@@ -11,19 +11,19 @@ from .values import (Answer, Args, ClaimReply, ClaimStatus, Code, FinishReply, F
 Function = Callable[..., Union[Value, Link]]
 
 Told = TypeVar("Told")
-Self = TypeVar("Self", bound="Held")
+Self = TypeVar("Self", bound="Handle")
 
 
-class Held:
+class Handle:
     """A handle that is freed at the end of a `with`, or when nobody has it any more. One call at a time has it: another thread's
     waits."""
 
-    def __init__(self, handle: Optional[Handle] = None) -> None:
-        self._handle = Handle() if handle is None else handle
+    def __init__(self, handle: Optional[CHandle] = None) -> None:
+        self._handle = CHandle() if handle is None else handle
         self._lock = threading.RLock()
 
     @property
-    def _at(self) -> "c.pointer[Handle]":
+    def _at(self) -> "c.pointer[CHandle]":
         return c.pointer(self._handle)
 
     def _call(self, name: str, *arguments: object) -> None:
@@ -45,9 +45,9 @@ class Held:
                 return None
             raise
 
-    def _let_go(self) -> Handle:
+    def _let_go(self) -> CHandle:
         """The handle, which is another object's then. An empty one stays."""
-        handle, self._handle = self._handle, Handle()
+        handle, self._handle = self._handle, CHandle()
         return handle
 
     def close(self) -> None:
@@ -70,7 +70,7 @@ def function_in(function: Optional[int]) -> int:
     return NO_FUNCTION if function is None else in_range(function, 0xFFFF)
 
 
-class Calls(Held):
+class Calls(Handle):
     """The calls that settle stages and do their work."""
 
     _prefix: str

@@ -3,21 +3,21 @@ use crate::refused::{done, Refused};
 use crate::sys;
 
 /// Each call takes the handle by `&mut`, so that one call at a time has it; nothing copies it.
-pub(crate) struct Held(sys::Handle);
+pub(crate) struct Handle(sys::Handle);
 
 // What stands behind a handle is one thread's at a time, and may go to another: docs/C.md, "Threads".
-unsafe impl Send for Held {}
+unsafe impl Send for Handle {}
 // Nothing is done to a handle by a shared reference.
-unsafe impl Sync for Held {}
+unsafe impl Sync for Handle {}
 
-impl Held {
-    pub(crate) fn empty() -> Held {
-        Held(sys::Handle::EMPTY)
+impl Handle {
+    pub(crate) fn empty() -> Handle {
+        Handle(sys::Handle::EMPTY)
     }
 
     /// Of a handle that nobody uses any more.
-    pub(crate) fn of(handle: sys::Handle) -> Held {
-        Held(handle)
+    pub(crate) fn of(handle: sys::Handle) -> Handle {
+        Handle(handle)
     }
 
     /// Makes a call on the handle, which answers a code.
@@ -33,7 +33,7 @@ impl Held {
     }
 }
 
-impl Drop for Held {
+impl Drop for Handle {
     fn drop(&mut self) {
         unsafe { sys::cf_free(&mut self.0) }
     }
