@@ -102,6 +102,13 @@ impl Graph {
         self.plan.stages()
     }
 
+    /// How many stages may still be attached.
+    pub fn room(&self) -> u16
+        ensures { result ≡ self.now.state.plan.room }
+    {
+        self.plan.room()
+    }
+
     /// The number of a stage's function, if its form has one.
     pub fn function(&self, i: u16) -> Option<u16>
         requires { i < length self.now.state.plan.stages }
