@@ -1,0 +1,108 @@
+-- Words that are written one behind another.
+use Rattle.std.proofs.Common.{◌≡◌, ℕ, zero, suc, ◌+◌, ◌*◌, ◌<◌, ◌≤◌, List, [], ◌∷◌, ◌++◌, length, map, refl, ap, sym, ◌∙◌, arith, subst}
+use Rattle.std.specs.Prelude.{Option, Some, None}
+use Rattle.cf_plan.specs.Plans.{Planned, edges_of}
+use Rattle.cf_model.specs.declared.events.Event.{Event}
+use Rattle.cf_model.specs.declared.events.Reply.{Reply}
+use Rattle.cf_model.specs.States.{State, start}
+use Rattle.cf_model.specs.Events.{answered, state_after}
+use Rattle.cf_event.specs.Words.{word_of}
+use Rattle.cf_event.specs.Decoding.{decoded, decoded_with, event_of}
+use Rattle.cf_ledger.specs.Ledgers.{AreTaken, Does, IsFirstRefused, IsKept, IsRefused, IsTaken, Ledger, and_event, state_of}
+use Rattle.cf_ledger.specs.declared.faults.LedgerFault.{LedgerFault}
+use Rattle.std.proofs.Common.{drop, get_or}
+use Rattle.std.proofs.lemmas.List.{drop_more, drop_all}
+
+-- words that are all read keep their events when one more is written
+push_with : (o : Option Event) (x : ℕ) (es more : List Event) (ws : List ℕ) (e : Event) → x ∷ ws ≡ map word_of (decoded_with o es) → (ws ≡ map word_of es → more ≡ es ++ e ∷ []) →
+    decoded_with o more ≡ decoded_with o es ++ e ∷ []
+push_with None x es more ws e all next = cc
+push_with (Some d) x es more ws e all next = ap (λ (rest : List Event). d ∷ rest) (next cc)
+
+pub decoded_push : (ws : List ℕ) (w : ℕ) (e : Event) → ws ≡ map word_of (decoded ws) → event_of w ≡ Some e → decoded (ws ++ w ∷ []) ≡ decoded ws ++ e ∷ []
+decoded_push [] w e all is = ap (λ (o : Option Event). decoded_with o []) is
+decoded_push (x ∷ ws) w e all is = push_with (event_of x) x (decoded ws) (decoded (ws ++ w ∷ [])) ws e all (λ rest. decoded_push ws w e rest is)
+
+pub state_push : (s : State) (es : List Event) (e : Event) → state_after s (es ++ e ∷ []) ≡ (answered (state_after s es) e).1
+state_push s [] e = refl
+state_push s (d ∷ es) e = state_push ((answered s d).1) es e
+
+pub taken_push : (s : State) (es : List Event) (e : Event) → AreTaken s es → IsTaken (state_after s es) e → AreTaken s (es ++ e ∷ [])
+taken_push s [] e h is = (is, tt)
+taken_push s (d ∷ es) e h is = (h.0, taken_push ((answered s d).1) es e h.1 is)
+
+map_push : (es : List Event) (e : Event) → map word_of (es ++ e ∷ []) ≡ map word_of es ++ word_of e ∷ []
+map_push [] e = refl
+map_push (d ∷ es) e = ap (λ (ws : List ℕ). word_of d ∷ ws) (map_push es e)
+
+-- what is kept, once one more word is done and written
+pub kept_push : (plan : Planned) (ws : List ℕ) (s t : State) (w : ℕ) (e : Event) (reply : Reply) → IsKept plan ws s → event_of w ≡ Some e → word_of e ≡ w → IsTaken s e →
+    (reply, t) ≡ answered s e → IsKept plan (ws ++ w ∷ []) t
+kept_push plan ws s t w e reply h is word taken told =
+    let more = decoded_push ws w e h.written is in
+    record {
+      place = h.place;
+      written = ap (λ (xs : List ℕ). xs ++ w ∷ []) h.written ∙ ap (λ (x : ℕ). map word_of (decoded ws) ++ x ∷ []) (sym word) ∙ sym (map_push (decoded ws) e) ∙ ap (map word_of) (sym more);
+      taken = subst (AreTaken (start plan)) (sym more) (taken_push (start plan) (decoded ws) e h.taken (subst (λ (x : State). IsTaken x e) h.left taken));
+      left = ap (λ p. p.1) told ∙ ap (λ (x : State). (answered x e).1) h.left ∙ sym (state_push (start plan) (decoded ws) e) ∙ ap (state_after (start plan)) (sym more);
+    }
+
+-- and so the word is done
+pub does_push : (plan : Planned) (ws : List ℕ) (s t : State) (w : ℕ) (e : Event) (reply : Reply) → IsKept plan ws s → event_of w ≡ Some e → word_of e ≡ w → IsTaken s e → (reply, t) ≡ answered s e →
+    Does w (record { plan = plan; events = decoded ws }) reply (record { plan = plan; events = decoded (ws ++ w ∷ []) })
+does_push plan ws s t w e reply h is word taken told =
+    let more = decoded_push ws w e h.written is in
+    let left : t ≡ state_after (start plan) (decoded (ws ++ w ∷ [])) =
+    ap (λ p. p.1) told ∙ ap (λ (x : State). (answered x e).1) h.left ∙ sym (state_push (start plan) (decoded ws) e) ∙ ap (state_after (start plan)) (sym more) in
+    record {
+      event = e;
+      read = is;
+      named = word;
+      taken = subst (λ (x : State). IsTaken x e) h.left taken;
+      told = ap (λ (x : State). (reply, x)) (sym left) ∙ told ∙ ap (λ (x : State). answered x e) h.left;
+      written = ap (λ (es : List Event). let l : Ledger = record { plan = plan; events = es } in l) more;
+    }
+
+-- How far words were done: those so far are written, and where the rest is refused the whole is.
+pub record Done (s : State) (words : List ℕ) (i : ℕ) (now : Ledger) : Type 0 where
+  pub written : map word_of now.events ++ drop i words ≡ words
+  pub refused : (k : ℕ) (why : LedgerFault) → IsFirstRefused (state_of now) k (drop i words) why → IsFirstRefused s (i + k) words why
+
+pub done_none : (plan : Planned) (words : List ℕ) → Done (start plan) words 0 (record { plan = plan; events = [] })
+done_none plan words = record { written = refl; refused = λ k why u. subst (λ (n : ℕ). IsFirstRefused (start plan) n words why) (let p : k ≡ 0 + k = omega arith in p) u }
+
+push_assoc : (xs ys : List ℕ) (w : ℕ) → (xs ++ w ∷ []) ++ ys ≡ xs ++ w ∷ ys
+push_assoc [] ys w = refl
+push_assoc (x ∷ xs) ys w = ap (λ (zs : List ℕ). x ∷ zs) (push_assoc xs ys w)
+
+pub done_more : (s : State) (words : List ℕ) (i : ℕ) (old new : Ledger) (reply : Reply) → i < length words → Does (get_or words i 0) old reply new → Done s words i old → Done s words (i + 1) new
+done_more s words i old new reply l d h =
+    let split : drop i words ≡ get_or words i 0 ∷ drop (i + 1) words = drop_more words i 0 l in
+    let events : new.events ≡ old.events ++ d.event ∷ [] = ap (λ (x : Ledger). x.events) d.written in
+    let next : state_of new ≡ (answered (state_of old) d.event).1 = ap (λ p. p.1) d.told in
+    record {
+      written =
+          ap (λ (es : List Event). map word_of es ++ drop (i + 1) words) events
+          ∙ ap (λ (ws : List ℕ). ws ++ drop (i + 1) words) (map_push old.events d.event ∙ ap (λ (w : ℕ). map word_of old.events ++ w ∷ []) d.named)
+          ∙ push_assoc (map word_of old.events) (drop (i + 1) words) (get_or words i 0)
+          ∙ ap (λ (ws : List ℕ). map word_of old.events ++ ws) (sym split)
+          ∙ h.written;
+      refused = λ k why u.
+          subst (λ (n : ℕ). IsFirstRefused s n words why) (let p : i + suc k ≡ i + 1 + k = omega arith in p)
+          (h.refused (suc k) why (subst (λ (ws : List ℕ). IsFirstRefused (state_of old) (suc k) ws why) (sym split)
+          (d.event, d.read, d.taken, subst (λ (x : State). IsFirstRefused x k (drop (i + 1) words) why) next u)));
+    }
+
+pub done_refused : (s : State) (words : List ℕ) (i : ℕ) (now : Ledger) (why : LedgerFault) → i < length words → IsRefused (state_of now) (get_or words i 0) why → Done s words i now →
+    IsFirstRefused s i words why
+done_refused s words i now why l u h =
+    let split : drop i words ≡ get_or words i 0 ∷ drop (i + 1) words = drop_more words i 0 l in
+    subst (λ (n : ℕ). IsFirstRefused s n words why) (let p : i + 0 ≡ i = omega arith in p)
+    (h.refused 0 why (subst (λ (ws : List ℕ). IsFirstRefused (state_of now) 0 ws why) (sym split) u))
+
+append_none : (xs : List ℕ) → xs ++ [] ≡ xs
+append_none [] = refl
+append_none (x ∷ xs) = ap (λ (zs : List ℕ). x ∷ zs) (append_none xs)
+
+pub done_all : (s : State) (words : List ℕ) (i : ℕ) (now : Ledger) → length words ≤ i → Done s words i now → map word_of now.events ≡ words
+done_all s words i now l h = sym (append_none (map word_of now.events)) ∙ ap (λ (ws : List ℕ). map word_of now.events ++ ws) (sym (drop_all i words l)) ∙ h.written

@@ -1,0 +1,75 @@
+-- What a contract sees of a ledger, and what a word does to it.
+use Rattle.std.specs.Prelude.{◌≡◌, ℕ, ◌+◌, ◌<◌, zero, suc, true, Some, None, List, [], ◌∷◌, ◌++◌, length, map}
+use Rattle.cf_plan.specs.Plans.{Planned, has_place}
+use Rattle.cf_model.specs.States.{State, start}
+use Rattle.cf_model.specs.declared.events.Event.{Event}
+use Rattle.cf_model.specs.declared.events.Event.TheVariants.{Attach as Attaches}
+use Rattle.cf_model.specs.declared.events.Reply.{Reply}
+use Rattle.cf_model.specs.Events.{answered, state_after}
+use Rattle.cf_model.specs.Ranges.{EventFits}
+use Rattle.cf_event.specs.Words.{word_of}
+use Rattle.cf_event.specs.Decoding.{decoded, event_of}
+use Rattle.cf_ledger.specs.declared.faults.LedgerFault.{LedgerFault}
+use Rattle.cf_ledger.specs.declared.faults.LedgerFault.TheVariants.{NoMemory, NoEvent, NoStage, NoRoom}
+
+-- the plan that it was opened with, with the room that it has in all, and the events that were done, in order
+pub record Ledger : Type 0 where
+  pub plan : Planned
+  pub events : List Event
+
+-- the graph's state, which is what the events leave
+abbrev pub state_of : Ledger → State
+state_of ledger = state_after (start ledger.plan) ledger.events
+
+-- a stage that an event attaches has room
+abbrev pub HasRoomFor : State → Event → Type 0
+HasRoomFor s (Attaches who form of function) = 0 < s.plan.room
+HasRoomFor s event = Unit {0}
+
+-- an event that a ledger takes where its graph is in this state
+pub record IsTaken (s : State) (e : Event) : Type 0 where
+  pub fits : EventFits (length s.plan.stages) e
+  pub room : HasRoomFor s e
+
+-- each of these events is taken as those before it leave the graph
+abbrev pub AreTaken : State → List Event → Type 0
+AreTaken s [] = Unit {0}
+AreTaken s (e ∷ events) = IsTaken s e × AreTaken ((answered s e).1) events
+
+-- the ledger with one more event
+abbrev pub and_event : Ledger → Event → Ledger
+and_event ledger e = record ledger { events = ledger.events ++ e ∷ [] }
+
+-- a word is done: it is that of an event that is taken, the reply is the sequential graph's, and the event is written behind the others
+pub record Does (word : ℕ) (old : Ledger) (reply : Reply) (new : Ledger) : Type 0 where
+  pub event : Event
+  pub read : event_of word ≡ Some event
+  pub named : word_of event ≡ word
+  pub taken : IsTaken (state_of old) event
+  pub told : (reply, state_of new) ≡ answered (state_of old) event
+  pub written : new ≡ and_event old event
+
+-- why a word isn't done
+abbrev pub IsRefused : State → ℕ → LedgerFault → Type 0
+IsRefused s word NoMemory = Unit {0}
+IsRefused s word NoEvent = event_of word ≡ None
+IsRefused s word NoStage = (e : Event) × (event_of word ≡ Some e) × ¬ EventFits (length s.plan.stages) e
+IsRefused s word NoRoom = (e : Event) × (event_of word ≡ Some e) × EventFits (length s.plan.stages) e × ¬ HasRoomFor s e
+
+-- the words before the k-th are those of events that are taken, and the k-th isn't done for this reason
+abbrev pub IsFirstRefused : State → ℕ → List ℕ → LedgerFault → Type 0
+IsFirstRefused s k [] why = ⊥
+IsFirstRefused s zero (w ∷ words) why = IsRefused s w why
+IsFirstRefused s (suc k) (w ∷ words) why =
+    (e : Event) × (event_of w ≡ Some e) × IsTaken s e × IsFirstRefused ((answered s e).1) k words why
+
+-- the plan and the words of a ledger, whose graph is in this state
+pub record IsKept (plan : Planned) (words : List ℕ) (s : State) : Type 0 where
+  pub place : has_place plan.stages plan.room ≡ true
+  pub written : words ≡ map word_of (decoded words)
+  pub taken : AreTaken (start plan) (decoded words)
+  pub left : s ≡ state_after (start plan) (decoded words)
+
+-- the ledger with room for more stages, by which nothing else changes
+abbrev pub with_more : Ledger → ℕ → Ledger
+with_more ledger more = record ledger { plan = record ledger.plan { room = ledger.plan.room + more } }

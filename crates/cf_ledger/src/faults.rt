@@ -1,0 +1,22 @@
+//! Why a ledger does nothing.
+
+/// Why a word isn't done. All is as it was then.
+#[derive(Clone, Copy, Debug, PartialEq, Eq)]
+pub enum LedgerFault {
+    /// There is no memory for it.
+    NoMemory,
+    /// It is no event's word.
+    NoEvent,
+    /// A stage that it names isn't there, or what it attaches doesn't fit its form.
+    NoStage,
+    /// There is no room for the stage that it attaches. `grow` makes some.
+    NoRoom,
+}
+
+/// The first word that can't be done, and why.
+#[derive(Clone, Copy, Debug, PartialEq, Eq)]
+pub struct Misfit {
+    /// Its place, counted from 0.
+    pub place: usize,
+    pub why: LedgerFault,
+}

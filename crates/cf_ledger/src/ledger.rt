@@ -1,0 +1,227 @@
+//! The ledger.
+ghost use Rattle.std.specs.Prelude.{◌≡◌, ◌+◌, ◌≢◌, ◌<◌, ◌↔◌, [], IfErr, IfOk, IsTrue, OnErr, OnOk, length, map, true};
+ghost use Rattle.cf_plan.specs.Plans.{function_at, has_place, with_room};
+ghost use Rattle.cf_model.specs.States.{lowest_ready_of, outcome_at, start};
+ghost use Rattle.cf_event.specs.Words.{word_of};
+ghost use Rattle.cf_ledger.specs.Ledgers.{Does, HasRoomFor, IsFirstRefused, IsRefused, state_of, with_more};
+ghost use Rattle.cf_event.specs.Decoding.{decoded};
+
+use crate::faults::{LedgerFault, Misfit};
+use cf_core::Graph;
+use cf_event::decode;
+use cf_model::{Event, Reply};
+use cf_outcome::Outcome;
+use cf_plan::Plan;
+use std::alloc::Global;
+use std::marker::Model;
+
+/// No plan has place for more room.
+const MAX_ROOM: u16 = 4096;
+
+/// A graph with the words of all that was done to it.
+///
+/// A contract sees its plan with its room, and the events of its words. The graph is in the state that these leave.
+#[derive(Drop)]
+pub struct Ledger {
+    plan: Plan,
+    room: u16,
+    graph: Graph,
+    words: Vec<u64>,
+}
+
+impl Model for Ledger {
+    ghost use Rattle.cf_ledger.specs.Ledgers.{Ledger};
+
+    ghost Value = { Ledger };
+
+    ghost use Rattle.cf_plan.specs.Plans.{with_room};
+    ghost use Rattle.cf_event.specs.Decoding.{decoded};
+    ghost use Rattle.cf_ledger.specs.Ledgers.{IsKept};
+
+    ghost view = { λ l. record { plan = with_room l.plan l.room; events = decoded l.words.items } };
+
+    ghost invariant = { λ l. IsKept (with_room l.plan l.room) l.words.items l.graph.state };
+}
+
+impl Ledger {
+    /// The ledger of a plan with room for so many stages more, in which nothing is written. It fails only where there is no
+    /// memory.
+    pub fn new(alloc: Global, plan: &Plan, room: u16) -> Result<Ledger, LedgerFault>
+        requires place { has_place plan.now.stages room ≡ true }
+        ensures opened { IfOk result (λ ledger. ledger ≡ record { plan = with_room plan.now room; events = [] }) }
+        ensures refused { IfErr result (λ fault. fault ≡ LedgerFault.NoMemory) }
+    {
+        let graph = graph_of(alloc, plan, room)?;
+        let Ok(plan) = plan.copy() else {
+            return Err(LedgerFault::NoMemory);
+        };
+        Ok(Ledger {
+            plan,
+            room,
+            graph,
+            words: Vec::new(alloc),
+        })
+    }
+
+    /// Does a word, and writes it behind the others. It is refused for the first of: it is no event's word, its stages, its
+    /// room, memory. A refused word leaves all as it was.
+    ///
+    /// It costs what the graph's call costs, and from time to time a growth of the row of words.
+    pub fn apply(&mut self, word: u64) -> Result<Reply, LedgerFault>
+        ensures done { IfOk result (λ reply. Does word self.old reply self.new) }
+        ensures refused { OnErr result (self.new ≡ self.old) }
+        ensures why { IfErr result (λ fault. IsRefused (state_of self.old) word fault) }
+    {
+        let Some(event) = decode(word) else {
+            return Err(LedgerFault::NoEvent);
+        };
+        if !self.graph.takes(&event) {
+            return Err(LedgerFault::NoStage);
+        }
+        if !has_room_for(&self.graph, &event) {
+            return Err(LedgerFault::NoRoom);
+        }
+        if self.words.reserve(1).is_err() {
+            return Err(LedgerFault::NoMemory);
+        }
+        let reply = self.graph.answer(&event);
+        self.words.push_reserved(word);
+        Ok(reply)
+    }
+
+    /// The words of all that was done, in order.
+    pub fn words(&self) -> &[u64]
+        ensures words { result.now ≡ map word_of self.now.events }
+        ensures read { decoded result.now ≡ self.now.events }
+    {
+        self.words.as_slice()
+    }
+
+    /// How many words are written.
+    pub fn len(&self) -> usize
+        ensures { result ≡ length self.now.events }
+    {
+        self.words.len()
+    }
+
+    /// How many stages there are by now, the attached ones too.
+    pub fn stages(&self) -> u16
+        ensures count { result ≡ length (state_of self.now).plan.stages }
+    {
+        self.graph.stages()
+    }
+
+    /// How many stages may still be attached.
+    pub fn room(&self) -> u16
+        ensures { result ≡ (state_of self.now).plan.room }
+    {
+        self.graph.room()
+    }
+
+    /// The number of a stage's function, if its form has one.
+    pub fn function(&self, i: u16) -> Option<u16>
+        requires { i < length (state_of self.now).plan.stages }
+        ensures { result ≡ function_at (state_of self.now).plan.stages i }
+    {
+        self.graph.function(i)
+    }
+
+    /// The outcome of a stage, if it is settled. It works out what is left over for that stage.
+    pub fn outcome(&mut self, i: u16) -> Option<Outcome>
+        requires { i < length (state_of self.old).plan.stages }
+        ensures told { result ≡ outcome_at (state_of self.old) i }
+        ensures same { self.new ≡ self.old }
+    {
+        self.graph.outcome(i)
+    }
+
+    /// The lowest ready stage, or none where no stage is ready. It works out what is left over below it.
+    pub fn lowest_ready(&mut self) -> Option<u16>
+        ensures told { result ≡ lowest_ready_of (state_of self.old) }
+        ensures same { self.new ≡ self.old }
+    {
+        self.graph.lowest_ready()
+    }
+
+    /// The ledger of these words, from a plan with room for so many stages on. Where one of them can't be done, the first such
+    /// is told.
+    pub fn of_words(
+        alloc: Global,
+        plan: &Plan,
+        room: u16,
+        words: &[u64],
+    ) -> Result<Ledger, Misfit>
+        requires place { has_place plan.now.stages room ≡ true }
+        ensures plan { IfOk result (λ ledger. ledger.plan ≡ with_room plan.now room) }
+        ensures words { IfOk result (λ ledger. map word_of ledger.events ≡ words.now) }
+        ensures events { IfOk result (λ ledger. ledger.events ≡ decoded words.now) }
+        ensures refused { IfErr result (λ m. m.why ≢ LedgerFault.NoMemory → IsFirstRefused (start (with_room plan.now room)) m.place words.now m.why) }
+    {
+        match Ledger::new(alloc, plan, room) {
+            Err(why) => Err(Misfit { place: 0, why }),
+            Ok(ledger) => {
+                let mut ledger = ledger;
+                for (place, word) in words.iter().enumerate() {
+                    match ledger.apply(*word) {
+                        Ok(_) => {}
+                        Err(why) => return Err(Misfit { place, why }),
+                    }
+                }
+                let _written = ledger.words();
+                Ok(ledger)
+            }
+        }
+    }
+
+    /// Whether its plan has place for so many stages more.
+    #[tactic(auto, using(cf_plan::proofs::PlanLemmas::place_is, crate::proofs::Growth::no_place))]
+    pub fn has_place(&self, more: u16) -> bool
+        ensures { result ≡ has_place self.now.plan.stages (self.now.plan.room + more) }
+    {
+        more <= MAX_ROOM && self.plan.has_place(self.room + more)
+    }
+
+    /// Makes room for so many stages more, by doing all words again. It fails only where there is no memory, and then all is as
+    /// it was.
+    #[tactic(auto, using(cf_plan::proofs::PlanLemmas::place_is))]
+    pub fn grow(&mut self, alloc: Global, more: u16) -> Result<(), LedgerFault>
+        requires place { has_place self.old.plan.stages (self.old.plan.room + more) ≡ true }
+        ensures grown { OnOk result (self.new ≡ with_more self.old more) }
+        ensures unchanged { OnErr result (self.new ≡ self.old) }
+        ensures refused { IfErr result (λ fault. fault ≡ LedgerFault.NoMemory) }
+    {
+        match Ledger::of_words(alloc, &self.plan, self.room + more, &self.words) {
+            Ok(ledger) => {
+                *self = ledger;
+                Ok(())
+            }
+            Err(misfit) => Err(misfit.why),
+        }
+    }
+}
+
+/// The graph of a plan with room.
+fn graph_of(alloc: Global, plan: &Plan, room: u16) -> Result<Graph, LedgerFault>
+    requires place { has_place plan.now.stages room ≡ true }
+    ensures graph { IfOk result (λ graph. graph.state ≡ start (with_room plan.now room)) }
+    ensures refused { IfErr result (λ fault. fault ≡ LedgerFault.NoMemory) }
+{
+    let Ok(own) = plan.copy() else {
+        return Err(LedgerFault::NoMemory);
+    };
+    match Graph::new_growing(alloc, own, room) {
+        Ok(graph) => Ok(graph),
+        Err(_) => Err(LedgerFault::NoMemory),
+    }
+}
+
+/// Whether there is room for the stage that an event attaches, if it attaches one.
+#[inline(always)]
+fn has_room_for(graph: &Graph, event: &Event) -> bool
+    ensures { IsTrue result ↔ HasRoomFor graph.now.state event.now }
+{
+    match *event {
+        Event::Attach { .. } => graph.room() > 0,
+        _ => true,
+    }
+}

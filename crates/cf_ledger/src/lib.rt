@@ -1,0 +1,15 @@
+//! A graph that is called by words, and remembers them: the flight recorder of one request.
+//!
+//! A `Ledger` is one graph with the row of the words of all that was done to it, in order. It is opened of a plan with
+//! room, or made again of its words. Each word that is done is written behind the others, and what is written is never
+//! changed. Memory is found before a call changes anything. Whoever shares a ledger has it under one lock.
+//!
+//! Its words are those of a desk's history, so `of_words` makes a ledger of that, too.
+#![tactic(auto)]
+
+mod faults;
+mod ledger;
+
+pub use cf_model::{Event, Reply};
+pub use faults::{LedgerFault, Misfit};
+pub use ledger::Ledger;

@@ -1,0 +1,106 @@
+ghost use Rattle.std.specs.Prelude.{◌≡◌, true};
+ghost use Rattle.cf_plan.specs.Plans.{has_place};
+
+use crate::steps::{Step, plan, take};
+use cf_ledger::{Ledger, LedgerFault, Misfit, Reply};
+use cf_model::{Attached, Claimed, Finished};
+use cf_outcome::{Outcome, Value};
+use cf_plan::{Args, Plan};
+use std::alloc::Global;
+use std::process::Abort;
+use std::test::Fail;
+
+/// The source is given 5.
+const COMPLETE: u64 = 0x0100000100000005;
+const CLAIM: u64 = 0x0400001000000000;
+/// The apply's function gives 6.
+const FINISH: u64 = 0x0500001100000006;
+/// An apply of the source, by function 0.
+const ATTACH: u64 = 0x0700000103000000;
+/// A claim of stage 9.
+const NO_STAGE: u64 = 0x0400009000000000;
+
+/// All that is done in the first test, in order.
+const WORDS: [u64; 6] = [COMPLETE, COMPLETE, CLAIM, FINISH, ATTACH, ATTACH];
+
+/// What the graph of these words is like.
+const AFTER: [Step; 8] = [
+    Step::Outcome(0, Some(Outcome::Value(Value::Int(5)))),
+    Step::Outcome(1, Some(Outcome::Value(Value::Int(6)))),
+    Step::Outcome(2, None),
+    Step::LowestReady(Some(2)),
+    Step::Stages(4),
+    Step::Room(1),
+    Step::Function(3, Some(0)),
+    Step::Len(6),
+];
+
+/// What each word of the first test is answered, and those between them that are refused.
+const STEPS: [Step; 12] = [
+    Step::LowestReady(None),
+    Step::Apply(COMPLETE, Ok(Reply::Flag(true))),
+    Step::Apply(0, Err(LedgerFault::NoEvent)),
+    Step::Apply(COMPLETE, Ok(Reply::Flag(false))),
+    Step::Apply(NO_STAGE, Err(LedgerFault::NoStage)),
+    Step::LowestReady(Some(1)),
+    Step::Apply(CLAIM, Ok(Reply::Claim(Claimed::Granted(Args::One(Value::Int(5)))))),
+    Step::Apply(FINISH, Ok(Reply::Finish(Finished::Won))),
+    Step::Apply(ATTACH, Ok(Reply::Attach(Attached::At(2)))),
+    Step::Apply(ATTACH, Err(LedgerFault::NoRoom)),
+    Step::Grow(2),
+    Step::Apply(ATTACH, Ok(Reply::Attach(Attached::At(3)))),
+];
+
+#[test]
+fn words_are_done_and_written(rt: HostRuntime) -> Result<(), Fail> {
+    let plan = plan(rt.alloc())?;
+    assert!(rt; plan.has_place(1));
+    let mut ledger = Ledger::new(rt.alloc(), &plan, 1)?;
+    take(&rt, rt.alloc(), &mut ledger, &STEPS);
+    assert!(rt; ledger.words() == WORDS.as_slice());
+    take(&rt, rt.alloc(), &mut ledger, &AFTER);
+    Ok(())
+}
+
+/// The words of a ledger make the same one again.
+#[test]
+fn a_ledger_is_made_of_its_words(rt: HostRuntime) -> Result<(), Fail> {
+    let plan = plan(rt.alloc())?;
+    assert!(rt; plan.has_place(3));
+    let mut ledger = Ledger::of_words(rt.alloc(), &plan, 3, &WORDS)?;
+    assert!(rt; ledger.words() == WORDS.as_slice());
+    take(&rt, rt.alloc(), &mut ledger, &AFTER);
+    Ok(())
+}
+
+/// Words of which one can't be done with room for one stage: the place of the first, and why.
+const MISFITS: [(&[u64], usize, LedgerFault); 4] = [
+    (&[0], 0, LedgerFault::NoEvent),
+    (&[COMPLETE, CLAIM, NO_STAGE, 0], 2, LedgerFault::NoStage),
+    (&[ATTACH, ATTACH, ATTACH], 1, LedgerFault::NoRoom),
+    (&[CLAIM, CLAIM, CLAIM, 1], 3, LedgerFault::NoEvent),
+];
+
+/// Whether these words are refused so.
+fn is_misfit(alloc: Global, plan: &Plan, words: &[u64], misfit: Misfit) -> bool
+    requires { has_place plan.now.stages 1 ≡ true }
+{
+    match Ledger::of_words(alloc, plan, 1, words) {
+        Ok(_) => false,
+        Err(found) => found == misfit,
+    }
+}
+
+#[test]
+fn the_first_misfit_is_told(rt: HostRuntime) -> Result<(), Fail> {
+    let plan = plan(rt.alloc())?;
+    assert!(rt; plan.has_place(1));
+    for (words, place, why) in &MISFITS {
+        let misfit = Misfit {
+            place: *place,
+            why: *why,
+        };
+        assert!(rt; is_misfit(rt.alloc(), &plan, words, misfit), "{misfit:?}");
+    }
+    Ok(())
+}

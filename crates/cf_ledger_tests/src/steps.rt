@@ -1,0 +1,52 @@
+//! What is done to a ledger and asked of it, as rows: a call, and what it is answered.
+use cf_ledger::{Ledger, LedgerFault, Reply};
+use cf_outcome::Outcome;
+use cf_plan::{Form, Plan, PlanBuilder, PlanFault};
+use std::alloc::Global;
+use std::process::Abort;
+
+/// A call of `Ledger` with its answer last.
+#[derive(Clone, Copy, Debug)]
+pub(crate) enum Step {
+    Apply(u64, Result<Reply, LedgerFault>),
+    /// So many stages of room more.
+    Grow(u16),
+    Outcome(u16, Option<Outcome>),
+    LowestReady(Option<u16>),
+    Stages(u16),
+    Room(u16),
+    Function(u16, Option<u16>),
+    Len(usize),
+}
+
+/// The plan of a source, and an apply of it by function 0.
+pub(crate) fn plan(alloc: Global) -> Result<Plan, PlanFault> {
+    let mut builder = PlanBuilder::new(alloc);
+    builder.stage(Form::Source, &[], None)?;
+    builder.stage(Form::Apply, &[0], Some(0))?;
+    builder.build()
+}
+
+/// Whether a step is answered so.
+fn is_answered(rt: &impl Abort, alloc: Global, ledger: &mut Ledger, step: Step) -> bool {
+    match step {
+        Step::Apply(word, answer) => ledger.apply(word) == answer,
+        Step::Grow(more) => {
+            assert!(rt; ledger.has_place(more));
+            ledger.grow(alloc, more) == Ok(())
+        }
+        Step::Outcome(i, answer) => i < ledger.stages() && ledger.outcome(i) == answer,
+        Step::LowestReady(answer) => ledger.lowest_ready() == answer,
+        Step::Stages(answer) => ledger.stages() == answer,
+        Step::Room(answer) => ledger.room() == answer,
+        Step::Function(i, answer) => i < ledger.stages() && ledger.function(i) == answer,
+        Step::Len(answer) => ledger.len() == answer,
+    }
+}
+
+/// The ledger takes these steps, and each is answered as it says.
+pub(crate) fn take(rt: &impl Abort, alloc: Global, ledger: &mut Ledger, steps: &[Step]) {
+    for (at, step) in steps.iter().enumerate() {
+        assert!(rt; is_answered(rt, alloc, ledger, *step), "step {at}: {step:?}");
+    }
+}
