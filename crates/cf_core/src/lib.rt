@@ -1,10 +1,11 @@
 //! The graph of a plan, kept so that it answers as it means.
 //!
-//! `cf_model` says what a graph means. A contract sees a `Graph` as the `State` of that crate, in which all consequences have
-//! come to pass, and the turns that were taken. `Graph::answer` does any call, as an `Event`, and `Graph::tell` answers any
-//! question, as an `Ask`. `Graph::work` claims and finishes ready stages until there is none, and calls the function of each
-//! of them once: any `Functions`, those of a list that remember nothing (`Each`) or closures that count, print or keep what
-//! they are called with. A graph that was opened with room takes more stages by `Graph::attach`; its plan then has grown.
+//! `cf_model` says what a graph means. A contract sees a `Graph` as the `State` of that crate, in which all consequences
+//! have come to pass, the turns that were taken, and the lowest stage that one is left for. `Graph::answer` does any call,
+//! as an `Event`, and `Graph::tell` answers any question, as an `Ask`. `Graph::work` claims and finishes ready stages
+//! until there is none, and calls the function of each of them once: any `Functions`, those of a list that remember
+//! nothing (`Each`) or closures that count, print or keep what they are called with. A graph that was opened with room
+//! takes more stages by `Graph::attach`; its plan then has grown.
 //!
 //! # How it is kept
 //!
