@@ -23,7 +23,7 @@ use std::thread::Threads;
 /// Why there is no race.
 #[derive(Clone, Copy, Debug, Drop, PartialEq, Eq)]
 pub enum RaceFault {
-    /// Memory or a thread was refused.
+    /// Memory was refused.
     NoMemory,
     /// The log would have more than 65,535 words.
     Size,
@@ -62,7 +62,7 @@ pub fn race<R: Threads + Wait + Sync, W: Worker + Send + Drop>(
     };
     match run(rt, desk, passes, hands) {
         Ok(left) => Ok(left),
-        Err(PoolFault::NoMemory) => Err(RaceFault::NoMemory),
+        Err(PoolFault::NoMemory(_)) => Err(RaceFault::NoMemory),
         Err(PoolFault::Desk(..)) => unreachable!(),
     }
 }
