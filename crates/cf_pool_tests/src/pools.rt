@@ -183,7 +183,7 @@ pub(crate) fn ran<R: Threads + Wait + Sync, F: StageFn + Sync, G: Gate + Sync>(
             done: None,
             closed: closed_of(left),
         }),
-        Err(PoolFault::NoMemory) => Err(Fail::from("the run was refused")),
+        Err(PoolFault::NoMemory(_)) => Err(Fail::from("the run was refused")),
     }
 }
 
@@ -213,7 +213,7 @@ pub(crate) fn raced<R: Threads + Wait + Sync, F: StageFn + Sync, G: Gate + Sync>
     workers: u8,
 ) -> Result<Graph, Fail>
     requires workers { (0 < workers) × (workers ≤ 32) }
-    requires room { (length plan.stages + room ≤ 4096) × (edges_of plan.stages + 2 * room ≤ 16384) }
+    requires room { has_place plan.stages room ≡ true }
     requires steps { AreSteps (with_room plan room) steps.now }
 {
     let hands = share(alloc, fns, gate, workers + 1)?;
