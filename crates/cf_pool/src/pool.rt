@@ -320,11 +320,7 @@ fn put_first<T: Drop>(mut xs: Vec<T>, x: T) -> Vec<T>
 }
 
 /// Each pass with its worker.
-fn pair<W: Drop>(
-    passes: Vec<Pass>,
-    workers: Vec<W>,
-    mut pairs: Vec<(Pass, W)>,
-) -> Vec<(Pass, W)>
+fn pair<W: Drop>(passes: Vec<Pass>, workers: Vec<W>, mut pairs: Vec<(Pass, W)>) -> Vec<(Pass, W)>
     requires same { vec_len passes ≡ vec_len workers }
     requires none { pairs.items ≡ [] }
     requires room { vec_len passes ≤ vec_capacity pairs }

@@ -1,4 +1,4 @@
-use Rattle.std.proofs.Common.{subst, arith, rules}
+use Rattle.std.proofs.Common.{arith, rules}
 use Rattle.std.specs.Vec.Iter.{into_iter_items}
 use Rattle.cf_pool.proofs.Pools.{zip_begun, zip_ended, zip_step}
 use Rattle.cf_pool.proofs.pool.join_all.Goals as goal

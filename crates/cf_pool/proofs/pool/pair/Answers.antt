@@ -1,4 +1,4 @@
-use Rattle.std.proofs.Common.{◌++◌, map, refl, sym, ap, subst, ◌∙◌, arith, rules}
+use Rattle.std.proofs.Common.{◌++◌, map, refl, ap, ◌∙◌, arith}
 use Rattle.cf_pool.proofs.Pools.{parts_step}
 use Rattle.cf_pool.proofs.pool.pair.Goals as goal
 
