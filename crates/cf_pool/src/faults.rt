@@ -7,6 +7,8 @@ use cf_desk::DeskFault;
 pub enum PoolFault<W> {
     /// 1: memory was refused. Nothing has begun, and all that was handed in comes back.
     NoMemory(Unbegun<W>),
+    /// 1: a thread was refused. Its worker has worked on the caller's, and this is what the run leaves.
+    NoThread(Left<W>),
     /// 3: the fault of the lowest caller that met one, with what the run leaves.
     Desk(DeskFault, Left<W>),
 }

@@ -1,6 +1,6 @@
 //! Workers on threads of their own. All memory is taken before the desk, its passes and the workers are touched, and a worker
 //! whose thread is refused works on the caller's, so that nothing is refused once they have begun.
-ghost use Rattle.std.specs.Prelude.{◌≡◌, ◌+◌, ◌<◌, ◌≤◌, ◌∷◌, nat_lt, [], All, IfErr, IfOk, MatchResult, map, length, vec_capacity, vec_len};
+ghost use Rattle.std.specs.Prelude.{◌≡◌, ◌+◌, ◌<◌, ◌≤◌, ◌∷◌, nat_lt, [], true, All, IfErr, IfOk, MatchResult, map, length, vec_capacity, vec_len};
 ghost use Rattle.std.specs.List.{AllZip};
 ghost use Rattle.cf_desk.specs.Rule.{AllShort};
 ghost use Rattle.cf_desk.specs.Views.{IsOf, knowns};
@@ -22,12 +22,14 @@ use std::thread::{Promise, PromisedHandle, Scope, Threads};
 /// How many looks in a row that find nothing ready a worker of `run` makes before it ends.
 pub const PATIENCE: u32 = 1000;
 
-/// A pass with which a worker has worked, the worker then, and the fault that stopped it, if one did.
+/// A pass with which a worker has worked, the worker then, the fault that stopped it, if one did, and whether its thread was
+/// refused.
 #[derive(Drop)]
 pub struct Worked<W> {
     pub pass: Pass,
     pub worker: W,
     pub fault: Option<DeskFault>,
+    pub alone: bool,
 }
 
 /// What a run leaves: the closed desk, and the workers in the order in which they were handed in.
@@ -95,6 +97,7 @@ fn work_on<W: Worker>(desk: &Desk, one: (Pass, W), patience: u32) -> Worked<W>
         pass,
         worker,
         fault,
+        alone: false,
     }
 }
 
@@ -122,8 +125,26 @@ fn start<'s, E, W: Worker + Send + Drop + 's>(
         Ok(handle) => Ok(handle),
         Err(refused) => {
             let work = refused.value;
-            Err(work())
+            Err(alone(work()))
         }
+    }
+}
+
+/// Notes that a worker's thread was refused.
+fn alone<W>(worked: Worked<W>) -> Worked<W>
+    ensures { result ≡ record worked { alone = true } }
+{
+    let Worked {
+        pass,
+        worker,
+        fault,
+        alone: _,
+    } = worked;
+    Worked {
+        pass,
+        worker,
+        fault,
+        alone: true,
     }
 }
 
@@ -214,6 +235,16 @@ fn first_fault<W>(worked: &[Worked<W>]) -> Option<Met>
     first
 }
 
+/// Whether a worker's thread was refused.
+fn is_any_alone<W>(worked: &[Worked<W>]) -> bool {
+    for w in worked {
+        if w.alone {
+            return true;
+        }
+    }
+    false
+}
+
 /// The fault of the lower caller, where both met one.
 fn first_of(met: Option<Met>, caller: u8, fault: Option<DeskFault>) -> Option<Met>
     ensures { result ≡ first_with met caller fault }
@@ -300,6 +331,7 @@ fn meet_all<W: Drop>(
             mut pass,
             worker,
             fault: _,
+            alone: _,
         } = w;
         desk.meet(mine, &mut pass);
         back.passes.push_reserved(pass);
@@ -360,6 +392,7 @@ fn run_each<R: Threads + Wait + Sync, W: Worker + Send + Drop>(
     let (mut mine, own) = one;
     let worked = spread(rt, &desk, workers, started, worked);
     let others = first_fault(worked.as_slice());
+    let refused = is_any_alone(worked.as_slice());
     let back = meet_all(&desk, &mut mine, worked, back);
     let done = work_on(&desk, (mine, own), 1);
     let first = first_of(others, done.pass.caller(), done.fault);
@@ -369,22 +402,27 @@ fn run_each<R: Threads + Wait + Sync, W: Worker + Send + Drop>(
         unreachable!();
     };
     let left = Left { closed, workers };
+    if refused {
+        return Err(PoolFault::NoThread(left));
+    }
     match first {
         None => Ok(left),
         Some(met) => Err(PoolFault::Desk(met.fault, left)),
     }
 }
 
-/// Starts a thread for each of 1 to 32 workers, which works with its pass, and joins them all. A worker whose thread is
-/// refused works on the caller's, before the next is started. Then the caller's pass meets each other one and its worker
-/// works until nothing is ready, and the desk is closed. `passes` holds all passes of the desk, the caller's own first, and
-/// `workers` the worker of each. Their functions mean the same.
+/// Starts a thread for each of 1 to 32 workers, which works with its pass, and joins them all. Then the caller's pass meets
+/// each other one and its worker works until nothing is ready, and the desk is closed. `passes` holds all passes of the
+/// desk, the caller's own first, and `workers` the worker of each. Their functions mean the same.
 ///
 /// After it nothing is ready, each worker has waited for its patience, and no claim is open but those that were granted
 /// and not finished before. After a fault of the desk, which is that of the lowest caller of whom a call was refused, the
 /// desk is closed too, and a claim that was granted may be open. In both cases the workers come back, and each has called
-/// its functions for the claims that its pass was granted, once each, and never else. All memory is taken before anything
-/// begins: where it is refused, the desk, the passes and the workers come back as they were.
+/// its functions for the claims that its pass was granted, once each, and never else.
+///
+/// All memory is taken before anything begins: where it is refused, the desk, the passes and the workers come back as they
+/// were. A worker whose thread is refused works on the caller's, before the next is started; this is told at the end,
+/// before any other fault, with all that the run leaves.
 pub fn run<R: Threads + Wait + Sync, W: Worker + Send + Drop>(
     rt: &R,
     desk: Desk,

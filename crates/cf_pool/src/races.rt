@@ -64,6 +64,7 @@ pub fn race<R: Threads + Wait + Sync, W: Worker + Send + Drop>(
     match run(rt, desk, passes, hands) {
         Ok(left) => Ok(left),
         Err(PoolFault::NoMemory(_)) => Err(RaceFault::NoMemory),
+        Err(PoolFault::NoThread(_)) => Err(RaceFault::NoMemory),
         Err(PoolFault::Desk(..)) => unreachable!(),
     }
 }

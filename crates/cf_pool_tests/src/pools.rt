@@ -184,6 +184,7 @@ pub(crate) fn ran<R: Threads + Wait + Sync, F: StageFn + Sync, G: Gate + Sync>(
             closed: closed_of(left),
         }),
         Err(PoolFault::NoMemory(_)) => Err(Fail::from("the run was refused")),
+        Err(PoolFault::NoThread(_)) => Err(Fail::from("a thread was refused")),
     }
 }
 

@@ -5,10 +5,10 @@ use Rattle.std.proofs.lemmas.List.Elements.{All-head, All-tail, All-weaker}
 use Rattle.cf_desk.specs.Views.{IsOf, Pass}
 use Rattle.cf_pool.specs.declared.pool.Worked.{Worked}
 use Rattle.cf_pool.specs.Calling.{EachCalls, MeanAlike, first_meanings}
-use Rattle.cf_pool.specs.Closings.{IsTold, RanOut}
+use Rattle.cf_pool.specs.Closings.{IsTold, Ran, RanOut}
 use Rattle.cf_pool.specs.Runs.{IsFirst, IsWorkedFrom, first_with, stop_of}
 use Rattle.cf_pool.proofs.Pools.{all_mapped}
-use Rattle.cf_pool.proofs.Runs.{Back, all_from, back_calls, back_of, back_out, back_told, first_and, shut_of, worked_of, zip_length}
+use Rattle.cf_pool.proofs.Runs.{Back, all_from, back_calls, back_of, back_out, back_ran, back_told, first_and, shut_of, worked_of, zip_length}
 use Rattle.cf_pool.proofs.pool.run_each.Given.{Over}
 use Rattle.cf_pool.proofs.pool.run_each.Goals as goal
 use Rattle.cf_pool.proofs.pool.run_each.Goals.{After-put_first-workers, After-remove-one, After-spread-worked}
@@ -149,6 +149,21 @@ returns-in-Some-clause-refused g c =
     let shut = shut_of _ _ _ _ _ _ c.put_first-passes.ensures e.history e.passes e.fit e.graph in (
       subst (λ l. IsTold (first_meanings g.W.Worker.meanings (map (λ w. w.1) l)) c.args.desk (map (λ w. w.0) l) c.in-Some.met.fault c.in-Ok.closed) (sym (split g at.After-remove-one))
           (back_told _ _ _ _ _ _ _ _ _ _ came_back c.in-Ok.closed shut c.in-Some.met some),
+      subst (λ l. EachCalls g.W.Worker.tells g.W.Functions.calls c.in-Ok.closed.graph.state.plan.stages (map (λ w. w.0) l) (map (λ k. k.records.items) c.in-Ok.closed.passes.items) (map (λ w. w.1) l) c.put_first-workers.result.items) (sym (split g at.After-remove-one))
+          (subst (λ l. EachCalls g.W.Worker.tells g.W.Functions.calls c.in-Ok.closed.graph.state.plan.stages (c.remove-one.result.0 ∷ map (λ w. w.0) c.remove-one.new.self.items) (map (λ k. k.records.items) c.in-Ok.closed.passes.items) (c.remove-one.result.1 ∷ map (λ w. w.1) c.remove-one.new.self.items) l) (sym workers)
+          (back_calls g.W.Worker.tells g.W.Functions.calls g.W.Worker.meanings _ c.args.desk c.remove-one.result.0 c.meet_all-back.new.mine c.work_on-done.result.pass c.remove-one.new.self.items c.meet_all-back.result.passes.items c.spread-worked.result.items c.first_fault-others.result c.work_on-done.result.fault c.remove-one.result.1 c.work_on-done.result.worker
+          came_back c.spread-worked.ensures c.work_on-done.ensures.called c.in-Ok.closed.history.items c.in-Ok.closed.passes.items c.in-Ok.closed.graph.state shut)),
+    )
+
+pub returns-then-refused-clause-refused : goal.returns-then-refused-clause-refused
+returns-then-refused-clause-refused g c =
+    let at = goal.at.returns-then-refused-clause-refused g c in
+    let e = c.in-Ok.ensures in
+    let workers = c.put_first-workers.ensures ∙ ap (λ l. c.work_on-done.result.worker ∷ l) c.meet_all-back.ensures.workers in
+    let came_back = back g at.After-put_first-workers (of g at.After-remove-one) (work g at.After-spread-worked (alike g at.After-remove-one)) in
+    let shut = shut_of _ _ _ _ _ _ c.put_first-passes.ensures e.history e.passes e.fit e.graph in (
+      subst (λ l. Ran (first_meanings g.W.Worker.meanings (map (λ w. w.1) l)) c.args.desk (map (λ w. w.0) l) c.in-Ok.closed.history.items c.in-Ok.closed.passes.items c.in-Ok.closed.graph.state) (sym (split g at.After-remove-one))
+          (back_ran _ _ _ _ _ _ _ _ _ _ came_back c.in-Ok.closed.history.items c.in-Ok.closed.passes.items c.in-Ok.closed.graph.state shut),
       subst (λ l. EachCalls g.W.Worker.tells g.W.Functions.calls c.in-Ok.closed.graph.state.plan.stages (map (λ w. w.0) l) (map (λ k. k.records.items) c.in-Ok.closed.passes.items) (map (λ w. w.1) l) c.put_first-workers.result.items) (sym (split g at.After-remove-one))
           (subst (λ l. EachCalls g.W.Worker.tells g.W.Functions.calls c.in-Ok.closed.graph.state.plan.stages (c.remove-one.result.0 ∷ map (λ w. w.0) c.remove-one.new.self.items) (map (λ k. k.records.items) c.in-Ok.closed.passes.items) (c.remove-one.result.1 ∷ map (λ w. w.1) c.remove-one.new.self.items) l) (sym workers)
           (back_calls g.W.Worker.tells g.W.Functions.calls g.W.Worker.meanings _ c.args.desk c.remove-one.result.0 c.meet_all-back.new.mine c.work_on-done.result.pass c.remove-one.new.self.items c.meet_all-back.result.passes.items c.spread-worked.result.items c.first_fault-others.result c.work_on-done.result.fault c.remove-one.result.1 c.work_on-done.result.worker
