@@ -1,6 +1,6 @@
 -- Passes that workers have worked with, one after another.
-use Rattle.std.proofs.Common.{◌≡◌, ℕ, suc, ◌+◌, ◌<◌, ◌≤◌, Bool, true, false, Option, Some, None, List, [], ◌∷◌, ◌++◌, length, map, All, sym, refl, ap, ◌∙◌, subst, append_assoc, eqb, length-append, take, get_or, arith}
-use Rattle.std.specs.Prelude.{nat_lt, slice_index_or}
+use Rattle.std.proofs.Common.{◌≡◌, ℕ, ◌+◌, ◌<◌, ◌≤◌, Bool, true, false, Option, Some, None, Result, Ok, Err, MatchResult, List, [], ◌∷◌, ◌++◌, length, map, All, sym, refl, ap, ◌∙◌, subst, append_assoc, append-nil, eqb, length-append, take, get_or, arith}
+use Rattle.std.specs.Prelude.{nat_lt}
 use Rattle.std.specs.List.{AllZip}
 use Rattle.std.proofs.lemmas.List.{take_more}
 use Rattle.std.proofs.lemmas.List.Elements.{All-cons, All-head, All-nil, All-tail, All-push, All-weaker, Contains-append_left, Contains-push, filter-append}
@@ -54,16 +54,29 @@ zip_push R [] (b ∷ ys) x y h r = absurd h
 zip_push R (a ∷ xs) [] x y h r = absurd h
 zip_push R (a ∷ xs) (b ∷ ys) x y h r = (h.0, zip_push R xs ys x y h.1 r)
 
-pub zip_kept : {H X Y : Type 0} (P : H → Type 0) (f : H → X) (W : X → Y → Type 0) (hs : List H) (ws : List Y) → length ws ≡ length hs → All P hs
-    → ((i : ℕ) (d : Y) → i < length hs → (h : H) × (h ≡ slice_index_or hs i h) × (P h → W (f h) (slice_index_or ws i d))) → AllZip W (map f hs) ws
-zip_kept P f W [] [] same all each = tt
-zip_kept P f W [] (w ∷ ws) same all each = absurd (omega arith)
-zip_kept P f W (h ∷ hs) [] same all each = absurd (omega arith)
-zip_kept P f W (h ∷ hs) (w ∷ ws) same all each =
-    let x = each 0 w (omega arith) in (
-      subst (λ y. W (f y) w) x.1 (x.2 (subst P (sym x.1) (All-head P h hs all))),
-      zip_kept P f W hs ws (omega arith) (All-tail P h hs all) (λ i d l. each (suc i) d (omega arith)),
-    )
+-- what a loop over a list has made so far: beside it goes what the others lead to
+abbrev pub GoesOn : {A B : Type 0} → (A → B → Type 0) → List A → List A → List B → Type 0
+GoesOn {A} {B} R all rest ys = (zs : List B) → AllZip R rest zs → AllZip R all (ys ++ zs)
+
+pub zip_begun : {A B : Type 0} (R : A → B → Type 0) (all rest : List A) (ys : List B) → rest ≡ all → ys ≡ [] → GoesOn R all rest ys
+zip_begun R all rest ys same none zs h = subst (λ l. AllZip R all (l ++ zs)) (sym none) (subst (λ l. AllZip R l zs) same h)
+
+pub zip_step : {A B : Type 0} (R : A → B → Type 0) (all was rest : List A) (ys now : List B) (x : A) (y : B) → was ≡ x ∷ rest → now ≡ ys ++ y ∷ [] → R x y → GoesOn R all was ys → GoesOn R all rest now
+zip_step R all was rest ys now x y first items r g zs h =
+    subst (AllZip R all) (sym (append_assoc ys (y ∷ []) zs) ∙ ap (λ l. l ++ zs) (sym items)) (g (y ∷ zs) (subst (λ l. AllZip R l (y ∷ zs)) (sym first) (r, h)))
+
+pub zip_ended : {A B : Type 0} (R : A → B → Type 0) (all rest : List A) (ys : List B) → length rest ≡ 0 → GoesOn R all rest ys → AllZip R all ys
+zip_ended R all [] ys none g = subst (AllZip R all) (append-nil ys) (g [] tt)
+zip_ended R all (x ∷ rest) ys none g = absurd (omega arith)
+
+-- what is side by side with a list, and that with a third
+pub zip_through : {A B C : Type 0} (P : A → B → Type 0) (Q : B → C → Type 0) (R : A → C → Type 0) → ((x : A) (y : B) (z : C) → P x y → Q y z → R x z) → (xs : List A) (ys : List B) (zs : List C) → AllZip P xs ys → AllZip Q ys zs → AllZip R xs zs
+zip_through P Q R f [] [] [] p q = tt
+zip_through P Q R f [] [] (z ∷ zs) p q = absurd q
+zip_through P Q R f [] (y ∷ ys) zs p q = absurd p
+zip_through P Q R f (x ∷ xs) [] zs p q = absurd p
+zip_through P Q R f (x ∷ xs) (y ∷ ys) [] p q = absurd q
+zip_through P Q R f (x ∷ xs) (y ∷ ys) (z ∷ zs) p q = (f x y z p.0 q.0, zip_through P Q R f xs ys zs p.1 q.1)
 
 pub all_mapped : {A B : Type 0} (P : B → Type 0) (f : A → B) (xs : List A) → All P (map f xs) → All (λ x. P (f x)) xs
 all_mapped P f [] h = All-nil (λ x. P (f x))
@@ -132,5 +145,10 @@ parts_step f hs now h p rest all parts same items =
 pub all_step : {H : Type 0} (P : H → Type 0) (hs now : List H) (h : H) → now ≡ hs ++ h ∷ [] → All P hs → P h → All P now
 all_step P hs now h items all one = subst (All P) (sym items) (All-push P hs h all one)
 
-pub work_same : {M : Type 0} (tells : TellsOf M) (calls : CallsOf M) (meanings : M → Meanings) (d e : Desk) (patience : ℕ) (h : Pass × M) (w : Worked M) → d ≡ e → IsWorkedBy tells calls meanings d patience h w → IsWorkedBy tells calls meanings e patience h w
-work_same tells calls meanings d e patience h w same is = subst (λ (x : Desk). IsWorkedBy tells calls meanings x patience h w) same is
+-- what a worker has come to, whose thread was joined, or which worked on the caller's
+pub work_ended : {H M : Type 0} (tells : TellsOf M) (calls : CallsOf M) (meanings : M → Meanings) (was : H → Pass × M) (on : H → Desk) (d : Desk) (one : Pass × M) (started : Result H (Worked M)) (w : Worked M)
+    → MatchResult started (λ h. (was h ≡ one) × (on h ≡ d)) (λ x. IsWorkedBy tells calls meanings d 1000 one x)
+    → MatchResult started (λ h. IsWorkedBy tells calls meanings (on h) 1000 (was h) w) (λ x. w ≡ x) → IsWorkedBy tells calls meanings d 1000 one w
+work_ended {H} {M} tells calls meanings was on d one (Ok h) w same is =
+    subst (λ (k : Pass × M). IsWorkedBy tells calls meanings d 1000 k w) same.0 (subst (λ (x : Desk). IsWorkedBy tells calls meanings x 1000 (was h) w) same.1 is)
+work_ended tells calls meanings was on d one (Err x) w is same = subst (λ y. IsWorkedBy tells calls meanings d 1000 one y) (sym same) is

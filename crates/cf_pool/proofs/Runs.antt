@@ -207,7 +207,7 @@ all_met m meanings d p q fault ps qs ws None own f g h = (
   all_ended meanings d 1000 ps qs ws f g (All-tail (λ (x : Stop). x.1 ≡ None) (q.known.caller, fault) (map stop_of ws) h),
 )
 all_met {M} m meanings d p q fault ps qs ws (Some met) own f g h =
-    let mine : Worked M = record { pass = q; worker = m; fault = fault } in
+    let mine : Worked M = record { pass = q; worker = m; fault = fault; alone = false } in
     let s = stopped_at meanings d met.caller met.fault (p ∷ ps) (q ∷ qs) (mine ∷ ws) (stops_as meanings d 1 p q fault own, all_stops meanings d 1000 ps ws f) (sees_itself q, g) h.0.0 h.0.1 h.0.2 in
     record {
       before = s.before;
@@ -321,7 +321,7 @@ shut_of d qs items history kept graph same closes are fit is = record {
   graph_is = is;
 }
 
-back_ran : {M : Type 0} (meanings : Meanings) (d : Desk) (mine met done : Pass) (ps qs : List Pass) (ws : List (Worked M)) (others : Option Met) (fault : Option DeskFault) → Back meanings d mine met done ps qs ws others fault
+pub back_ran : {M : Type 0} (meanings : Meanings) (d : Desk) (mine met done : Pass) (ps qs : List Pass) (ws : List (Worked M)) (others : Option Met) (fault : Option DeskFault) → Back meanings d mine met done ps qs ws others fault
     → (history : List Event) (kept : List Kept) (graph : State) → Shut d (done ∷ qs) history kept graph → Ran meanings d (mine ∷ ps) history kept graph
 back_ran meanings d mine met done ps qs ws others fault b history kept graph s = record {
   qs = done ∷ qs;

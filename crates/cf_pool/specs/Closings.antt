@@ -12,8 +12,9 @@ use Rattle.cf_desk.specs.Keepings.{AllFit, AreKept, pass_kept}
 use Rattle.cf_desk.specs.Log.{state_from}
 use Rattle.cf_desk.specs.Views.{Closes, Desk, Pass}
 use Rattle.cf_pool.specs.declared.faults.PoolFault.{PoolFault}
-use Rattle.cf_pool.specs.declared.faults.PoolFault.TheVariants.{Desk as ToldDesk, NoMemory}
+use Rattle.cf_pool.specs.declared.faults.PoolFault.TheVariants.{Desk as ToldDesk, NoMemory, NoThread}
 use Rattle.cf_pool.specs.declared.pool.Left.{Left}
+use Rattle.cf_pool.specs.declared.pool.Unbegun.{Unbegun}
 use Rattle.cf_model.specs.Calling.{CallsOf}
 use Rattle.cf_pool.specs.Calling.{EachCalls, TellsOf}
 use Rattle.cf_pool.specs.Claims.{WereOpen}
@@ -55,6 +56,13 @@ abbrev pub HaveCalled : {M : Type 0} → TellsOf M → CallsOf M → List Pass �
 HaveCalled tells calls ps ms left =
     EachCalls tells calls left.closed.graph.state.plan.stages ps (map (λ (k : Kept). k.records.items) left.closed.passes.items) ms left.workers.items
 
+-- all of a run is as it was handed in
+abbrev pub IsAsBefore : {M : Type 0} → Desk → List Pass → List M → Unbegun M → Type 0
+IsAsBefore d ps ms unbegun = (unbegun.desk ≡ d) × (unbegun.passes.items ≡ ps) × (unbegun.workers.items ≡ ms)
+
+-- Why a run tells a fault, and what it leaves then: memory was refused, and nothing has begun; a thread was refused, and all have worked; or the desk's.
 abbrev pub IsRefused : {M : Type 0} → TellsOf M → CallsOf M → Meanings → Desk → List Pass → List M → PoolFault M → Type 0
-IsRefused tells calls meanings d ps ms NoMemory = Unit {0}
+IsRefused tells calls meanings d ps ms (NoMemory unbegun) = IsAsBefore d ps ms unbegun
+IsRefused tells calls meanings d ps ms (NoThread left) =
+    Ran meanings d ps left.closed.history.items left.closed.passes.items left.closed.graph.state × HaveCalled tells calls ps ms left
 IsRefused tells calls meanings d ps ms (ToldDesk fault left) = IsTold meanings d ps fault left.closed × HaveCalled tells calls ps ms left

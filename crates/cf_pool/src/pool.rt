@@ -1,5 +1,6 @@
-//! Workers on threads of their own.
-ghost use Rattle.std.specs.Prelude.{◌≡◌, ◌+◌, ◌<◌, ◌≤◌, ◌∷◌, nat_lt, [], All, IfErr, IfOk, map, length, vec_capacity, vec_len};
+//! Workers on threads of their own. All memory is taken before the desk, its passes and the workers are touched, and a worker
+//! whose thread is refused works on the caller's, so that nothing is refused once they have begun.
+ghost use Rattle.std.specs.Prelude.{◌≡◌, ◌+◌, ◌<◌, ◌≤◌, ◌∷◌, nat_lt, [], true, All, IfErr, IfOk, MatchResult, map, length, vec_capacity, vec_len};
 ghost use Rattle.std.specs.List.{AllZip};
 ghost use Rattle.cf_desk.specs.Rule.{AllShort};
 ghost use Rattle.cf_desk.specs.Views.{IsOf, knowns};
@@ -16,17 +17,19 @@ use std::alloc::{AllocError, Global};
 use std::snapshot::Snapshot;
 use std::sync::Wait;
 use std::thread;
-use std::thread::{Promise, PromisedHandle, Scope, Threads, join_promised};
+use std::thread::{Promise, PromisedHandle, Scope, Threads};
 
 /// How many looks in a row that find nothing ready a worker of `run` makes before it ends.
 pub const PATIENCE: u32 = 1000;
 
-/// A pass with which a worker has worked, the worker then, and the fault that stopped it, if one did.
+/// A pass with which a worker has worked, the worker then, the fault that stopped it, if one did, and whether its thread was
+/// refused.
 #[derive(Drop)]
 pub struct Worked<W> {
     pub pass: Pass,
     pub worker: W,
     pub fault: Option<DeskFault>,
+    pub alone: bool,
 }
 
 /// What a run leaves: the closed desk, and the workers in the order in which they were handed in.
@@ -58,24 +61,29 @@ pub struct Met {
     pub fault: DeskFault,
 }
 
+/// The desk, its passes and the workers of a run for which there was no memory, as they were handed in.
+#[derive(Drop)]
+pub struct Unbegun<W> {
+    pub desk: Desk,
+    pub passes: Vec<Pass>,
+    pub workers: Vec<W>,
+}
+
 /// That a worker of this desk has worked with this pass.
-pub struct WorkOf<'a, W> {
+#[derive(Drop)]
+pub struct WorkOf<W> {
     was: Snapshot<(Pass, W)>,
-    desk: &'a Desk,
+    desk: Snapshot<Desk>,
 }
 
-impl<'a, W> Drop for WorkOf<'a, W> {
-    fn drop(self) {
-        let Self { was, desk: _ } = self;
-        drop(was);
-    }
-}
-
-impl<'a, W: Worker> Promise<Worked<W>> for WorkOf<'a, W> {
+impl<W: Worker> Promise<Worked<W>> for WorkOf<W> {
     ghost use Rattle.cf_pool.specs.Runs.{IsWorkedBy};
 
-    ghost kept_by = { λ p r. IsWorkedBy W.tells W.calls W.meanings p.desk.now 1000 p.was.value r };
+    ghost kept_by = { λ p r. IsWorkedBy W.tells W.calls W.meanings p.desk.value 1000 p.was.value r };
 }
+
+/// A worker's thread, or what it came to on the caller's.
+type Started<W> = Result<PromisedHandle<Worked<W>, WorkOf<W>>, Worked<W>>;
 
 /// Works with a pass, and tells what stopped it, if anything did.
 fn work_on<W: Worker>(desk: &Desk, one: (Pass, W), patience: u32) -> Worked<W>
@@ -89,21 +97,22 @@ fn work_on<W: Worker>(desk: &Desk, one: (Pass, W), patience: u32) -> Worked<W>
         pass,
         worker,
         fault,
+        alone: false,
     }
 }
 
-/// Starts a thread of the scope for one worker.
+/// Starts a thread of the scope for one worker. Where it is refused, the worker works on this one.
 fn start<'s, E, W: Worker + Send + Drop + 's>(
     scope: &Scope<'s, E>,
     desk: &'s Desk,
     one: (Pass, W),
-) -> Result<PromisedHandle<Worked<W>, WorkOf<'s, W>>, AllocError>
+) -> Started<W>
     requires { IsOf desk.now one.0 }
-    ensures { IfOk result (λ h. (h.promise.was.value ≡ one) × (h.promise.desk.now ≡ desk.now)) }
+    ensures { MatchResult result (λ h. (h.promise.was.value ≡ one) × (h.promise.desk.value ≡ desk.now)) (λ w. IsWorkedBy W.tells W.calls W.meanings desk.now 1000 one w) }
 {
     let promise = WorkOf {
         was: Snapshot::of(&one),
-        desk,
+        desk: Snapshot::of(desk),
     };
     let started = scope.spawn_with(
         promise,
@@ -114,52 +123,103 @@ fn start<'s, E, W: Worker + Send + Drop + 's>(
     );
     match started {
         Ok(handle) => Ok(handle),
-        Err(_) => Err(AllocError),
+        Err(refused) => {
+            let work = refused.value;
+            Err(alone(work()))
+        }
     }
 }
 
-/// Starts a thread of the scope for each worker.
+/// Notes that a worker's thread was refused.
+fn alone<W>(worked: Worked<W>) -> Worked<W>
+    ensures { result ≡ record worked { alone = true } }
+{
+    let Worked {
+        pass,
+        worker,
+        fault,
+        alone: _,
+    } = worked;
+    Worked {
+        pass,
+        worker,
+        fault,
+        alone: true,
+    }
+}
+
+/// Starts each worker.
 fn start_all<'s, E, W: Worker + Send + Drop + 's>(
     scope: &Scope<'s, E>,
-    alloc: Global,
     desk: &'s Desk,
     workers: Vec<(Pass, W)>,
-) -> Result<Vec<PromisedHandle<Worked<W>, WorkOf<'s, W>>>, AllocError>
-    requires { All (λ w. IsOf desk.now w.0) workers.items }
-    ensures workers { IfOk result (λ v. map (λ h. h.promise.was.value) v.items ≡ workers.items) }
-    ensures same { IfOk result (λ v. All (λ h. h.promise.desk.now ≡ desk.now) v.items) }
+    mut started: Vec<Started<W>>,
+) -> Vec<Started<W>>
+    requires all { All (λ w. IsOf desk.now w.0) workers.items }
+    requires none { started.items ≡ [] }
+    requires room { vec_len workers ≤ vec_capacity started }
+    ensures { AllZip (λ one s. MatchResult s (λ h. (h.promise.was.value ≡ one) × (h.promise.desk.value ≡ desk.now)) (λ w. IsWorkedBy W.tells W.calls W.meanings desk.now 1000 one w)) workers.items result.items }
 {
-    let mut handles = Vec::with_capacity(alloc, workers.len())?;
     let mut rest = workers.into_iter();
     'next: while let Some(one) = rest.next() {
-        let handle = start(scope, desk, one)?;
-        handles.push(handle)?;
+        let new = start(scope, desk, one);
+        started.push_reserved(new);
     }
-    Ok(handles)
+    started
 }
 
-/// Lets each worker work with its pass on a thread of its own, and joins them all, also where a later thread is refused.
+/// What a worker has come to.
+fn ended<R: Threads, W: Worker + Drop>(rt: &R, started: Started<W>) -> Worked<W>
+    ensures { MatchResult started (λ h. IsWorkedBy W.tells W.calls W.meanings h.promise.desk.value 1000 h.promise.was.value result) (λ w. result ≡ w) }
+{
+    match started {
+        Ok(handle) => handle.join(rt),
+        Err(worked) => worked,
+    }
+}
+
+/// What each worker has come to.
+fn join_all<R: Threads, W: Worker + Drop>(
+    rt: &R,
+    started: Vec<Started<W>>,
+    mut worked: Vec<Worked<W>>,
+) -> Vec<Worked<W>>
+    requires none { worked.items ≡ [] }
+    requires room { vec_len started ≤ vec_capacity worked }
+    ensures { AllZip (λ s x. MatchResult s (λ h. IsWorkedBy W.tells W.calls W.meanings h.promise.desk.value 1000 h.promise.was.value x) (λ w. x ≡ w)) started.items result.items }
+{
+    let mut rest = started.into_iter();
+    'next: while let Some(one) = rest.next() {
+        let new = ended(rt, one);
+        worked.push_reserved(new);
+    }
+    worked
+}
+
+/// Lets each worker work with its pass on a thread of its own, and joins them all.
 fn spread<R: Threads + Wait + Sync, W: Worker + Send + Drop>(
     rt: &R,
-    alloc: Global,
     desk: &Desk,
     workers: Vec<(Pass, W)>,
-) -> Result<Vec<Worked<W>>, AllocError>
-    requires { All (λ w. IsOf desk.now w.0) workers.items }
-    ensures { IfOk result (λ v. AllZip (IsWorkedBy W.tells W.calls W.meanings desk.now 1000) workers.items v.items) }
+    started: Vec<Started<W>>,
+    worked: Vec<Worked<W>>,
+) -> Vec<Worked<W>>
+    requires all { All (λ w. IsOf desk.now w.0) workers.items }
+    requires none { (started.items ≡ []) × (worked.items ≡ []) }
+    requires room { (vec_len workers ≤ vec_capacity started) × (vec_len workers ≤ vec_capacity worked) }
+    ensures { AllZip (IsWorkedBy W.tells W.calls W.meanings desk.now 1000) workers.items result.items }
 {
     thread::scope(
         thread::scope_env(),
         rt,
-        |scope| -> Result<Vec<Worked<W>>, AllocError>
-            requires { All (λ w. IsOf desk.now w.0) workers.items }
-            ensures { IfOk result (λ v. AllZip (IsWorkedBy W.tells W.calls W.meanings desk.entry.now 1000) workers.items v.items) }
+        |scope| -> Vec<Worked<W>>
+            requires all { All (λ w. IsOf desk.now w.0) workers.items }
+            requires none { (started.items ≡ []) × (worked.items ≡ []) }
+            requires room { (vec_len workers ≤ vec_capacity started) × (vec_len workers ≤ vec_capacity worked) }
+            ensures { AllZip (IsWorkedBy W.tells W.calls W.meanings desk.entry.now 1000) workers.items result.items }
         {
-            let handles = start_all(scope, alloc, desk, workers)?;
-            match join_promised(rt, handles) {
-                Ok(worked) => Ok(worked),
-                Err(_) => Err(AllocError),
-            }
+            let started = start_all(scope, desk, workers, started);
+            join_all(rt, started, worked)
         },
     )
 }
@@ -173,6 +233,16 @@ fn first_fault<W>(worked: &[Worked<W>]) -> Option<Met>
         first = first_of(first, w.pass.caller(), w.fault);
     }
     first
+}
+
+/// Whether a worker's thread was refused.
+fn is_any_alone<W>(worked: &[Worked<W>]) -> bool {
+    for w in worked {
+        if w.alone {
+            return true;
+        }
+    }
+    false
 }
 
 /// The fault of the lower caller, where both met one.
@@ -204,13 +274,39 @@ struct Back<W> {
 }
 
 /// Room for so many that come back.
-fn room_for<W: Drop>(alloc: Global, count: usize) -> Result<Back<W>, AllocError>
+fn room_back<W: Drop>(alloc: Global, count: usize) -> Result<Back<W>, AllocError>
     ensures none { IfOk result (λ b. (b.passes.items ≡ []) × (b.workers.items ≡ [])) }
     ensures room { IfOk result (λ b. (count ≤ vec_capacity b.passes) × (count ≤ vec_capacity b.workers)) }
 {
     let passes = Vec::with_capacity(alloc, count)?;
     let workers = Vec::with_capacity(alloc, count)?;
     Ok(Back { passes, workers })
+}
+
+/// The memory of a run: for each worker with its pass, for what is started, for what it comes to, and for what comes back.
+#[derive(Drop)]
+struct Room<W: Worker> {
+    pairs: Vec<(Pass, W)>,
+    started: Vec<Started<W>>,
+    worked: Vec<Worked<W>>,
+    back: Back<W>,
+}
+
+/// Room for so many workers.
+fn room_for<W: Worker + Drop>(alloc: Global, count: usize) -> Result<Room<W>, AllocError>
+    ensures none { IfOk result (λ r. (r.pairs.items ≡ []) × (r.started.items ≡ []) × (r.worked.items ≡ []) × (r.back.passes.items ≡ []) × (r.back.workers.items ≡ [])) }
+    ensures room { IfOk result (λ r. (count ≤ vec_capacity r.pairs) × (count ≤ vec_capacity r.started) × (count ≤ vec_capacity r.worked) × (count ≤ vec_capacity r.back.passes) × (count ≤ vec_capacity r.back.workers)) }
+{
+    let pairs = Vec::with_capacity(alloc, count)?;
+    let started = Vec::with_capacity(alloc, count)?;
+    let worked = Vec::with_capacity(alloc, count)?;
+    let back = room_back(alloc, count)?;
+    Ok(Room {
+        pairs,
+        started,
+        worked,
+        back,
+    })
 }
 
 /// Lets the caller's pass and each other one see what they have seen.
@@ -235,6 +331,7 @@ fn meet_all<W: Drop>(
             mut pass,
             worker,
             fault: _,
+            alone: _,
         } = w;
         desk.meet(mine, &mut pass);
         back.passes.push_reserved(pass);
@@ -255,50 +352,47 @@ fn put_first<T: Drop>(mut xs: Vec<T>, x: T) -> Vec<T>
 }
 
 /// Each pass with its worker.
-fn pair<W: Drop>(
-    alloc: Global,
-    passes: Vec<Pass>,
-    workers: Vec<W>,
-) -> Result<Vec<(Pass, W)>, AllocError>
-    requires { vec_len passes ≡ vec_len workers }
-    ensures passes { IfOk result (λ v. map (λ w. w.0) v.items ≡ passes.items) }
-    ensures workers { IfOk result (λ v. map (λ w. w.1) v.items ≡ workers.items) }
+fn pair<W: Drop>(passes: Vec<Pass>, workers: Vec<W>, mut pairs: Vec<(Pass, W)>) -> Vec<(Pass, W)>
+    requires same { vec_len passes ≡ vec_len workers }
+    requires none { pairs.items ≡ [] }
+    requires room { vec_len passes ≤ vec_capacity pairs }
+    ensures passes { map (λ w. w.0) result.items ≡ passes.items }
+    ensures workers { map (λ w. w.1) result.items ≡ workers.items }
 {
-    let mut pairs = Vec::with_capacity(alloc, passes.len())?;
     let mut hands = workers.into_iter();
     let mut rest = passes.into_iter();
     'next: while let Some(pass) = rest.next() {
         let Some(worker) = hands.next() else {
             unreachable!();
         };
-        pairs.push((pass, worker))?;
+        pairs.push_reserved((pass, worker));
     }
-    Ok(pairs)
+    pairs
 }
 
 /// Lets each worker but the first work on a thread of its own, and then the first on this one, and closes the desk.
 fn run_each<R: Threads + Wait + Sync, W: Worker + Send + Drop>(
     rt: &R,
-    alloc: Global,
     desk: Desk,
     mut workers: Vec<(Pass, W)>,
+    started: Vec<Started<W>>,
+    worked: Vec<Worked<W>>,
+    back: Back<W>,
 ) -> Result<Left<W>, PoolFault<W>>
     requires workers { (0 < vec_len workers) × (desk.setting.callers ≡ vec_len workers) }
     requires passes { All (IsOf desk) (map (λ w. w.0) workers.items) }
     requires alike { MeanAlike W.meanings (map (λ w. w.1) workers.items) }
+    requires none { (started.items ≡ []) × (worked.items ≡ []) × (back.passes.items ≡ []) × (back.workers.items ≡ []) }
+    requires room { (vec_len workers ≤ vec_capacity started) × (vec_len workers ≤ vec_capacity worked) × (vec_len workers ≤ vec_capacity back.passes) × (vec_len workers ≤ vec_capacity back.workers) }
     ensures ran { IfOk result (λ left. RanOut (first_meanings W.meanings (map (λ w. w.1) workers.items)) desk (map (λ w. w.0) workers.items) left.closed.history.items left.closed.passes.items left.closed.graph.state) }
     ensures called { IfOk result (HaveCalled W.tells W.calls (map (λ w. w.0) workers.items) (map (λ w. w.1) workers.items)) }
     ensures refused { IfErr result (IsRefused W.tells W.calls (first_meanings W.meanings (map (λ w. w.1) workers.items)) desk (map (λ w. w.0) workers.items) (map (λ w. w.1) workers.items)) }
 {
-    let Ok(back) = room_for(alloc, workers.len()) else {
-        return Err(PoolFault::NoMemory);
-    };
     let one = workers.remove(0);
     let (mut mine, own) = one;
-    let Ok(worked) = spread(rt, alloc, &desk, workers) else {
-        return Err(PoolFault::NoMemory);
-    };
+    let worked = spread(rt, &desk, workers, started, worked);
     let others = first_fault(worked.as_slice());
+    let refused = is_any_alone(worked.as_slice());
     let back = meet_all(&desk, &mut mine, worked, back);
     let done = work_on(&desk, (mine, own), 1);
     let first = first_of(others, done.pass.caller(), done.fault);
@@ -308,20 +402,27 @@ fn run_each<R: Threads + Wait + Sync, W: Worker + Send + Drop>(
         unreachable!();
     };
     let left = Left { closed, workers };
+    if refused {
+        return Err(PoolFault::NoThread(left));
+    }
     match first {
         None => Ok(left),
         Some(met) => Err(PoolFault::Desk(met.fault, left)),
     }
 }
 
-/// Starts a thread for each of 1 to 32 workers, which works with its pass, and joins them all. Then the caller's pass
-/// meets each other one and its worker works until nothing is ready, and the desk is closed. `passes` holds all passes
-/// of the desk, the caller's own first, and `workers` the worker of each. Their functions mean the same.
+/// Starts a thread for each of 1 to 32 workers, which works with its pass, and joins them all. Then the caller's pass meets
+/// each other one and its worker works until nothing is ready, and the desk is closed. `passes` holds all passes of the
+/// desk, the caller's own first, and `workers` the worker of each. Their functions mean the same.
 ///
 /// After it nothing is ready, each worker has waited for its patience, and no claim is open but those that were granted
-/// and not finished before. After a fault, which is that of the lowest caller of whom a call was refused, the desk is
-/// closed too, and a claim that was granted may be open. In both cases the workers come back, and each has called its
-/// functions for the claims that its pass was granted, once each, and never else.
+/// and not finished before. After a fault of the desk, which is that of the lowest caller of whom a call was refused, the
+/// desk is closed too, and a claim that was granted may be open. In both cases the workers come back, and each has called
+/// its functions for the claims that its pass was granted, once each, and never else.
+///
+/// All memory is taken before anything begins: where it is refused, the desk, the passes and the workers come back as they
+/// were. A worker whose thread is refused works on the caller's, before the next is started; this is told at the end,
+/// before any other fault, with all that the run leaves.
 pub fn run<R: Threads + Wait + Sync, W: Worker + Send + Drop>(
     rt: &R,
     desk: Desk,
@@ -336,8 +437,15 @@ pub fn run<R: Threads + Wait + Sync, W: Worker + Send + Drop>(
     ensures refused { IfErr result (IsRefused W.tells W.calls (first_meanings W.meanings workers.items) desk passes.items workers.items) }
 {
     let alloc = *passes.allocator();
-    match pair(alloc, passes, workers) {
-        Ok(pairs) => run_each(rt, alloc, desk, pairs),
-        Err(_) => Err(PoolFault::NoMemory),
+    match room_for(alloc, workers.len()) {
+        Ok(room) => {
+            let pairs = pair(passes, workers, room.pairs);
+            run_each(rt, desk, pairs, room.started, room.worked, room.back)
+        }
+        Err(_) => Err(PoolFault::NoMemory(Unbegun {
+            desk,
+            passes,
+            workers,
+        })),
     }
 }

@@ -3,8 +3,8 @@
 mod beginning;
 mod sizes;
 
-ghost use Rattle.std.specs.Prelude.{◌≡◌, ◌+◌, ◌*◌, ◌<◌, ◌≤◌, IfErr, IfOk, length, vec_len};
-ghost use Rattle.cf_plan.specs.Plans.{edges_of, with_room};
+ghost use Rattle.std.specs.Prelude.{◌≡◌, ◌+◌, ◌<◌, ◌≤◌, IfErr, IfOk, length, true, vec_len};
+ghost use Rattle.cf_plan.specs.Plans.{has_place, with_room};
 ghost use Rattle.cf_pool.specs.Calling.{MeanAlike, first_meanings};
 ghost use Rattle.cf_pool.specs.Beginnings.{HaveCalledInRace};
 ghost use Rattle.cf_pool.specs.Races.{AreSteps, IsDueToRefuse, IsRaced, RacedIsExpression, RacesEndAlike, log_words};
@@ -23,7 +23,7 @@ use std::thread::Threads;
 /// Why there is no race.
 #[derive(Clone, Copy, Debug, Drop, PartialEq, Eq)]
 pub enum RaceFault {
-    /// Memory or a thread was refused.
+    /// Memory was refused.
     NoMemory,
     /// The log would have more than 65,535 words.
     Size,
@@ -34,6 +34,7 @@ pub enum RaceFault {
 /// `hands` has the worker of caller 0 and then those of the others, whose functions mean the same. It leaves the desk,
 /// closed, and the workers, each of which has called its functions for the claims that its pass was granted, once each,
 /// and never else.
+#[tactic(auto, using(cf_plan::proofs::PlanLemmas::place_is))]
 pub fn race<R: Threads + Wait + Sync, W: Worker + Send + Drop>(
     rt: &R,
     alloc: Global,
@@ -45,7 +46,7 @@ pub fn race<R: Threads + Wait + Sync, W: Worker + Send + Drop>(
 ) -> Result<Left<W>, RaceFault>
     requires workers { (0 < workers) × (workers ≤ 32) × (vec_len hands ≡ workers + 1) }
     requires alike { MeanAlike W.meanings hands.items }
-    requires room { (length plan.stages + room ≤ 4096) × (edges_of plan.stages + 2 * room ≤ 16384) }
+    requires room { has_place plan.stages room ≡ true }
     requires steps { AreSteps (with_room plan room) steps.now }
     ensures raced { IfOk result (λ left. IsRaced (first_meanings W.meanings hands.items) (with_room plan room) steps.now workers left.closed.graph.state) }
     ensures called { IfOk result (HaveCalledInRace W.tells W.calls steps.now hands.items) }
@@ -62,7 +63,8 @@ pub fn race<R: Threads + Wait + Sync, W: Worker + Send + Drop>(
     };
     match run(rt, desk, passes, hands) {
         Ok(left) => Ok(left),
-        Err(PoolFault::NoMemory) => Err(RaceFault::NoMemory),
+        Err(PoolFault::NoMemory(_)) => Err(RaceFault::NoMemory),
+        Err(PoolFault::NoThread(_)) => Err(RaceFault::NoMemory),
         Err(PoolFault::Desk(..)) => unreachable!(),
     }
 }

@@ -1,7 +1,7 @@
 //! Desks for workers, and runs and races over them.
-ghost use Rattle.std.specs.Prelude.{◌≡◌, ◌+◌, ◌*◌, ◌<◌, ◌≤◌, All, IfOk, length, vec_len};
+ghost use Rattle.std.specs.Prelude.{◌≡◌, ◌+◌, ◌<◌, ◌≤◌, All, IfOk, vec_len};
 ghost use Rattle.cf_desk.specs.Views.{IsOf};
-ghost use Rattle.cf_plan.specs.Plans.{edges_of, with_room};
+ghost use Rattle.cf_plan.specs.Plans.{with_room};
 ghost use Rattle.cf_pool.specs.Races.{AreSteps};
 
 use crate::ends::Ended;
@@ -183,7 +183,8 @@ pub(crate) fn ran<R: Threads + Wait + Sync, F: StageFn + Sync, G: Gate + Sync>(
             done: None,
             closed: closed_of(left),
         }),
-        Err(PoolFault::NoMemory) => Err(Fail::from("the run was refused")),
+        Err(PoolFault::NoMemory(_)) => Err(Fail::from("the run was refused")),
+        Err(PoolFault::NoThread(_)) => Err(Fail::from("a thread was refused")),
     }
 }
 
@@ -213,9 +214,11 @@ pub(crate) fn raced<R: Threads + Wait + Sync, F: StageFn + Sync, G: Gate + Sync>
     workers: u8,
 ) -> Result<Graph, Fail>
     requires workers { (0 < workers) × (workers ≤ 32) }
-    requires room { (length plan.stages + room ≤ 4096) × (edges_of plan.stages + 2 * room ≤ 16384) }
     requires steps { AreSteps (with_room plan room) steps.now }
 {
+    if !plan.has_place(room) {
+        return Err(Fail::from("place is missing"));
+    }
     let hands = share(alloc, fns, gate, workers + 1)?;
     match race(rt, alloc, plan, room, steps, hands, workers) {
         Ok(left) => Ok(left.into_graph()),

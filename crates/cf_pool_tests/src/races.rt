@@ -167,6 +167,9 @@ fn race_behind<R: Threads + Wait + Sync>(
     plan: Plan,
     count: usize,
 ) -> Result<Option<RaceFault>, Fail> {
+    if !plan.has_place(0) {
+        return Err(Fail::from("place is missing"));
+    }
     let steps = ticks(alloc, count)?;
     let hands = share(alloc, &FUNCTIONS, &NoGate, 33)?;
     Ok(race(rt, alloc, plan, 0, &steps, hands, 32).err())

@@ -149,6 +149,9 @@ fn race_agrees<R: Threads + Wait + Sync>(rt: &R, alloc: Global, workers: u8) -> 
     requires { (0 < workers) × (workers ≤ 32) }
 {
     let plan = plan_of(alloc, &ROWS)?;
+    if !plan.has_place(0) {
+        return Err(Fail::from("place is missing"));
+    }
     let hands = recorders(alloc, workers + 1)?;
     match race(rt, alloc, plan, 0, &[], hands, workers) {
         Ok(left) => Ok(agree(alloc, &left)?),

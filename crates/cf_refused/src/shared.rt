@@ -80,7 +80,8 @@ pub(crate) fn run_by_three<R: Threads + Wait + Sync>(
             let passes = left.closed.passes.len();
             Ok(Numbers(3, passes, settled_stages(&mut left.into_graph(), 3)))
         }
-        Err(PoolFault::NoMemory) => Err(Want::Memory),
+        Err(PoolFault::NoMemory(_)) => Err(Want::Memory),
+        Err(PoolFault::NoThread(_)) => Err(Want::Memory),
         Err(PoolFault::Desk(_, _)) => Err(Want::Other),
     }
 }

@@ -197,6 +197,7 @@ fn functions_are_called_once_behind_the_gate(rt: HostRuntime) -> Result<(), Fail
         }
         assert!(rt; workers >= 1 && workers <= 32);
         let plan = pairs(rt.alloc())?;
+        assert!(rt; plan.has_place(0));
         let hands = share(rt.alloc(), &functions, &calls, workers + 1)?;
         let raced = race(&rt, rt.alloc(), plan, 0, &[], hands, workers);
         assert!(rt; raced.is_ok());

@@ -1,17 +1,17 @@
-use Rattle.std.proofs.Common.{◌≡◌, ◌+◌, ◌∷◌, List, None, Some, length, map, sym, ap, ◌∙◌, subst, arith, rules}
+use Rattle.std.proofs.Common.{◌≡◌, ◌+◌, ◌≤◌, ◌∷◌, List, None, Some, length, map, sym, ap, ◌∙◌, subst, vec_len, vec_capacity, arith, rules}
 use Rattle.std.specs.List.{All, AllZip}
 use Rattle.std.proofs.lemmas.List.{length-map}
 use Rattle.std.proofs.lemmas.List.Elements.{All-head, All-tail, All-weaker}
 use Rattle.cf_desk.specs.Views.{IsOf, Pass}
 use Rattle.cf_pool.specs.declared.pool.Worked.{Worked}
 use Rattle.cf_pool.specs.Calling.{EachCalls, MeanAlike, first_meanings}
-use Rattle.cf_pool.specs.Closings.{IsTold, RanOut}
+use Rattle.cf_pool.specs.Closings.{IsTold, Ran, RanOut}
 use Rattle.cf_pool.specs.Runs.{IsFirst, IsWorkedFrom, first_with, stop_of}
 use Rattle.cf_pool.proofs.Pools.{all_mapped}
-use Rattle.cf_pool.proofs.Runs.{Back, all_from, back_calls, back_of, back_out, back_told, first_and, shut_of, worked_of, zip_length}
+use Rattle.cf_pool.proofs.Runs.{Back, all_from, back_calls, back_of, back_out, back_ran, back_told, first_and, shut_of, worked_of, zip_length}
 use Rattle.cf_pool.proofs.pool.run_each.Given.{Over}
 use Rattle.cf_pool.proofs.pool.run_each.Goals as goal
-use Rattle.cf_pool.proofs.pool.run_each.Goals.{After-put_first-workers, After-remove-one, In-Ok-spread}
+use Rattle.cf_pool.proofs.pool.run_each.Goals.{After-put_first-workers, After-remove-one, After-spread-worked}
 
 -- the caller's pass with its worker, and the others
 split : (g : Over) (c : After-remove-one g) → c.args.workers.items ≡ c.remove-one.result ∷ c.remove-one.new.self.items
@@ -27,33 +27,40 @@ alike g c = subst (λ l. MeanAlike g.W.Worker.meanings (map (λ w. w.1) l)) (spl
 all : (g : Over) (c : After-remove-one g) → length c.args.workers.items ≡ length c.remove-one.new.self.items + 1
 all g c = let n = ap length (split g c) in omega (arith, n)
 
-pub spread-requires : goal.spread-requires
-spread-requires g c =
-    let there = all_mapped (IsOf c.args.desk) (λ w. w.0) c.remove-one.new.self.items (All-tail (IsOf c.args.desk) c.remove-one.result.0 (map (λ w. w.0) c.remove-one.new.self.items) (of g (goal.at.spread-requires g c).After-remove-one)) in
+pub spread-worked-requires-clause-all : goal.spread-worked-requires-clause-all
+spread-worked-requires-clause-all g c =
+    let there = all_mapped (IsOf c.args.desk) (λ w. w.0) c.remove-one.new.self.items (All-tail (IsOf c.args.desk) c.remove-one.result.0 (map (λ w. w.0) c.remove-one.new.self.items) (of g (goal.at.spread-worked-requires-clause-all g c).After-remove-one)) in
     search (rules, there)
 
-work : (g : Over) (c : In-Ok-spread g) → MeanAlike g.W.Worker.meanings (c.remove-one.result.1 ∷ map (λ w. w.1) c.remove-one.new.self.items)
-    → AllZip (IsWorkedFrom (g.W.Worker.meanings c.remove-one.result.1) c.args.desk 1000) (map (λ w. w.0) c.remove-one.new.self.items) c.in-Ok-spread.worked.items
+pub spread-worked-requires-clause-room : goal.spread-worked-requires-clause-room
+spread-worked-requires-clause-room g c =
+    let m = all g (goal.at.spread-worked-requires-clause-room g c).After-remove-one in let a = c.remove-one.new.self.ok.0 in let b = c.args.workers.ok.0 in let r = c.requires.room.0 in let s = c.requires.room.1 in
+    let one : vec_len c.remove-one.new.self ≤ vec_capacity c.args.started = omega arith in
+    let other : vec_len c.remove-one.new.self ≤ vec_capacity c.args.worked = omega arith in
+    search (rules, one, other)
+
+work : (g : Over) (c : After-spread-worked g) → MeanAlike g.W.Worker.meanings (c.remove-one.result.1 ∷ map (λ w. w.1) c.remove-one.new.self.items)
+    → AllZip (IsWorkedFrom (g.W.Worker.meanings c.remove-one.result.1) c.args.desk 1000) (map (λ w. w.0) c.remove-one.new.self.items) c.spread-worked.result.items
 work g c same =
-    all_from g.W.Worker.tells g.W.Functions.calls g.W.Worker.meanings (g.W.Worker.meanings c.remove-one.result.1) c.args.desk c.remove-one.new.self.items c.in-Ok-spread.worked.items
-    (All-tail (λ m. g.W.Worker.meanings m ≡ g.W.Worker.meanings c.remove-one.result.1) c.remove-one.result.1 (map (λ w. w.1) c.remove-one.new.self.items) same) c.in-Ok-spread.ensures
+    all_from g.W.Worker.tells g.W.Functions.calls g.W.Worker.meanings (g.W.Worker.meanings c.remove-one.result.1) c.args.desk c.remove-one.new.self.items c.spread-worked.result.items
+    (All-tail (λ m. g.W.Worker.meanings m ≡ g.W.Worker.meanings c.remove-one.result.1) c.remove-one.result.1 (map (λ w. w.1) c.remove-one.new.self.items) same) c.spread-worked.ensures
 
 -- as many have come back as there are others
-came : (g : Over) (c : In-Ok-spread g) → length c.in-Ok-spread.worked.items ≡ length c.remove-one.new.self.items
-came g c = zip_length _ c.remove-one.new.self.items c.in-Ok-spread.worked.items c.in-Ok-spread.ensures
+came : (g : Over) (c : After-spread-worked g) → length c.spread-worked.result.items ≡ length c.remove-one.new.self.items
+came g c = zip_length _ c.remove-one.new.self.items c.spread-worked.result.items c.spread-worked.ensures
 
 pub meet_all-back-requires-clause-table : goal.meet_all-back-requires-clause-table
 meet_all-back-requires-clause-table g c =
     let at = goal.at.meet_all-back-requires-clause-table g c in
     let every = of g at.After-remove-one in (
       (All-head (IsOf c.args.desk) c.remove-one.result.0 (map (λ w. w.0) c.remove-one.new.self.items) every).0,
-      worked_of (g.W.Worker.meanings c.remove-one.result.1) c.args.desk (map (λ w. w.0) c.remove-one.new.self.items) c.in-Ok-spread.worked.items (All-tail (IsOf c.args.desk) c.remove-one.result.0 (map (λ w. w.0) c.remove-one.new.self.items) every) (work g at.In-Ok-spread (alike g at.After-remove-one)),
+      worked_of (g.W.Worker.meanings c.remove-one.result.1) c.args.desk (map (λ w. w.0) c.remove-one.new.self.items) c.spread-worked.result.items (All-tail (IsOf c.args.desk) c.remove-one.result.0 (map (λ w. w.0) c.remove-one.new.self.items) every) (work g at.After-spread-worked (alike g at.After-remove-one)),
     )
 
 pub meet_all-back-requires-clause-room : goal.meet_all-back-requires-clause-room
 meet_all-back-requires-clause-room g c =
     let at = goal.at.meet_all-back-requires-clause-room g c in
-    let n = came g at.In-Ok-spread in let m = all g at.After-remove-one in let a = c.in-Ok-spread.worked.ok.0 in let b = c.args.workers.ok.0 in let k = c.in-Ok.ensures.room in let l = c.len.ensures in
+    let n = came g at.After-spread-worked in let m = all g at.After-remove-one in let a = c.spread-worked.result.ok.0 in let b = c.args.workers.ok.0 in let p = c.requires.room.2 in let w = c.requires.room.3 in
     (omega arith, omega arith)
 
 pub work_on-done-requires-clause-pass : goal.work_on-done-requires-clause-pass
@@ -66,22 +73,22 @@ work_on-done-requires-clause-pass g c =
 pub put_first-passes-requires : goal.put_first-passes-requires
 put_first-passes-requires g c =
     let at = goal.at.put_first-passes-requires g c in
-    let n = came g at.In-Ok-spread in let m = all g at.After-remove-one in
-    let z = zip_length _ c.in-Ok-spread.worked.items c.meet_all-back.result.passes.items c.meet_all-back.ensures.others in
-    let a = c.meet_all-back.result.passes.ok.0 in let b = c.args.workers.ok.0 in let k = c.in-Ok.ensures.room in let r = c.meet_all-back.ensures.room in let l = c.len.ensures in
+    let n = came g at.After-spread-worked in let m = all g at.After-remove-one in
+    let z = zip_length _ c.spread-worked.result.items c.meet_all-back.result.passes.items c.meet_all-back.ensures.others in
+    let a = c.meet_all-back.result.passes.ok.0 in let b = c.args.workers.ok.0 in let p = c.requires.room.2 in let w = c.requires.room.3 in let r = c.meet_all-back.ensures.room in
     omega arith
 
 pub put_first-workers-requires : goal.put_first-workers-requires
 put_first-workers-requires g c =
     let at = goal.at.put_first-workers-requires g c in
-    let n = came g at.In-Ok-spread in let m = all g at.After-remove-one in
-    let z = ap length c.meet_all-back.ensures.workers ∙ length-map c.in-Ok-spread.worked.items (λ w. w.worker) in
-    let a = c.meet_all-back.result.workers.ok.0 in let b = c.args.workers.ok.0 in let k = c.in-Ok.ensures.room in let r = c.meet_all-back.ensures.room in let l = c.len.ensures in
+    let n = came g at.After-spread-worked in let m = all g at.After-remove-one in
+    let z = ap length c.meet_all-back.ensures.workers ∙ length-map c.spread-worked.result.items (λ w. w.worker) in
+    let a = c.meet_all-back.result.workers.ok.0 in let b = c.args.workers.ok.0 in let p = c.requires.room.2 in let w = c.requires.room.3 in let r = c.meet_all-back.ensures.room in
     omega arith
 
 back : (g : Over) (c : After-put_first-workers g) → All (IsOf c.args.desk) (c.remove-one.result.0 ∷ map (λ w. w.0) c.remove-one.new.self.items)
-    → AllZip (IsWorkedFrom (g.W.Worker.meanings c.remove-one.result.1) c.args.desk 1000) (map (λ w. w.0) c.remove-one.new.self.items) c.in-Ok-spread.worked.items
-    → Back (g.W.Worker.meanings c.remove-one.result.1) c.args.desk c.remove-one.result.0 c.meet_all-back.new.mine c.work_on-done.result.pass (map (λ w. w.0) c.remove-one.new.self.items) c.meet_all-back.result.passes.items c.in-Ok-spread.worked.items c.first_fault-others.result c.work_on-done.result.fault
+    → AllZip (IsWorkedFrom (g.W.Worker.meanings c.remove-one.result.1) c.args.desk 1000) (map (λ w. w.0) c.remove-one.new.self.items) c.spread-worked.result.items
+    → Back (g.W.Worker.meanings c.remove-one.result.1) c.args.desk c.remove-one.result.0 c.meet_all-back.new.mine c.work_on-done.result.pass (map (λ w. w.0) c.remove-one.new.self.items) c.meet_all-back.result.passes.items c.spread-worked.result.items c.first_fault-others.result c.work_on-done.result.fault
 back g c every worked = record {
   worker = c.work_on-done.result.worker;
   of = every;
@@ -98,13 +105,13 @@ close-requires-clause-table g c =
     let at = goal.at.close-requires-clause-table g c in
     subst (All (λ (p : Pass). p.table ≡ c.args.desk.table)) (sym c.put_first-passes.ensures)
     (All-weaker (IsOf c.args.desk) (λ (p : Pass). p.table ≡ c.args.desk.table) (λ p x. x.0) (c.work_on-done.result.pass ∷ c.meet_all-back.result.passes.items)
-    (back_of _ _ _ _ _ _ _ _ _ _ (back g at.After-put_first-workers (of g at.After-remove-one) (work g at.In-Ok-spread (alike g at.After-remove-one)))))
+    (back_of _ _ _ _ _ _ _ _ _ _ (back g at.After-put_first-workers (of g at.After-remove-one) (work g at.After-spread-worked (alike g at.After-remove-one)))))
 
 pub close-requires-clause-all : goal.close-requires-clause-all
 close-requires-clause-all g c =
     let at = goal.at.close-requires-clause-all g c in
-    let n = came g at.In-Ok-spread in let m = all g at.After-remove-one in
-    let z = zip_length _ c.in-Ok-spread.worked.items c.meet_all-back.result.passes.items c.meet_all-back.ensures.others in
+    let n = came g at.After-spread-worked in let m = all g at.After-remove-one in
+    let z = zip_length _ c.spread-worked.result.items c.meet_all-back.result.passes.items c.meet_all-back.ensures.others in
     let a = c.put_first-passes.result.ok.0 in let b = c.args.workers.ok.0 in
     let e = ap length c.put_first-passes.ensures in
     let w = c.requires.workers.1 in
@@ -113,37 +120,52 @@ close-requires-clause-all g c =
 pub returns-in-None-clause-ran : goal.returns-in-None-clause-ran
 returns-in-None-clause-ran g c =
     let at = goal.at.returns-in-None-clause-ran g c in
-    let e = c.in-Ok-close.ensures in
+    let e = c.in-Ok.ensures in
     let none : first_with c.first_fault-others.result c.work_on-done.result.pass.known.caller c.work_on-done.result.fault ≡ None =
     ap (λ n. first_with c.first_fault-others.result n c.work_on-done.result.fault) (sym c.caller.ensures) ∙ sym c.first_of-first.ensures ∙ c.in-None.is in
-    subst (λ l. RanOut (first_meanings g.W.Worker.meanings (map (λ w. w.1) l)) c.args.desk (map (λ w. w.0) l) c.in-Ok-close.closed.history.items c.in-Ok-close.closed.passes.items c.in-Ok-close.closed.graph.state) (sym (split g at.After-remove-one))
-    (back_out _ _ _ _ _ _ _ _ _ _ (back g at.After-put_first-workers (of g at.After-remove-one) (work g at.In-Ok-spread (alike g at.After-remove-one))) c.in-Ok-close.closed.history.items c.in-Ok-close.closed.passes.items c.in-Ok-close.closed.graph.state
+    subst (λ l. RanOut (first_meanings g.W.Worker.meanings (map (λ w. w.1) l)) c.args.desk (map (λ w. w.0) l) c.in-Ok.closed.history.items c.in-Ok.closed.passes.items c.in-Ok.closed.graph.state) (sym (split g at.After-remove-one))
+    (back_out _ _ _ _ _ _ _ _ _ _ (back g at.After-put_first-workers (of g at.After-remove-one) (work g at.After-spread-worked (alike g at.After-remove-one))) c.in-Ok.closed.history.items c.in-Ok.closed.passes.items c.in-Ok.closed.graph.state
     (shut_of _ _ _ _ _ _ c.put_first-passes.ensures e.history e.passes e.fit e.graph) none)
 
 pub returns-in-None-clause-called : goal.returns-in-None-clause-called
 returns-in-None-clause-called g c =
     let at = goal.at.returns-in-None-clause-called g c in
-    let e = c.in-Ok-close.ensures in
+    let e = c.in-Ok.ensures in
     let workers = c.put_first-workers.ensures ∙ ap (λ l. c.work_on-done.result.worker ∷ l) c.meet_all-back.ensures.workers in
-    subst (λ l. EachCalls g.W.Worker.tells g.W.Functions.calls c.in-Ok-close.closed.graph.state.plan.stages (map (λ w. w.0) l) (map (λ k. k.records.items) c.in-Ok-close.closed.passes.items) (map (λ w. w.1) l) c.put_first-workers.result.items) (sym (split g at.After-remove-one))
-    (subst (λ l. EachCalls g.W.Worker.tells g.W.Functions.calls c.in-Ok-close.closed.graph.state.plan.stages (c.remove-one.result.0 ∷ map (λ w. w.0) c.remove-one.new.self.items) (map (λ k. k.records.items) c.in-Ok-close.closed.passes.items) (c.remove-one.result.1 ∷ map (λ w. w.1) c.remove-one.new.self.items) l) (sym workers)
-    (back_calls g.W.Worker.tells g.W.Functions.calls g.W.Worker.meanings _ c.args.desk c.remove-one.result.0 c.meet_all-back.new.mine c.work_on-done.result.pass c.remove-one.new.self.items c.meet_all-back.result.passes.items c.in-Ok-spread.worked.items c.first_fault-others.result c.work_on-done.result.fault c.remove-one.result.1 c.work_on-done.result.worker
-    (back g at.After-put_first-workers (of g at.After-remove-one) (work g at.In-Ok-spread (alike g at.After-remove-one))) c.in-Ok-spread.ensures c.work_on-done.ensures.called c.in-Ok-close.closed.history.items c.in-Ok-close.closed.passes.items c.in-Ok-close.closed.graph.state
+    subst (λ l. EachCalls g.W.Worker.tells g.W.Functions.calls c.in-Ok.closed.graph.state.plan.stages (map (λ w. w.0) l) (map (λ k. k.records.items) c.in-Ok.closed.passes.items) (map (λ w. w.1) l) c.put_first-workers.result.items) (sym (split g at.After-remove-one))
+    (subst (λ l. EachCalls g.W.Worker.tells g.W.Functions.calls c.in-Ok.closed.graph.state.plan.stages (c.remove-one.result.0 ∷ map (λ w. w.0) c.remove-one.new.self.items) (map (λ k. k.records.items) c.in-Ok.closed.passes.items) (c.remove-one.result.1 ∷ map (λ w. w.1) c.remove-one.new.self.items) l) (sym workers)
+    (back_calls g.W.Worker.tells g.W.Functions.calls g.W.Worker.meanings _ c.args.desk c.remove-one.result.0 c.meet_all-back.new.mine c.work_on-done.result.pass c.remove-one.new.self.items c.meet_all-back.result.passes.items c.spread-worked.result.items c.first_fault-others.result c.work_on-done.result.fault c.remove-one.result.1 c.work_on-done.result.worker
+    (back g at.After-put_first-workers (of g at.After-remove-one) (work g at.After-spread-worked (alike g at.After-remove-one))) c.spread-worked.ensures c.work_on-done.ensures.called c.in-Ok.closed.history.items c.in-Ok.closed.passes.items c.in-Ok.closed.graph.state
     (shut_of _ _ _ _ _ _ c.put_first-passes.ensures e.history e.passes e.fit e.graph)))
 
 pub returns-in-Some-clause-refused : goal.returns-in-Some-clause-refused
 returns-in-Some-clause-refused g c =
     let at = goal.at.returns-in-Some-clause-refused g c in
-    let e = c.in-Ok-close.ensures in
+    let e = c.in-Ok.ensures in
     let some : first_with c.first_fault-others.result c.work_on-done.result.pass.known.caller c.work_on-done.result.fault ≡ Some c.in-Some.met =
     ap (λ n. first_with c.first_fault-others.result n c.work_on-done.result.fault) (sym c.caller.ensures) ∙ sym c.first_of-first.ensures ∙ c.in-Some.is in
     let workers = c.put_first-workers.ensures ∙ ap (λ l. c.work_on-done.result.worker ∷ l) c.meet_all-back.ensures.workers in
-    let came_back = back g at.After-put_first-workers (of g at.After-remove-one) (work g at.In-Ok-spread (alike g at.After-remove-one)) in
+    let came_back = back g at.After-put_first-workers (of g at.After-remove-one) (work g at.After-spread-worked (alike g at.After-remove-one)) in
     let shut = shut_of _ _ _ _ _ _ c.put_first-passes.ensures e.history e.passes e.fit e.graph in (
-      subst (λ l. IsTold (first_meanings g.W.Worker.meanings (map (λ w. w.1) l)) c.args.desk (map (λ w. w.0) l) c.in-Some.met.fault c.in-Ok-close.closed) (sym (split g at.After-remove-one))
-          (back_told _ _ _ _ _ _ _ _ _ _ came_back c.in-Ok-close.closed shut c.in-Some.met some),
-      subst (λ l. EachCalls g.W.Worker.tells g.W.Functions.calls c.in-Ok-close.closed.graph.state.plan.stages (map (λ w. w.0) l) (map (λ k. k.records.items) c.in-Ok-close.closed.passes.items) (map (λ w. w.1) l) c.put_first-workers.result.items) (sym (split g at.After-remove-one))
-          (subst (λ l. EachCalls g.W.Worker.tells g.W.Functions.calls c.in-Ok-close.closed.graph.state.plan.stages (c.remove-one.result.0 ∷ map (λ w. w.0) c.remove-one.new.self.items) (map (λ k. k.records.items) c.in-Ok-close.closed.passes.items) (c.remove-one.result.1 ∷ map (λ w. w.1) c.remove-one.new.self.items) l) (sym workers)
-          (back_calls g.W.Worker.tells g.W.Functions.calls g.W.Worker.meanings _ c.args.desk c.remove-one.result.0 c.meet_all-back.new.mine c.work_on-done.result.pass c.remove-one.new.self.items c.meet_all-back.result.passes.items c.in-Ok-spread.worked.items c.first_fault-others.result c.work_on-done.result.fault c.remove-one.result.1 c.work_on-done.result.worker
-          came_back c.in-Ok-spread.ensures c.work_on-done.ensures.called c.in-Ok-close.closed.history.items c.in-Ok-close.closed.passes.items c.in-Ok-close.closed.graph.state shut)),
+      subst (λ l. IsTold (first_meanings g.W.Worker.meanings (map (λ w. w.1) l)) c.args.desk (map (λ w. w.0) l) c.in-Some.met.fault c.in-Ok.closed) (sym (split g at.After-remove-one))
+          (back_told _ _ _ _ _ _ _ _ _ _ came_back c.in-Ok.closed shut c.in-Some.met some),
+      subst (λ l. EachCalls g.W.Worker.tells g.W.Functions.calls c.in-Ok.closed.graph.state.plan.stages (map (λ w. w.0) l) (map (λ k. k.records.items) c.in-Ok.closed.passes.items) (map (λ w. w.1) l) c.put_first-workers.result.items) (sym (split g at.After-remove-one))
+          (subst (λ l. EachCalls g.W.Worker.tells g.W.Functions.calls c.in-Ok.closed.graph.state.plan.stages (c.remove-one.result.0 ∷ map (λ w. w.0) c.remove-one.new.self.items) (map (λ k. k.records.items) c.in-Ok.closed.passes.items) (c.remove-one.result.1 ∷ map (λ w. w.1) c.remove-one.new.self.items) l) (sym workers)
+          (back_calls g.W.Worker.tells g.W.Functions.calls g.W.Worker.meanings _ c.args.desk c.remove-one.result.0 c.meet_all-back.new.mine c.work_on-done.result.pass c.remove-one.new.self.items c.meet_all-back.result.passes.items c.spread-worked.result.items c.first_fault-others.result c.work_on-done.result.fault c.remove-one.result.1 c.work_on-done.result.worker
+          came_back c.spread-worked.ensures c.work_on-done.ensures.called c.in-Ok.closed.history.items c.in-Ok.closed.passes.items c.in-Ok.closed.graph.state shut)),
+    )
+
+pub returns-then-refused-clause-refused : goal.returns-then-refused-clause-refused
+returns-then-refused-clause-refused g c =
+    let at = goal.at.returns-then-refused-clause-refused g c in
+    let e = c.in-Ok.ensures in
+    let workers = c.put_first-workers.ensures ∙ ap (λ l. c.work_on-done.result.worker ∷ l) c.meet_all-back.ensures.workers in
+    let came_back = back g at.After-put_first-workers (of g at.After-remove-one) (work g at.After-spread-worked (alike g at.After-remove-one)) in
+    let shut = shut_of _ _ _ _ _ _ c.put_first-passes.ensures e.history e.passes e.fit e.graph in (
+      subst (λ l. Ran (first_meanings g.W.Worker.meanings (map (λ w. w.1) l)) c.args.desk (map (λ w. w.0) l) c.in-Ok.closed.history.items c.in-Ok.closed.passes.items c.in-Ok.closed.graph.state) (sym (split g at.After-remove-one))
+          (back_ran _ _ _ _ _ _ _ _ _ _ came_back c.in-Ok.closed.history.items c.in-Ok.closed.passes.items c.in-Ok.closed.graph.state shut),
+      subst (λ l. EachCalls g.W.Worker.tells g.W.Functions.calls c.in-Ok.closed.graph.state.plan.stages (map (λ w. w.0) l) (map (λ k. k.records.items) c.in-Ok.closed.passes.items) (map (λ w. w.1) l) c.put_first-workers.result.items) (sym (split g at.After-remove-one))
+          (subst (λ l. EachCalls g.W.Worker.tells g.W.Functions.calls c.in-Ok.closed.graph.state.plan.stages (c.remove-one.result.0 ∷ map (λ w. w.0) c.remove-one.new.self.items) (map (λ k. k.records.items) c.in-Ok.closed.passes.items) (c.remove-one.result.1 ∷ map (λ w. w.1) c.remove-one.new.self.items) l) (sym workers)
+          (back_calls g.W.Worker.tells g.W.Functions.calls g.W.Worker.meanings _ c.args.desk c.remove-one.result.0 c.meet_all-back.new.mine c.work_on-done.result.pass c.remove-one.new.self.items c.meet_all-back.result.passes.items c.spread-worked.result.items c.first_fault-others.result c.work_on-done.result.fault c.remove-one.result.1 c.work_on-done.result.worker
+          came_back c.spread-worked.ensures c.work_on-done.ensures.called c.in-Ok.closed.history.items c.in-Ok.closed.passes.items c.in-Ok.closed.graph.state shut)),
     )

@@ -2,6 +2,7 @@ use Rattle.std.proofs.Common.{◌+◌, ◌*◌, ◌∙◌, ap, length, ℕ, subs
 use Rattle.cf_pool.specs.Closings.{IsRefused}
 use Rattle.cf_pool.specs.Calling.{first_meanings}
 use Rattle.cf_plan.specs.Plans.{with_room}
+use Rattle.cf_plan.proofs.PlanLemmas.{place_is}
 use Rattle.cf_pool.specs.Races.{log_words}
 use Rattle.cf_pool.proofs.Racing.Raced.{IsSized, growing-with_room, never_full, raced}
 use Rattle.cf_pool.proofs.races.race.Given.{Over}
@@ -17,8 +18,9 @@ sized g c =
 
 pub returns-in-Ok-run-clause-raced : goal.returns-in-Ok-run-clause-raced
 returns-in-Ok-run-clause-raced g c =
+    let place = place_is c.args.plan.stages c.args.room c.requires.room in
     raced _ _ (with_room c.args.plan c.args.room) c.args.steps.now _ c.args.workers _ _ _ _ (sized g (goal.at.returns-in-Ok-run-clause-raced g c).In-Ok) c.in-Ok.ensures.begun
-    (growing-with_room c.args.plan c.args.room c.stages.ensures.built c.stages.ensures.whole c.requires.room.0 c.requires.room.1) c.in-Ok-run.ensures.ran
+    (growing-with_room c.args.plan c.args.room c.stages.ensures.built c.stages.ensures.whole place.0 place.1) c.in-Ok-run.ensures.ran
 
 pub returns-in-Ok-run-clause-called : goal.returns-in-Ok-run-clause-called
 returns-in-Ok-run-clause-called g c = record {

@@ -1,19 +1,16 @@
-use Rattle.std.proofs.Common.{◌≡◌, get_or, length, map, subst, arith}
-use Rattle.std.specs.List.{AllZip}
-use Rattle.cf_pool.specs.Runs.{IsWorkedBy}
-use Rattle.cf_pool.proofs.Pools.{work_same, zip_kept}
+use Rattle.std.proofs.Common.{arith}
+use Rattle.cf_pool.proofs.Pools.{work_ended, zip_through}
+use Rattle.cf_pool.proofs.Runs.{zip_length}
 use Rattle.cf_pool.proofs.pool.fn.spread.scope.Goals as goal
 
-pub returns-in-Ok : goal.returns-in-Ok
-returns-in-Ok g c =
-    let desk = c.captures.desk.now in
-    let W = IsWorkedBy g.W.Worker.tells g.W.Functions.calls g.W.Worker.meanings desk 1000 in
-    let hs = c.in_ok-handles.handles in
-    let ws = c.in-Ok.worked in
-    let same : length ws.items ≡ length hs.items = (let a = c.in-Ok.ensures.len in let o = hs.ok.0 in let p = ws.ok.0 in omega arith) in
-    let n = hs.ok.0 in
-    let zipped : AllZip W (map (λ h. h.promise.was.value) hs.items) ws.items =
-    zip_kept (λ h. h.promise.desk.now ≡ desk) (λ h. h.promise.was.value) W hs.items ws.items same c.in_ok-handles.ensures.same
-    (λ i d l. let k = (c.in-Ok.ensures.each i d (omega arith)).1 in
-    (k.handle, k.handle_is, λ e. work_same g.W.Worker.tells g.W.Functions.calls g.W.Worker.meanings k.handle.promise.desk.now desk 1000 k.handle.promise.was.value (get_or ws.items i d) e k.kept)) in
-    subst (λ l. AllZip W l ws.items) c.in_ok-handles.ensures.workers zipped
+pub returns : goal.returns
+returns g c =
+    zip_through _ _ _
+    (work_ended g.W.Worker.tells g.W.Functions.calls g.W.Worker.meanings (λ h. h.promise.was.value) (λ h. h.promise.desk.value) c.captures.desk.now)
+    c.captures.workers.items c.start_all-started.result.items c.join_all.result.items c.start_all-started.ensures c.join_all.ensures
+
+pub join_all-requires : goal.join_all-requires
+join_all-requires g c = record {
+  none = c.requires.none.1;
+  room = (let z = zip_length _ c.captures.workers.items c.start_all-started.result.items c.start_all-started.ensures in let a = c.start_all-started.result.ok.0 in let b = c.captures.workers.ok.0 in let r = c.requires.room.1 in omega arith);
+}
