@@ -1,8 +1,8 @@
 //! Stages that are attached: what they take at once, and what they wait for.
 use crate::plans::{Row, SOURCE, plan_of};
-use crate::steps::{Step, fault, gives, granted, play_growing, take, with_room};
+use crate::steps::{Step, fault, gives, granted, play_growing, play_in, with_room};
 use cf_core::{Graph, GraphFault};
-use cf_model::{Attached, Claimed, Event, Finished, Reply};
+use cf_model::{Attached, Claimed, Finished};
 use cf_outcome::{Cause, Outcome, Value};
 use cf_plan::{Answer, Args, Form, Of, Plan};
 use std::alloc::Global;
@@ -104,24 +104,35 @@ fn one_source_is_taken_twice(rt: HostRuntime) -> Result<(), Fail> {
     play_growing(&rt, rt.alloc(), &TWO_SOURCES, 1, &steps)
 }
 
+/// A stage of no source is attached, and started or not.
+fn starts(
+    form: Form,
+    function: Option<u16>,
+    turns: u64,
+    claimed: Claimed,
+    holds: Option<Outcome>,
+) -> [Step; 4] {
+    [
+        Step::Attach(form, Of::None, function, Attached::At(2)),
+        Step::Turns(turns),
+        Step::Claim(2, claimed),
+        Step::Outcome(2, holds),
+    ]
+}
+
 #[test]
 fn stages_of_no_source_start(rt: HostRuntime) -> Result<(), Fail> {
     let called = Claimed::Granted(Args::None);
     let nil = Some(Outcome::Value(Value::Nil));
-    for (form, function, turns, claimed, holds) in [
-        (Form::Source, None, 0, Claimed::NotReady, None),
-        (Form::Supply, Some(0), 1, called, None),
-        (Form::RunAsync, Some(0), 1, called, None),
-        (Form::AllOf, None, 1, Claimed::Settled, nil),
-        (Form::AnyOf, None, 0, Claimed::NotReady, None),
-    ] {
-        let steps = [
-            Step::Attach(form, Of::None, function, Attached::At(2)),
-            Step::Turns(turns),
-            Step::Claim(2, claimed),
-            Step::Outcome(2, holds),
-        ];
-        play_growing(&rt, rt.alloc(), &TWO_SOURCES, 1, &steps)?;
+    let all = [
+        starts(Form::Source, None, 0, Claimed::NotReady, None),
+        starts(Form::Supply, Some(0), 1, called, None),
+        starts(Form::RunAsync, Some(0), 1, called, None),
+        starts(Form::AllOf, None, 1, Claimed::Settled, nil),
+        starts(Form::AnyOf, None, 0, Claimed::NotReady, None),
+    ];
+    for steps in &all {
+        play_growing(&rt, rt.alloc(), &TWO_SOURCES, 1, steps)?;
     }
     Ok(())
 }
@@ -161,34 +172,40 @@ fn what_waits_is_treated_first(rt: HostRuntime) -> Result<(), Fail> {
     play_growing(&rt, rt.alloc(), &rows, 1, &steps)
 }
 
-/// Attaches a source as stage 2 and a compose of stage 0 as stage 3, which then answers this link.
-fn linked_to(stage: u16) -> [Step; 5] {
-    [
-        Step::Complete(0, 1, true),
-        Step::Attach(Form::Source, Of::None, None, Attached::At(2)),
-        Step::Attach(Form::Compose, Of::One(0), Some(0), Attached::At(3)),
-        Step::Claim(3, granted(1)),
-        Step::Finish(3, Answer::Link(stage), Finished::Won),
-    ]
-}
+/// A source is attached as stage 2.
+const ATTACHES_SOURCE: Step = Step::Attach(Form::Source, Of::None, None, Attached::At(2));
+
+/// A compose of stage 0 is attached as stage 3.
+const ATTACHES_COMPOSE: Step = Step::Attach(Form::Compose, Of::One(0), Some(0), Attached::At(3));
 
 #[test]
 fn an_attached_compose_links_lower(rt: HostRuntime) -> Result<(), Fail> {
     for (link, lands) in [(1, None), (3, fault(Cause::BadAnswer, true))] {
-        let mut graph = with_room(&rt, rt.alloc(), plan_of(rt.alloc(), &TWO_SOURCES)?, 2)?;
-        take(&rt, &mut graph, &linked_to(link));
-        take(&rt, &mut graph, &[Step::Outcome(3, lands)]);
+        let steps = [
+            Step::Complete(0, 1, true),
+            ATTACHES_SOURCE,
+            ATTACHES_COMPOSE,
+            Step::Claim(3, granted(1)),
+            Step::Finish(3, Answer::Link(link), Finished::Won),
+            Step::Outcome(3, lands),
+        ];
+        play_growing(&rt, rt.alloc(), &TWO_SOURCES, 2, &steps)?;
     }
     Ok(())
 }
 
 #[test]
 fn a_link_to_an_attached_stage_is_followed(rt: HostRuntime) -> Result<(), Fail> {
-    let mut graph = with_room(&rt, rt.alloc(), plan_of(rt.alloc(), &TWO_SOURCES)?, 2)?;
-    take(&rt, &mut graph, &linked_to(2));
-    let steps = [Step::Complete(2, 8, true), Step::Outcome(3, gives(8))];
-    take(&rt, &mut graph, &steps);
-    Ok(())
+    let steps = [
+        Step::Complete(0, 1, true),
+        ATTACHES_SOURCE,
+        ATTACHES_COMPOSE,
+        Step::Claim(3, granted(1)),
+        Step::Finish(3, Answer::Link(2), Finished::Won),
+        Step::Complete(2, 8, true),
+        Step::Outcome(3, gives(8)),
+    ];
+    play_growing(&rt, rt.alloc(), &TWO_SOURCES, 2, &steps)
 }
 
 /// The graph of two sources with room. Where its memory is refused, one of another plan succeeds.
@@ -206,37 +223,25 @@ fn growing_again(rt: &impl Abort, alloc: Global, plan: Plan) -> Result<Graph, Fa
 #[test]
 fn a_refused_growing_graph_can_be_made_again(rt: HostRuntime) -> Result<(), Fail> {
     let plan = plan_of(rt.alloc(), &TWO_SOURCES)?;
-    let mut graph = growing_again(&rt, rt.alloc(), plan)?;
+    let graph = growing_again(&rt, rt.alloc(), plan)?;
     let steps = [
         ATTACHES_EITHER,
         Step::Complete(1, 3, true),
         Step::Claim(2, granted(3)),
     ];
-    take(&rt, &mut graph, &steps);
+    play_in(&rt, graph, &steps);
     Ok(())
-}
-
-/// What the graph answers to an event that attaches an apply of stage 1.
-fn event_answer(rt: &impl Abort, graph: &mut Graph) -> Reply {
-    assert!(rt; graph.has(1));
-    graph.answer(&Event::Attach {
-        who: 3,
-        form: Form::Apply,
-        of: Of::One(1),
-        function: Some(8),
-    })
 }
 
 /// What callers do as events has the same answers.
 #[test]
 fn an_event_attaches(rt: HostRuntime) -> Result<(), Fail> {
-    let mut graph = with_room(&rt, rt.alloc(), plan_of(rt.alloc(), &TWO_SOURCES)?, 1)?;
-    take(&rt, &mut graph, &[Step::Complete(1, 6, true)]);
-    let attached = event_answer(&rt, &mut graph);
-    assert_eq!(rt; attached, Reply::Attach(Attached::At(2)));
-    let steps = [Step::Function(2, Some(8)), Step::Claim(2, granted(6))];
-    take(&rt, &mut graph, &steps);
-    let full = event_answer(&rt, &mut graph);
-    assert_eq!(rt; full, Reply::Attach(Attached::StagesFull));
-    Ok(())
+    let steps = [
+        Step::Complete(1, 6, true),
+        Step::AttachBy(3, Form::Apply, Of::One(1), Some(8), Attached::At(2)),
+        Step::Function(2, Some(8)),
+        Step::Claim(2, granted(6)),
+        Step::AttachBy(3, Form::Apply, Of::One(1), Some(8), Attached::StagesFull),
+    ];
+    play_growing(&rt, rt.alloc(), &TWO_SOURCES, 1, &steps)
 }

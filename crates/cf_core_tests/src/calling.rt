@@ -1,8 +1,8 @@
 //! Work with functions that remember: which are called, with what, and in which order.
 ghost use Rattle.std.specs.Prelude.{⊤};
 
-use crate::plans::{Row, SOURCE, plan_of};
-use crate::steps::{Step, gives, granted, take};
+use crate::plans::{Row, SOURCE};
+use crate::steps::{Step, gives, granted, graph_of, take};
 use cf_core::Graph;
 use cf_outcome::Value;
 use cf_plan::{Answer, Args, Closure, Form, Functions};
@@ -34,6 +34,18 @@ fn calls(graph: &mut Graph, noting: &mut Noting, all: &[(u16, Args)], count: u32
     graph.work(5, noting) == count && noting.calls.as_slice() == all
 }
 
+/// Work calls these functions with these arguments, and work after it none.
+fn notes_in(
+    rt: &impl Abort,
+    graph: &mut Graph,
+    noting: &mut Noting,
+    all: &[(u16, Args)],
+    count: u32,
+) {
+    assert!(rt; calls(graph, noting, all, count), "called");
+    assert!(rt; calls(graph, noting, all, 0), "called again");
+}
+
 /// Once the graph of these stages has taken these steps, work calls these functions with these arguments, and work after
 /// it none.
 fn notes(
@@ -44,14 +56,13 @@ fn notes(
     all: &[(u16, Args)],
     count: u32,
 ) -> Result<(), Fail> {
-    let mut graph = Graph::new(alloc, plan_of(alloc, rows)?)?;
+    let mut graph = graph_of(alloc, rows)?;
     take(rt, &mut graph, steps);
     let mut noting = Noting {
         calls: Vec::new(alloc),
         count: 0,
     };
-    assert!(rt; calls(&mut graph, &mut noting, all, count), "called");
-    assert!(rt; calls(&mut graph, &mut noting, all, 0), "called again");
+    notes_in(rt, &mut graph, &mut noting, all, count);
     Ok(())
 }
 
@@ -112,7 +123,6 @@ fn calls_a_few_functions_of_many(rt: HostRuntime) -> Result<(), Fail> {
 /// A closure counts its calls, and keeps which function was called last.
 #[test]
 fn a_closure_remembers_its_calls(rt: HostRuntime) -> Result<(), Fail> {
-    let mut graph = Graph::new(rt.alloc(), plan_of(rt.alloc(), &ROWS)?)?;
     let mut count = 0i32;
     let mut last = 0u16;
     let call = Box::new(rt.alloc(), move |number: u16, _args: Args| {
@@ -122,16 +132,26 @@ fn a_closure_remembers_its_calls(rt: HostRuntime) -> Result<(), Fail> {
         Answer::Give(Value::Int(count.wrapping_mul(10).wrapping_add(before)))
     })?;
     let mut closure = Closure::new(call);
-    take(&rt, &mut graph, &[Step::Complete(0, 3, true)]);
-    assert_eq!(rt; graph.work(0, &mut closure), 3);
+    remembers(&rt, rt.alloc(), &mut closure)
+}
+
+fn remembers(rt: &impl Abort, alloc: Global, closure: &mut Closure) -> Result<(), Fail> {
+    let mut graph = graph_of(alloc, &ROWS)?;
+    works_twice(rt, &mut graph, closure);
+    Ok(())
+}
+
+/// The closure is called three times, and once more when stage 4 is there.
+fn works_twice(rt: &impl Abort, graph: &mut Graph, closure: &mut Closure) {
+    take(rt, graph, &[Step::Complete(0, 3, true)]);
+    assert_eq!(rt; graph.work(0, closure), 3);
     let steps = [
         Step::Outcome(1, gives(10)),
         Step::Outcome(2, gives(27)),
         // The stage of a `ThenRun` gives nil.
         Step::Complete(4, 8, true),
     ];
-    take(&rt, &mut graph, &steps);
-    assert_eq!(rt; graph.work(0, &mut closure), 1);
-    take(&rt, &mut graph, &[Step::Outcome(5, gives(47))]);
-    Ok(())
+    take(rt, graph, &steps);
+    assert_eq!(rt; graph.work(0, closure), 1);
+    take(rt, graph, &[Step::Outcome(5, gives(47))]);
 }

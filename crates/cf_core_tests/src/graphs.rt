@@ -1,6 +1,6 @@
 //! Worked examples, each call once, graphs of each size, and a graph whose memory is refused.
 use crate::plans::{Row, SOURCE, limited, longest_chain, plan_of, supplies};
-use crate::steps::{Step, fault, give, gives, granted, play, take};
+use crate::steps::{Step, fault, give, gives, granted, play, play_in, play_on, take};
 use cf_core::{Graph, GraphFault};
 use cf_model::{Claimed, Finished, Ticked};
 use cf_outcome::{Cause, Now, Outcome, Value};
@@ -129,7 +129,6 @@ fn fires_limits_in_order(rt: HostRuntime) -> Result<(), Fail> {
             kind: LimitKind::Timeout,
         },
     ];
-    let mut graph = Graph::new(rt.alloc(), limited(rt.alloc(), &[SOURCE], &limits)?)?;
     let steps = [
         Step::Tick(4, Ticked::Fired(0)),
         Step::Tick(5, Ticked::Fired(1)),
@@ -137,8 +136,8 @@ fn fires_limits_in_order(rt: HostRuntime) -> Result<(), Fail> {
         Step::Tick(4, Ticked::Past),
         Step::Outcome(0, gives(1)),
     ];
-    take(&rt, &mut graph, &steps);
-    Ok(())
+    let plan = limited(rt.alloc(), &[SOURCE], &limits)?;
+    play_on(&rt, rt.alloc(), plan, &steps)
 }
 
 #[test]
@@ -180,20 +179,19 @@ fn graph_again(rt: &impl Abort, alloc: Global, plan: Plan) -> Result<Graph, Fail
 #[test]
 fn a_refused_graph_can_be_made_again(rt: HostRuntime) -> Result<(), Fail> {
     let plan = plan_again(&rt, rt.alloc())?;
-    let mut graph = graph_again(&rt, rt.alloc(), plan)?;
+    let graph = graph_again(&rt, rt.alloc(), plan)?;
     let steps = [
         Step::Complete(0, 3, true),
         Step::Claim(1, granted(3)),
         Step::Finish(1, give(8), Finished::Won),
         Step::Now(1, Now::Got(Value::Int(8))),
     ];
-    take(&rt, &mut graph, &steps);
+    play_in(&rt, graph, &steps);
     Ok(())
 }
 
 #[test]
 fn chain_is_settled_when_it_is_asked_for(rt: HostRuntime) -> Result<(), Fail> {
-    let mut graph = Graph::new(rt.alloc(), longest_chain(rt.alloc())?)?;
     let steps = [
         Step::Fail(0, 7, true),
         Step::Turns(0),
@@ -202,8 +200,8 @@ fn chain_is_settled_when_it_is_asked_for(rt: HostRuntime) -> Result<(), Fail> {
         Step::Turns(4095),
         Step::Nudge(5, 0),
     ];
-    take(&rt, &mut graph, &steps);
-    Ok(())
+    let plan = longest_chain(rt.alloc())?;
+    play_on(&rt, rt.alloc(), plan, &steps)
 }
 
 /// The plan of so many sources and one allOf over all of them.
@@ -218,15 +216,21 @@ fn all_of(alloc: Global, sources: u16) -> Result<Plan, Fail> {
     Ok(builder.build()?)
 }
 
-/// An allOf waits until the last of so many sources is completed.
-fn waits_for_all(rt: &impl Abort, alloc: Global, sources: u16) -> Result<(), Fail> {
-    let mut graph = Graph::new(alloc, all_of(alloc, sources)?)?;
+/// Stage `sources`, an allOf of all stages below it, waits until the last of them is completed.
+fn waits_in(rt: &impl Abort, graph: &mut Graph, sources: u16) {
     for i in 0..sources {
         let steps = [Step::Outcome(sources, None), Step::Complete(i, 1, true)];
-        take(rt, &mut graph, &steps);
+        take(rt, graph, &steps);
     }
     let nil = Some(Outcome::Value(Value::Nil));
-    take(rt, &mut graph, &[Step::Outcome(sources, nil)]);
+    take(rt, graph, &[Step::Outcome(sources, nil)]);
+}
+
+/// An allOf waits until the last of so many sources is completed.
+fn waits_for_all(rt: &impl Abort, alloc: Global, sources: u16) -> Result<(), Fail> {
+    let plan = all_of(alloc, sources)?;
+    let mut graph = Graph::new(alloc, plan)?;
+    waits_in(rt, &mut graph, sources);
     Ok(())
 }
 
@@ -256,12 +260,11 @@ fn greatest_plan(alloc: Global) -> Result<Plan, PlanFault> {
 
 #[test]
 fn serves_the_greatest_plan(rt: HostRuntime) -> Result<(), Fail> {
-    let mut graph = Graph::new(rt.alloc(), greatest_plan(rt.alloc())?)?;
     let steps = [
         Step::Tick(4294967295, Ticked::Fired(1)),
         Step::Outcome(4095, gives(1)),
         Step::Turns(4095),
     ];
-    take(&rt, &mut graph, &steps);
-    Ok(())
+    let plan = greatest_plan(rt.alloc())?;
+    play_on(&rt, rt.alloc(), plan, &steps)
 }

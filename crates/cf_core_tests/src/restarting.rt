@@ -6,6 +6,7 @@ use cf_model::{Attached, Claimed, Finished, Ticked};
 use cf_outcome::Cause;
 use cf_plan::{Answer, Args, Form, Limit, LimitKind, Of, Plan, PlanFault};
 use std::alloc::Global;
+use std::process::Abort;
 use std::test::Fail;
 
 /// Two sources, a supply, an apply and a compose of the first source, and a limit on the second.
@@ -69,12 +70,20 @@ fn expires() -> [Step; 4] {
     ]
 }
 
+/// The graph takes the steps of these parts.
+fn take_parts(rt: &impl Abort, mut graph: Graph, parts: &[&[Step]]) {
+    for steps in parts {
+        take(rt, &mut graph, steps);
+    }
+}
+
 #[test]
 fn a_restarted_graph_is_new(rt: HostRuntime) -> Result<(), Fail> {
     let (new, fill, expire) = (is_new(), fills(), expires());
     let late = Step::Outcome(6, fault(Cause::TimedOut, true));
-    let mut graph = with_room(&rt, rt.alloc(), opening(rt.alloc())?, 2)?;
-    for steps in [
+    let plan = opening(rt.alloc())?;
+    let graph = with_room(&rt, rt.alloc(), plan, 2)?;
+    let parts = [
         &new[..],
         &[Step::Restart],
         &new,
@@ -88,23 +97,22 @@ fn a_restarted_graph_is_new(rt: HostRuntime) -> Result<(), Fail> {
         &new,
         &expire,
         &[Step::PlanStages(5)],
-    ] {
-        take(&rt, &mut graph, steps);
-    }
+    ];
+    take_parts(&rt, graph, &parts);
     Ok(())
 }
 
 #[test]
 fn a_graph_without_room_restarts(rt: HostRuntime) -> Result<(), Fail> {
     let (new, expire) = (is_new(), expires());
-    let mut graph = Graph::new(rt.alloc(), opening(rt.alloc())?)?;
     let full = [
         Step::Attach(Form::AllOf, Of::None, None, Attached::StagesFull),
         Step::Restart,
     ];
-    for steps in [&new[..], &expire, &full, &new, &expire, &full, &new] {
-        take(&rt, &mut graph, steps);
-    }
+    let plan = opening(rt.alloc())?;
+    let graph = Graph::new(rt.alloc(), plan)?;
+    let parts = [&new[..], &expire, &full, &new, &expire, &full, &new];
+    take_parts(&rt, graph, &parts);
     Ok(())
 }
 

@@ -2,7 +2,7 @@
 
 use crate::plans::{Row, plan_of};
 use cf_core::Graph;
-use cf_model::{Attached, Claimed, Finished, Ticked};
+use cf_model::{Attached, Claimed, Event, Finished, Reply, Ticked};
 use cf_outcome::{Cause, Now, Outcome, Value};
 use cf_plan::{Answer, Args, Form, Of, Plan, fits_form};
 use std::alloc::Global;
@@ -10,7 +10,7 @@ use std::process::Abort;
 use std::test::Fail;
 
 /// A call of `Graph` with its answer last. Of several callers it is caller 0.
-#[derive(Clone, Copy, Debug)]
+#[derive(Clone, Copy)]
 pub(crate) enum Step {
     Complete(u16, i32, bool),
     Fail(u16, u32, bool),
@@ -21,6 +21,8 @@ pub(crate) enum Step {
     Finish(u16, Answer, Finished),
     Tick(u32, Ticked),
     Attach(Form, Of, Option<u16>, Attached),
+    /// The same as an event of this caller.
+    AttachBy(u8, Form, Of, Option<u16>, Attached),
     Restart,
     Outcome(u16, Option<Outcome>),
     /// It gives -1 where the stage isn't settled.
@@ -44,6 +46,26 @@ fn attached(graph: &mut Graph, form: Form, of: Of, function: Option<u16>) -> Opt
     }
 }
 
+/// What the event is answered by which a caller attaches a stage, where it fits its form and its sources are there.
+fn attached_by(
+    graph: &mut Graph,
+    who: u8,
+    form: Form,
+    of: Of,
+    function: Option<u16>,
+) -> Option<Reply> {
+    if fits_form(form, of.count(), function.is_some()) && of.are_below(graph.stages()) {
+        Some(graph.answer(&Event::Attach {
+            who,
+            form,
+            of,
+            function,
+        }))
+    } else {
+        None
+    }
+}
+
 /// Whether a step is answered so.
 fn is_answered(graph: &mut Graph, step: Step) -> bool {
     match step {
@@ -56,6 +78,9 @@ fn is_answered(graph: &mut Graph, step: Step) -> bool {
         Step::Tick(now, answer) => graph.tick(now) == answer,
         Step::Attach(form, of, function, answer) => {
             attached(graph, form, of, function) == Some(answer)
+        }
+        Step::AttachBy(who, form, of, function, answer) => {
+            attached_by(graph, who, form, of, function) == Some(Reply::Attach(answer))
         }
         Step::Restart => {
             graph.restart();
@@ -76,8 +101,19 @@ fn is_answered(graph: &mut Graph, step: Step) -> bool {
 /// The graph takes these steps, and each is answered as it says.
 pub(crate) fn take(rt: &impl Abort, graph: &mut Graph, steps: &[Step]) {
     for (at, step) in steps.iter().enumerate() {
-        assert!(rt; is_answered(graph, *step), "step {at}: {step:?}");
+        assert!(rt; is_answered(graph, *step), "step {at}");
     }
+}
+
+/// The graph takes these steps, and is let go.
+pub(crate) fn play_in(rt: &impl Abort, mut graph: Graph, steps: &[Step]) {
+    take(rt, &mut graph, steps);
+}
+
+/// The graph of these stages.
+pub(crate) fn graph_of(alloc: Global, rows: &[Row<'_>]) -> Result<Graph, Fail> {
+    let plan = plan_of(alloc, rows)?;
+    Ok(Graph::new(alloc, plan)?)
 }
 
 /// The graph of these stages takes these steps.
@@ -87,8 +123,20 @@ pub(crate) fn play(
     rows: &[Row<'_>],
     steps: &[Step],
 ) -> Result<(), Fail> {
-    let mut graph = Graph::new(alloc, plan_of(alloc, rows)?)?;
-    take(rt, &mut graph, steps);
+    let graph = graph_of(alloc, rows)?;
+    play_in(rt, graph, steps);
+    Ok(())
+}
+
+/// The graph of a plan takes these steps.
+pub(crate) fn play_on(
+    rt: &impl Abort,
+    alloc: Global,
+    plan: Plan,
+    steps: &[Step],
+) -> Result<(), Fail> {
+    let graph = Graph::new(alloc, plan)?;
+    play_in(rt, graph, steps);
     Ok(())
 }
 
@@ -111,8 +159,9 @@ pub(crate) fn play_growing(
     room: u16,
     steps: &[Step],
 ) -> Result<(), Fail> {
-    let mut graph = with_room(rt, alloc, plan_of(alloc, rows)?, room)?;
-    take(rt, &mut graph, steps);
+    let plan = plan_of(alloc, rows)?;
+    let graph = with_room(rt, alloc, plan, room)?;
+    play_in(rt, graph, steps);
     Ok(())
 }
 

@@ -3,8 +3,8 @@ ghost use Rattle.std.specs.Prelude.{◌≡◌};
 ghost use Rattle.cf_plan.specs.declared.forms.Answer.TheVariants.{Give};
 ghost use Rattle.cf_outcome.specs.declared.outcome.Value.TheVariants.{Int};
 
-use crate::plans::{Row, SOURCE, longest_chain, plan_of};
-use crate::steps::{Step, fault, give, gives, granted, take};
+use crate::plans::{Row, SOURCE, longest_chain};
+use crate::steps::{Step, fault, give, gives, granted, graph_of, take};
 use cf_core::Graph;
 use cf_model::{Claimed, Finished};
 use cf_outcome::{Cause, Outcome, Value};
@@ -64,7 +64,7 @@ fn works(
     functions: &[Fixed],
     turns: &[Turn],
 ) -> Result<(), Fail> {
-    let mut graph = Graph::new(alloc, plan_of(alloc, rows)?)?;
+    let mut graph = graph_of(alloc, rows)?;
     take_turns(rt, &mut graph, functions, turns);
     Ok(())
 }
@@ -147,7 +147,8 @@ fn works_on_what_fails(rt: HostRuntime) -> Result<(), Fail> {
 
 #[test]
 fn works_on_the_most_stages(rt: HostRuntime) -> Result<(), Fail> {
-    let mut graph = Graph::new(rt.alloc(), longest_chain(rt.alloc())?)?;
+    let plan = longest_chain(rt.alloc())?;
+    let mut graph = Graph::new(rt.alloc(), plan)?;
     let turns = [
         Turn::Takes(Step::Complete(0, 3, true)),
         Turn::Works(63, 4095),
