@@ -2,3 +2,4 @@ pub mod Places
 pub mod Verdicts
 pub mod Limits
 pub mod Idles
+pub mod Remarks

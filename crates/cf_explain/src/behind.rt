@@ -1,6 +1,7 @@
 //! The limits that never fire, since another settles their stage first.
-ghost use Rattle.std.specs.Prelude.{◌≡◌, ◌<◌, true, IfNone, IfSome, length, slice_get};
-ghost use Rattle.cf_explain.specs.Limits.{AreNoneBefore, fires_before, is_before};
+ghost use Rattle.std.specs.Prelude.{◌≡◌, ◌++◌, IfOk, OnOk, option_map};
+ghost use Rattle.serde_json.specs.View.{items_view, view};
+ghost use Rattle.cf_explain.specs.Limits.{behind_remarks, behinds, behinds_from, fires_before, firing_of, firings_of, first_from, number_in};
 
 use crate::place::Place;
 use crate::remark::Remark;
@@ -20,24 +21,66 @@ pub(crate) fn remark_behind(
     alloc: Global,
     json: &Json,
     remarks: &mut Vec<Remark>,
-) -> Result<(), AllocError> {
+) -> Result<(), AllocError>
+    ensures { OnOk result (remarks.new.items ≡ remarks.old.items ++ behinds (view json.now)) }
+{
+    let firings = firings_of(alloc, items(json.get("limits")))?;
+    remark_all(&firings, remarks)
+}
+
+/// When these limits fire.
+fn firings_of(alloc: Global, limits: &[Json]) -> Result<Vec<Firing>, AllocError>
+    ensures { IfOk result (λ v. v.items ≡ firings_of (items_view limits.now)) }
+{
     let mut firings = Vec::new(alloc);
-    for limit in items(json.get("limits")) {
-        firings.push(Firing {
-            stage: number(limit.get("stage")),
-            at: number(limit.get("at")),
-        })?;
+    'limits: for limit in limits {
+        firings.push(firing_of(limit))?;
     }
-    for k in 0..firings.len() {
-        if let Some(j) = first_before(firings.as_slice(), k) {
-            remarks.push(Remark::Behind(Place::limit(k), Place::limit(j)))?;
-        }
+    Ok(firings)
+}
+
+/// When a limit fires, as it is written.
+fn firing_of(limit: &Json) -> Firing
+    ensures { result ≡ firing_of (view limit.now) }
+{
+    Firing {
+        stage: number_in(limit.get("stage")),
+        at: number_in(limit.get("at")),
+    }
+}
+
+fn number_in(said: Option<&Json>) -> u64
+    ensures { result ≡ number_in (option_map (λ v. view v.now) said.entry) }
+{
+    match said {
+        Some(json) => json.as_u64().unwrap_or(0),
+        None => 0,
+    }
+}
+
+/// Remarks each limit whose stage another settles before it could.
+fn remark_all(firings: &[Firing], remarks: &mut Vec<Remark>) -> Result<(), AllocError>
+    ensures { OnOk result (remarks.new.items ≡ remarks.old.items ++ behinds_from firings.now 0 firings.now) }
+{
+    'limits: for (k, limit) in firings.iter().enumerate() {
+        remark_limit(firings, k, *limit, remarks)?;
     }
     Ok(())
 }
 
-fn number(said: Option<&Json>) -> u64 {
-    said.and_then(Json::as_u64).unwrap_or(0)
+/// Remarks limit k, if another settles its stage before it could.
+fn remark_limit(
+    firings: &[Firing],
+    k: usize,
+    limit: Firing,
+    remarks: &mut Vec<Remark>,
+) -> Result<(), AllocError>
+    ensures { OnOk result (remarks.new.items ≡ remarks.old.items ++ behind_remarks k (first_from 0 firings.now k limit)) }
+{
+    if let Some(j) = first_before(firings, k, limit) {
+        remarks.push(Remark::Behind(Place::limit(k), Place::limit(j)))?;
+    }
+    Ok(())
 }
 
 /// Whether limit j settles the stage of limit k before that could: it fires earlier, or at the same moment and stands before
@@ -49,15 +92,11 @@ fn fires_before(j: usize, other: Firing, k: usize, limit: Firing) -> bool
 }
 
 /// The first limit that settles the stage of limit k before that could.
-fn first_before(firings: &[Firing], k: usize) -> Option<usize>
-    requires { k < length firings.now }
-    ensures before { IfSome result (λ j. is_before j (slice_get firings.now j) k (slice_get firings.now k) ≡ true) }
-    ensures first { IfSome result (AreNoneBefore firings.now k) }
-    ensures none { IfNone result (AreNoneBefore firings.now k (length firings.now)) }
-    ensures within { IfSome result (λ j. j < length firings.now) }
+fn first_before(firings: &[Firing], k: usize, limit: Firing) -> Option<usize>
+    ensures { result ≡ first_from 0 firings.now k limit }
 {
-    for j in 0..firings.len() {
-        if fires_before(j, firings[j], k, firings[k]) {
+    'others: for (j, other) in firings.iter().enumerate() {
+        if fires_before(j, *other, k, limit) {
             return Some(j);
         }
     }

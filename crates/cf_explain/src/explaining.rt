@@ -1,11 +1,12 @@
 //! The explanation of a script.
-ghost use Rattle.std.specs.Prelude.{IfOk};
+ghost use Rattle.std.specs.Prelude.{◌≡◌, [], All, IfOk, OnOk, Some};
 ghost use Rattle.serde_json.specs.View.{view};
-ghost use Rattle.cf_reading.specs.Reading.{reading, script_said};
+ghost use Rattle.cf_reading.specs.Reading.{json_of, reading, script_said};
+ghost use Rattle.cf_explain.specs.Remarks.{AreRemarked, AreRemarks, IsOfWriting};
 ghost use Rattle.cf_explain.specs.Verdicts.{Tells, refused_for};
 
 use crate::behind::remark_behind;
-use crate::idle::remark_idle;
+use crate::idle::idle_steps;
 use crate::place::{Place, area_of};
 use crate::refusing::{Wrong, found};
 use crate::remark::Remark;
@@ -21,9 +22,11 @@ use std::str;
 /// What is wrong with the script that the bytes are to be, and what is odd about it.
 ///
 /// The script is refused exactly where its reading says so, for the same fault, and the place that is told is in the part
-/// that the fault names. It fails only where a growth was refused.
+/// that the fault names. Of a script that is read, the remarks are those of how it is written, then one of each limit that
+/// never fires, in order, and of steps. It fails only where a growth was refused.
 pub fn explain(alloc: Global, bytes: &[u8]) -> Result<Explanation, AllocError>
     ensures verdict { IfOk result (λ e. Tells e.refusal (reading bytes.now)) }
+    ensures remarks { IfOk result (λ e. AreRemarks (reading bytes.now) (json_of bytes.now) e.remarks.items) }
 {
     if bytes.len() > MAX_BYTES {
         return Ok(unread(alloc, ReadingFault::TooLong, Why::TooLong));
@@ -37,7 +40,8 @@ pub fn explain(alloc: Global, bytes: &[u8]) -> Result<Explanation, AllocError>
 
 /// That bytes are refused whole, before anything in them is looked at.
 fn unread(alloc: Global, fault: ReadingFault, why: Why) -> Explanation
-    ensures { Tells result.refusal (refused_for fault) }
+    ensures refused { Tells result.refusal (refused_for fault) }
+    ensures remarks { result.remarks.items ≡ [] }
 {
     let place = Place::of(area_of(fault));
     let refusal = Refusal { fault, place, why };
@@ -50,6 +54,7 @@ fn unread(alloc: Global, fault: ReadingFault, why: Why) -> Explanation
 /// What is wrong with a script that is this JSON value, and what is odd about it as these bytes write it.
 fn explain_json(alloc: Global, bytes: &[u8], json: &Json) -> Result<Explanation, AllocError>
     ensures verdict { IfOk result (λ e. Tells e.refusal (script_said (view json.now))) }
+    ensures remarks { IfOk result (λ e. AreRemarks (script_said (view json.now)) (Some (view json.now)) e.remarks.items) }
 {
     match script_of(alloc, json) {
         Ok(script) => Ok(Explanation {
@@ -79,11 +84,14 @@ fn remarks_of(
     bytes: &[u8],
     json: &Json,
     script: Script,
-) -> Result<Vec<Remark>, AllocError> {
+) -> Result<Vec<Remark>, AllocError>
+    ensures { IfOk result (λ v. AreRemarked (view json.now) script.steps v.items) }
+{
     let mut remarks = Vec::new(alloc);
     remark_written(alloc, bytes, json, &mut remarks)?;
     remark_behind(alloc, json, &mut remarks)?;
-    remark_idle(alloc, script, &mut remarks)?;
+    let mut idle = idle_steps(alloc, script)?;
+    remarks.append(&mut idle)?;
     Ok(remarks)
 }
 
@@ -93,7 +101,10 @@ fn remark_written(
     bytes: &[u8],
     json: &Json,
     remarks: &mut Vec<Remark>,
-) -> Result<(), AllocError> {
+) -> Result<(), AllocError>
+    requires { All IsOfWriting remarks.old.items }
+    ensures { OnOk result (All IsOfWriting remarks.new.items) }
+{
     if let Ok(text) = str::from_utf8(bytes) {
         remark_twice(alloc, text, remarks)?;
     }

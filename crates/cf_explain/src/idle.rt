@@ -1,8 +1,10 @@
 //! The steps that never do anything.
-ghost use Rattle.std.specs.Prelude.{◌≡◌, IfSome};
+ghost use Rattle.std.specs.Prelude.{◌≡◌, All, IfOk, IfSome, OnOk};
 ghost use Rattle.cf_explain.specs.Idles.{IsOfEvent, IsOfStep, not_later};
+ghost use Rattle.cf_explain.specs.Places.{place_of};
+ghost use Rattle.cf_explain.specs.Remarks.{IsIdleIn};
 
-use crate::place::Place;
+use crate::place::{Area, Place};
 use crate::remark::{Idle, Remark};
 use cf_model::Event;
 use cf_plan::{Limit, Plan};
@@ -30,27 +32,65 @@ struct Seen {
     ticked: Option<(u32, u32)>,
 }
 
-/// Remarks the steps of a script that never do anything.
-pub(crate) fn remark_idle(
-    alloc: Global,
-    script: Script,
-    remarks: &mut Vec<Remark>,
-) -> Result<(), AllocError> {
+/// What is remarked of the steps of a script that never do anything.
+pub(crate) fn idle_steps(alloc: Global, script: Script) -> Result<Vec<Remark>, AllocError>
+    ensures { IfOk result (λ v. All (IsIdleIn script.steps) v.items) }
+{
     let (plan, room, _, steps) = script.into_parts();
-    let mut seen = Seen {
+    let seen = Seen {
         stages: stages_of(alloc, &plan)?,
         room,
         ticked: None,
     };
-    for (k, step) in steps.iter().enumerate() {
-        if let Some(why) = seen.idle(*step) {
-            remarks.push(Remark::Idle(Place::step(k), why))?;
-        }
-        if let (Ok(k), Step::Does(event)) = (u32::try_from(k), *step) {
-            seen.after(plan.limits(), event, k)?;
+    idle_of(alloc, seen, plan.limits(), &steps)
+}
+
+/// What is remarked of these steps.
+fn idle_of(
+    alloc: Global,
+    mut seen: Seen,
+    limits: &[Limit],
+    steps: &[Step],
+) -> Result<Vec<Remark>, AllocError>
+    ensures { IfOk result (λ v. All (IsIdleIn steps.now) v.items) }
+{
+    let mut remarks = Vec::new(alloc);
+    'steps: for (k, step) in steps.iter().enumerate() {
+        let Ok(number) = u32::try_from(k) else {
+            break;
+        };
+        remark_step(&seen, steps, number, &mut remarks)?;
+        if let Step::Does(event) = *step {
+            seen.after(limits, event, number)?;
         }
     }
+    Ok(remarks)
+}
+
+/// Remarks step k, if it is known never to do anything.
+fn remark_step(
+    seen: &Seen,
+    steps: &[Step],
+    k: u32,
+    remarks: &mut Vec<Remark>,
+) -> Result<(), AllocError>
+    requires { All (IsIdleIn steps.now) remarks.old.items }
+    ensures { OnOk result (All (IsIdleIn steps.now) remarks.new.items) }
+{
+    let Some(step) = steps.get(k as usize) else {
+        return Ok(());
+    };
+    if let Some(why) = seen.idle(*step) {
+        remarks.push(idle(k, why))?;
+    }
     Ok(())
+}
+
+/// The remark that step k never does anything.
+fn idle(k: u32, why: Idle) -> Remark
+    ensures { result ≡ Remark.Idle (place_of (Area.Step k)) why }
+{
+    Remark::Idle(Place::step(k as usize), why)
 }
 
 /// What is known of the stages of a plan before anything is done.

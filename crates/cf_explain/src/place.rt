@@ -1,6 +1,6 @@
 //! Where something stands in a script.
 ghost use Rattle.std.specs.Prelude.{◌≡◌, ◌<◌};
-ghost use Rattle.cf_explain.specs.Places.{area_of};
+ghost use Rattle.cf_explain.specs.Places.{area_of, limit_place, place_of, position_of};
 
 use cf_plan::PlanFault;
 use cf_reading::{Part, ReadingFault};
@@ -33,7 +33,7 @@ pub struct Place {
 
 /// A position, of which none in a script is greater than a `u32`.
 fn position(k: usize) -> u32
-    ensures { k < 4294967296 → result ≡ k }
+    ensures { result ≡ position_of k }
 {
     u32::try_from(k).unwrap_or(u32::MAX)
 }
@@ -41,7 +41,7 @@ fn position(k: usize) -> u32
 impl Place {
     /// This part itself.
     pub(crate) fn of(area: Area) -> Place
-        ensures { result.area ≡ area }
+        ensures { result ≡ place_of area }
     {
         Place {
             area,
@@ -65,14 +65,14 @@ impl Place {
 
     /// The limit at this position.
     pub(crate) fn limit(k: usize) -> Place
-        ensures { k < 4294967296 → result.area ≡ Area.Part (Part.Limit k) }
+        ensures { result ≡ limit_place k }
     {
         Place::of(Area::Part(Part::Limit(position(k))))
     }
 
     /// The step at this position.
     pub(crate) fn step(k: usize) -> Place
-        ensures { k < 4294967296 → result.area ≡ Area.Step k }
+        ensures { k < 4294967296 → result ≡ place_of (Area.Step k) }
     {
         Place::of(Area::Step(position(k)))
     }

@@ -1,4 +1,7 @@
 //! The members that are given twice in one object.
+ghost use Rattle.std.specs.Prelude.{All, IfOk, OnOk};
+ghost use Rattle.cf_explain.specs.Remarks.{IsOfWriting};
+
 use crate::remark::Remark;
 use json::{Reader, Scratch, Token};
 use std::alloc::{AllocError, Global};
@@ -9,22 +12,40 @@ pub(crate) fn remark_twice(
     alloc: Global,
     text: &str,
     remarks: &mut Vec<Remark>,
-) -> Result<(), AllocError> {
+) -> Result<(), AllocError>
+    requires { All IsOfWriting remarks.old.items }
+    ensures { OnOk result (All IsOfWriting remarks.new.items) }
+{
     let mut scratch = Scratch::new(alloc);
     let mut reader = Reader::new(text, &mut scratch)?;
     let mut open = Vec::new(alloc);
     let mut spot = Spot::START;
-    for _ in 0..=text.len() {
+    let most = text.len().saturating_add(1);
+    'tokens: for _ in 0..most {
         let offset = reader.offset();
         let Some(token) = reader.next() else {
-            break;
+            return Ok(());
         };
-        if let Some(name) = given_again(alloc, token, &mut open)? {
-            spot = spot.on_to(text.as_bytes(), offset);
-            remarks.push(spot.twice(alloc, name)?)?;
-        }
+        let name = given_again(alloc, token, &mut open)?;
+        spot = remark_again(alloc, spot.on_to(text.as_bytes(), offset), name, remarks)?;
     }
     Ok(())
+}
+
+/// Remarks that a name is given again at this spot, if one is.
+fn remark_again(
+    alloc: Global,
+    spot: Spot,
+    name: Option<&str>,
+    remarks: &mut Vec<Remark>,
+) -> Result<Spot, AllocError>
+    requires { All IsOfWriting remarks.old.items }
+    ensures { OnOk result (All IsOfWriting remarks.new.items) }
+{
+    if let Some(name) = name {
+        remarks.push(spot.twice(alloc, name)?)?;
+    }
+    Ok(spot)
 }
 
 /// The name that the token gives again in its object, but for a note. Of each object that is open the names so far are kept.
@@ -94,7 +115,9 @@ impl Spot {
     }
 
     /// The remark that a member of this name is given again here.
-    fn twice(self, alloc: Global, name: &str) -> Result<Remark, AllocError> {
+    fn twice(self, alloc: Global, name: &str) -> Result<Remark, AllocError>
+        ensures { IfOk result IsOfWriting }
+    {
         let name = String::from_str(alloc, name)?;
         let Spot { line, column, .. } = self;
         Ok(Remark::Twice { name, line, column })

@@ -1,4 +1,9 @@
 //! The members that nobody reads.
+ghost use Rattle.std.specs.Prelude.{◌≡◌, All, OnOk, option_map};
+ghost use Rattle.serde_json.specs.View.{items_view, view};
+ghost use Rattle.cf_explain.specs.Limits.{items_in};
+ghost use Rattle.cf_explain.specs.Remarks.{IsOfWriting};
+
 use crate::counts::attach_of;
 use crate::place::Place;
 use crate::remark::Remark;
@@ -12,18 +17,21 @@ pub(crate) fn remark_unread(
     alloc: Global,
     json: &Json,
     remarks: &mut Vec<Remark>,
-) -> Result<(), AllocError> {
+) -> Result<(), AllocError>
+    requires { All IsOfWriting remarks.old.items }
+    ensures { OnOk result (All IsOfWriting remarks.new.items) }
+{
     in_object(alloc, Place::top(), json, Words::ScriptMembers, remarks)?;
     if version_of(json) == 1 && json.get("room").is_some() {
         remarks.push(Remark::RoomInVersionOne)?;
     }
-    for (k, stage) in items(json.get("stages")).iter().enumerate() {
+    'stages: for (k, stage) in items(json.get("stages")).iter().enumerate() {
         in_object(alloc, Place::stage(k), stage, Words::StageMembers, remarks)?;
     }
-    for (k, limit) in items(json.get("limits")).iter().enumerate() {
+    'limits: for (k, limit) in items(json.get("limits")).iter().enumerate() {
         in_limit(alloc, Place::limit(k), limit, remarks)?;
     }
-    for (k, step) in items(json.get("steps")).iter().enumerate() {
+    'steps: for (k, step) in items(json.get("steps")).iter().enumerate() {
         if let Some(stage) = attach_of(step) {
             let place = Place::step(k).item(1);
             in_object(alloc, place, stage, Words::StageMembers, remarks)?;
@@ -33,8 +41,13 @@ pub(crate) fn remark_unread(
 }
 
 /// The items of an array, none of what is no array.
-pub(crate) fn items(said: Option<&Json>) -> &[Json] {
-    match said.and_then(Json::as_array) {
+pub(crate) fn items(said: Option<&Json>) -> &[Json]
+    ensures { items_view result.now ≡ items_in (option_map (λ v. view v.now) said.entry) }
+{
+    let Some(json) = said else {
+        return &[];
+    };
+    match json.as_array() {
         Some(list) => list.as_slice(),
         None => &[],
     }
@@ -46,7 +59,10 @@ fn in_limit(
     place: Place,
     limit: &Json,
     remarks: &mut Vec<Remark>,
-) -> Result<(), AllocError> {
+) -> Result<(), AllocError>
+    requires { All IsOfWriting remarks.old.items }
+    ensures { OnOk result (All IsOfWriting remarks.new.items) }
+{
     in_object(alloc, place, limit, Words::LimitMembers, remarks)?;
     let times_out = limit.get("kind").and_then(Json::as_str) == Some("timeout");
     if times_out && limit.get("value").is_some() {
@@ -62,11 +78,14 @@ fn in_object(
     json: &Json,
     words: Words,
     remarks: &mut Vec<Remark>,
-) -> Result<(), AllocError> {
+) -> Result<(), AllocError>
+    requires { All IsOfWriting remarks.old.items }
+    ensures { OnOk result (All IsOfWriting remarks.new.items) }
+{
     let Some(members) = json.as_object() else {
         return Ok(());
     };
-    for name in members.keys() {
+    'names: for name in members.keys() {
         if words.known(name.as_str()).is_none() {
             let nearest = words.nearest(alloc, name.as_str())?;
             let name = name.clone()?;

@@ -1,5 +1,7 @@
-use Rattle.cf_explain.specs.Limits.{AreNoneBefore}
+use Rattle.std.proofs.Common.{◌≡◌, drop}
+use Rattle.cf_explain.specs.Limits.{first_from}
 use Rattle.cf_explain.proofs.behind.first_before.Given as goal
 
-abbrev pub invariant-loop-j : goal.invariant-loop-j
-invariant-loop-j l = AreNoneBefore l.firings l.k l.j
+-- the first of those that are left is the first of all
+abbrev pub invariant-others : goal.invariant-others
+invariant-others l = first_from l.j (drop l.j l.firings) l.k l.limit ≡ first_from 0 l.firings l.k l.limit
