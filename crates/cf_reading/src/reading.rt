@@ -1,5 +1,5 @@
 //! A script as a whole.
-ghost use Rattle.std.specs.Prelude.{◌≡◌, ◌≤◌, true, All, IfOk, length, option_map};
+ghost use Rattle.std.specs.Prelude.{◌≡◌, ◌<◌, ◌≤◌, true, All, Err, IfOk, length, option_map};
 ghost use Rattle.serde_json.specs.View.{items_view, view};
 ghost use Rattle.cf_reading.specs.Checks.{Gives};
 ghost use Rattle.cf_reading.specs.Scripts.{FunctionFits};
@@ -113,7 +113,8 @@ pub fn script_of(alloc: Global, json: &Json) -> Result<Script, ReadingFault>
 /// and sources, its function, the builder), each limit (its shape, the builder), the place for the room, each step. A
 /// refused growth is `NoMemory` wherever it is met. `Read` never comes.
 pub fn read_script(alloc: Global, bytes: &[u8]) -> Result<Script, ReadingFault>
-    ensures { Gives (λ s. s) result (reading bytes.now) }
+    ensures says { Gives (λ s. s) result (reading bytes.now) }
+    ensures long { 1048576 < length bytes.now → result ≡ Err ReadingFault.TooLong }
 {
     read_for(alloc, Purpose::Run, bytes)
 }
@@ -123,6 +124,7 @@ pub fn read_script(alloc: Global, bytes: &[u8]) -> Result<Script, ReadingFault>
 pub fn read_race(alloc: Global, bytes: &[u8]) -> Result<Script, ReadingFault>
     ensures says { Gives (λ s. s) result (race_reading bytes.now) }
     ensures raced { IfOk result (λ s. All IsForRace s.steps) }
+    ensures long { 1048576 < length bytes.now → result ≡ Err ReadingFault.TooLong }
 {
     read_for(alloc, Purpose::Race, bytes)
 }
@@ -131,6 +133,7 @@ pub fn read_race(alloc: Global, bytes: &[u8]) -> Result<Script, ReadingFault>
 #[tactic(auto, using(crate::proofs::Texts::json_found, crate::proofs::Texts::json_missing), unfolding(crate::specs::Reading::outline))]
 fn read_for(alloc: Global, purpose: Purpose, bytes: &[u8]) -> Result<Script, ReadingFault>
     ensures says { Gives (λ s. s) result (reading_for purpose bytes.now) }
+    ensures long { 1048576 < length bytes.now → result ≡ Err ReadingFault.TooLong }
     ensures taken { IfOk result (λ s. All (IsTaken purpose) s.steps) }
 {
     if bytes.len() > MAX_BYTES {

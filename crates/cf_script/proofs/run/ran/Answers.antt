@@ -17,5 +17,5 @@ pub returns-in_err-script-clause-gives : goal.returns-in_err-script-clause-gives
 returns-in_err-script-clause-gives g c =
     let e = c.in_err-script.field-0.0 in
     let input = c.in_ok-input.input.items in
-    let said = subst (λ bytes. Fails e (reading bytes)) c.deref.ensures.value c.in_err-script.ensures in
+    let said = subst (λ bytes. Fails e (reading bytes)) c.deref.ensures.value c.in_err-script.ensures.says in
     (input, c.in_ok-input.ensures.whole, fault_given (RunGives input) c.from_residual-in_err-script.result (fault_of_reading e) c.from_residual-in_err-script.ensures.1 (misread IsReport IsTooLargeToRun (reading input) e said))
