@@ -1,7 +1,5 @@
 //! The words after the program's name.
 use anyhow::Result;
-use clap::{Command, Error};
-use std::alloc::Global;
 use std::env;
 use std::rt::Env;
 
@@ -15,14 +13,30 @@ pub(crate) enum Words {
     Nothing(u8),
 }
 
+/// What the words ask for, before anything is said.
+#[derive(Clone, Copy)]
+enum Asked {
+    Show { timed: bool },
+    Help,
+    Unknown,
+}
+
+const HELP: &str = "Build and settle graphs, and print checksums of what came of it
+
+Usage: cf_bench [COMMAND]
+
+Commands:
+  time  Print how long each takes
+  help  Print this message
+
+Options:
+  -h, --help  Print help
+";
+
 /// What the words ask for.
 pub(crate) fn read_words<R: Env + Print + Eprint + AllocGlobal>(rt: &R) -> Result<Words> {
     let words = words_of(rt)?;
-    let command = command(rt.alloc())?;
-    match is_timed(command, words.as_slice()) {
-        Ok(timed) => Ok(Words::Show { timed }),
-        Err(error) => nothing(rt, error),
-    }
+    said(rt, kind_of(words.as_slice()))
 }
 
 /// The words, of which the first is the program's name.
@@ -31,23 +45,40 @@ fn words_of<R: Env + AllocGlobal>(rt: &R) -> Result<Vec<String>> {
     Ok(args.collect(rt.alloc())?)
 }
 
-/// The words that are known.
-fn command<'a>(alloc: Global) -> Result<Command<'a>> {
-    let time = Command::new(alloc, "time").about("Print how long each takes");
-    let command = Command::new(alloc, "cf_bench")
-        .about("Build and settle graphs, and print checksums of what came of it")
-        .subcommand(time)?;
-    Ok(command)
+/// What the words ask for, of which the first is the program's name.
+fn kind_of(words: &[String]) -> Asked {
+    if words.len() > 2 {
+        return Asked::Unknown;
+    }
+    match words.get(1) {
+        None => Asked::Show { timed: false },
+        Some(word) => kind_of_word(word.as_str()),
+    }
 }
 
-/// Whether times are asked for.
-fn is_timed<'a>(command: Command<'a>, words: &'a [String]) -> Result<bool, Error> {
-    let matches = command.try_get_matches_from(words)?;
-    Ok(matches.subcommand().is_some())
+fn kind_of_word(word: &str) -> Asked {
+    match word {
+        "time" => Asked::Show { timed: true },
+        "help" | "-h" | "--help" => Asked::Help,
+        _ => Asked::Unknown,
+    }
 }
 
-/// Says what there is to say of words that are no command.
-fn nothing<R: Print + Eprint>(rt: &R, error: Error) -> Result<Words> {
-    error.print(rt)?;
-    Ok(Words::Nothing(error.exit_code() as u8))
+/// Says what there is to say.
+fn said<R: Print + Eprint>(rt: &R, asked: Asked) -> Result<Words> {
+    match asked {
+        Asked::Show { timed } => Ok(Words::Show { timed }),
+        Asked::Help => help(rt),
+        Asked::Unknown => usage(rt),
+    }
+}
+
+fn help<R: Print>(rt: &R) -> Result<Words> {
+    print!(rt; "{HELP}")?;
+    Ok(Words::Nothing(0))
+}
+
+fn usage<R: Eprint>(rt: &R) -> Result<Words> {
+    eprintln!(rt; "usage: cf_bench [time]")?;
+    Ok(Words::Nothing(2))
 }

@@ -2,7 +2,7 @@
 use crate::times::{Shown, Times};
 use anyhow::{Result, anyhow};
 use cf_script::run_script;
-use serde_json::{Value as Json, json};
+use serde_json::Value as Json;
 use std::alloc::{AllocError, Global};
 use std::time::{Clock, Instant};
 
@@ -19,68 +19,79 @@ const ROUNDS: u32 = 20;
 /// Sources, and combines of two stages each up to the root; each source is completed, all functions are called, and the
 /// other steps ask for outcomes. It is filled with blanks to 1 MiB.
 pub(crate) fn script_text(alloc: Global) -> Result<String, AllocError> {
-    let stages = stages(alloc)?;
-    let steps = steps(alloc)?;
-    let json = json!(in alloc; {"cf": 1u8, "stages": stages, "steps": steps})?;
-    filled(json.to_string(alloc)?)
+    let mut text = String::with_capacity(alloc, BYTES)?;
+    text.push_str("{\"cf\":1,\"stages\":[")?;
+    write_stages(&mut text)?;
+    text.push_str("],\"steps\":[")?;
+    write_steps(&mut text)?;
+    text.push_str("]}")?;
+    fill(&mut text)?;
+    Ok(text)
 }
 
-fn stages(alloc: Global) -> Result<Json, AllocError> {
-    let mut stages = Vec::with_capacity(alloc, STAGES as usize)?;
+fn write_stages(text: &mut String) -> Result<(), AllocError> {
     for i in 0..STAGES {
-        stages.push(stage(alloc, i)?)?;
+        if i > 0 {
+            text.push_str(",")?;
+        }
+        write_stage(text, i)?;
     }
-    Ok(Json::Array(stages))
+    Ok(())
 }
 
 /// Stage `i`: a source, or a combine.
-fn stage(alloc: Global, i: u16) -> Result<Json, AllocError> {
+fn write_stage(text: &mut String, i: u16) -> Result<(), AllocError> {
     if i < SOURCES {
-        return json!(in alloc; {"form": "source"});
+        return text.push_str("{\"form\":\"source\"}");
     }
     let left = (i - SOURCES).saturating_mul(2);
     let right = left.saturating_add(1);
-    json!(in alloc; {"form": "combine", "of": [left, right], "fn": "sum"})
+    write!(
+        text,
+        "{{\"fn\":\"sum\",\"form\":\"combine\",\"of\":[{left},{right}]}}"
+    )
 }
 
-fn steps(alloc: Global) -> Result<Json, AllocError> {
-    let mut steps = Vec::with_capacity(alloc, STEPS as usize)?;
+fn write_steps(text: &mut String) -> Result<(), AllocError> {
     for k in 0..STEPS {
-        steps.push(step(alloc, k)?)?;
+        if k > 0 {
+            text.push_str(",")?;
+        }
+        write_step(text, k)?;
     }
-    Ok(Json::Array(steps))
+    Ok(())
 }
 
 /// Step `k`: it completes a source, calls all functions, or asks.
-fn step(alloc: Global, k: u16) -> Result<Json, AllocError> {
+fn write_step(text: &mut String, k: u16) -> Result<(), AllocError> {
     let stage = k % STAGES;
     if k < SOURCES {
-        json!(in alloc; ["complete", stage, k])
+        write!(text, "[\"complete\",{stage},{k}]")
     } else if k == SOURCES {
-        json!(in alloc; ["work"])
+        text.push_str("[\"work\"]")
     } else {
-        question(alloc, k, stage)
+        write_question(text, k, stage)
     }
 }
 
 /// Step `k`, which asks for what a stage has.
-fn question(alloc: Global, k: u16, stage: u16) -> Result<Json, AllocError> {
+fn write_question(text: &mut String, k: u16, stage: u16) -> Result<(), AllocError> {
     if k % 2 == 0 {
-        json!(in alloc; ["now", stage, -1i8])
+        write!(text, "[\"now\",{stage},-1]")
     } else {
-        json!(in alloc; ["outcome", stage])
+        write!(text, "[\"outcome\",{stage}]")
     }
 }
 
-/// A text with blanks behind it.
-fn filled(mut text: String) -> Result<String, AllocError> {
+/// Adds blanks up to the length of the script.
+fn fill(text: &mut String) -> Result<(), AllocError> {
     for _ in 0..BYTES {
         if text.len() >= BYTES {
             break;
         }
         text.push_str(" ")?;
     }
-    Ok(text)
+    Ok(())
 }
 
 /// The report of a script.

@@ -1,6 +1,6 @@
 //! The words after the program's name.
 use anyhow::Result;
-use clap::{Arg, ArgAction, Command};
+use clap::{Arg, ArgAction, ArgMatches, Command, Error};
 use std::alloc::Global;
 use std::env;
 use std::rt::Env;
@@ -21,29 +21,53 @@ pub(crate) enum Look {
 
 /// What the words ask for.
 pub(crate) fn read_words<R: Env + Print + Eprint + AllocGlobal>(rt: &R) -> Result<Look> {
-    let alloc = rt.alloc();
-    let words: Vec<String> = env::args(rt)?.collect(alloc)?;
-    let command = Command::new(alloc, "cf_look")
+    let words = words_of(rt)?;
+    let command = command_of(rt.alloc())?;
+    match look_of(command, words.as_slice()) {
+        Ok(look) => Ok(look),
+        Err(error) => nothing(rt, error),
+    }
+}
+
+/// The words, of which the first is the program's name.
+fn words_of<R: Env + AllocGlobal>(rt: &R) -> Result<Vec<String>> {
+    let args = env::args(rt)?;
+    Ok(args.collect(rt.alloc())?)
+}
+
+/// The words that are known.
+fn command_of<'a>(alloc: Global) -> Result<Command<'a>> {
+    let check = check_command(alloc)?;
+    let none = Command::new(alloc, "cf_look")
         .about("Look at histories and scripts of completable futures")
         .subcommand_required(true)
-        .arg_required_else_help(true)
-        .subcommand(check_command(alloc)?)?
-        .subcommand(explain_command(alloc))?
-        .subcommand(dot_command(alloc))?;
-    match command.try_get_matches_from(words.as_slice()) {
-        Ok(matches) => Ok(match matches.subcommand() {
-            Some(("explain", _)) => Look::Explain,
-            Some(("dot", _)) => Look::Dot,
-            Some((_, inner)) => Look::Check {
-                lines: inner.get_flag("lines"),
-            },
-            None => Look::Check { lines: false },
-        }),
-        Err(error) => {
-            error.print(rt)?;
-            Ok(Look::Nothing(error.exit_code() as u8))
-        }
+        .arg_required_else_help(true);
+    let one = none.subcommand(check)?;
+    let two = one.subcommand(explain_command(alloc))?;
+    Ok(two.subcommand(dot_command(alloc))?)
+}
+
+/// What the command takes the words for.
+fn look_of<'a>(command: Command<'a>, words: &'a [String]) -> Result<Look, Error> {
+    let matches = command.try_get_matches_from(words)?;
+    Ok(look_in(&matches))
+}
+
+fn look_in(matches: &ArgMatches<'_>) -> Look {
+    match matches.subcommand() {
+        Some(("explain", _)) => Look::Explain,
+        Some(("dot", _)) => Look::Dot,
+        Some((_, inner)) => Look::Check {
+            lines: inner.get_flag("lines"),
+        },
+        None => Look::Check { lines: false },
     }
+}
+
+/// Says what there is to say of words that are no command.
+fn nothing<R: Print + Eprint>(rt: &R, error: Error) -> Result<Look> {
+    error.print(rt)?;
+    Ok(Look::Nothing(error.exit_code() as u8))
 }
 
 /// `check`

@@ -1,7 +1,5 @@
 //! The words after the program's name.
-use anyhow::{Result, anyhow};
-use clap::{Arg, ArgAction, ArgMatches, Command, Error, value_parser};
-use std::alloc::{AllocError, Global};
+use anyhow::Result;
 use std::env;
 use std::rt::Env;
 
@@ -34,109 +32,152 @@ pub(crate) enum Words {
     Nothing(u8),
 }
 
-/// The numbers of 16 bits, each with what it counts.
-const COUNTS: [(&str, &str); 4] = [
-    ("log", "How many words the desk's log has"),
-    ("calls", "How many records a pass holds"),
-    ("room", "For how many more stages there is room"),
-    ("functions", "How many functions there are"),
-];
+const HELP: &str = "Do the steps of callers over one desk, and print what the closed desk holds
 
-/// The flags, each with what it asks for.
-const FLAGS: [(&str, &str); 2] = [
-    ("turns", "Let one thread do all steps in their order"),
-    (
-        "history",
-        "Write the closed desk as a history, in one line of JSON",
-    ),
-];
+Usage: cf_stress [OPTIONS] --callers <callers> --log <log> --calls <calls> --room <room> --functions <functions>
+
+Options:
+      --callers <callers>      How many callers there are
+      --log <log>              How many words the desk's log has
+      --calls <calls>          How many records a pass holds
+      --room <room>            For how many more stages there is room
+      --functions <functions>  How many functions there are
+      --turns                  Let one thread do all steps in their order
+      --history                Write the closed desk as a history, in one line of JSON
+  -h, --help                   Print help
+";
+
+const USAGE: &str =
+    "usage: cf_stress --callers N --log N --calls N --room N --functions N [--turns] [--history]";
 
 /// What the words say.
 pub(crate) fn read_words<R: Env + Print + Eprint + AllocGlobal>(rt: &R) -> Result<Words> {
-    let alloc = rt.alloc();
-    let words: Vec<String> = env::args(rt)?.collect(alloc)?;
-    match matched(alloc, words.as_slice())? {
-        Ok(matches) => Ok(Words::Run(run_of(&matches)?)),
-        Err(error) => {
-            error.print(rt)?;
-            Ok(Words::Nothing(error.exit_code() as u8))
+    let words = words_of(rt)?;
+    let words = words.get(1..).unwrap_or(&[]);
+    if words.iter().any(|word| is_help(word.as_str())) {
+        return help(rt);
+    }
+    match run_of(words) {
+        Some(run) => Ok(Words::Run(run)),
+        None => usage(rt),
+    }
+}
+
+/// The words, of which the first is the program's name.
+fn words_of<R: Env + AllocGlobal>(rt: &R) -> Result<Vec<String>> {
+    let args = env::args(rt)?;
+    Ok(args.collect(rt.alloc())?)
+}
+
+fn is_help(word: &str) -> bool {
+    word == "-h" || word == "--help"
+}
+
+fn help<R: Print>(rt: &R) -> Result<Words> {
+    print!(rt; "{HELP}")?;
+    Ok(Words::Nothing(0))
+}
+
+fn usage<R: Eprint>(rt: &R) -> Result<Words> {
+    eprintln!(rt; "{USAGE}")?;
+    Ok(Words::Nothing(2))
+}
+
+/// What is given so far.
+#[derive(Clone, Copy)]
+struct Given {
+    /// The numbers, at the places of their options.
+    numbers: [Option<u16>; 5],
+    in_turn: bool,
+    history: bool,
+}
+
+/// The run that these words ask for, if they are a run's.
+fn run_of(words: &[String]) -> Option<Run> {
+    let given = given_by(words)?;
+    Some(Run {
+        sizes: sizes_of(given.numbers)?,
+        in_turn: given.in_turn,
+        history: given.history,
+    })
+}
+
+fn given_by(words: &[String]) -> Option<Given> {
+    let mut given = Given {
+        numbers: [None; 5],
+        in_turn: false,
+        history: false,
+    };
+    let mut waits = None;
+    for word in words {
+        waits = given.take(waits, word.as_str())?;
+    }
+    match waits {
+        None => Some(given),
+        Some(_) => None,
+    }
+}
+
+impl Given {
+    /// Takes a word, and tells the place of the option that waits for its number then, if one does.
+    fn take(&mut self, waits: Option<usize>, word: &str) -> Option<Option<usize>> {
+        match waits {
+            Some(place) => self.put(place, word),
+            None => self.open(word),
+        }
+    }
+
+    /// Takes the number of the option at a place. It may be given once.
+    fn put(&mut self, place: usize, number: &str) -> Option<Option<usize>> {
+        let slot = self.numbers.get_mut(place)?;
+        if slot.is_some() {
+            return None;
+        }
+        *slot = Some(number.parse::<u16>().ok()?);
+        Some(None)
+    }
+
+    /// Takes a flag, or an option with its number behind it or in the next word.
+    fn open(&mut self, word: &str) -> Option<Option<usize>> {
+        match word {
+            "--turns" => once(&mut self.in_turn),
+            "--history" => once(&mut self.history),
+            _ => match word.split_once('=') {
+                Some((name, number)) => self.put(place_of(name)?, number),
+                None => Some(Some(place_of(word)?)),
+            },
         }
     }
 }
 
-/// The words as the command takes them, or what there is to say of them.
-fn matched<'a>(alloc: Global, words: &'a [String]) -> Result<Result<ArgMatches<'a>, Error>> {
-    Ok(command_of(alloc)?.try_get_matches_from(words))
-}
-
-/// The command with all its options.
-fn command_of<'a>(alloc: Global) -> Result<Command<'a>> {
-    let options = options_of(alloc)?;
-    let command = Command::new(alloc, "cf_stress").about(
-        "Do the steps of callers over one desk, and print what the closed desk holds",
-    );
-    Ok(command.args(options)?)
-}
-
-/// All options, in the order in which the help has them.
-fn options_of<'a>(alloc: Global) -> Result<Vec<Arg<'a>>, AllocError> {
-    let mut options = Vec::new(alloc);
-    options.push(callers(alloc))?;
-    add_counts(alloc, &mut options)?;
-    add_flags(alloc, &mut options)?;
-    Ok(options)
-}
-
-fn callers<'a>(alloc: Global) -> Arg<'a> {
-    option(alloc, "callers", "How many callers there are")
-        .required(true)
-        .value_parser(value_parser!(u8))
-}
-
-fn add_counts(alloc: Global, options: &mut Vec<Arg<'_>>) -> Result<(), AllocError> {
-    for (name, help) in COUNTS {
-        options.push(count(alloc, name, help))?;
+/// Sets a flag, which may be given once.
+fn once(flag: &mut bool) -> Option<Option<usize>> {
+    if *flag {
+        return None;
     }
-    Ok(())
+    *flag = true;
+    Some(None)
 }
 
-fn count<'a>(alloc: Global, name: &'a str, help: &'a str) -> Arg<'a> {
-    option(alloc, name, help)
-        .required(true)
-        .value_parser(value_parser!(u16))
-}
-
-fn add_flags(alloc: Global, options: &mut Vec<Arg<'_>>) -> Result<(), AllocError> {
-    for (name, help) in FLAGS {
-        options.push(flag(alloc, name, help))?;
+/// The place of an option among those that have a number.
+fn place_of(name: &str) -> Option<usize> {
+    match name {
+        "--callers" => Some(0),
+        "--log" => Some(1),
+        "--calls" => Some(2),
+        "--room" => Some(3),
+        "--functions" => Some(4),
+        _ => None,
     }
-    Ok(())
 }
 
-fn flag<'a>(alloc: Global, name: &'a str, help: &'a str) -> Arg<'a> {
-    option(alloc, name, help).action(ArgAction::SetTrue)
-}
-
-/// The option `--NAME`.
-fn option<'a>(alloc: Global, name: &'a str, help: &'a str) -> Arg<'a> {
-    Arg::new(alloc, name).long(name).help(help)
-}
-
-fn run_of(matches: &ArgMatches<'_>) -> Result<Run> {
-    let sizes = sizes_of(matches).ok_or_else(|| anyhow!("a number is missing"))?;
-    Ok(Run {
-        sizes,
-        in_turn: matches.get_flag("turns"),
-        history: matches.get_flag("history"),
-    })
-}
-
-fn sizes_of(matches: &ArgMatches<'_>) -> Option<Sizes> {
+fn sizes_of(numbers: [Option<u16>; 5]) -> Option<Sizes> {
+    let [callers, log, calls, room, functions] = numbers;
     Some(Sizes {
-        callers: matches.get_one::<u8>("callers")?,
-        log: matches.get_one::<u16>("log")?,
-        calls: matches.get_one::<u16>("calls")?,
-        room: matches.get_one::<u16>("room")?,
-        functions: matches.get_one::<u16>("functions")?,
+        callers: u8::try_from(callers?).ok()?,
+        log: log?,
+        calls: calls?,
+        room: room?,
+        functions: functions?,
     })
 }

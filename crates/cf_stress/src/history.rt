@@ -8,7 +8,7 @@ use cf_event::{encode, is_event};
 use cf_model::{Ask, Event, Reply, Told};
 use cf_outcome::Value;
 use cf_script::{write_reply, write_told};
-use serde_json::{Map, Value as Json, put};
+use serde_json::Value as Json;
 use std::alloc::{AllocError, Global};
 
 /// The line of a history: the plan of what was read in, the words of all events, each caller's own records, and what the
@@ -19,192 +19,152 @@ pub(crate) fn history_of(
     sizes: Sizes,
     closed: &mut Closed,
 ) -> Result<String> {
-    let mut members = Map::new(alloc);
-    put_given(alloc, &mut members, given, sizes)?;
-    put_closed(alloc, &mut members, closed)?;
-    Ok(line_of(alloc, Json::Object(members))?)
+    let mut text = String::new(alloc);
+    write_accounts(&mut text, closed)?;
+    write_rest(alloc, &mut text, given, sizes, &mut closed.graph)?;
+    Ok(text)
 }
 
-/// The text of a value, as a line.
-fn line_of(alloc: Global, json: Json) -> Result<String, AllocError> {
-    let mut line = json.to_string(alloc)?;
-    line.push_str("\n")?;
-    Ok(line)
+/// Adds what the callers did, and what came of it.
+fn write_accounts(text: &mut String, closed: &Closed) -> Result<()> {
+    write_callers(text, closed.passes.as_slice())?;
+    write_words(text, closed.history.as_slice())
 }
 
-/// Puts what was read in: the plan, and the number of functions.
-fn put_given(
+/// Adds what the graph holds between the two parts of what was read in, in the order of their names.
+fn write_rest(
     alloc: Global,
-    members: &mut Map<String, Json>,
+    text: &mut String,
     given: &Json,
     sizes: Sizes,
-) -> Result<(), AllocError> {
-    let plan = plan_of(alloc, given, sizes.room)?;
-    put(members, alloc, "plan", plan)?;
-    put(members, alloc, "functions", Json::from(sizes.functions))
-}
-
-/// Puts what the closed desk holds.
-fn put_closed(alloc: Global, members: &mut Map<String, Json>, closed: &mut Closed) -> Result<()> {
-    let events = words_of(alloc, closed.history.as_slice())?;
-    put(members, alloc, "events", events)?;
-    let callers = callers_of(alloc, closed.passes.as_slice())?;
-    put(members, alloc, "callers", callers)?;
-    put_outcomes(alloc, members, &mut closed.graph)?;
-    Ok(())
-}
-
-fn put_outcomes(
-    alloc: Global,
-    members: &mut Map<String, Json>,
     graph: &mut Graph,
 ) -> Result<(), AllocError> {
-    let outcomes = outcomes_of(alloc, graph)?;
-    put(members, alloc, "outcomes", outcomes)
+    let (room, functions) = (sizes.room, sizes.functions);
+    write!(text, ",\"functions\":{functions}")?;
+    write_outcomes(text, graph)?;
+    write_plan(alloc, text, given, room)
 }
 
-/// The plan with its room.
-fn plan_of(alloc: Global, given: &Json, room: u16) -> Result<Json, AllocError> {
-    let mut plan = Map::new(alloc);
-    put(&mut plan, alloc, "cf", Json::from(2u8))?;
-    put(&mut plan, alloc, "room", Json::from(room))?;
-    put_list(alloc, &mut plan, given, "stages")?;
-    put_list(alloc, &mut plan, given, "limits")?;
-    Ok(Json::Object(plan))
+/// Adds the plan with its room, and ends the line.
+fn write_plan(alloc: Global, text: &mut String, given: &Json, room: u16) -> Result<(), AllocError> {
+    text.push_str(",\"plan\":{\"cf\":2")?;
+    write_list(alloc, text, given, "limits")?;
+    write!(text, ",\"room\":{room}")?;
+    write_list(alloc, text, given, "stages")?;
+    text.push_str("}}\n")
 }
 
-fn put_list(
+/// Adds a member, and an empty list where it is absent.
+fn write_list(
     alloc: Global,
-    plan: &mut Map<String, Json>,
+    text: &mut String,
     given: &Json,
     name: &str,
 ) -> Result<(), AllocError> {
-    let list = list_of(alloc, given, name)?;
-    put(plan, alloc, name, list)
-}
-
-/// A member, and an empty list where it is absent.
-fn list_of(alloc: Global, given: &Json, name: &str) -> Result<Json, AllocError> {
+    write!(text, ",\"{name}\":")?;
     match given.get(name) {
-        Some(said) => said.clone(),
-        None => Ok(Json::Array(Vec::new(alloc))),
+        Some(said) => write_json(alloc, text, said),
+        None => text.push_str("[]"),
     }
 }
 
-/// The words of events.
-fn words_of(alloc: Global, events: &[Event]) -> Result<Json> {
-    let mut words = Vec::new(alloc);
-    for event in events {
-        words.push(word_of(alloc, *event)?)?;
-    }
-    Ok(Json::Array(words))
+fn write_json(alloc: Global, text: &mut String, json: &Json) -> Result<(), AllocError> {
+    let said = json.to_string(alloc)?;
+    text.push_str(said.as_str())
 }
 
-/// The word of an event, in decimal.
-fn word_of(alloc: Global, event: Event) -> Result<Json> {
+/// Adds the comma before what stands at a place of a list.
+fn write_comma(text: &mut String, at: usize) -> Result<(), AllocError> {
+    if at > 0 { text.push_str(",") } else { Ok(()) }
+}
+
+/// Adds the words of events.
+fn write_words(text: &mut String, events: &[Event]) -> Result<()> {
+    text.push_str(",\"events\":[")?;
+    for (at, event) in events.iter().enumerate() {
+        write_comma(text, at)?;
+        write_word(text, *event)?;
+    }
+    Ok(text.push_str("]")?)
+}
+
+/// Adds the word of an event, in decimal.
+fn write_word(text: &mut String, event: Event) -> Result<()> {
     if !is_event(&event) {
         return Err(anyhow!("an event has no word"));
     }
     let word = encode(&event);
-    Ok(Json::String(format!(in alloc; "{word}")?))
+    Ok(write!(text, "\"{word}\"")?)
 }
 
-/// Each caller's records.
-fn callers_of(alloc: Global, passes: &[Kept]) -> Result<Json> {
-    let mut callers = Vec::new(alloc);
-    for pass in passes {
-        callers.push(records_of(alloc, pass)?)?;
+/// Adds each caller's records.
+fn write_callers(text: &mut String, passes: &[Kept]) -> Result<()> {
+    text.push_str("{\"callers\":[")?;
+    for (at, pass) in passes.iter().enumerate() {
+        write_comma(text, at)?;
+        write_records(text, pass.caller, pass.records.as_slice())?;
     }
-    Ok(Json::Array(callers))
+    Ok(text.push_str("]")?)
 }
 
-fn records_of(alloc: Global, pass: &Kept) -> Result<Json> {
-    let mut records = Vec::new(alloc);
-    for record in &pass.records {
-        records.push(record_of(alloc, pass.caller, *record)?)?;
+fn write_records(text: &mut String, caller: u8, records: &[Rec]) -> Result<()> {
+    text.push_str("[")?;
+    for (at, record) in records.iter().enumerate() {
+        write_comma(text, at)?;
+        write_record(text, caller, *record)?;
     }
-    Ok(Json::Array(records))
+    Ok(text.push_str("]")?)
 }
 
-fn record_of(alloc: Global, caller: u8, record: Rec) -> Result<Json> {
+fn write_record(text: &mut String, caller: u8, record: Rec) -> Result<()> {
     match record {
-        Rec::Did { place, call, reply } => did(alloc, place, event_by(caller, call), reply),
-        Rec::Saw { place, ask, told } => Ok(saw(alloc, place, ask, told)?),
+        Rec::Did { place, call, reply } => write_did(text, place, event_by(caller, call), reply),
+        Rec::Saw { place, ask, told } => Ok(write_saw(text, place, ask, told)?),
     }
 }
 
 /// `["did",place,word,reply]`
-fn did(alloc: Global, place: u16, event: Event, reply: Reply) -> Result<Json> {
-    let word = word_of(alloc, event)?;
-    let reply = reply_of(alloc, reply)?;
-    Ok(did_so(alloc, place, word, reply)?)
+fn write_did(text: &mut String, place: u16, event: Event, reply: Reply) -> Result<()> {
+    write!(text, "[\"did\",{place},")?;
+    write_word(text, event)?;
+    Ok(write_replied(text, reply)?)
 }
 
-fn did_so(alloc: Global, place: u16, word: Json, reply: Json) -> Result<Json, AllocError> {
-    let record = with(opening(alloc, "did", place)?, word)?;
-    Ok(Json::Array(with(record, reply)?))
+fn write_replied(text: &mut String, reply: Reply) -> Result<(), AllocError> {
+    text.push_str(",\"")?;
+    write_reply(text, reply)?;
+    text.push_str("\"]")
 }
 
 /// `["now",place,stage,absent,told]` or `["outcome",place,stage,told]`
-fn saw(alloc: Global, place: u16, ask: Ask, told: Told) -> Result<Json, AllocError> {
-    let mut record = asking(alloc, place, ask)?;
-    record.push(told_of(alloc, told)?)?;
-    Ok(Json::Array(record))
+fn write_saw(text: &mut String, place: u16, ask: Ask, told: Told) -> Result<(), AllocError> {
+    write_asking(text, place, ask)?;
+    text.push_str(",\"")?;
+    write_told(text, told)?;
+    text.push_str("\"]")
 }
 
 /// The record of a question, but for what was told.
-fn asking(alloc: Global, place: u16, ask: Ask) -> Result<Vec<Json>, AllocError> {
+fn write_asking(text: &mut String, place: u16, ask: Ask) -> Result<(), AllocError> {
     match ask {
-        Ask::Now(i, absent) => with(
-            with(opening(alloc, "now", place)?, Json::from(i))?,
-            value_of(absent),
-        ),
-        Ask::Outcome(i) => with(opening(alloc, "outcome", place)?, Json::from(i)),
+        Ask::Now(i, Value::Nil) => write!(text, "[\"now\",{place},{i},null"),
+        Ask::Now(i, Value::Int(n)) => write!(text, "[\"now\",{place},{i},{n}"),
+        Ask::Outcome(i) => write!(text, "[\"outcome\",{place},{i}"),
     }
 }
 
-/// What all records begin with.
-fn opening(alloc: Global, name: &str, place: u16) -> Result<Vec<Json>, AllocError> {
-    let name = Json::try_from_str(alloc, name)?;
-    with(with(Vec::new(alloc), name)?, Json::from(place))
-}
-
-/// A list with one value more.
-fn with(mut list: Vec<Json>, value: Json) -> Result<Vec<Json>, AllocError> {
-    list.push(value)?;
-    Ok(list)
-}
-
-fn reply_of(alloc: Global, reply: Reply) -> Result<Json, AllocError> {
-    let mut text = String::new(alloc);
-    write_reply(&mut text, reply)?;
-    Ok(Json::String(text))
-}
-
-fn told_of(alloc: Global, told: Told) -> Result<Json, AllocError> {
-    let mut text = String::new(alloc);
-    write_told(&mut text, told)?;
-    Ok(Json::String(text))
-}
-
-fn value_of(value: Value) -> Json {
-    match value {
-        Value::Nil => Json::Null,
-        Value::Int(n) => Json::from(n),
-    }
-}
-
-/// What each stage holds.
-fn outcomes_of(alloc: Global, graph: &mut Graph) -> Result<Json, AllocError> {
-    let mut outcomes = Vec::new(alloc);
+/// Adds what each stage holds.
+fn write_outcomes(text: &mut String, graph: &mut Graph) -> Result<(), AllocError> {
+    text.push_str(",\"outcomes\":[")?;
     for i in 0..graph.stages() {
-        outcomes.push(outcome_of(alloc, graph, i)?)?;
+        write_comma(text, i as usize)?;
+        write_outcome(text, graph, i)?;
     }
-    Ok(Json::Array(outcomes))
+    text.push_str("]")
 }
 
-fn outcome_of(alloc: Global, graph: &mut Graph, i: u16) -> Result<Json, AllocError> {
-    let mut text = String::new(alloc);
-    write_stage(&mut text, graph, i)?;
-    Ok(Json::String(text))
+fn write_outcome(text: &mut String, graph: &mut Graph, i: u16) -> Result<(), AllocError> {
+    text.push_str("\"")?;
+    write_stage(text, graph, i)?;
+    text.push_str("\"")
 }
