@@ -2,7 +2,7 @@
 //! `Desk::close` and nothing beside it, for no proof stands in this crate.
 //!
 //! The plan in a clause is the desk's, with its room. So all of it holds in the same way where callers attach stages.
-ghost use Rattle.std.specs.Prelude.{◌≡◌, ℕ, ◌<◌, ◌≤◌, ◌++◌, ◌∷◌, [], All, IfOk, Some, length, map, true};
+ghost use Rattle.std.specs.Prelude.{◌≡◌, ℕ, ◌<◌, ◌≤◌, ◌++◌, ◌∷◌, [], All, IfOk, IsOkAnd, Some, length, map, true};
 ghost use Rattle.std.specs.List.{Contains};
 ghost use Rattle.cf_outcome.specs.declared.outcome.Outcome.{Outcome};
 ghost use Rattle.cf_plan.specs.Meanings.{Meanings};
@@ -47,8 +47,8 @@ pub fn close_all(desk: Desk, passes: Vec<Pass>) -> Result<Closed, CloseFault>
     // Nobody else's event stands in the history, and the graph takes each as those before it leave it.
     ensures nobody_else { IfOk result (λ closed. All (λ e. Contains (numbers_of (map caller_kept closed.passes.items)) (who_of e)) closed.history.items) }
     ensures taken { IfOk result (λ closed. AreEventsOf (length (map caller_kept closed.passes.items)) desk.setting.functions (start desk.setting.plan) closed.history.items) }
-    // The graph is as the events leave it. A quiet plain graph holds its expressions' outcomes.
-    ensures graph { IfOk result (λ closed. closed.graph.state ≡ state_after (start desk.setting.plan) closed.history.items) }
+    // It succeeds, and the graph is as the events leave it. A quiet plain graph holds its expressions' outcomes.
+    ensures graph { IsOkAnd result (λ closed. closed.graph.state ≡ state_after (start desk.setting.plan) closed.history.items) }
     ensures expressed { IfOk result (λ closed. IsBuilt closed.graph.state.plan → IsPlainPlan closed.graph.state.plan → IsQuiet closed.graph.state → (meanings : Meanings) → IsPlain meanings nothing_granted (start desk.setting.plan) closed.history.items → (i : ℕ) → i < length closed.graph.state.plan.stages → outcome_at closed.graph.state i ≡ expr closed.graph.state.plan closed.history.items meanings i) }
 {
     match desk.close(passes) {

@@ -126,9 +126,10 @@ room_more more s (Attaches who form of function) h = omega arith
 
 pub taken_more : (more : ℕ) (s : State) (events : List Event) → AreTaken s events → AreTaken (roomier more s) events
 taken_more more s [] h = tt
-taken_more more s (e ∷ events) h =
-    (record { fits = h.0.fits; room = room_more more s e h.0.room },
-    subst (λ (r : State). AreTaken r events) (sym (ap (λ p. p.1) (answered_more more s e h.0.room))) (taken_more more ((answered s e).1) events h.1))
+taken_more more s (e ∷ events) h = (
+  record { fits = h.0.fits; room = room_more more s e h.0.room },
+  subst (λ (r : State). AreTaken r events) (sym (ap (λ p. p.1) (answered_more more s e h.0.room))) (taken_more more ((answered s e).1) events h.1),
+)
 
 pub state_more : (more : ℕ) (s : State) (events : List Event) → AreTaken s events → state_after (roomier more s) events ≡ roomier more (state_after s events)
 state_more more s [] h = refl

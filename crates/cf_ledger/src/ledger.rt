@@ -145,12 +145,7 @@ impl Ledger {
 
     /// The ledger of these words, from a plan with room for so many stages on. Where one of them can't be done, the first such
     /// is told.
-    pub fn of_words(
-        alloc: Global,
-        plan: &Plan,
-        room: u16,
-        words: &[u64],
-    ) -> Result<Ledger, Misfit>
+    pub fn of_words(alloc: Global, plan: &Plan, room: u16, words: &[u64]) -> Result<Ledger, Misfit>
         requires place { has_place plan.now.stages room ≡ true }
         ensures plan { IfOk result (λ ledger. ledger.plan ≡ with_room plan.now room) }
         ensures words { IfOk result (λ ledger. map word_of ledger.events ≡ words.now) }

@@ -12,6 +12,7 @@ use std::test::Fail;
 
 /// The source is given 5.
 const COMPLETE: u64 = 0x0100000100000005;
+
 const CLAIM: u64 = 0x0400001000000000;
 /// The apply's function gives 6.
 const FINISH: u64 = 0x0500001100000006;
@@ -43,7 +44,10 @@ const STEPS: [Step; 12] = [
     Step::Apply(COMPLETE, Ok(Reply::Flag(false))),
     Step::Apply(NO_STAGE, Err(LedgerFault::NoStage)),
     Step::LowestReady(Some(1)),
-    Step::Apply(CLAIM, Ok(Reply::Claim(Claimed::Granted(Args::One(Value::Int(5)))))),
+    Step::Apply(
+        CLAIM,
+        Ok(Reply::Claim(Claimed::Granted(Args::One(Value::Int(5))))),
+    ),
     Step::Apply(FINISH, Ok(Reply::Finish(Finished::Won))),
     Step::Apply(ATTACH, Ok(Reply::Attach(Attached::At(2)))),
     Step::Apply(ATTACH, Err(LedgerFault::NoRoom)),

@@ -47,6 +47,9 @@ fn is_answered(rt: &impl Abort, alloc: Global, ledger: &mut Ledger, step: Step) 
 /// The ledger takes these steps, and each is answered as it says.
 pub(crate) fn take(rt: &impl Abort, alloc: Global, ledger: &mut Ledger, steps: &[Step]) {
     for (at, step) in steps.iter().enumerate() {
-        assert!(rt; is_answered(rt, alloc, ledger, *step), "step {at}: {step:?}");
+        assert!(rt;
+            is_answered(rt, alloc, ledger, *step),
+            "step {at}: {step:?}"
+        );
     }
 }

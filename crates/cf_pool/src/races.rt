@@ -23,7 +23,7 @@ use std::thread::Threads;
 /// Why there is no race.
 #[derive(Clone, Copy, Debug, Drop, PartialEq, Eq)]
 pub enum RaceFault {
-    /// Memory was refused.
+    /// Memory or a thread was refused.
     NoMemory,
     /// The log would have more than 65,535 words.
     Size,

@@ -89,8 +89,8 @@ fn raced<R: Threads + Wait + Sync, I: Read, G: Gate + Sync>(
 /// Caller 0 does the steps, each of which is a `complete`, `fail`, `cancel` or `tick`, and in version 2 an `attach` too;
 /// another is the fault `Step`. Then each worker claims ready stages, lets the gate pass, calls their functions and
 /// finishes them, until none is ready. The faults are those of `run_script`, and `RaceSize` where the log of the race
-/// would have more than 65,535 words, for whose number the room for stages counts as the stages do. A worker whose thread
-/// is refused works on the caller's.
+/// would have more than 65,535 words, for whose number the room for stages counts as the stages do; a thread that was
+/// refused is `NoMemory` too.
 pub fn race_script<R: Threads + Wait + Sync, I: Read, W: Write, G: Gate + Sync>(
     rt: &R,
     alloc: Global,

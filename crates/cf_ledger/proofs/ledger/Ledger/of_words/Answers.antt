@@ -6,9 +6,10 @@ use Rattle.cf_ledger.proofs.Words.{done_more, done_refused}
 use Rattle.cf_ledger.proofs.ledger.Ledger.of_words.Goals as goal
 
 pub loop-place-preserved : goal.loop-place-preserved
-loop-place-preserved c =
-    (ap (λ (l : Ledger). l.plan) c.in-Ok-apply.ensures.done.written ∙ c.loop-place.invariant.0,
-    done_more (start (with_room c.args.plan.now c.args.room)) c.args.words.now c.loop-place.place c.loop-place.ledger c.apply.new.self c.in-Ok-apply.field-0 (omega arith) c.in-Ok-apply.ensures.done c.loop-place.invariant.1)
+loop-place-preserved c = (
+  ap (λ (l : Ledger). l.plan) c.in-Ok-apply.ensures.done.written ∙ c.loop-place.invariant.0,
+  done_more (start (with_room c.args.plan.now c.args.room)) c.args.words.now c.loop-place.place c.loop-place.ledger c.apply.new.self c.in-Ok-apply.field-0 (omega arith) c.in-Ok-apply.ensures.done c.loop-place.invariant.1,
+)
 
 pub returns-in-Err-apply-clause-refused : goal.returns-in-Err-apply-clause-refused
 returns-in-Err-apply-clause-refused c =
