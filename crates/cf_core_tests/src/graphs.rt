@@ -204,6 +204,38 @@ fn chain_is_settled_when_it_is_asked_for(rt: HostRuntime) -> Result<(), Fail> {
     play_on(&rt, rt.alloc(), plan, &steps)
 }
 
+/// Two sources, and an anyOf of each.
+const TWO_PAIRS: [Row<'static>; 4] = [
+    SOURCE,
+    (Form::AnyOf, &[0], None),
+    SOURCE,
+    (Form::AnyOf, &[2], None),
+];
+
+#[test]
+fn what_is_not_asked_for_is_left(rt: HostRuntime) -> Result<(), Fail> {
+    let steps = [
+        Step::Complete(0, 1, true),
+        // What waits below is treated, and not what waits above.
+        Step::Complete(2, 1, true),
+        Step::Turns(1),
+        Step::Restart,
+        Step::Complete(2, 1, true),
+        Step::Complete(0, 1, true),
+        Step::Turns(0),
+        Step::Tick(5, Ticked::Fired(0)),
+        // It is settled, whatever waits below it.
+        Step::Claim(2, Claimed::Settled),
+        Step::Outcome(2, gives(1)),
+        Step::Complete(2, 2, false),
+        Step::Turns(0),
+        Step::Finish(2, give(1), Finished::NotYours),
+        Step::Turns(1),
+        Step::Nudge(9, 1),
+    ];
+    play(&rt, rt.alloc(), &TWO_PAIRS, &steps)
+}
+
 /// The plan of so many sources and one allOf over all of them.
 fn all_of(alloc: Global, sources: u16) -> Result<Plan, Fail> {
     let mut builder = PlanBuilder::new(alloc);

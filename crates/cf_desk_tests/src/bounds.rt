@@ -128,6 +128,12 @@ fn opens_at_each_kind_of_size(rt: HostRuntime) -> Result<(), Fail> {
     Ok(())
 }
 
+#[test]
+fn opens_for_the_most_records(rt: HostRuntime) -> Result<(), Fail> {
+    assert!(rt; has_its_size(rt.alloc(), 1, 64, 1, 65_535)?);
+    Ok(())
+}
+
 /// Why a desk of these sizes can't be opened, if it can't.
 fn refused(
     alloc: Global,

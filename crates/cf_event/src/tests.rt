@@ -196,6 +196,31 @@ fn supply(alloc: Global) -> Result<Plan, PlanFault> {
     builder.build()
 }
 
+/// A source, and an anyOf of it.
+fn pair(alloc: Global) -> Result<Plan, PlanFault> {
+    let mut builder = PlanBuilder::new(alloc);
+    builder.stage(Form::Source, &[], None)?;
+    builder.stage(Form::AnyOf, &[0], None)?;
+    builder.build()
+}
+
+#[test]
+fn turns_are_taken_before_their_event(rt: HostRuntime) -> Result<(), Fail> {
+    let complete = Event::Complete {
+        who: 0,
+        stage: 0,
+        value: Value::Nil,
+    };
+    let tick = Event::Tick { who: 0, moment: 5 };
+    for (nudges, turns) in [(&[][..], 0), (&[9], 0), (&[9, 0], 0), (&[0, 9], 1)] {
+        let mut graph = Graph::new(rt.alloc(), pair(rt.alloc())?)?;
+        assert!(rt; graph.takes(&complete));
+        replay(&mut graph, &[complete, tick], nudges);
+        assert_eq!(rt; graph.turns(), turns);
+    }
+    Ok(())
+}
+
 /// Whether an event fits a graph, and is answered so.
 fn is_answered(graph: &mut Graph, event: &Event, answer: Reply) -> bool {
     graph.takes(event) && apply(graph, event) == answer

@@ -265,6 +265,35 @@ fn nothing_follows_a_failed_write(rt: HostRuntime) {
     }
 }
 
+/// Takes all that it is handed at once, and counts the calls.
+#[derive(Drop)]
+struct Greedy {
+    taken: usize,
+    writes: usize,
+}
+
+impl Write for Greedy {
+    fn write(&mut self, buf: &[u8]) -> io::Result<usize> {
+        self.writes = self.writes.wrapping_add(1);
+        self.taken = self.taken.wrapping_add(buf.len());
+        Ok(buf.len())
+    }
+
+    fn flush(&mut self) -> io::Result<()> {
+        Ok(())
+    }
+}
+
+#[test]
+fn all_that_is_left_is_handed_over_at_once(rt: HostRuntime) {
+    let mut out = Greedy {
+        taken: 0,
+        writes: 0,
+    };
+    assert!(rt; write_text(&mut out, &[b'x'; 9_000]).is_ok());
+    assert_eq!(rt; (out.writes, out.taken), (1, 9_000));
+}
+
 /// Whether so many bytes were written one at a time and flushed once, behind the last.
 fn is_flushed(out: &Stumbling, written: usize) -> bool {
     out.writes == written && out.flushes == 1 && out.len_at_flush == written

@@ -28,6 +28,17 @@ fn with_edges(alloc: Global, edges: usize) -> Result<Plan, PlanFault> {
 }
 
 #[test]
+fn a_plan_has_many_copies_at_once(rt: HostRuntime) -> Result<(), Fail> {
+    let plan = with_edges(rt.alloc(), 3)?;
+    let mut copies = Vec::new(rt.alloc());
+    for _ in 0..20_000 {
+        copies.push(plan.copy()?)?;
+    }
+    assert_eq!(rt; copies.len(), 20_000);
+    Ok(())
+}
+
+#[test]
 fn stages_and_room_are_at_most_4096(rt: HostRuntime) -> Result<(), Fail> {
     let plan = with_edges(rt.alloc(), 0)?;
     for (room, has) in [(0, true), (4_094, true), (4_095, false), (65_535, false)] {

@@ -211,11 +211,13 @@ fn one_byte_too_many_is_read(rt: HostRuntime) -> Result<(), Fail> {
 const LIMIT: ReadingFault = ReadingFault::Shape(Part::Limit(0));
 
 /// Faults that no row of whole scripts has.
-const REFUSED: [(&[u8], ReadingFault); 10] = [
+const REFUSED: [(&[u8], ReadingFault); 12] = [
     (
         b"{\"cf\":1,\"stages\":[],\"\xff\":1}",
         ReadingFault::NotJson,
     ),
+    (b"{\"cf\":1,\n\"stages\":[}", ReadingFault::NotJson),
+    (b"\n\n\n", ReadingFault::NotJson),
     (b"{\"cf\":1,\"stages\":[],\"limits\":[0]}", LIMIT),
     (
         b"{\"cf\":1,\"stages\":[{\"form\":\"source\"}],\"limits\":[{\"at\":1,\"kind\":\"timeout\"}]}",

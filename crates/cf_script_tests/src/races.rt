@@ -237,6 +237,12 @@ fn a_log_has_at_most_65535_words(rt: HostRuntime) -> Result<(), Fail> {
 }
 
 #[test]
+fn the_most_steps_are_raced(rt: HostRuntime) -> Result<(), Fail> {
+    assert_eq!(rt; raced_by_all(&rt, 1, 20_000)?, Ok(()));
+    Ok(())
+}
+
+#[test]
 fn the_most_stages_are_run_and_raced(rt: HostRuntime) -> Result<(), Fail> {
     let script = sources_and_ticks(rt.alloc(), 4_096, 0)?;
     let mut report = String::new(rt.alloc());

@@ -5,7 +5,7 @@ use std::test::Fail;
 
 type Row = (&'static [&'static str], Result<Command, CommandFault>);
 
-const ROWS: [Row; 14] = [
+const ROWS: [Row; 16] = [
     (&["run"], Ok(Command::Run)),
     (&["race"], Ok(Command::Race(4))),
     (&["race", "--workers", "2"], Ok(Command::Race(2))),
@@ -18,6 +18,11 @@ const ROWS: [Row; 14] = [
     (&["race", "--workers"], Err(CommandFault::Usage)),
     (&["race", "4"], Err(CommandFault::Usage)),
     (&["run", "--workers", "4"], Err(CommandFault::Usage)),
+    (&["race", "--workers", "4", "4"], Err(CommandFault::Usage)),
+    (
+        &["run", "race", "run", "race", "run", "race"],
+        Err(CommandFault::Usage),
+    ),
     (&["--help"], Err(CommandFault::Usage)),
     (&[], Err(CommandFault::Usage)),
 ];

@@ -2,7 +2,7 @@
 use crate::explanations::checks::Row;
 
 /// Members that nobody reads, or given twice.
-pub(crate) const MEMBERS: [Row; 7] = [
+pub(crate) const MEMBERS: [Row; 9] = [
     (
         r#"{"cf":1,"stages":[],"step":[["work"]]}"#,
         "script: nobody reads \"step\"; did you mean \"steps\"?",
@@ -31,10 +31,18 @@ pub(crate) const MEMBERS: [Row; 7] = [
         r#"{"cf":2,"stages":[],"rooms":1,"fn":2}"#,
         "script: nobody reads \"fn\"\nscript: nobody reads \"rooms\"; did you mean \"room\"?",
     ),
+    (
+        r#"{"cf":1,"stages":[{"form":"source","on":[]}]}"#,
+        "stages[0]: nobody reads \"on\"; did you mean \"of\"?",
+    ),
+    (
+        r#"{"cf":1,"stages":[],"note":"é","cf":1}"#,
+        "line 1 column 33: \"cf\" is given twice in one object; the last is read",
+    ),
 ];
 
 /// Limits that never fire.
-pub(crate) const LIMITS: [Row; 2] = [
+pub(crate) const LIMITS: [Row; 3] = [
     (
         r#"{"cf":1,"stages":[{"form":"source"},{"form":"source"}],"limits":[{"stage":0,"at":5,"kind":"timeout"},{"stage":1,"at":5,"kind":"timeout"},{"stage":0,"at":5,"kind":"value","value":1}]}"#,
         "limits[2]: never fires, since limits[0] settles its stage first",
@@ -43,10 +51,14 @@ pub(crate) const LIMITS: [Row; 2] = [
         r#"{"cf":1,"stages":[{"form":"source"}],"limits":[{"stage":0,"at":5,"kind":"timeout"},{"stage":0,"at":4,"kind":"timeout"}]}"#,
         "limits[0]: never fires, since limits[1] settles its stage first",
     ),
+    (
+        r#"{"cf":1,"stages":[{"form":"source"}],"limits":[{"stage":0,"at":5,"kind":"timeout"},{"stage":0,"at":5,"kind":"timeout"}],"steps":[["work"]]}"#,
+        "limits[1]: never fires, since limits[0] settles its stage first\nsteps[0]: never does anything: no stage calls a function",
+    ),
 ];
 
 /// Steps that never do anything.
-pub(crate) const STEPS: [Row; 8] = [
+pub(crate) const STEPS: [Row; 9] = [
     (
         r#"{"cf":1,"stages":[{"form":"source"}],"steps":[["claim",1,0]]}"#,
         "steps[0]: never does anything: its stage calls no function, so nobody can claim it",
@@ -58,6 +70,10 @@ pub(crate) const STEPS: [Row; 8] = [
     (
         r#"{"cf":1,"stages":[{"form":"supply","fn":"neg"}],"steps":[["claim",1,0],["finish",2,0,{"give":1}],["finish",1,0,{"give":1}],["finish",1,0,{"give":1}]]}"#,
         "steps[1]: never does anything: its caller hasn't claimed the stage\nsteps[3]: never does anything: its caller hasn't claimed the stage",
+    ),
+    (
+        r#"{"cf":1,"stages":[{"form":"supply","fn":"neg"}],"steps":[["claim",0,0],["finish",32,0,{"give":1}]]}"#,
+        "steps[1]: never does anything: its caller hasn't claimed the stage",
     ),
     (
         r#"{"cf":1,"stages":[{"form":"source"}],"limits":[{"stage":0,"at":5,"kind":"timeout"}],"steps":[["tick",3],["tick",3],["tick",5],["cancel",0]]}"#,

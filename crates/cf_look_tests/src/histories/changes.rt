@@ -1,6 +1,6 @@
 //! A change of the good history, or two, and the verdict on what they leave.
 use crate::histories::good::{history, plan};
-use cf_history::{History, Record, Verdict, check};
+use cf_history::{Caller, History, Record, Verdict, check};
 use cf_outcome::Outcome;
 use std::alloc::{AllocError, Global};
 use std::process::Abort;
@@ -30,6 +30,8 @@ pub(crate) enum Change {
     NoFunction,
     /// The last caller isn't there.
     OneCaller,
+    /// So many callers more, who did nothing.
+    MoreCallers(usize),
 }
 
 /// Changes a history.
@@ -60,6 +62,7 @@ fn apply_to(history: &mut History, what: Change) -> Result<(), AllocError> {
         Change::OneCaller => {
             history.callers.pop();
         }
+        Change::MoreCallers(count) => add(history, count)?,
     }
     Ok(())
 }
@@ -78,6 +81,15 @@ fn take(history: &mut History, caller: usize, k: usize) {
             own.records.remove(k);
         }
     }
+}
+
+fn add(history: &mut History, count: usize) -> Result<(), AllocError> {
+    let alloc = *history.words.allocator();
+    for _ in 0..count {
+        let records = Vec::new(alloc);
+        history.callers.push(Caller { records })?;
+    }
+    Ok(())
 }
 
 fn say(history: &mut History, stage: usize, outcome: Option<Outcome>) {

@@ -39,6 +39,7 @@ fn words_are_judged(rt: HostRuntime) -> Result<(), Fail> {
         (Change::Nothing, Verdict::Fits),
         (Change::NoOutcomes, Verdict::Fits),
         (Change::NoFunction, Verdict::Fits),
+        (Change::MoreCallers(300), Verdict::Fits),
         (Change::Word(2, 7), word_at(3, Unfit::NoEvent)),
         (Change::OneMore(0), word_at(5, Unfit::NoEvent)),
         (Change::Word(1, word(stranger)), word_at(2, Unfit::NoCaller)),

@@ -58,7 +58,11 @@ pub(crate) const LOOKS: [Row; 8] = [
 ];
 
 /// Stages that take the outcome of another.
-pub(crate) const LINKS: [Row; 6] = [
+pub(crate) const LINKS: [Row; 7] = [
+    (
+        r#"{"cf":1,"stages":[{"form":"source"},{"form":"compose","of":[0],"fn":{"select":[0,0]}}]}"#,
+        r#"s0 [label="0 source\npending", shape=ellipse, style="filled,dotted", fillcolor=gray95]; / s1 [label="1 compose select 0 0\npending", shape=parallelogram, style="filled,dotted", fillcolor=gray95]; / s0 -> s1; / s0 -> s1 [label="link", style=dashed]; / s0 -> s1 [label="link", style=dashed];"#,
+    ),
     (
         r#"{"cf":1,"stages":[{"form":"source"},{"form":"source"},{"form":"compose","of":[0],"fn":{"goto":1}}],"steps":[["complete",0,3],["work"]]}"#,
         r#"s0 [label="0 source\nvalue 3", shape=ellipse, style=filled, fillcolor=darkseagreen1]; / s1 [label="1 source\npending", shape=ellipse, style="filled,dotted", fillcolor=gray95]; / s2 [label="2 compose goto 1\nlinked", shape=parallelogram, style="filled,dashed", fillcolor=lightblue]; / s0 -> s2; / s1 -> s2 [label="link", style=dashed];"#,

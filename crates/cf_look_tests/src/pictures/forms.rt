@@ -69,7 +69,11 @@ pub(crate) const WIDE: [Row; 1] = [(
 )];
 
 /// Each function, in the words of scripts.
-pub(crate) const FUNCTIONS: [Row; 3] = [
+pub(crate) const FUNCTIONS: [Row; 4] = [
+    (
+        r#"{"cf":1,"stages":[{"form":"supply","fn":{"div":-2}},{"form":"supply","fn":{"add":-1}}]}"#,
+        r#"s0 [label="0 supply div -2\nready", shape=box, style="filled,bold", fillcolor=khaki1]; / s1 [label="1 supply add -1\nready", shape=box, style="filled,bold", fillcolor=khaki1];"#,
+    ),
     (
         r#"{"cf":1,"stages":[{"form":"source"},{"form":"apply","of":[0],"fn":{"mul":-2}},{"form":"apply","of":[0],"fn":{"div":2}},{"form":"apply","of":[0],"fn":"neg"},{"form":"apply","of":[0],"fn":"sum"}],"steps":[["complete",0,3],["work"]]}"#,
         r#"s0 [label="0 source\nvalue 3", shape=ellipse, style=filled, fillcolor=darkseagreen1]; / s1 [label="1 apply mul -2\nvalue -6", shape=box, style=filled, fillcolor=darkseagreen1]; / s0 -> s1; / s2 [label="2 apply div 2\nvalue 1", shape=box, style=filled, fillcolor=darkseagreen1]; / s0 -> s2; / s3 [label="3 apply neg\nvalue -3", shape=box, style=filled, fillcolor=darkseagreen1]; / s0 -> s3; / s4 [label="4 apply sum\nvalue 3", shape=box, style=filled, fillcolor=darkseagreen1]; / s0 -> s4;"#,
