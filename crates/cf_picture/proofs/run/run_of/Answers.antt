@@ -1,4 +1,4 @@
-use Rattle.std.proofs.Common.{◌∙◌, ap}
+use Rattle.std.proofs.Common.{◌∙◌}
 use Rattle.cf_script.proofs.ReportLemmas.{opening_fits}
 use Rattle.cf_picture.proofs.run.run_of.Goals as goal
 
@@ -6,4 +6,4 @@ pub do_steps-requires : goal.do_steps-requires
 do_steps-requires c =
     let parts = c.into_parts-opening.ensures in
     opening_fits c.into_parts-opening.result.0 c.args.script.plan c.into_parts-opening.result.1 c.args.script.room c.deref-2.result.now c.args.script.steps c.in-Ok-new_growing.graph.state
-    parts.plan parts.room (c.deref-2.ensures.value ∙ parts.steps) (ap (λ v. v.state) c.in-Ok-new_growing.ensures) parts.said.steps_fit
+    parts.plan parts.room (c.deref-2.ensures.value ∙ parts.steps) c.in-Ok-new_growing.ensures.start parts.said.steps_fit
