@@ -17,8 +17,8 @@ use Rattle.cf_desk.specs.Log.{IsDeskEvent, AreLogged, state_from, Catches}
 abbrev pub IsLookOf : ℕ → List Event → ℕ → Type 0
 IsLookOf filled seen n = (filled ≤ n) × (n ≤ length seen)
 
--- The looks since so many words were filled. As the words of a row may be filled up to any number, a step that adds a look keeps this
--- only where it found the word empty, and the word is the one behind what was seen.
+-- The looks since so many words were filled. As their number may be any that the log has reached, a step that adds a look keeps this
+-- only while the log ends behind what was seen.
 pub record LooksKept (log : List Event) (k : Known) : Type 0 where
   pub filled : k.filled ≤ length log
   pub since : List ℕ
