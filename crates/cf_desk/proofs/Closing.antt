@@ -26,7 +26,7 @@ use Rattle.cf_event.specs.Events.{own, AreEventsOf}
 use Rattle.cf_desk.specs.Log.{AreLogged, Catches, state_from}
 use Rattle.cf_event.proofs.Events.{events_after, events_each}
 use Rattle.cf_desk.specs.Records.{Fits}
-use Rattle.cf_desk.specs.Rule.{AllStand, weight, count_in, IsRow, RowKept, holds, longer_if, longest, with_seen, level, AllCatch, AllShort, blank, fresh, first, head_of, rest_of}
+use Rattle.cf_desk.specs.Rule.{AllStand, IsLookOf, weight, count_in, IsRow, RowKept, holds, longer_if, longest, with_seen, level, AllCatch, AllShort, blank, fresh, first, head_of, rest_of}
 use Rattle.cf_desk.specs.Views.{Pass, Desk, knowns, Closes, IsOneOf, IsLatest, IsOf, new_pass, opened, known_of}
 use Rattle.cf_desk.specs.Keepings.{IsFit, IsKeptFit, AllFit, pass_did}
 use Rattle.std.specs.List.{Contains}
@@ -128,7 +128,7 @@ fresh_once n c (suc m) x = dite (ℕ_discrete c x)
 
 fresh_stand : (n : Setting) (c m : ℕ) → c + m ≤ n.callers → AllStand n [] (fresh n c m)
 fresh_stand n c zero h = tt
-fresh_stand n c (suc m) h = (record { terms = refl; caller = omega arith; rest = []; split = refl; none = refl }, fresh_stand n (suc c) m (omega arith))
+fresh_stand n c (suc m) h = (record { terms = refl; caller = omega arith; rest = []; split = refl; none = refl; looks = record { filled = (omega arith); since = []; are = refl; looks = All-nil (IsLookOf 0 []) } }, fresh_stand n (suc c) m (omega arith))
 
 pub begins : (t : Terms) (words : List ℕ) → words ≡ replicate t.words 0 → RowKept t words (first t ∷ [])
 begins t words zeros = record {

@@ -1,7 +1,7 @@
 -- Each step keeps the rule of the row.
 use Rattle.std.proofs.Common.{◌≡◌, ℕ, zero, suc, ◌+◌, ◌-◌, ◌<◌, ◌≤◌, ◌≢◌, ◌⊎◌, cond, eqb, eq-eqb, ne_eqb, Some, None, List, [], ◌∷◌, ◌++◌, map, length, replicate, get_or, set, slice_index, sym, refl, ap, ◌∙◌, subst, inl, inr, ⊎_elim, append_assoc, append-nil, length-append, length-set, arith}
 use Rattle.std.proofs.lemmas.List.{set-get_or, length-map, length-replicate}
-use Rattle.std.proofs.lemmas.List.Elements.{filter-append}
+use Rattle.std.proofs.lemmas.List.Elements.{All-push, All-weaker, filter-append}
 use mathlib.Core.Option.{some, none, some-injective, some-ne-none}
 use mathlib.Core.List.{map-append}
 use mathlib.Core.Logic.{dite}
@@ -23,7 +23,7 @@ use Rattle.cf_model.specs.States.{start}
 use Rattle.cf_event.specs.Events.{own}
 use Rattle.cf_desk.specs.Log.{IsDeskEvent, AreLogged, state_from}
 use Rattle.cf_event.proofs.Events.{event_behind, events_push}
-use Rattle.cf_desk.specs.Rule.{Stands, AllStand, weight, count_in, count_all, IsRow, RowKept, holds, saw, looked, LooksNext, AddsNext, looks_next, adds_next, SeesOther}
+use Rattle.cf_desk.specs.Rule.{Stands, AllStand, weight, count_in, count_all, IsRow, RowKept, holds, saw, looked, LooksNext, AddsNext, looks_next, adds_next, SeesOther, IsLookOf, LooksKept}
 
 -- what lies behind what was seen begins with the event of the next word, if that isn't 0
 abbrev pub Next : List Event → ℕ → Type 0
@@ -77,12 +77,30 @@ keeps_view t words views h id v w at stand less = record {
 own-snoc : (c : ℕ) (rest : List Event) (w : Event) → own c rest ≡ [] → (who_of w ≢ c) → own c (rest ++ w ∷ []) ≡ []
 own-snoc c rest w e n = filter-append (λ x. eqb (who_of x) c) rest (w ∷ []) ∙ (rw e (ap (λ b. cond b (w ∷ []) []) (ne_eqb (who_of w) c n)))
 
+-- a pass that has seen more, beside a longer log
+pub looks_stay : (log log' now : List Event) (k : Known) → length log ≤ length log' → length k.seen ≤ length now → LooksKept log k → LooksKept log' (record k { seen = now })
+looks_stay log log' now k more on l = record {
+  filled = (let f = l.filled in omega arith);
+  since = l.since;
+  are = l.are;
+  looks = All-weaker (IsLookOf k.filled k.seen) (IsLookOf k.filled now) (λ n h. (h.0, let a = h.1 in omega arith)) l.since l.looks;
+}
+
+-- a look behind what was seen, where the log ends
+look_kept : (log : List Event) (k : Known) → length log ≡ length k.seen → LooksKept log k → LooksKept log (looked k)
+look_kept log k end l = record {
+  filled = l.filled;
+  since = l.since ++ length k.seen ∷ [];
+  are = ap (λ (x : List ℕ). x ++ length k.seen ∷ []) l.are ∙ append_assoc k.before l.since (length k.seen ∷ []);
+  looks = All-push (IsLookOf k.filled k.seen) l.since (length k.seen) l.looks ((let f = l.filled in omega arith), (omega arith));
+}
+
 others_stand : (setting : Setting) (log : List Event) (word : Event) (u : List Known) → count_in (who_of word) u ≡ 0 → AllStand setting log u → AllStand setting (log ++ word ∷ []) u
 others_stand setting log word [] zero_in h = tt
 others_stand setting log word (k ∷ ks) zero_in h = dite (ℕ_discrete k.caller (who_of word))
     (λ (same : k.caller ≡ who_of word). absurd (let one : weight (eqb k.caller (who_of word)) ≡ 1 = ap weight (eq-eqb k.caller (who_of word) same) in omega arith))
     (λ (other : k.caller ≢ who_of word). (
-      record { terms = h.0.terms; caller = h.0.caller; rest = h.0.rest ++ word ∷ []; split = ap (λ l. l ++ word ∷ []) h.0.split ∙ append_assoc k.seen h.0.rest (word ∷ []); none = own-snoc k.caller h.0.rest word h.0.none (λ e. other (sym e)) },
+      record { terms = h.0.terms; caller = h.0.caller; rest = h.0.rest ++ word ∷ []; split = ap (λ l. l ++ word ∷ []) h.0.split ∙ append_assoc k.seen h.0.rest (word ∷ []); none = own-snoc k.caller h.0.rest word h.0.none (λ e. other (sym e)); looks = looks_stay log (log ++ word ∷ []) k.seen k (omega (arith, length-append log (word ∷ []))) (omega arith) h.0.looks },
       others_stand setting log word ks (omega arith) h.1,
     ))
 
@@ -95,7 +113,7 @@ looks_kept : (t : Terms) (words : List ℕ) (views : List (List Known)) (h : Row
 looks_kept t words views h id k at st found next = ⊎_elim
     (λ (p : (found ≡ 0) × (st.rest ≡ [])). (
       looked k ∷ [],
-      keeps_view t words views h id (k ∷ []) (looked k ∷ []) at (record { terms = st.terms; caller = st.caller; rest = st.rest; split = st.split; none = st.none }, tt) (λ c. omega arith),
+      keeps_view t words views h id (k ∷ []) (looked k ∷ []) at (record { terms = st.terms; caller = st.caller; rest = st.rest; split = st.split; none = st.none; looks = look_kept h.log k (ap length (st.split ∙ ap (λ l. k.seen ++ l) p.1 ∙ append-nil k.seen)) st.looks }, tt) (λ c. omega arith),
       record { empty = λ _. refl; taken = λ e some. absurd (let none = ap event_of p.0 ∙ event_of_zero in cc) },
     ))
     (λ (p : (e : Event) × (found ≡ word_of e) × ((more : List Event) × (st.rest ≡ e ∷ more))).
@@ -108,7 +126,7 @@ looks_kept t words views h id k at st found next = ⊎_elim
     let is : event_of found ≡ Some e = ap event_of p.1 ∙ event_of_own_word e event.event in
     let mine : SeesOther k e (saw k e ∷ []) = (refl, subst (λ n. IsDeskEvent n (state_from n.plan k.seen) e) (sym st.terms) event, both.0) in (
       saw k e ∷ [],
-      keeps_view t words views h id (k ∷ []) (saw k e ∷ []) at (record { terms = st.terms; caller = st.caller; rest = more; split = split'; none = both.1 }, tt) (λ c. omega arith),
+      keeps_view t words views h id (k ∷ []) (saw k e ∷ []) at (record { terms = st.terms; caller = st.caller; rest = more; split = split'; none = both.1; looks = looks_stay h.log h.log (k.seen ++ e ∷ []) k (omega arith) (omega (arith, length-append k.seen (e ∷ []))) st.looks }, tt) (λ c. omega arith),
       record { empty = λ none. absurd (let some = is in cc); taken = λ d some. subst (λ (x : Event). SeesOther k x (saw k e ∷ [])) (same_some e d (sym is ∙ some)) mine },
     ))
     next
@@ -130,7 +148,7 @@ adds_kept t words views h id k at st end room e event mine =
       log = h.log ++ e ∷ [];
       row = record { free = h.row.free - 1; words_are = now; room = length-set words (length k.seen) (word_of e) ∙ h.row.room; events = events_push t.setting.callers t.setting.functions (start t.setting.plan) h.log e h.row.events (subst (λ l. IsDeskEvent t.setting (state_from t.setting.plan l) e) (sym all) event) };
       known = λ j u at'. ⊎_elim
-          (λ (p : (j ≡ id) × (saw k e ∷ [] ≡ u)). subst (AllStand t.setting (h.log ++ e ∷ [])) p.1 (record { terms = st.terms; caller = st.caller; rest = []; split = ap (λ l. l ++ e ∷ []) all ∙ sym (append-nil (k.seen ++ e ∷ [])); none = refl }, tt))
+          (λ (p : (j ≡ id) × (saw k e ∷ [] ≡ u)). subst (AllStand t.setting (h.log ++ e ∷ [])) p.1 (record { terms = st.terms; caller = st.caller; rest = []; split = ap (λ l. l ++ e ∷ []) all ∙ sym (append-nil (k.seen ++ e ∷ [])); none = refl; looks = looks_stay h.log (h.log ++ e ∷ []) (k.seen ++ e ∷ []) k (omega (arith, length-append h.log (e ∷ []))) (omega (arith, length-append k.seen (e ∷ []))) st.looks }, tt))
           (λ (p : (j ≢ id) × (get_elem? views j ≡ some u)). others_stand t.setting h.log e u
           (let two = count_two k.caller views id j (k ∷ []) u (λ e. p.0 (sym e)) at p.1 in let once = h.apart k.caller in
           let me : weight (eqb k.caller k.caller) ≡ 1 = ap weight (eq-eqb k.caller k.caller refl) in

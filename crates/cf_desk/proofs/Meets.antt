@@ -21,7 +21,7 @@ use Rattle.cf_event.specs.Events.{own}
 use Rattle.cf_desk.specs.Log.{AreLogged}
 use Rattle.cf_event.proofs.Events.{event_at, events_front}
 use Rattle.cf_desk.specs.Rule.{AllStand, count_in, count_all, RowKept, holds, longer_if, longest, with_seen, level, AllCatch, AllLogged, AllShort, levels, finds, FindsSeen, head_of, rest_of}
-use Rattle.cf_desk.proofs.Keeps.{count_set, keeps_view, same_some}
+use Rattle.cf_desk.proofs.Keeps.{count_set, keeps_view, looks_stay, same_some}
 
 count_snoc : (c : ℕ) (views : List (List Known)) (v : List Known) → count_all c (views ++ v ∷ []) ≡ count_all c views + count_in c v
 count_snoc c [] v = omega arith
@@ -131,7 +131,7 @@ levelled setting log now rest e (k ∷ ks) short h =
     let parts = none_of_both (own k.caller m.0) (own k.caller rest) (sym (filter-append (λ x. eqb (who_of x) k.caller) m.0 rest) ∙ ap (own k.caller) (sym m.2) ∙ st.none) in
     let more = levelled setting log now rest e ks short.1 h.1 in (
       (record { others = m.0; joined = m.1; none = parts.0 }, more.0),
-      (record { terms = st.terms; caller = st.caller; rest = rest; split = e; none = parts.1 }, more.1),
+      (record { terms = st.terms; caller = st.caller; rest = rest; split = e; none = parts.1; looks = looks_stay log log now k (omega arith) short.0 st.looks }, more.1),
     )
 
 pub stand_levelled : (setting : Setting) (log : List Event) (v : List Known) → AllStand setting log v → AllCatch (longest v) v × AllStand setting log (level v)

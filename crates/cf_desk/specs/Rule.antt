@@ -10,15 +10,29 @@ use Rattle.cf_desk.specs.declared.row.Setting.{Setting}
 use Rattle.cf_desk.specs.declared.row.Terms.{Terms}
 use Rattle.cf_desk.specs.declared.row.Known.{Known}
 use Rattle.cf_event.specs.Events.{own}
+use Rattle.std.specs.List.{All}
 use Rattle.cf_desk.specs.Log.{IsDeskEvent, AreLogged, state_from, Catches}
 
--- the log begins with what was seen, and after it has no event of the caller
+-- a look at a word that wasn't filled by then, and that lies no further than behind what was seen
+abbrev pub IsLookOf : ℕ → List Event → ℕ → Type 0
+IsLookOf filled seen n = (filled ≤ n) × (n ≤ length seen)
+
+-- The looks since so many words were filled. As their number may be any that the log has reached, a step that adds a look keeps this
+-- only while the log ends behind what was seen.
+pub record LooksKept (log : List Event) (k : Known) : Type 0 where
+  pub filled : k.filled ≤ length log
+  pub since : List ℕ
+  pub are : k.looks ≡ k.before ++ since
+  pub looks : All (IsLookOf k.filled k.seen) since
+
+-- the log begins with what was seen, and after it has no event of the caller, whose looks are kept
 pub record Stands (setting : Setting) (log : List Event) (k : Known) : Type 0 where
   pub terms : k.setting ≡ setting
   pub caller : k.caller < setting.callers
   pub rest : List Event
   pub split : log ≡ k.seen ++ rest
   pub none : own k.caller rest ≡ []
+  pub looks : LooksKept log k
 
 -- the filled words are those of the log's events, and the others are 0
 pub record IsRow (t : Terms) (log : List Event) (words : List ℕ) : Type 0 where
@@ -56,7 +70,7 @@ abbrev pub holds : {S : Type 0} → Terms → State S (List Known) → Type 0
 holds t s = RowKept t s.words s.views
 
 abbrev pub blank : Setting → ℕ → Known
-blank setting c = record { setting = setting; caller = c; seen = []; looks = [] }
+blank setting c = record { setting = setting; caller = c; seen = []; looks = []; filled = 0; before = [] }
 
 -- the callers from c on, n of them
 abbrev pub fresh : Setting → ℕ → ℕ → List Known

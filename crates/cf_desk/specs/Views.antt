@@ -44,7 +44,7 @@ pub record Desk : Type 0 where
   pub words : ℕ
 
 abbrev pub no_one : Known
-no_one = record { setting = record { plan = plan_of [] []; callers = 0; functions = 0 }; caller = 0; seen = []; looks = [] }
+no_one = record { setting = record { plan = plan_of [] []; callers = 0; functions = 0 }; caller = 0; seen = []; looks = []; filled = 0; before = [] }
 
 abbrev pub known_of : List Known → Known
 known_of [] = no_one

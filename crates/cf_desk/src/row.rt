@@ -29,6 +29,10 @@ pub struct Known {
     pub seen: LinkedList<Event>,
     /// The looks that met an empty next word: of each, how many events the pass had seen by then.
     pub looks: LinkedList<u16>,
+    /// A number of words that are filled: any that the log has reached. No step changes it.
+    pub filled: u16,
+    /// The looks that were made before so many words were. No step changes them.
+    pub before: LinkedList<u16>,
 }
 
 /// What a seat knows: for each pass that it stands for, what that pass knows.
