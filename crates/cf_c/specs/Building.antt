@@ -9,11 +9,12 @@ use Rattle.cf_plan.specs.Drafts.{Draft, HasRoom, KeepsRoom, no_draft}
 use Rattle.cf_plan.specs.Plans.{Planned, PlannedStage, edges_of, has_place, limit_fault, plan_of, stage_fault, with_limit, with_room, with_stage}
 use Rattle.cf_model.specs.States.{start}
 use Rattle.cf_c.specs.Codes.{number_of, plan_code}
+use Rattle.cf_c.specs.Graphs.{IsStarted}
 use Rattle.cf_c.specs.Values.{value_of}
 use Rattle.cf_c.specs.declared.code.Code.{Code}
 use Rattle.cf_c.specs.declared.code.Code.TheVariants.{Empty, Full, NoMemory, NoSuchNumber, Room, WrongKind}
 use Rattle.cf_c.specs.declared.handle.object.Object.{Object}
-use Rattle.cf_c.specs.declared.handle.object.Object.TheVariants.{Builder, Graph, Plan}
+use Rattle.cf_c.specs.declared.handle.object.Object.TheVariants.{Builder, Plan}
 use Rattle.cf_c.specs.declared.values.CfValue.{CfValue}
 
 -- what is made is put behind a handle, if the handle is empty; that takes memory, too
@@ -89,7 +90,7 @@ Builds held r new = (r ≡ Err WrongKind) × (new ≡ held)
 
 -- the graph of a plan with so much room, at its start
 abbrev pub GraphOf : ℕ → Object → Result Object Code → Type 0
-GraphOf room (Plan p) (Ok made) = (has_place p.stages room ≡ true) × (made ≡ Graph (record { state = start (with_room p room); turns = 0 }))
+GraphOf room (Plan p) (Ok made) = (has_place p.stages room ≡ true) × IsStarted (start (with_room p room)) made
 GraphOf room (Plan p) (Err Room) = has_place p.stages room ≡ false
 GraphOf room (Plan p) (Err fault) = (fault ≡ NoMemory) × (has_place p.stages room ≡ true)
 GraphOf room held r = r ≡ Err WrongKind

@@ -6,7 +6,7 @@ use Rattle.cf_plan.specs.Plans.{function_at, reopened}
 use Rattle.cf_model.specs.declared.events.Event.{Event}
 use Rattle.cf_model.specs.declared.events.Reply.{Reply}
 use Rattle.cf_model.specs.Events.{answered}
-use Rattle.cf_model.specs.Graphs.{Graph as Graph'}
+use Rattle.cf_model.specs.Graphs.{Graph as Graph', NoneLeftFor, NoneLeftUpTo, Rests}
 use Rattle.cf_model.specs.Ranges.{EventFits}
 use Rattle.cf_model.specs.States.{State, lowest_ready_of, outcome_at, start}
 use Rattle.cf_desk.specs.Faults.{EventNames}
@@ -26,13 +26,14 @@ IsRefused n e NoStage = ¬ EventNames n e
 IsRefused n e BadAttach = EventNames n e × (¬ EventFits n e)
 IsRefused n e code = ⊥
 
--- the event is done to the graph, which gives the sequential graph's reply and is then at the sequential graph's state
+-- the event is done to the graph, which gives the sequential graph's reply and is then at the sequential graph's state, and takes no turn that it doesn't need
 pub record IsDone (g : Graph') (e : Event) (told : CfReply) (new : Object) : Type 0 where
   pub fits : EventFits (length g.state.plan.stages) e
   pub reply : Reply
   pub now : Graph'
   pub is : new ≡ Graph now
   pub replied : (reply, now.state) ≡ answered g.state e
+  pub rests : Rests e g now
   pub tells : told ≡ as_reply reply
 
 -- a graph is handed an event, or why there is none
@@ -42,16 +43,27 @@ Answers (Ok e) (Graph g) (Err fault) new = IsRefused (length g.state.plan.stages
 Answers (Err fault) (Graph g) r new = (r ≡ Err fault) × (new ≡ Graph g)
 Answers e held r new = (r ≡ Err WrongKind) × (new ≡ held)
 
--- the graph may have taken turns, and is at the state at which it was
-pub record IsSame (g : Graph') (new : Object) : Type 0 where
+-- the graph may have taken turns, unless it is at rest, and is at the state at which it was
+pub record IsSame (AtRest : Graph' → Type 0) (g : Graph') (new : Object) : Type 0 where
   pub now : Graph'
   pub is : new ≡ Graph now
   pub state : now.state ≡ g.state
+  pub rests : AtRest g → now ≡ g
 
--- a graph is asked what this tells of it
-abbrev pub Asked : {X : Type 0} → (Graph' → Result X Code) → Object → Result X Code → Object → Type 0
-Asked tells (Graph g) r new = (r ≡ tells g) × IsSame g new
-Asked tells held r new = (r ≡ Err WrongKind) × (new ≡ held)
+-- a graph is asked what this tells of it, and takes no turn where it is at rest
+abbrev pub Asked : {X : Type 0} → (Graph' → Result X Code) → (Graph' → Type 0) → Object → Result X Code → Object → Type 0
+Asked tells AtRest (Graph g) r new = (r ≡ tells g) × IsSame AtRest g new
+Asked tells AtRest held r new = (r ≡ Err WrongKind) × (new ≡ held)
+
+-- For a question about a stage it is at rest where no turn is left up to there, for that after the lowest ready stage where none is left for this one, and for the others always.
+abbrev pub RestsAt : ℕ → Graph' → Type 0
+RestsAt stage g = NoneLeftUpTo stage g.left
+
+abbrev pub RestsAtReady : Graph' → Type 0
+RestsAtReady g = NoneLeftFor (lowest_ready_of g.state) g.left
+
+abbrev pub RestsAlways : Graph' → Type 0
+RestsAlways g = Unit {0}
 
 -- of a stage, if it is there
 abbrev pub of_stage : {X : Type 0} → State → ℕ → X → Result X Code
@@ -80,7 +92,14 @@ stages_told g = Ok (length g.state.plan.stages)
 abbrev pub turns_told : Graph' → Result ℕ Code
 turns_told g = Ok g.turns
 
+-- this is a graph at its start, with no turn taken
+pub record IsStarted (s : State) (new : Object) : Type 0 where
+  pub now : Graph'
+  pub is : new ≡ Graph now
+  pub state : now.state ≡ s
+  pub turns : now.turns ≡ 0
+
 -- a graph starts again
 abbrev pub Restarts : Object → Result (Unit {0}) Code → Object → Type 0
-Restarts (Graph g) r new = (r ≡ Ok tt) × (new ≡ Graph (record { state = start (reopened g.state.plan); turns = 0 }))
+Restarts (Graph g) r new = (r ≡ Ok tt) × IsStarted (start (reopened g.state.plan)) new
 Restarts held r new = (r ≡ Err WrongKind) × (new ≡ held)

@@ -4,7 +4,7 @@ ghost use Rattle.cf_model.specs.declared.events.Event.TheVariants.{Complete as C
 ghost use Rattle.cf_c.specs.Answers.{Does, Tells};
 ghost use Rattle.cf_c.specs.Building.{GraphOf, Opens};
 ghost use Rattle.cf_c.specs.EventWords.{event_at};
-ghost use Rattle.cf_c.specs.Graphs.{Answers, Asked, Restarts, function_told, now_told, outcome_told, ready_told, stages_told, turns_told};
+ghost use Rattle.cf_c.specs.Graphs.{Answers, Asked, Restarts, RestsAlways, RestsAt, RestsAtReady, function_told, now_told, outcome_told, ready_told, stages_told, turns_told};
 ghost use Rattle.cf_c.specs.Plans.{attach_event};
 ghost use Rattle.cf_c.specs.Values.{answer_of, value_of};
 
@@ -167,7 +167,7 @@ pub extern "C" fn cf_get(
     stage: u16,
     outcome: &mut CfOutcome,
 ) -> u32
-    ensures { Tells (Asked (outcome_told stage)) h.old.inner.held h.new.inner.held result outcome.old outcome.new }
+    ensures { Tells (Asked (outcome_told stage) (RestsAt stage)) h.old.inner.held h.new.inner.held result outcome.old outcome.new }
 {
     tell!(alloc, h, outcome, held => asking::outcome(&mut held, stage))
 }
@@ -181,7 +181,7 @@ pub extern "C" fn cf_get_now(
     absent: CfValue,
     now: &mut CfNow,
 ) -> u32
-    ensures { Tells (Asked (now_told stage (value_of absent))) h.old.inner.held h.new.inner.held result now.old now.new }
+    ensures { Tells (Asked (now_told stage (value_of absent)) (RestsAt stage)) h.old.inner.held h.new.inner.held result now.old now.new }
 {
     let absent = value_of(absent);
     tell!(alloc, h, now, held => asking::now(&mut held, stage, absent))
@@ -190,7 +190,7 @@ pub extern "C" fn cf_get_now(
 /// The lowest ready stage.
 #[unsafe(no_mangle)]
 pub extern "C" fn cf_lowest_ready(alloc: Global, h: &mut CfHandle, stage: &mut u16) -> u32
-    ensures { Tells (Asked ready_told) h.old.inner.held h.new.inner.held result stage.old stage.new }
+    ensures { Tells (Asked ready_told RestsAtReady) h.old.inner.held h.new.inner.held result stage.old stage.new }
 {
     tell!(alloc, h, stage, held => asking::lowest_ready(&mut held))
 }
@@ -203,7 +203,7 @@ pub extern "C" fn cf_function(
     stage: u16,
     function: &mut u16,
 ) -> u32
-    ensures { Tells (Asked (function_told stage)) h.old.inner.held h.new.inner.held result function.old function.new }
+    ensures { Tells (Asked (function_told stage) RestsAlways) h.old.inner.held h.new.inner.held result function.old function.new }
 {
     tell!(alloc, h, function, held => asking::function(&mut held, stage))
 }
@@ -211,7 +211,7 @@ pub extern "C" fn cf_function(
 /// How many stages there are by now.
 #[unsafe(no_mangle)]
 pub extern "C" fn cf_stages(alloc: Global, h: &mut CfHandle, stages: &mut u16) -> u32
-    ensures { Tells (Asked stages_told) h.old.inner.held h.new.inner.held result stages.old stages.new }
+    ensures { Tells (Asked stages_told RestsAlways) h.old.inner.held h.new.inner.held result stages.old stages.new }
 {
     tell!(alloc, h, stages, held => asking::stages(&mut held))
 }
@@ -219,7 +219,7 @@ pub extern "C" fn cf_stages(alloc: Global, h: &mut CfHandle, stages: &mut u16) -
 /// How many turns were taken since the graph was opened or last restarted.
 #[unsafe(no_mangle)]
 pub extern "C" fn cf_turns(alloc: Global, h: &mut CfHandle, turns: &mut u64) -> u32
-    ensures { Tells (Asked turns_told) h.old.inner.held h.new.inner.held result turns.old turns.new }
+    ensures { Tells (Asked turns_told RestsAlways) h.old.inner.held h.new.inner.held result turns.old turns.new }
 {
     tell!(alloc, h, turns, held => asking::turns(&mut held))
 }

@@ -2,7 +2,7 @@
 ghost use Rattle.std.specs.Prelude.{◌≡◌, MatchOption, None, Some, if◌then◌else◌};
 ghost use Rattle.cf_c.specs.declared.code.Code.TheVariants.{NoStage};
 ghost use Rattle.cf_model.specs.Ranges.{EventFits};
-ghost use Rattle.cf_c.specs.Graphs.{Answers, Asked, IsRefused, Restarts, function_told, now_told, outcome_told, ready_told, stages_told, turns_told};
+ghost use Rattle.cf_c.specs.Graphs.{Answers, Asked, IsRefused, Restarts, RestsAlways, RestsAt, RestsAtReady, function_told, now_told, outcome_told, ready_told, stages_told, turns_told};
 
 use crate::code::Code;
 use crate::handle::object::Object;
@@ -58,7 +58,7 @@ fn refusal_of(stages: u16, event: &Event) -> Option<Code>
 
 /// The outcome of a stage of a graph.
 pub(crate) fn outcome(held: &mut Object, stage: u16) -> Result<CfOutcome, Code>
-    ensures { Asked (outcome_told stage) held.old result held.new }
+    ensures { Asked (outcome_told stage) (RestsAt stage) held.old result held.new }
 {
     let Object::Graph(graph) = held else {
         return Err(Code::WrongKind);
@@ -71,7 +71,7 @@ pub(crate) fn outcome(held: &mut Object, stage: u16) -> Result<CfOutcome, Code>
 
 /// What a stage of a graph gives at present.
 pub(crate) fn now(held: &mut Object, stage: u16, absent: Value) -> Result<CfNow, Code>
-    ensures { Asked (now_told stage absent) held.old result held.new }
+    ensures { Asked (now_told stage absent) (RestsAt stage) held.old result held.new }
 {
     let Object::Graph(graph) = held else {
         return Err(Code::WrongKind);
@@ -84,7 +84,7 @@ pub(crate) fn now(held: &mut Object, stage: u16, absent: Value) -> Result<CfNow,
 
 /// The lowest ready stage of a graph.
 pub(crate) fn lowest_ready(held: &mut Object) -> Result<u16, Code>
-    ensures { Asked ready_told held.old result held.new }
+    ensures { Asked ready_told RestsAtReady held.old result held.new }
 {
     let Object::Graph(graph) = held else {
         return Err(Code::WrongKind);
@@ -94,7 +94,7 @@ pub(crate) fn lowest_ready(held: &mut Object) -> Result<u16, Code>
 
 /// The number of a stage's function.
 pub(crate) fn function(held: &mut Object, stage: u16) -> Result<u16, Code>
-    ensures { Asked (function_told stage) held.old result held.new }
+    ensures { Asked (function_told stage) RestsAlways held.old result held.new }
 {
     let Object::Graph(graph) = held else {
         return Err(Code::WrongKind);
@@ -107,7 +107,7 @@ pub(crate) fn function(held: &mut Object, stage: u16) -> Result<u16, Code>
 
 /// How many stages a graph has by now.
 pub(crate) fn stages(held: &mut Object) -> Result<u16, Code>
-    ensures { Asked stages_told held.old result held.new }
+    ensures { Asked stages_told RestsAlways held.old result held.new }
 {
     match held {
         Object::Graph(graph) => Ok(graph.stages()),
@@ -117,7 +117,7 @@ pub(crate) fn stages(held: &mut Object) -> Result<u16, Code>
 
 /// How many turns a graph has taken.
 pub(crate) fn turns(held: &mut Object) -> Result<u64, Code>
-    ensures { Asked turns_told held.old result held.new }
+    ensures { Asked turns_told RestsAlways held.old result held.new }
 {
     match held {
         Object::Graph(graph) => Ok(graph.turns()),
