@@ -1,17 +1,22 @@
 -- What follows from the rule of the row.
-use Rattle.std.proofs.Common.{◌≡◌, ℕ, zero, suc, ◌+◌, ◌<◌, ◌≤◌, ◌≢◌, ◌⊎◌, ⊎_elim, Bool, true, false, cond, eqb, eq-eqb, Some, List, [], ◌∷◌, ◌++◌, map, length, slice_get, All, sym, refl, ap, ◌∙◌, subst, arith}
+use Rattle.std.proofs.Common.{◌≡◌, ℕ, zero, suc, ◌+◌, ◌<◌, ◌≤◌, ◌≢◌, ◌⊎◌, ⊎_elim, Bool, true, false, cond, eqb, eq-eqb, Some, List, [], ◌∷◌, ◌++◌, map, length, slice_get, All, append-nil, length-append, sym, refl, ap, ◌∙◌, subst, arith}
 use Rattle.std.specs.List.{Contains}
 use Rattle.std.proofs.lemmas.Option.{none-some}
-use Rattle.std.proofs.lemmas.List.Elements.{All-nil, All-cons, All-contains, Contains-append_cases, filter-append}
+use Rattle.std.proofs.lemmas.List.Elements.{All-nil, All-cons, All-contains, All-head, Contains-append_cases, filter-append}
+use Rattle.std.proofs.lemmas.List.{append_cancel_left, nil_from_length}
+use mathlib.Core.Option.{some, some-ne-none}
+use lib.ListN.{get_elem?}
+use Rattle.atomic_table.proofs.Lists.{set_here}
 use Rattle.cf_model.specs.declared.events.Event.{Event}
 use Rattle.cf_model.specs.Calls.{who_of}
 use Rattle.cf_desk.proofs.Lists.{none_of_both, same_rest}
 use Rattle.cf_desk.specs.declared.row.Setting.{Setting}
+use Rattle.cf_desk.specs.declared.row.Terms.{Terms}
 use Rattle.cf_desk.specs.declared.row.Known.{Known}
 use Rattle.cf_event.specs.Events.{own}
-use Rattle.cf_desk.specs.Rule.{AllStand, count_in, weight, longest, with_seen}
-use Rattle.cf_desk.specs.Rows.{GoesOn, RowsHold, callers_of}
-use Rattle.cf_desk.proofs.Keeps.{count_two, same_some}
+use Rattle.cf_desk.specs.Rule.{AllStand, IsLookOf, RowKept, count_in, weight, longest, with_seen}
+use Rattle.cf_desk.specs.Rows.{GoesOn, LooksAtEnd, RowsHold, callers_of, older}
+use Rattle.cf_desk.proofs.Keeps.{count_two, keeps_view, same_some}
 use Rattle.cf_desk.proofs.Meets.{between, longest_begins, stand_levelled}
 
 -- a caller of a seat is counted in it
@@ -71,6 +76,31 @@ front_stand : (setting : Setting) (log : List Event) (v w : List Known) → AllS
 front_stand setting log [] w h = (tt, h)
 front_stand setting log (k ∷ ks) w h = let r = front_stand setting log ks w h.1 in ((h.0, r.0), r.1)
 
+within : (views : List (List Known)) (id : ℕ) (v : List Known) → get_elem? views id ≡ some v → id < length views
+within [] id v e = absurd (some-ne-none v (sym e))
+within (x ∷ xs) zero v e = omega arith
+within (x ∷ xs) (suc id) v e = let r = within xs id v e in omega arith
+
+looks_at_end : (t : Terms) (words : List ℕ) (views : List (List Known)) (h : RowKept t words views) → LooksAtEnd t words views h.log
+looks_at_end t words views h = record {
+  may_be = λ id k at.
+      let st = (h.known id (k ∷ []) at).0 in
+      keeps_view t words views h id (k ∷ []) (older (length h.log) k ∷ []) at
+      (record { terms = st.terms; caller = st.caller; rest = st.rest; split = st.split; none = st.none; looks = record { filled = (omega arith); since = []; are = sym (append-nil k.looks); looks = All-nil (IsLookOf (length h.log) k.seen) } }, tt)
+      (λ c. omega arith);
+  end = λ id k n now at g.
+      let with_look : Known = record (older (length h.log) k) { looks = k.looks ++ n ∷ [] } in
+      let st = (h.known id (k ∷ []) at).0 in
+      let l = (g.known id (with_look ∷ []) (set_here views id (with_look ∷ []) (within views id (k ∷ []) at))).0.looks in
+      let one : l.since ≡ n ∷ [] = sym (append_cancel_left k.looks (n ∷ []) l.since l.are) in
+      let look : IsLookOf (length h.log) k.seen n = All-head (IsLookOf (length h.log) k.seen) n [] (subst (All (IsLookOf (length h.log) k.seen)) one l.looks) in
+      let low : length h.log ≤ n = look.0 in
+      let high : n ≤ length k.seen = look.1 in
+      let parts : length h.log ≡ length k.seen + length st.rest = ap length st.split ∙ length-append k.seen st.rest in
+      let none : st.rest ≡ [] = nil_from_length st.rest (omega arith) in
+      (st.split ∙ ap (λ (x : List Event). k.seen ++ x) none ∙ append-nil k.seen, omega arith);
+}
+
 pub rows_hold : RowsHold
 rows_hold t words views h = record {
   log = h.log;
@@ -89,4 +119,5 @@ rows_hold t words views h = record {
   parts = λ id v w at.
       let both = front_stand t.setting h.log v w (h.known id (v ++ w) at) in
       (goes_on t.setting h.log v w both.0 both.1, goes_on t.setting h.log w v both.1 both.0);
+  looks = looks_at_end t words views h;
 }
