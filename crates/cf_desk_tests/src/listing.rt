@@ -26,6 +26,7 @@ fn calls_the_graph(rt: HostRuntime) -> Result<(), Fail> {
     assert!(rt; graph.complete(0, Value::Int(3)));
     let granted = Claimed::Granted(Args::One(Value::Int(3)));
     assert_eq!(rt; graph.claim(0, 1), granted);
+    assert!(rt; graph.has(1));
     let finished = graph.finish(0, 1, Answer::Give(Value::Int(8)));
     assert_eq!(rt; finished, Finished::Won);
     assert!(rt; graph.has(1));
