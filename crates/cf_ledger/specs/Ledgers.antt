@@ -49,9 +49,9 @@ pub record Does (word : ℕ) (old : Ledger) (reply : Reply) (new : Ledger) : Typ
   pub told : (reply, state_of new) ≡ answered (state_of old) event
   pub written : new ≡ and_event old event
 
--- why a word isn't done
+-- why a word isn't done: the first of these, want of memory being the last
 abbrev pub IsRefused : State → ℕ → LedgerFault → Type 0
-IsRefused s word NoMemory = Unit {0}
+IsRefused s word NoMemory = (e : Event) × (event_of word ≡ Some e) × EventFits (length s.plan.stages) e × HasRoomFor s e
 IsRefused s word NoEvent = event_of word ≡ None
 IsRefused s word NoStage = (e : Event) × (event_of word ≡ Some e) × ¬ EventFits (length s.plan.stages) e
 IsRefused s word NoRoom = (e : Event) × (event_of word ≡ Some e) × EventFits (length s.plan.stages) e × ¬ HasRoomFor s e

@@ -3,7 +3,7 @@
 /// Why a word isn't done. All is as it was then.
 #[derive(Clone, Copy, Debug, PartialEq, Eq)]
 pub enum LedgerFault {
-    /// There is no memory for it.
+    /// There is no memory for it, and nothing else stands against it.
     NoMemory,
     /// It is no event's word.
     NoEvent,

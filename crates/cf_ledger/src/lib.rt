@@ -4,7 +4,7 @@
 //! room, or made again of its words. Each word that is done is written behind the others, and what is written is never
 //! changed. Memory is found before a call changes anything. Whoever shares a ledger has it under one lock.
 //!
-//! Its words are those of a desk's history, so `of_words` makes a ledger of that, too.
+//! Its words are those that a desk's history has, so `of_words` makes a ledger of one in which no attach found the room full.
 #![tactic(auto)]
 
 mod faults;
