@@ -25,3 +25,4 @@ pub mod Attaching
 pub mod AttachSound
 pub mod Takes
 pub mod Resting
+pub mod Changes

@@ -13,3 +13,4 @@ pub mod Serving
 pub mod Graphs
 pub mod Turns
 pub mod Attaching
+pub mod Changes

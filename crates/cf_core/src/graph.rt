@@ -6,6 +6,7 @@ mod limits;
 mod restarting;
 mod settling;
 mod sweeping;
+mod telling;
 mod working;
 
 ghost use Rattle.std.specs.Prelude.{◌≡◌, ◌+◌, ◌<◌, ◌≤◌, ◌↔◌, IfOk, IsTrue, None, length, nat_lt, replicate, true, vec_capacity};
@@ -40,7 +41,7 @@ impl From<AllocError> for GraphFault {
 /// A graph of stages, of which each is pending, ready, claimed, linked or settled.
 ///
 /// A contract sees it as its state, in which all consequences have come to pass, whether they were worked out yet or not,
-/// how many turns were taken, and the lowest stage that a turn is left for.
+/// how many turns were taken, the lowest stage that a turn is left for, and what is kept of each stage until then.
 #[derive(Drop)]
 pub struct Graph {
     plan: GrowingPlan,
@@ -58,9 +59,10 @@ impl Model for Graph {
     ghost use Rattle.std.specs.Prelude.{position};
     ghost use Rattle.std.specs.Vec.{vec_capacity};
     ghost use Rattle.cf_core.specs.Keeping.SoundStages.{settled_view_of};
+    ghost use Rattle.cf_core.specs.Keeping.Treatment.{stages_of};
     ghost use Rattle.cf_core.specs.Keeping.Graphs.{IsInStep};
 
-    ghost view = { λ g. record { state = record { plan = g.plan; stages = settled_view_of g.plan.stages g.stages; claims = g.claims.items; moment = g.moment; used = g.used }; turns = g.stages.turns; left = position (λ b. b) g.stages.marks } };
+    ghost view = { λ g. record { state = record { plan = g.plan; stages = settled_view_of g.plan.stages g.stages; claims = g.claims.items; moment = g.moment; used = g.used }; turns = g.stages.turns; left = position (λ b. b) g.stages.marks; kept = stages_of g.stages.kept.items } };
 
     ghost invariant = { λ g. IsInStep g.plan g.stages g.claims.items (vec_capacity g.claims) g.used };
 }
@@ -101,6 +103,8 @@ impl Graph {
         ensures growing { IsGrowing self.now.state.plan }
         ensures all_stages { length self.now.state.stages ≡ length self.now.state.plan.stages }
         ensures all_claims { length self.now.state.claims ≡ length self.now.state.plan.stages }
+        ensures all_kept { length self.now.kept ≡ length self.now.state.plan.stages }
+        ensures worked_out { self.now.left ≡ None → self.now.kept ≡ self.now.state.stages }
     {
         self.plan.stages()
     }

@@ -45,6 +45,10 @@
 //! nothing to take stays pending, without a turn. A turn for it and the marks that can still come of it are at most its
 //! edges and itself, so the bound above counts the plan as it has grown.
 //!
+//! How a call tells what it changed (`Graph::answer_telling`): where no turn is left, what is kept is the state. An event
+//! moves its own stage alone, and each turn the stage that it treats, never back (`rank`). So it is enough to look at these
+//! before and after, and to set their flags.
+//!
 //! How a graph starts again (`Graph::restart`): the attached stages are taken out, the stages of the opening are kept as ones
 //! that were never treated, and sets and lists are emptied, all of it in place. By `cf_model::laws::grown_plans_reopen_as_they_were`
 //! the graph is then what it was at its opening, with all of its room.

@@ -3,13 +3,15 @@ mod attaching;
 mod restarting;
 mod sweeping;
 
-ghost use Rattle.std.specs.Prelude.{◌≡◌, ℕ, ◌+◌, ◌<◌, ◌≤◌, [], All, IfNone, IfOk, IfSome, None, Some, drop, false, length, option_and_then, position, replicate, slice_get, slice_set, true, vec_capacity, if◌then◌else◌};
+ghost use Rattle.std.specs.Prelude.{◌≡◌, ℕ, ◌+◌, ◌<◌, ◌≤◌, [], All, IfNone, IfOk, IfSome, List, None, Some, drop, false, length, option_and_then, position, replicate, slice_get, slice_set, true, vec_capacity, if◌then◌else◌};
 ghost use Rattle.cf_plan.specs.declared.forms.Landing.TheVariants.{Links as LinksTo};
 ghost use Rattle.cf_plan.specs.Forms.{composes, starts};
 ghost use Rattle.cf_plan.specs.Plans.{dependents_of, form_at, sources_at};
 ghost use Rattle.cf_model.specs.declared.stage.Stage.TheVariants.{Claimed, Linked, Pending, Settled};
-ghost use Rattle.cf_model.specs.Graphs.{NoneLeftFor, NoneLeftUpTo};
+ghost use Rattle.cf_model.specs.Graphs.{MovesAlone, NoneLeftFor, NoneLeftUpTo, NoneReady, rank, stage_in};
+ghost use Rattle.cf_model.specs.declared.stage.Stage.{Stage};
 ghost use Rattle.cf_model.specs.States.{is_ready, new_states, outcome_in, outcome_of};
+ghost use Rattle.cf_core.specs.Keeping.Changes.{HaveMoved};
 ghost use Rattle.cf_core.specs.Keeping.Landings.{landed_stages};
 ghost use Rattle.cf_core.specs.Keeping.Links.{list_at};
 ghost use Rattle.cf_core.specs.Keeping.Sound.{AreTreated, HasLists, ReadyIsTreated, StayTaken, StayTakenBut, is_taken, kept_at, links_after, mark_all, marks_after};
@@ -17,6 +19,7 @@ ghost use Rattle.cf_core.specs.Keeping.SoundStages.{AreSound, HasRoom, SameRoom,
 ghost use Rattle.cf_core.specs.Keeping.Sweeps.{AreSwept};
 ghost use Rattle.cf_core.specs.Keeping.Turns.{TurnsBelowReady, TurnsUpTo, turned};
 ghost use Rattle.cf_core.specs.Keeping.Starts.{mark_starts, mark_those, untreated};
+ghost use Rattle.cf_core.specs.Keeping.Treatment.{stages_of};
 
 use crate::cells::Cells;
 use crate::kept::KeptStage;
@@ -267,6 +270,61 @@ impl Stages {
         taken
     }
 
+    /// Takes all turns that are left, each of the lowest marked stage, and sets the flags of the stages that they change.
+    pub fn tell_rest(&mut self, plan: &GrowingPlan, changed: &mut BitSet)
+        requires sound { AreSound plan.now.stages self.old }
+        requires flags { length plan.now.stages ≤ length changed.old }
+        ensures told { (old : List Stage) → HaveMoved old (stages_of self.old.kept.items) changed.old → HaveMoved old (stages_of self.new.kept.items) changed.new }
+        ensures none { position (λ b. b) self.new.marks ≡ None }
+        ensures same { settled_view_of plan.now.stages self.new ≡ settled_view_of plan.now.stages self.old }
+        ensures taken { StayTaken self.old.kept.items self.new.kept.items }
+        ensures counted { self.old.turns ≤ self.new.turns }
+        ensures flags { length changed.new ≡ length changed.old }
+        ensures room { SameRoom self.old self.new }
+        ensures sound { AreSound plan.now.stages self.new }
+    {
+        while let Some(m) = self.marks.lowest() {
+            let before = self.rank(plan, m);
+            self.turn(plan, m);
+            if self.rank(plan, m) > before {
+                changed.insert(m);
+            }
+        }
+    }
+
+    /// How far a stage has come.
+    pub fn rank(&self, plan: &GrowingPlan, i: u16) -> u8
+        requires sound { AreSound plan.now.stages self.now }
+        requires stage { i < length plan.now.stages }
+        ensures { result ≡ rank (stage_in (stages_of self.now.kept.items) i) }
+    {
+        let _plan = plan;
+        match self.kept.stage(i) {
+            Stage::Pending => 0,
+            Stage::Ready(_) => 1,
+            Stage::Claimed => 2,
+            Stage::Linked(_) => 3,
+            Stage::Settled(_) => 4,
+        }
+    }
+
+    /// The lowest stage from a number on, and below another, that is kept as ready.
+    pub fn next_ready(&self, from: u16, count: u16) -> Option<u16>
+        requires { count ≤ length self.now.kept.items }
+        ensures ready { IfSome result (λ i. is_ready (stage_in (stages_of self.now.kept.items) i) ≡ true) }
+        ensures above { IfSome result (λ i. from ≤ i) }
+        ensures below { IfSome result (λ i. i < count) }
+        ensures first { IfSome result (λ i. NoneReady from i (stages_of self.now.kept.items)) }
+        ensures none { IfNone result (NoneReady from count (stages_of self.now.kept.items)) }
+    {
+        for i in from..count {
+            if self.kept.is_ready(i) {
+                return Some(i);
+            }
+        }
+        None
+    }
+
     /// How many turns were taken so far.
     pub fn turns(&self) -> u64
         ensures { result ≡ self.now.turns }
@@ -290,6 +348,7 @@ impl Stages {
         requires treated { AreTreated (d + 1) self.old.marks }
         requires unsettled { outcome_of ((kept_at self.old.kept.items d).stage) ≡ None }
         ensures after { settled_view_of plan.now.stages self.new ≡ new_states [] plan.now.stages (slice_set (settled_view_of plan.now.stages self.old) d (Settled o)) }
+        ensures alone { MovesAlone d (stages_of self.old.kept.items) (stages_of self.new.kept.items) }
         ensures taken { StayTaken self.old.kept.items self.new.kept.items }
         ensures turns { self.new.turns ≡ self.old.turns }
         ensures room { SameRoom self.old self.new }
@@ -326,6 +385,7 @@ impl Stages {
         requires treated { AreTreated (d + 1) self.old.marks }
         requires ready { is_ready ((kept_at self.old.kept.items d).stage) ≡ true }
         ensures claimed { settled_view_of plan.now.stages self.new ≡ slice_set (settled_view_of plan.now.stages self.old) d Claimed }
+        ensures alone { MovesAlone d (stages_of self.old.kept.items) (stages_of self.new.kept.items) }
         ensures here { is_taken ((kept_at self.new.kept.items d).stage) ≡ true }
         ensures taken { StayTaken self.old.kept.items self.new.kept.items }
         ensures turns { self.new.turns ≡ self.old.turns }
@@ -354,6 +414,7 @@ impl Stages {
         requires composes { composes (form_at plan.now.stages d) ≡ true }
         requires unsettled { outcome_of ((kept_at self.old.kept.items j).stage) ≡ None }
         ensures linked { settled_view_of plan.now.stages self.new ≡ slice_set (settled_view_of plan.now.stages self.old) d (Linked j) }
+        ensures alone { MovesAlone d (stages_of self.old.kept.items) (stages_of self.new.kept.items) }
         ensures taken { StayTakenBut d self.old.kept.items self.new.kept.items }
         ensures turns { self.new.turns ≡ self.old.turns }
         ensures room { SameRoom self.old self.new }
@@ -401,6 +462,7 @@ impl Stages {
         requires target { (j : ℕ) → at ≡ LinksTo j → j < d }
         requires composes { (j : ℕ) → at ≡ LinksTo j → composes (form_at plan.now.stages d) ≡ true }
         ensures landed { settled_view_of plan.now.stages self.new ≡ landed_stages plan.now.stages (settled_view_of plan.now.stages self.old) d at }
+        ensures alone { MovesAlone d (stages_of self.old.kept.items) (stages_of self.new.kept.items) }
         ensures taken { StayTakenBut d self.old.kept.items self.new.kept.items }
         ensures turns { self.new.turns ≡ self.old.turns }
         ensures room { SameRoom self.old self.new }

@@ -1,5 +1,5 @@
 -- What a contract sees of a graph.
-use Rattle.std.specs.Prelude.{◌≡◌, ℕ, ◌+◌, ◌<◌, ◌||◌, Bool, Option, Some, None, IfSome, List, [], ◌∷◌, is_some, length, map, if◌then◌else◌}
+use Rattle.std.specs.Prelude.{◌≡◌, ◌≢◌, ℕ, ◌+◌, ◌<◌, ◌≤◌, ◌||◌, Bool, true, false, Option, Some, None, IfSome, List, [], ◌∷◌, is_some, length, map, slice_get, unwrap_or, if◌then◌else◌}
 use Rattle.std.specs.List.{list_any}
 use Rattle.cf_plan.specs.declared.forms.Form.{Form}
 use Rattle.cf_plan.specs.declared.limits.Limit.{Limit}
@@ -9,7 +9,9 @@ use Rattle.cf_model.specs.declared.asks.Ask.{Ask}
 use Rattle.cf_model.specs.declared.asks.Ask.TheVariants.{Now as AsksNow, Outcome as AsksOutcome}
 use Rattle.cf_model.specs.declared.events.Event.{Event}
 use Rattle.cf_model.specs.declared.events.Event.TheVariants.{Complete as Completes, Fail as Fails, Cancel as Cancels, Claim as Claims, Finish as Finishes, Tick as Ticks, Attach as Attaches}
-use Rattle.cf_model.specs.States.{State, outcome_at}
+use Rattle.cf_model.specs.declared.stage.Stage.{Stage}
+use Rattle.cf_model.specs.declared.stage.Stage.TheVariants.{Pending, Ready, Claimed, Linked, Settled}
+use Rattle.cf_model.specs.States.{State, is_ready, outcome_at}
 use Rattle.cf_model.specs.Events.{due_limits}
 
 pub record Graph : Type 0 where
@@ -19,6 +21,8 @@ pub record Graph : Type 0 where
   pub turns : ℕ
   -- the lowest stage that a turn is left for, or none
   pub left : Option ℕ
+  -- each stage as far as consequences were worked out: where no turn is left, as in the state
+  pub kept : List Stage
 
 -- how many turns a graph of this plan takes at most since its opening, or since its last restart
 abbrev pub most_turns : List PlannedStage → ℕ
@@ -68,3 +72,51 @@ Rests (Attaches who form of function) old new = RestsAttaching form (sources_of 
 abbrev pub asked_stage : Ask → ℕ
 asked_stage (AsksNow i absent) = i
 asked_stage (AsksOutcome i) = i
+
+-- ---- which stages a call moves on
+
+-- how far a stage has come, which is never back
+abbrev pub rank : Stage → ℕ
+rank Pending = 0
+rank (Ready args) = 1
+rank Claimed = 2
+rank (Linked j) = 3
+rank (Settled o) = 4
+
+-- a stage's state; one that isn't there yet is pending
+abbrev pub stage_in : List Stage → ℕ → Stage
+stage_in stages i = unwrap_or (slice_get stages i) Pending
+
+-- none of the stages from a number on and below another is ready
+abbrev pub NoneReady : ℕ → ℕ → List Stage → Type 0
+NoneReady from below stages = (i : ℕ) → from ≤ i → i < below → is_ready (stage_in stages i) ≡ false
+
+-- of all stages at most stage d is another, and it has come further then
+pub record MovesAlone (d : ℕ) (old new : List Stage) : Type 0 where
+  pub others : (i : ℕ) → i ≢ d → stage_in new i ≡ stage_in old i
+  pub onward : rank (stage_in old d) ≤ rank (stage_in new d)
+  pub stays : rank (stage_in new d) ≡ rank (stage_in old d) → stage_in new d ≡ stage_in old d
+
+-- where no turn was left, a call on stage d moves no other as far as it is kept
+abbrev pub MovesOnly : ℕ → Graph → Graph → Type 0
+MovesOnly d old new = old.left ≡ None → MovesAlone d old.kept new.kept
+
+-- the stage that an event moves by itself where there are so many; a tick moves any
+abbrev pub moved_by : ℕ → Event → ℕ
+moved_by count (Completes who i v) = i
+moved_by count (Fails who i code) = i
+moved_by count (Cancels who i) = i
+moved_by count (Claims who i) = i
+moved_by count (Finishes who i answer) = i
+moved_by count (Ticks who now) = count
+moved_by count (Attaches who form of function) = count
+
+-- and so does an event: it moves its own stage, or the one that it attaches
+abbrev pub MovesOwn : Event → Graph → Graph → Type 0
+MovesOwn (Ticks who now) old new = Unit {0}
+MovesOwn e old new = MovesOnly (moved_by (length old.state.plan.stages) e) old new
+
+-- these flags say which stages differ
+pub record AreChanges (old new : List Stage) (changed : List Bool) : Type 0 where
+  pub same : (i : ℕ) → slice_get changed i ≡ Some false → stage_in new i ≡ stage_in old i
+  pub differs : (i : ℕ) → slice_get changed i ≡ Some true → stage_in new i ≢ stage_in old i

@@ -1,5 +1,5 @@
 -- A ready stage that lands at once lands as if it had been claimed before.
-use Rattle.std.proofs.Common.{◌≡◌, ◌≢◌, ◌==◌, ℕ, ◌+◌, ◌<◌, ◌∷◌, [], List, true, false, Option, Some, None, length, suc, zero, arith, ap, sym, subst, ◌∙◌, refl, set, set-set, get_or}
+use Rattle.std.proofs.Common.{◌≡◌, ◌≢◌, ◌==◌, ℕ, ◌+◌, ◌<◌, ◌∷◌, [], List, true, false, Option, Some, None, length, suc, zero, arith, ap, sym, ◌∙◌, refl, set, set-set, get_or}
 use Rattle.std.specs.Prelude.{is_some, option_and_then, position, slice_get, unwrap_or}
 use Rattle.std.specs.Option.{option_map_or}
 use Rattle.std.proofs.lemmas.Bool.Decides.{nat_tests}

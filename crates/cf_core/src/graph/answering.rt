@@ -1,7 +1,7 @@
 //! Any call, as an event that is answered or a question that is told.
 ghost use Rattle.std.specs.Prelude.{◌≡◌, ◌≤◌, ◌↔◌, IsTrue, length};
 ghost use Rattle.cf_model.specs.Events.{answered, told};
-ghost use Rattle.cf_model.specs.Graphs.{NoneLeftUpTo, Rests, asked_stage, most_turns};
+ghost use Rattle.cf_model.specs.Graphs.{MovesOwn, NoneLeftUpTo, Rests, asked_stage, most_turns};
 ghost use Rattle.cf_model.specs.Ranges.{AskFits, EventFits};
 
 use crate::graph::Graph;
@@ -16,6 +16,7 @@ impl Graph {
         requires { EventFits (length self.old.state.plan.stages) e.now }
         ensures told { (result, self.new.state) ≡ answered self.old.state e.now }
         ensures rests { Rests e.now self.old self.new }
+        ensures alone { MovesOwn e.now self.old self.new }
         ensures counted { self.old.turns ≤ self.new.turns }
         ensures few { self.new.turns ≤ most_turns self.new.state.plan.stages }
     {

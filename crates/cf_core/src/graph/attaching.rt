@@ -2,7 +2,7 @@
 ghost use Rattle.std.specs.Prelude.{◌≡◌, ◌<◌, ◌≤◌, All, is_some, length, true};
 ghost use Rattle.cf_plan.specs.Plans.{attached_stage, fits_form, sources_of};
 ghost use Rattle.cf_model.specs.Events.{attaching};
-ghost use Rattle.cf_model.specs.Graphs.{RestsAttaching, most_turns};
+ghost use Rattle.cf_model.specs.Graphs.{MovesOnly, RestsAttaching, most_turns};
 
 use crate::graph::Graph;
 use cf_model::Attached;
@@ -18,6 +18,7 @@ impl Graph {
         requires sources { All (λ j. j < length self.old.state.plan.stages) (sources_of of) }
         ensures told { (result, self.new.state) ≡ attaching self.old.state (attached_stage form of function) }
         ensures rests { RestsAttaching form (sources_of of) self.old self.new }
+        ensures alone { MovesOnly (length self.old.state.plan.stages) self.old self.new }
         ensures counted { self.old.turns ≤ self.new.turns }
         ensures few { self.new.turns ≤ most_turns self.new.state.plan.stages }
     {

@@ -7,7 +7,7 @@ ghost use Rattle.cf_model.specs.States.{outcome_in};
 ghost use Rattle.cf_model.specs.Events.{claiming, finishing};
 ghost use Rattle.cf_core.specs.Keeping.SoundStages.{settled_view_of};
 ghost use Rattle.cf_core.specs.Keeping.Sweeps.{AreSwept};
-ghost use Rattle.cf_model.specs.Graphs.{RestsUpTo, most_turns};
+ghost use Rattle.cf_model.specs.Graphs.{MovesOnly, RestsUpTo, most_turns};
 
 use crate::graph::Graph;
 use crate::stages::Stages;
@@ -24,6 +24,7 @@ impl Graph {
         requires { i < length self.old.state.plan.stages }
         ensures told { (result, self.new.state) ≡ claiming self.old.state who i }
         ensures rests { RestsUpTo i self.old self.new }
+        ensures alone { MovesOnly i self.old self.new }
         ensures counted { self.old.turns ≤ self.new.turns }
         ensures few { self.new.turns ≤ most_turns self.new.state.plan.stages }
     {
@@ -49,6 +50,7 @@ impl Graph {
         requires { i < length self.old.state.plan.stages }
         ensures told { (result, self.new.state) ≡ finishing self.old.state who i answer }
         ensures rests { RestsUpTo i self.old self.new }
+        ensures alone { MovesOnly i self.old self.new }
         ensures counted { self.old.turns ≤ self.new.turns }
         ensures few { self.new.turns ≤ most_turns self.new.state.plan.stages }
     {

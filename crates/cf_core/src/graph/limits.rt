@@ -2,7 +2,7 @@
 ghost use Rattle.std.specs.Prelude.{◌≡◌, ◌+◌, ◌<◌, ◌≤◌, Some, drop, length, nat_le, slice_get, take};
 ghost use Rattle.std.specs.List.{prefix_len};
 ghost use Rattle.cf_model.specs.Events.{due_limits, firing, limit_outcome, settling, ticking};
-ghost use Rattle.cf_model.specs.Graphs.{RestsForLimits, RestsUpTo, most_turns};
+ghost use Rattle.cf_model.specs.Graphs.{MovesOnly, RestsForLimits, RestsUpTo, most_turns};
 
 use crate::graph::Graph;
 use cf_model::Ticked;
@@ -29,7 +29,7 @@ impl Graph {
     }
 
     /// How many of the unused limits have a moment up to `now`.
-    fn due(&self, now: u32) -> usize
+    pub(super) fn due(&self, now: u32) -> usize
         ensures within { self.now.state.used + result ≤ length self.now.state.plan.limits }
         ensures count { result ≡ length (due_limits self.now.state now) }
         ensures first { take result (drop self.now.state.used self.now.state.plan.limits) ≡ due_limits self.now.state now }
@@ -57,7 +57,7 @@ impl Graph {
     }
 
     /// The limit that stands so far behind the first unused one.
-    fn unused(&self, k: usize) -> Limit
+    pub(super) fn unused(&self, k: usize) -> Limit
         requires { self.now.state.used + k < length self.now.state.plan.limits }
         ensures limit { slice_get self.now.state.plan.limits (self.now.state.used + k) ≡ Some result }
         ensures named { result.stage < length self.now.state.plan.stages }
@@ -67,7 +67,7 @@ impl Graph {
     }
 
     /// The moment is `now`, and this many more limits are used.
-    fn advance(&mut self, now: u32, count: usize)
+    pub(super) fn advance(&mut self, now: u32, count: usize)
         requires { self.old.state.used + count ≤ length self.old.state.plan.limits }
         ensures advanced { self.new ≡ record self.old { state = record self.old.state { moment = now; used = self.old.state.used + count } } }
         ensures few { self.new.turns ≤ most_turns self.new.state.plan.stages }
@@ -77,10 +77,11 @@ impl Graph {
     }
 
     /// Settles a limit's stage, unless it is settled, and says whether it did.
-    fn fire(&mut self, limit: Limit) -> bool
+    pub(super) fn fire(&mut self, limit: Limit) -> bool
         requires { limit.stage < length self.old.state.plan.stages }
         ensures told { (result, self.new.state) ≡ settling self.old.state limit.stage (limit_outcome limit.kind) }
         ensures rests { RestsUpTo limit.stage self.old self.new }
+        ensures alone { MovesOnly limit.stage self.old self.new }
         ensures counted { self.old.turns ≤ self.new.turns }
     {
         self.settle(limit.stage, outcome_of_limit(limit.kind))

@@ -3,7 +3,7 @@ ghost use Rattle.std.specs.Prelude.{◌≡◌, ◌<◌, ◌≤◌, false, length
 ghost use Rattle.cf_outcome.specs.declared.outcome.Outcome.TheVariants.{Value as Gives, Fault};
 ghost use Rattle.cf_outcome.specs.declared.outcome.Cause.TheVariants.{Thrown};
 ghost use Rattle.cf_model.specs.Events.{cancelling, settling};
-ghost use Rattle.cf_model.specs.Graphs.{RestsUpTo, most_turns};
+ghost use Rattle.cf_model.specs.Graphs.{MovesOnly, RestsUpTo, most_turns};
 
 use crate::graph::Graph;
 use cf_outcome::{Cause, Outcome, Value, is_cancelled};
@@ -18,6 +18,7 @@ impl Graph {
         requires { i < length self.old.state.plan.stages }
         ensures told { (result, self.new.state) ≡ settling self.old.state i (Gives v) }
         ensures rests { RestsUpTo i self.old self.new }
+        ensures alone { MovesOnly i self.old self.new }
         ensures counted { self.old.turns ≤ self.new.turns }
         ensures few { self.new.turns ≤ most_turns self.new.state.plan.stages }
     {
@@ -30,6 +31,7 @@ impl Graph {
         requires { i < length self.old.state.plan.stages }
         ensures told { (result, self.new.state) ≡ settling self.old.state i (Fault (Thrown code) false) }
         ensures rests { RestsUpTo i self.old self.new }
+        ensures alone { MovesOnly i self.old self.new }
         ensures counted { self.old.turns ≤ self.new.turns }
         ensures few { self.new.turns ≤ most_turns self.new.state.plan.stages }
     {
@@ -48,6 +50,7 @@ impl Graph {
         requires { i < length self.old.state.plan.stages }
         ensures told { (result, self.new.state) ≡ cancelling self.old.state i }
         ensures rests { RestsUpTo i self.old self.new }
+        ensures alone { MovesOnly i self.old self.new }
         ensures counted { self.old.turns ≤ self.new.turns }
         ensures few { self.new.turns ≤ most_turns self.new.state.plan.stages }
     {
@@ -70,6 +73,7 @@ impl Graph {
         requires { i < length self.old.state.plan.stages }
         ensures told { (result, self.new.state) ≡ settling self.old.state i o }
         ensures rests { RestsUpTo i self.old self.new }
+        ensures alone { MovesOnly i self.old self.new }
         ensures counted { self.old.turns ≤ self.new.turns }
         ensures few { self.new.turns ≤ most_turns self.new.state.plan.stages }
     {

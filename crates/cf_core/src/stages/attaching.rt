@@ -2,8 +2,10 @@
 ghost use Rattle.std.specs.Prelude.{◌≡◌, ℕ, ◌+◌, ◌<◌, ◌≤◌, ◌∷◌, ◌++◌, [], All, Option, false, length, if◌then◌else◌};
 ghost use Rattle.cf_plan.specs.Plans.{attached_stage, edges_of, sources_of};
 ghost use Rattle.cf_model.specs.declared.stage.Stage.TheVariants.{Pending};
+ghost use Rattle.cf_model.specs.Graphs.{MovesAlone};
 ghost use Rattle.cf_model.specs.States.{is_ready, new_states};
 ghost use Rattle.cf_core.specs.Keeping.Attaching.{attached_kept, takes_now};
+ghost use Rattle.cf_core.specs.Keeping.Treatment.{stages_of};
 ghost use Rattle.cf_core.specs.Keeping.Sound.{AreTreated, StayTaken};
 ghost use Rattle.cf_core.specs.Keeping.SoundStages.{AreSound, SameRoom, settled_view_of};
 
@@ -27,6 +29,7 @@ impl Stages {
         requires room { length plan.now.stages < self.old.kept.capacity }
         requires lists { length plan.now.stages < length self.old.links }
         ensures attached { (function : Option ℕ) → let grown = plan.now.stages ++ attached_stage form of function ∷ [] in settled_view_of grown self.new ≡ new_states [] grown (settled_view_of plan.now.stages self.old ++ Pending ∷ []) }
+        ensures alone { MovesAlone (length plan.now.stages) (stages_of self.old.kept.items) (stages_of self.new.kept.items) }
         ensures counted { self.new.turns ≡ self.old.turns + (if takes_now self.old.kept.items form (sources_of of) then 1 else 0) }
         ensures taken { StayTaken self.old.kept.items self.new.kept.items }
         ensures room { SameRoom self.old self.new }

@@ -1,4 +1,4 @@
-use Rattle.std.proofs.Common.{ℕ, ◌∙◌, ◌+◌, ◌++◌, ◌∷◌, [], ap, arith, false, refl, subst, sym, cond}
+use Rattle.std.proofs.Common.{ℕ, ◌∙◌, ◌+◌, ◌++◌, ◌∷◌, [], ap, arith, false, length, refl, subst, sym, cond}
 use Rattle.cf_plan.specs.Plans.{attached_stage, sources_of}
 use Rattle.cf_core.specs.declared.kept.KeptStage.{KeptStage}
 use Rattle.cf_core.specs.declared.stages.Stages.{Stages}
@@ -11,6 +11,9 @@ use Rattle.cf_core.proofs.Keeping.Attaching.{attaching_is_after}
 use Rattle.cf_core.proofs.Keeping.Lowest.{all_steady}
 use Rattle.cf_core.proofs.Keeping.Places.{IsSound-same}
 use Rattle.cf_core.proofs.Keeping.Takes.{budget}
+use Rattle.cf_model.specs.Graphs.{MovesAlone}
+use Rattle.cf_core.specs.Keeping.Treatment.{stages_of}
+use Rattle.cf_core.proofs.Keeping.Changes.{alone_pushed}
 use Rattle.cf_core.proofs.stages.Stages.attach.Goals as goal
 
 pub returns-clause-attached : goal.returns-clause-attached
@@ -46,3 +49,11 @@ returns-clause-sound c function =
     (c.push.ensures.links ∙ ap (λ (n : Stages). n.links) counted) (c.push.ensures.steps ∙ ap (λ (n : Stages). n.steps) counted) (c.push.ensures.turns ∙ ap (λ (n : Stages). n.turns) counted)
     (attach_sound plan s.kept.items s.marks s.ready s.links s.steps s.turns c.requires.sound p (due_now s.kept.items c.args.form (sources_of c.args.of)) (s.turns + takes) refl
     c.requires.few (omega (arith, few, c.requires.few_edges)) c.requires.sources c.requires.lists (omega (arith, more)))
+
+pub returns-clause-alone : goal.returns-clause-alone
+returns-clause-alone c =
+    let s = c.args.self.now in
+    let new = c.newcomer_of-new.result in
+    let items = c.push.ensures.kept ∙ ap (λ (n : Stages). n.kept.items ++ new ∷ []) c.newcomer_of-new.ensures.counted in
+    subst (λ n. MovesAlone n (stages_of s.kept.items) (stages_of c.push.new.self.kept.items)) c.requires.sound.all_kept
+    (subst (λ kept. MovesAlone (length s.kept.items) (stages_of s.kept.items) (stages_of kept)) (sym items) (alone_pushed s.kept.items new))

@@ -6,6 +6,9 @@ use Rattle.cf_core.proofs.Keeping.Marking.{get-set_same}
 use Rattle.cf_core.proofs.Keeping.Sums.{StepsUpTo-at, kept_is, kept_there}
 use Rattle.cf_core.proofs.Keeping.Moves.{links_within, claim_same, claim_sound, is_steady}
 use Rattle.cf_core.proofs.Keeping.Places.{IsSound-same, StayTaken-set, ready_args}
+use Rattle.cf_model.specs.Graphs.{MovesAlone}
+use Rattle.cf_core.specs.Keeping.Treatment.{stages_of}
+use Rattle.cf_core.proofs.Keeping.Changes.{alone_put, ready_rank}
 use Rattle.cf_core.proofs.stages.Stages.claim.Goals as goal
 
 pub put-requires-clause-linked : goal.put-requires-clause-linked
@@ -48,3 +51,11 @@ returns-clause-sound c =
     let few2 : c.step-step.result ≤ s.steps = subst (λ n. n ≤ s.steps) (sym c.step-step.ensures) few in
     IsSound-same plan t.kept.items _ t.marks _ t.ready _ t.links _ t.steps _ t.turns _ c.put.ensures.kept c.put.ensures.marks c.put.ensures.ready c.put.ensures.links c.put.ensures.steps c.put.ensures.turns
     (claim_sound plan s.kept.items s.marks s.ready s.links s.steps s.turns h c.args.d c.step-step.result is.0 c.requires.stage is.1 few2)
+
+pub returns-clause-alone : goal.returns-clause-alone
+returns-clause-alone c =
+    let s = c.args.self.now in
+    let new : KeptStage = record { stage = Claimed; step = c.step-step.result } in
+    let was = ready_rank ((kept_at s.kept.items c.args.d).stage) c.requires.ready in
+    subst (λ kept. MovesAlone c.args.d (stages_of s.kept.items) (stages_of kept)) (sym c.put.ensures.kept)
+    (alone_put s.kept.items c.args.d new (omega (arith, c.requires.stage, c.requires.sound.all_kept)) (omega (arith, was)))

@@ -7,6 +7,9 @@ use Rattle.cf_core.specs.Keeping.Sound.{StayTakenBut, settled_view}
 use Rattle.cf_core.proofs.Keeping.Moves.{is_steady, links_within, link_free, link_room, link_same, link_sound}
 use Rattle.cf_core.proofs.Keeping.MarkLemmas.{other_within}
 use Rattle.cf_core.proofs.Keeping.Places.{IsSound-same, StayTakenBut-set, undated}
+use Rattle.cf_model.specs.Graphs.{MovesAlone, rank}
+use Rattle.cf_core.specs.Keeping.Treatment.{stages_of}
+use Rattle.cf_core.proofs.Keeping.Changes.{alone_put}
 use Rattle.cf_core.proofs.stages.Stages.link.Goals as goal
 
 pub put-requires-clause-linked : goal.put-requires-clause-linked
@@ -49,3 +52,11 @@ returns-clause-sound c =
     let open_target : dated_in s.kept.items c.args.j ≡ None = undated s.kept.items c.args.j (omega (arith, c.requires.target, c.requires.stage, h.all_kept)) c.requires.unsettled in
     IsSound-same plan t.kept.items _ t.marks _ t.ready _ t.links _ t.steps _ t.turns _ c.put.ensures.kept c.put.ensures.marks c.put.ensures.ready (c.put.ensures.links ∙ c.push.ensures) c.put.ensures.steps c.put.ensures.turns
     (link_sound plan s.kept.items s.marks s.ready s.links s.steps s.turns h c.args.d c.args.j c.requires.stage c.requires.target c.requires.claimed c.requires.composes open_target)
+
+pub returns-clause-alone : goal.returns-clause-alone
+returns-clause-alone c =
+    let s = c.args.self.now in
+    let new : KeptStage = record { stage = Linked c.args.j; step = s.steps + 1 } in
+    let was = ap rank c.requires.claimed in
+    subst (λ kept. MovesAlone c.args.d (stages_of s.kept.items) (stages_of kept)) (sym c.put.ensures.kept)
+    (alone_put s.kept.items c.args.d new (omega (arith, c.requires.stage, c.requires.sound.all_kept)) (omega (arith, was)))

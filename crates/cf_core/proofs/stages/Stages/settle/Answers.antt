@@ -3,9 +3,12 @@ use Rattle.cf_model.specs.declared.stage.Stage.TheVariants.{Settled}
 use Rattle.cf_core.specs.declared.kept.KeptStage.{KeptStage}
 use Rattle.cf_core.specs.Keeping.Cells.{KeptStages}
 use Rattle.cf_core.specs.Keeping.Links.{list_at}
-use Rattle.cf_core.specs.Keeping.Sound.{StayTaken, settled_view}
+use Rattle.cf_core.specs.Keeping.Sound.{StayTaken, kept_at, settled_view}
 use Rattle.cf_core.proofs.Keeping.Moves.{is_steady, links_within, settle_same, settle_sound}
 use Rattle.cf_core.proofs.Keeping.Places.{IsSound-same, StayTaken-set}
+use Rattle.cf_model.specs.Graphs.{MovesAlone}
+use Rattle.cf_core.specs.Keeping.Treatment.{stages_of}
+use Rattle.cf_core.proofs.Keeping.Changes.{alone_put, open_rank}
 use Rattle.cf_core.proofs.stages.Stages.settle.Goals as goal
 
 pub mark_after-requires-clause-linked : goal.mark_after-requires-clause-linked
@@ -53,3 +56,15 @@ returns-clause-sound c =
     (c.mark_after.ensures.steps ∙ ap (λ n. n + 1) u.steps)
     (c.mark_after.ensures.turns ∙ u.turns)
     (settle_sound plan s.kept.items s.marks s.ready s.links s.steps s.turns c.requires.sound c.args.d c.args.o c.requires.stage c.requires.unsettled)
+
+pub returns-clause-alone : goal.returns-clause-alone
+returns-clause-alone c =
+    let s = c.args.self.now in
+    let u = c.unready.ensures in
+    let new : KeptStage = record { stage = Settled c.args.o; step = s.steps + 1 } in
+    let items = ap (λ (k : KeptStages). k.items) (c.mark_after.ensures.kept ∙ c.settle.ensures)
+    ∙ ap (λ (k : KeptStages). set k.items c.args.d (record { stage = Settled c.args.o; step = c.unready.new.self.steps + 1 })) u.kept
+    ∙ ap (λ n. set s.kept.items c.args.d (record { stage = Settled c.args.o; step = n + 1 })) u.steps in
+    let below = open_rank ((kept_at s.kept.items c.args.d).stage) c.requires.unsettled in
+    subst (λ kept. MovesAlone c.args.d (stages_of s.kept.items) (stages_of kept)) (sym items)
+    (alone_put s.kept.items c.args.d new (omega (arith, c.requires.stage, c.requires.sound.all_kept)) below)
