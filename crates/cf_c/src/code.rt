@@ -62,6 +62,7 @@ pub enum Code {
 
 impl Code {
     /// The number that C sees.
+    #[inline(always)]
     pub fn number(self) -> u32
         ensures { result ≡ number_of self }
     {
@@ -140,6 +141,7 @@ pub(crate) fn open_code(fault: OpenFault) -> Code
 }
 
 /// The code of a fault for which a desk's call is refused.
+#[inline(always)]
 pub(crate) fn desk_code(fault: DeskFault) -> Code
     ensures { result ≡ desk_code fault }
 {

@@ -184,6 +184,7 @@ fn word_of(event: Result<Event, Code>) -> Result<u64, Code>
 }
 
 /// The event of a word, or that it is no event's.
+#[inline(always)]
 pub(crate) fn event_at(word: u64) -> Result<Event, Code>
     ensures event { result ≡ event_at word }
     ensures has_word { IfOk result (λ e. HasWord e word) }
