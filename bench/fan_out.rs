@@ -98,7 +98,7 @@ mod cf {
         pub fn cf_desk_open(plan: *mut Handle, callers: *mut Handle, n: usize, log: u16, calls: u16) -> u32;
         pub fn cf_desk_complete(caller: *mut Handle, stage: u16, value: Value, reply: *mut Reply) -> u32;
         pub fn cf_desk_claim(caller: *mut Handle, stage: u16, reply: *mut Reply) -> u32;
-        pub fn cf_desk_finish(caller: *mut Handle, stage: u16, answer: Answer, reply: *mut Reply) -> u32;
+        pub fn cf_desk_finish_with(caller: *mut Handle, stage: u16, answer: *const Answer, reply: *mut Reply) -> u32;
         pub fn cf_desk_read(caller: *mut Handle, stage: u16, outcome: *mut Outcome) -> u32;
         pub fn cf_desk_ready(caller: *mut Handle, stage: *mut u16) -> u32;
         pub fn cf_desk_seen(caller: *mut Handle, events: *mut u16) -> u32;
@@ -202,7 +202,7 @@ impl Caller {
                 value,
                 ..cf::Answer::default()
             };
-            must(unsafe { cf::cf_desk_finish(&mut self.0, stage, answer, &mut reply) });
+            must(unsafe { cf::cf_desk_finish_with(&mut self.0, stage, &answer, &mut reply) });
         }
     }
 

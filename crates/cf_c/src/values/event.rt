@@ -44,13 +44,13 @@ pub struct CfEvent {
 
 /// The word of an event.
 #[unsafe(no_mangle)]
-pub extern "C" fn cf_word_of(event: CfEvent, word: &mut u64) -> u32
-    ensures { GivesWord (event_of event) result word.old word.new }
+pub extern "C" fn cf_word_of_event(event: &CfEvent, word: &mut u64) -> u32
+    ensures { GivesWord (event_of event.entry.now) result word.old word.new }
 {
-    give(word_of(event_of(event)), word)
+    give(word_of(event_of(*event)), word)
 }
 
-/// The event of a word, of which `cf_word_of` tells this word again.
+/// The event of a word, of which `cf_word_of_event` tells this word again.
 #[unsafe(no_mangle)]
 #[tactic(auto, using(crate::proofs::EventsBack::back_given))]
 pub extern "C" fn cf_event_of(word: u64, event: &mut CfEvent) -> u32
