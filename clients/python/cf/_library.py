@@ -42,6 +42,10 @@ class CRecord(c.Structure):
                 ("stage", c.c_uint16), ("absent", CValue), ("outcome", COutcome), ("now", CNow)]
 
 
+class CDeskSizes(c.Structure):
+    _fields_ = [("log", c.c_uint16), ("calls", c.c_uint16), ("room", c.c_uint16), ("functions", c.c_uint32)]
+
+
 class CEvent(c.Structure):
     _fields_ = [("call", c.c_uint32), ("who", c.c_uint8), ("stage", c.c_uint16), ("value", CValue), ("code", c.c_uint32),
                 ("answer", CAnswer), ("now", c.c_uint32), ("form", c.c_uint32), ("sources", c.c_uint32), ("first", c.c_uint16),
@@ -63,6 +67,7 @@ def numbers(of: Sequence[int]) -> "c.Array[c.c_uint16]":
 _H, _R, _OF = c.POINTER(CHandle), c.POINTER(CReply), c.POINTER(c.c_uint16)
 _U8, _U16, _U32, _U64, _SIZE = c.c_uint8, c.c_uint16, c.c_uint32, c.c_uint64, c.c_size_t
 _U8_OUT, _U16_OUT, _U64_OUT = c.POINTER(c.c_uint8), c.POINTER(c.c_uint16), c.POINTER(c.c_uint64)
+_ANSWER = c.POINTER(CAnswer)
 _OUTCOME, _NOW, _TEXT = c.POINTER(COutcome), c.POINTER(CNow), [c.c_char_p, _SIZE, c.POINTER(_SIZE)]
 
 # The arguments of each call that the module makes.
@@ -77,7 +82,7 @@ CALLS = {
     "cf_fail": [_H, _U16, _U32, _R],
     "cf_cancel": [_H, _U16, _R],
     "cf_claim": [_H, _U8, _U16, _R],
-    "cf_finish": [_H, _U8, _U16, CAnswer, _R],
+    "cf_finish_with": [_H, _U8, _U16, _ANSWER, _R],
     "cf_tick": [_H, _U32, _R],
     "cf_attach": [_H, _U32, _OF, _SIZE, _U32, _R],
     "cf_get": [_H, _U16, _OUTCOME],
@@ -88,12 +93,12 @@ CALLS = {
     "cf_turns": [_H, _U64_OUT],
     "cf_restart": [_H],
     "cf_desk_open": [_H, _H, _SIZE, _U16, _U16],
-    "cf_desk_open_growing": [_H, _H, _SIZE, _U16, _U16, _U16, _U32],
+    "cf_desk_open_with": [_H, _H, _SIZE, c.POINTER(CDeskSizes)],
     "cf_desk_complete": [_H, _U16, CValue, _R],
     "cf_desk_fail": [_H, _U16, _U32, _R],
     "cf_desk_cancel": [_H, _U16, _R],
     "cf_desk_claim": [_H, _U16, _R],
-    "cf_desk_finish": [_H, _U16, CAnswer, _R],
+    "cf_desk_finish_with": [_H, _U16, _ANSWER, _R],
     "cf_desk_tick": [_H, _U32, _R],
     "cf_desk_attach": [_H, _U32, _OF, _SIZE, _U32, _R],
     "cf_desk_read": [_H, _U16, _OUTCOME],
@@ -113,11 +118,11 @@ CALLS = {
     "cf_closed_records": [_H, _U8, _U16_OUT],
     "cf_closed_record": [_H, _U8, _U16, c.POINTER(CRecord)],
     "cf_closed_graph": [_H],
-    "cf_word_of": [CEvent, _U64_OUT],
+    "cf_word_of_event": [c.POINTER(CEvent), _U64_OUT],
     "cf_event_of": [_U64, c.POINTER(CEvent)],
     "cf_apply": [_H, _U64, _R],
     "cf_run_script": [c.c_char_p, _SIZE, *_TEXT],
-    "cf_outcome_text": [COutcome, *_TEXT],
+    "cf_text_of_outcome": [_OUTCOME, *_TEXT],
     "cf_code_text": [_U32, *_TEXT],
 }
 

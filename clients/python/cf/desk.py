@@ -3,7 +3,7 @@ import ctypes as c
 import threading
 from typing import Iterable, Optional, Tuple
 
-from ._library import CHandle, CNow, COutcome, library
+from ._library import CDeskSizes, CHandle, CNow, COutcome, in_range, library
 from .closed import Closed
 from .graph import there, value_of
 from .handle import Calls, Handle
@@ -124,7 +124,8 @@ class Desk:
             plan.build()._call("cf_desk_open", handles, callers, log, calls)
         else:
             any_number = 2**16 if functions is None else functions
-            plan.build()._call("cf_desk_open_growing", handles, callers, log, calls, room, any_number)
+            sizes = CDeskSizes(in_range(log, 0xFFFF), in_range(calls, 0xFFFF), in_range(room, 0xFFFF), in_range(any_number, 0xFFFFFFFF))
+            plan.build()._call("cf_desk_open_with", handles, callers, c.byref(sizes))
         self.callers: Tuple[Caller, ...] = tuple(Caller(handle) for handle in handles)
         self._left = list(self.callers)
         self._closing: Optional[Handle] = None

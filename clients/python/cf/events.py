@@ -102,7 +102,7 @@ def word_of(event: Event) -> int:
     """The word of an event. `NO_WORD`: a caller isn't below 64, a stage or a function isn't below 4,096, or a stage that is attached
     doesn't fit its form."""
     word = c.c_uint64()
-    check(library.cf_word_of(_event_in(event), c.byref(word)))
+    check(library.cf_word_of_event(c.byref(_event_in(event)), c.byref(word)))
     return word.value
 
 

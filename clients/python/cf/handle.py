@@ -94,7 +94,7 @@ class Calls(Handle):
 
     def finish(self, stage: int, answer: Answer = None) -> FinishReply:
         """Finishes a claimed stage with what its function answered: a value, `Thrown(code)`, or `Link(stage)`."""
-        return finish_out(self._do("finish", *self._by(), stage, answer_in(answer)))
+        return finish_out(self._do("finish_with", *self._by(), stage, c.byref(answer_in(answer))))
 
     def tick(self, now: int) -> Optional[int]:
         """Lets it be this moment: how many limits fired, or None where it is past."""

@@ -40,7 +40,7 @@ def run_script(script: Union[bytes, str]) -> str:
 
 def outcome_text(outcome: Optional[Outcome]) -> str:
     """The text of an outcome, as reports have it."""
-    code, text = _told(lambda *room: library.cf_outcome_text(outcome_in(outcome), *room))
+    code, text = _told(lambda *room: library.cf_text_of_outcome(c.byref(outcome_in(outcome)), *room))
     check(code)
     return text
 

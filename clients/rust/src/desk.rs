@@ -114,7 +114,7 @@ impl Caller {
     }
 
     pub fn finish(&mut self, stage: u16, answer: Answer) -> Result<Finished, Refused> {
-        self.handle.tell(|h, reply| unsafe { sys::cf_desk_finish(h, stage, answer_in(answer), reply) }).map(finished_out)
+        self.handle.tell(|h, reply| unsafe { sys::cf_desk_finish_with(h, stage, &answer_in(answer), reply) }).map(finished_out)
     }
 
     /// Lets it be this moment, in the unit of the plan's limits.

@@ -35,7 +35,7 @@ impl Event {
     /// Its word. `NO_WORD` where its caller is above 63, a stage or a function above 4,095, or what it attaches doesn't fit its form.
     pub fn word(self) -> Result<u64, Refused> {
         let mut word = 0;
-        done(unsafe { sys::cf_word_of(event_in(self), &mut word) })?;
+        done(unsafe { sys::cf_word_of_event(&event_in(self), &mut word) })?;
         Ok(word)
     }
 

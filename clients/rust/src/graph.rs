@@ -31,7 +31,7 @@ impl Graph {
     }
 
     pub fn finish(&mut self, who: u8, stage: u16, answer: Answer) -> Result<Finished, Refused> {
-        self.0.tell(|h, reply| unsafe { sys::cf_finish(h, who, stage, answer_in(answer), reply) }).map(finished_out)
+        self.0.tell(|h, reply| unsafe { sys::cf_finish_with(h, who, stage, &answer_in(answer), reply) }).map(finished_out)
     }
 
     /// Lets it be this moment, in the unit of the plan's limits.

@@ -115,7 +115,10 @@ impl Plan {
         let (callers, n) = (handles.as_mut_ptr(), handles.len());
         self.0.call(|plan| match sizes.growth {
             None => unsafe { sys::cf_desk_open(plan, callers, n, sizes.log, sizes.calls) },
-            Some((room, functions)) => unsafe { sys::cf_desk_open_growing(plan, callers, n, sizes.log, sizes.calls, room, functions) },
+            Some((room, functions)) => {
+                let grown = sys::DeskSizes { log: sizes.log, calls: sizes.calls, room, functions };
+                unsafe { sys::cf_desk_open_with(plan, callers, n, &grown) }
+            }
         })?;
         Ok(opened(sizes, handles))
     }

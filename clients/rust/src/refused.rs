@@ -64,6 +64,7 @@ impl Refused {
     pub const NO_WORD: Refused = Refused(26);
     pub const BAD_SCRIPT: Refused = Refused(27);
     pub const STILL_SHARED: Refused = Refused(28);
+    pub const NOT_HELD: Refused = Refused(29);
 
     /// The number of the code in cf.h.
     pub fn code(self) -> u32 {

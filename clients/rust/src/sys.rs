@@ -97,6 +97,15 @@ pub struct Event {
     pub function: u32,
 }
 
+#[repr(C)]
+#[derive(Clone, Copy, Default)]
+pub struct DeskSizes {
+    pub log: u16,
+    pub calls: u16,
+    pub room: u16,
+    pub functions: u32,
+}
+
 extern "C" {
     pub fn cf_free(h: *mut Handle);
     pub fn cf_builder_new(builder: *mut Handle, stages: u16, edges: u16) -> u32;
@@ -108,7 +117,7 @@ extern "C" {
     pub fn cf_fail(graph: *mut Handle, stage: u16, code: u32, reply: *mut Reply) -> u32;
     pub fn cf_cancel(graph: *mut Handle, stage: u16, reply: *mut Reply) -> u32;
     pub fn cf_claim(graph: *mut Handle, who: u8, stage: u16, reply: *mut Reply) -> u32;
-    pub fn cf_finish(graph: *mut Handle, who: u8, stage: u16, answer: Answer, reply: *mut Reply) -> u32;
+    pub fn cf_finish_with(graph: *mut Handle, who: u8, stage: u16, answer: *const Answer, reply: *mut Reply) -> u32;
     pub fn cf_tick(graph: *mut Handle, now: u32, reply: *mut Reply) -> u32;
     pub fn cf_attach(graph: *mut Handle, form: u32, of: *const u16, n: usize, function: u32, reply: *mut Reply) -> u32;
     pub fn cf_get(graph: *mut Handle, stage: u16, outcome: *mut Outcome) -> u32;
@@ -119,12 +128,12 @@ extern "C" {
     pub fn cf_turns(graph: *mut Handle, turns: *mut u64) -> u32;
     pub fn cf_restart(graph: *mut Handle) -> u32;
     pub fn cf_desk_open(plan: *mut Handle, callers: *mut Handle, n: usize, log: u16, calls: u16) -> u32;
-    pub fn cf_desk_open_growing(plan: *mut Handle, callers: *mut Handle, n: usize, log: u16, calls: u16, room: u16, functions: u32) -> u32;
+    pub fn cf_desk_open_with(plan: *mut Handle, callers: *mut Handle, n: usize, sizes: *const DeskSizes) -> u32;
     pub fn cf_desk_complete(caller: *mut Handle, stage: u16, value: Value, reply: *mut Reply) -> u32;
     pub fn cf_desk_fail(caller: *mut Handle, stage: u16, code: u32, reply: *mut Reply) -> u32;
     pub fn cf_desk_cancel(caller: *mut Handle, stage: u16, reply: *mut Reply) -> u32;
     pub fn cf_desk_claim(caller: *mut Handle, stage: u16, reply: *mut Reply) -> u32;
-    pub fn cf_desk_finish(caller: *mut Handle, stage: u16, answer: Answer, reply: *mut Reply) -> u32;
+    pub fn cf_desk_finish_with(caller: *mut Handle, stage: u16, answer: *const Answer, reply: *mut Reply) -> u32;
     pub fn cf_desk_tick(caller: *mut Handle, now: u32, reply: *mut Reply) -> u32;
     pub fn cf_desk_attach(caller: *mut Handle, form: u32, of: *const u16, n: usize, function: u32, reply: *mut Reply) -> u32;
     pub fn cf_desk_read(caller: *mut Handle, stage: u16, outcome: *mut Outcome) -> u32;
@@ -144,10 +153,10 @@ extern "C" {
     pub fn cf_closed_records(closed: *mut Handle, caller: u8, records: *mut u16) -> u32;
     pub fn cf_closed_record(closed: *mut Handle, caller: u8, at: u16, record: *mut Record) -> u32;
     pub fn cf_closed_graph(closed: *mut Handle) -> u32;
-    pub fn cf_word_of(event: Event, word: *mut u64) -> u32;
+    pub fn cf_word_of_event(event: *const Event, word: *mut u64) -> u32;
     pub fn cf_event_of(word: u64, event: *mut Event) -> u32;
     pub fn cf_apply(graph: *mut Handle, word: u64, reply: *mut Reply) -> u32;
     pub fn cf_run_script(text: *const u8, n: usize, report: *mut u8, room: usize, length: *mut usize) -> u32;
-    pub fn cf_outcome_text(outcome: Outcome, text: *mut u8, room: usize, length: *mut usize) -> u32;
+    pub fn cf_text_of_outcome(outcome: *const Outcome, text: *mut u8, room: usize, length: *mut usize) -> u32;
     pub fn cf_code_text(code: u32, text: *mut u8, room: usize, length: *mut usize) -> u32;
 }

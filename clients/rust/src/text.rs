@@ -37,7 +37,7 @@ pub fn run_script(script: &[u8]) -> Result<String, ScriptFault> {
 
 /// The text of an outcome, as reports have it.
 pub fn outcome_text(outcome: Option<Outcome>) -> String {
-    told(|text, room, length| unsafe { sys::cf_outcome_text(outcome_in(outcome), text, room, length) }).1
+    told(|text, room, length| unsafe { sys::cf_text_of_outcome(&outcome_in(outcome), text, room, length) }).1
 }
 
 /// The code of a call, and the text that it tells. It is made again where that needs more room.

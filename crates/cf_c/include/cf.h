@@ -18,6 +18,8 @@
  * code that is left as it was, and so is what stands behind the handle, but as cf_build says, and a desk's caller may have looked. Every
  * call on an empty handle answers CF_EMPTY, and one on a handle of another kind CF_WRONG_KIND; neither changes anything.
  *
+ * A function in this header stands for the call before it, which takes by pointer what the function takes by value.
+ *
  * Building and opening take memory, and so do cf_close_begin and cf_run_script; no other call takes any. */
 #ifndef CF_H
 #define CF_H
@@ -61,6 +63,7 @@ typedef enum {
   CF_NO_WORD = 26,            /* the word is no event's, or the event has no word */
   CF_BAD_SCRIPT = 27,         /* the script has a fault, whose line stands in the report */
   CF_STILL_SHARED = 28,       /* all callers were given back, and the desk is held all the same */
+  CF_NOT_HELD = 29,           /* the caller hasn't claimed the stage that its task holds */
   CF_NULL = 255               /* a pointer is null that may not be; nothing was done */
 } cf_code;
 
@@ -131,6 +134,11 @@ enum { CF_FIRED = 0, CF_PAST = 1 };
 enum { CF_AT = 0, CF_STAGES_FULL = 1 };
 typedef struct { uint32_t answer; uint32_t number; cf_args args; } cf_reply;
 
+/* What a caller has to do: where `held` isn't 0, the stage that it has claimed, with the number of its function and what that is to be
+ * called with. `answer` is for what the function answered; cf_next and cf_desk_next leave it alone. `finished` is what the finish in the
+ * last step was answered: CF_WON, also where nothing was held, or CF_LATE. All bytes 0 is a task that holds nothing. */
+typedef struct { uint32_t held; uint16_t stage; uint16_t function; cf_args args; cf_answer answer; uint32_t finished; } cf_task;
+
 /* ---- Any handle ---- */
 
 /* Frees what stands behind a handle, and leaves it empty. A null pointer is left alone. A plan may be freed before its graphs and
@@ -172,7 +180,23 @@ uint32_t cf_cancel(cf_handle *graph, uint16_t stage, cf_reply *reply);
  * gave what its function is for, until it is claimed or settled. Stages whose functions aren't called, such as anyOf, or apply of a fault,
  * need no caller: each call is answered as if all that follows from the calls before it had been settled at once. CF_NO_STAGE. */
 uint32_t cf_claim(cf_handle *graph, uint8_t who, uint16_t stage, cf_reply *reply);
-uint32_t cf_finish(cf_handle *graph, uint8_t who, uint16_t stage, cf_answer answer, cf_reply *reply);
+uint32_t cf_finish_with(cf_handle *graph, uint8_t who, uint16_t stage, const cf_answer *answer, cf_reply *reply);
+static inline uint32_t cf_finish(cf_handle *graph, uint8_t who, uint16_t stage, cf_answer answer, cf_reply *reply) {
+  return cf_finish_with(graph, who, stage, &answer, reply);
+}
+
+/* One step of a caller's loop: finishes the stage that the task holds with the answer in it, claims the lowest ready stage, and writes it
+ * into the task. CF_NOTHING where none is ready then: the task holds nothing, and tells how the finish went. CF_NO_STAGE where the task's
+ * stage isn't there, and CF_NOT_HELD where this caller hasn't claimed it, or has finished it already: nothing is changed then, the task
+ * neither. */
+uint32_t cf_next(cf_handle *graph, uint8_t who, cf_task *task);
+
+/* The whole loop for the caller `who`: as long as a stage is ready it claims the lowest, calls the function that stands at its number among
+ * these n, with the context, which may be null, and the task, and finishes it with the answer, which is CF_GIVE of CF_NIL unless the
+ * function writes it. `calls` tells how many were called, also with a code of cf_next or CF_FUNCTIONS. CF_FUNCTIONS where the function of a
+ * stage isn't there: before any is called, and else once it was attached by a function that was called; its stage isn't claimed. */
+typedef void (*cf_stage_function)(void *context, const cf_task *task, cf_answer *answer);
+uint32_t cf_work(cf_handle *graph, uint8_t who, const cf_stage_function *functions, size_t n, void *context, uint32_t *calls);
 
 /* Lets it be this moment, in the unit of the plan's limits; limits fire by this alone. A graph is opened, and starts again, at 0. */
 uint32_t cf_tick(cf_handle *graph, uint32_t now, cf_reply *reply);
@@ -203,8 +227,14 @@ uint32_t cf_desk_open(cf_handle *plan, cf_handle *callers, size_t n, uint16_t lo
 
 /* The same with room for so many stages that callers attach later, whose functions have numbers below `functions`, and at most 4,095;
  * those of the plan have to be below it, too. After CF_CALLS: CF_ROOM, CF_FUNCTIONS, CF_NO_MEMORY, the first that holds in this order. */
-uint32_t cf_desk_open_growing(cf_handle *plan, cf_handle *callers, size_t n, uint16_t log, uint16_t calls, uint16_t room,
-                              uint32_t functions);
+typedef struct { uint16_t log; uint16_t calls; uint16_t room; uint32_t functions; } cf_desk_sizes;
+uint32_t cf_desk_open_with(cf_handle *plan, cf_handle *callers, size_t n, const cf_desk_sizes *sizes);
+static inline uint32_t cf_desk_open_growing(cf_handle *plan, cf_handle *callers, size_t n, uint16_t log, uint16_t calls, uint16_t room,
+                                            uint32_t functions) {
+  cf_desk_sizes sizes;
+  sizes.log = log, sizes.calls = calls, sizes.room = room, sizes.functions = functions;
+  return cf_desk_open_with(plan, callers, n, &sizes);
+}
 
 /* The calls of a graph, done by the caller behind the handle and told to all: each has a place in the desk's one history, and its reply
  * is the graph's after the events before that place. A stage that another caller has attached is there for this one once it has looked,
@@ -215,7 +245,10 @@ uint32_t cf_desk_complete(cf_handle *caller, uint16_t stage, cf_value value, cf_
 uint32_t cf_desk_fail(cf_handle *caller, uint16_t stage, uint32_t code, cf_reply *reply);
 uint32_t cf_desk_cancel(cf_handle *caller, uint16_t stage, cf_reply *reply);
 uint32_t cf_desk_claim(cf_handle *caller, uint16_t stage, cf_reply *reply);
-uint32_t cf_desk_finish(cf_handle *caller, uint16_t stage, cf_answer answer, cf_reply *reply);
+uint32_t cf_desk_finish_with(cf_handle *caller, uint16_t stage, const cf_answer *answer, cf_reply *reply);
+static inline uint32_t cf_desk_finish(cf_handle *caller, uint16_t stage, cf_answer answer, cf_reply *reply) {
+  return cf_desk_finish_with(caller, stage, &answer, reply);
+}
 uint32_t cf_desk_tick(cf_handle *caller, uint32_t now, cf_reply *reply);
 uint32_t cf_desk_attach(cf_handle *caller, uint32_t form, const uint16_t *of, size_t n, uint32_t function, cf_reply *reply);
 
@@ -291,7 +324,10 @@ typedef struct {
 /* The word of an event, of which no two events have the same and which is never 0, and the event of a word. An event has a word where
  * its caller is at most 63, its stages and its function at most 4,095, and what it attaches fits its form. CF_NO_SUCH_NUMBER of a call
  * or form, CF_WRONG_SOURCE_COUNT where sources is above 2, CF_NO_WORD. */
-uint32_t cf_word_of(cf_event event, uint64_t *word);
+uint32_t cf_word_of_event(const cf_event *event, uint64_t *word);
+static inline uint32_t cf_word_of(cf_event event, uint64_t *word) {
+  return cf_word_of_event(&event, word);
+}
 uint32_t cf_event_of(uint64_t word, cf_event *event);
 
 /* Does the event of a word to a graph, and gives its reply. CF_NO_WORD, CF_NO_STAGE, CF_BAD_ATTACH. */
@@ -305,7 +341,10 @@ uint32_t cf_run_script(const uint8_t *text, size_t n, uint8_t *report, size_t ro
 
 /* The text of an outcome, as reports have it ("pending", "value 3", "fault timeout raw"), and the name of a code ("Ok", "NoStage"), in the
  * same way; neither has more than 31 bytes. A kind above CF_BAD_ANSWER is taken for that. CF_NO_SUCH_NUMBER where a number is no code's. */
-uint32_t cf_outcome_text(cf_outcome outcome, uint8_t *text, size_t room, size_t *length);
+uint32_t cf_text_of_outcome(const cf_outcome *outcome, uint8_t *text, size_t room, size_t *length);
+static inline uint32_t cf_outcome_text(cf_outcome outcome, uint8_t *text, size_t room, size_t *length) {
+  return cf_text_of_outcome(&outcome, text, room, length);
+}
 uint32_t cf_code_text(uint32_t code, uint8_t *text, size_t room, size_t *length);
 
 #ifdef __cplusplus

@@ -2,22 +2,25 @@
 """Writes the tests of null pointers that stand in front of the proved exports, in C.
 
     nulls.py HEADER            the C text
-    nulls.py --names HEADER    the names of the calls, a line each
+    nulls.py --names HEADER    the names of the calls that are proved, a line each
+    nulls.py --all HEADER      those of all calls: work.c, beside this, has the others, which test their pointers themselves
 
-The header is the only table: each call that it declares gets a function of its name, which tests the pointers and calls the proved
+The header is the only table: a function with a body, `static inline`, is passed over, and each call that it declares gets a function of its name, which tests the pointers and calls the proved
 export under the name proved_NAME. A pointer that a `size_t` follows may be null where that is 0; no other may be. Where one is null the
 call answers CF_NULL, and a call without an answer does nothing. It ends with status 1 where a declaration isn't understood.
 """
 import re
 import sys
+from pathlib import Path
 
 DECLARED = re.compile(r"^(uint32_t|void) (cf_[a-z0-9_]+)\(([^)]*)\);", re.M)
+INLINE = re.compile(r"^static inline .*?^\}$", re.M | re.S)
 PARAMETER = re.compile(r"(const )?([a-z0-9_]+) (\*?)([a-z0-9_]+)$")
 
 
 def declarations(header):
     """Of each call what it gives, its name, and its parameters as (text, type, whether it's a pointer, name)."""
-    text = re.sub(r"/\*.*?\*/", "", header, flags=re.S)
+    text = INLINE.sub("", re.sub(r"/\*.*?\*/", "", header, flags=re.S))
     found = []
     for gives, name, inside in DECLARED.findall(text):
         parameters = []
@@ -31,6 +34,16 @@ def declarations(header):
     if not found or mentioned != len(found):
         raise SystemExit(f"nulls.py: {mentioned} calls are mentioned, and {len(found)} understood")
     return found
+
+
+def in_c():
+    """The calls that are written in C."""
+    text = (Path(__file__).resolve().parent / "work.c").read_text(encoding="utf-8")
+    return set(re.findall(r"^\w+ (cf_[a-z0-9_]+)\(", text, re.M))
+
+
+def proved(header):
+    return [call for call in declarations(header) if call[1] not in in_c()]
 
 
 def tests(parameters):
@@ -53,10 +66,10 @@ def guard(gives, name, parameters):
 
 
 def main():
-    names_only = sys.argv[1:2] == ["--names"]
+    option = sys.argv[1]
     with open(sys.argv[-1], encoding="utf-8") as file:
-        found = declarations(file.read())
-    if names_only:
+        found = (declarations if option == "--all" else proved)(file.read())
+    if option in ("--names", "--all"):
         print("\n".join(name for _, name, _ in found))
     else:
         print('#include "cf.h"\n')

@@ -11,7 +11,7 @@ import sys
 from pathlib import Path
 
 sys.dont_write_bytecode = True
-from nulls import declarations  # noqa: E402
+from nulls import proved  # noqa: E402
 
 HERE = Path(__file__).resolve().parent
 CRATES = HERE.parents[1]
@@ -38,6 +38,8 @@ def of_c(kind):
         return ["const " + of_c(kind[2:-1])[0] + " *", "size_t"]
     if kind.startswith("&mut "):
         return [of_c(kind[5:])[0] + " *"]
+    if kind.startswith("&"):
+        return ["const " + of_c(kind[1:])[0] + " *"]
     return [NUMBERS.get(kind) or snake(kind)]
 
 
@@ -82,7 +84,7 @@ def main():
         taken = [word for field, kind in parameters if kind.strip() != "Global" for word in of_c(kind)]
         exports[name] = (NUMBERS.get(gives, "void"), taken)
     declared = {}
-    for gives, name, said_of in declarations(HEADER.read_text(encoding="utf-8")):
+    for gives, name, said_of in proved(HEADER.read_text(encoding="utf-8")):
         declared[name] = (gives, [words(kind, is_pointer, said) for said, kind, is_pointer, _ in said_of])
     for name in sorted(exports.keys() | declared.keys()):
         if exports.get(name) != declared.get(name):

@@ -13,5 +13,6 @@ pub mod Records
 pub mod Replies
 pub mod Scripts
 pub mod Seals
+pub mod Tasks
 pub mod Texts
 pub mod Values

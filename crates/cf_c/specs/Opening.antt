@@ -13,6 +13,7 @@ use Rattle.cf_c.specs.Codes.{number_of, open_code}
 use Rattle.cf_c.specs.declared.handle.object.Caller.{Caller as Caller'}
 use Rattle.cf_c.specs.declared.code.Code.{Code}
 use Rattle.cf_c.specs.declared.code.Code.TheVariants.{Empty, Full, WrongKind}
+use Rattle.cf_c.specs.declared.desk.opening.CfDeskSizes.{CfDeskSizes}
 use Rattle.cf_c.specs.declared.handle.CfHandle.{CfHandle}
 use Rattle.cf_c.specs.declared.handle.object.Object.{Object}
 use Rattle.cf_c.specs.declared.handle.object.Object.TheVariants.{Caller, Plan}
@@ -81,6 +82,10 @@ growing_of room functions p callers = record { plan = with_room p room; callers 
 
 abbrev pub is_due_to_grow : ℕ → ℕ → ℕ → ℕ → Planned → ℕ → OpenFault → Type 0
 is_due_to_grow log calls room functions p callers = IsDueToGrow p.stages callers log calls room functions
+
+-- the same with room, by the sizes that C gives
+abbrev pub GrowingDeskOf : CfDeskSizes → Object → List CfHandle → Result (Unit {0}) Code → List CfHandle → Type 0
+GrowingDeskOf n = DeskOf (growing_of n.room n.functions) (is_due_to_grow n.log n.calls n.room n.functions) n.log n.calls
 
 -- the plan stays behind its handle, and C gets the code
 pub record IsAskedFor (Opens : Object → List CfHandle → Result (Unit {0}) Code → List CfHandle → Type 0) (plan : Object) (kept : Option Object) (code : ℕ) (old new : List CfHandle) : Type 0 where

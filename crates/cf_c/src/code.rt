@@ -58,10 +58,13 @@ pub enum Code {
     BadScript,
     /// 28: all callers of a desk were given back, and it is held all the same.
     StillShared,
+    /// 29: the caller hasn't claimed the stage that its task holds.
+    NotHeld,
 }
 
 impl Code {
     /// The number that C sees.
+    #[inline(always)]
     pub fn number(self) -> u32
         ensures { result ≡ number_of self }
     {
@@ -103,6 +106,7 @@ pub(crate) fn text_of(number: u32) -> Option<&'static str>
         26 => Some("NoWord"),
         27 => Some("BadScript"),
         28 => Some("StillShared"),
+        29 => Some("NotHeld"),
         255 => Some("Null"),
         _ => None,
     }
@@ -140,6 +144,7 @@ pub(crate) fn open_code(fault: OpenFault) -> Code
 }
 
 /// The code of a fault for which a desk's call is refused.
+#[inline(always)]
 pub(crate) fn desk_code(fault: DeskFault) -> Code
     ensures { result ≡ desk_code fault }
 {

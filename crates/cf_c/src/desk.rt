@@ -79,16 +79,16 @@ pub extern "C" fn cf_desk_claim(
 
 /// Finishes a stage that the caller has claimed.
 #[unsafe(no_mangle)]
-pub extern "C" fn cf_desk_finish(
+pub extern "C" fn cf_desk_finish_with(
     alloc: Global,
     h: &mut CfHandle,
     stage: u16,
-    answer: CfAnswer,
+    answer: &CfAnswer,
     reply: &mut CfReply,
 ) -> u32
-    ensures { Tells (ByCaller (Acts (Ok (Finishes stage (answer_of answer))))) h.old.inner.held h.new.inner.held result reply.old reply.new }
+    ensures { Tells (ByCaller (Acts (Ok (Finishes stage (answer_of answer.now))))) h.old.inner.held h.new.inner.held result reply.old reply.new }
 {
-    let call = Call::Finish(stage, answer_of(answer));
+    let call = Call::Finish(stage, answer_of(*answer));
     tell!(alloc, h, reply, held => caller::act(&mut held, Ok(call)))
 }
 

@@ -6,9 +6,11 @@ ghost use Rattle.cf_c.specs.Building.{GraphOf, Opens};
 ghost use Rattle.cf_c.specs.EventWords.{event_at};
 ghost use Rattle.cf_c.specs.Graphs.{Answers, Asked, Restarts, RestsAlways, RestsAt, RestsAtReady, function_told, now_told, outcome_told, ready_told, stages_told, turns_told};
 ghost use Rattle.cf_c.specs.Plans.{attach_event};
+ghost use Rattle.cf_c.specs.Tasks.{Nexts, Steps};
 ghost use Rattle.cf_c.specs.Values.{answer_of, value_of};
 
 mod asking;
+mod stepping;
 
 use crate::code::{Code, plan_code};
 use crate::handle::CfHandle;
@@ -16,6 +18,7 @@ use crate::handle::object::Object;
 use crate::handle::with_handle::{ask, code_of, fill, give, tell};
 use crate::values::attaching::attach_event;
 use crate::values::event::event_at;
+use crate::values::task::CfTask;
 use crate::values::{CfAnswer, CfNow, CfOutcome, CfReply, CfValue, answer_of, value_of};
 use cf_core::Graph;
 use cf_model::Event;
@@ -107,19 +110,27 @@ pub extern "C" fn cf_claim(
 
 /// Finishes a stage that a caller has claimed.
 #[unsafe(no_mangle)]
-pub extern "C" fn cf_finish(
+pub extern "C" fn cf_finish_with(
     alloc: Global,
     h: &mut CfHandle,
     who: u8,
     stage: u16,
-    answer: CfAnswer,
+    answer: &CfAnswer,
     reply: &mut CfReply,
 ) -> u32
-    ensures { Tells (Answers (Ok (Finishes who stage (answer_of answer)))) h.old.inner.held h.new.inner.held result reply.old reply.new }
+    ensures { Tells (Answers (Ok (Finishes who stage (answer_of answer.now)))) h.old.inner.held h.new.inner.held result reply.old reply.new }
 {
-    let answer = answer_of(answer);
+    let answer = answer_of(*answer);
     let event = Event::Finish { who, stage, answer };
     tell!(alloc, h, reply, held => asking::answer(&mut held, Ok(event)))
+}
+
+/// Finishes what a task holds with the answer in it, and gives it the lowest ready stage, claimed.
+#[unsafe(no_mangle)]
+pub extern "C" fn cf_next(alloc: Global, h: &mut CfHandle, who: u8, task: &mut CfTask) -> u32
+    ensures { Nexts (Steps who) h.old.inner.held h.new.inner.held result task.old task.new }
+{
+    ask!(alloc, h, held => stepping::step(&mut held, who, task))
 }
 
 /// Lets it be this moment.

@@ -21,6 +21,7 @@ pub struct CfHandle {
 }
 
 impl CfHandle {
+    #[inline(always)]
     fn empty(alloc: Global) -> CfHandle
         ensures { result.inner.held ≡ None }
     {
@@ -31,6 +32,7 @@ impl CfHandle {
     }
 
     /// Takes out what stands behind it.
+    #[inline(always)]
     pub(crate) fn take(&mut self, alloc: Global) -> Option<Box<Object>>
         ensures was { MatchOption result (self.old.inner.held ≡ None) (λ held. self.old.inner.held ≡ Some held.value) }
         ensures empty { self.new.inner.held ≡ None }
@@ -43,6 +45,7 @@ impl CfHandle {
     }
 
     /// Whether something stands behind it.
+    #[inline(always)]
     pub(crate) fn is_full(&self) -> bool
         ensures { result ≡ is_full self.now.inner.held }
     {
@@ -50,6 +53,7 @@ impl CfHandle {
     }
 
     /// Puts something behind it. What stood there is never freed.
+    #[inline(always)]
     pub(crate) fn put(&mut self, held: Box<Object>)
         ensures { self.new.inner.held ≡ Some held.value }
     {

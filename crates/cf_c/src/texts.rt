@@ -36,10 +36,14 @@ pub extern "C" fn cf_run_script(
 /// The text of an outcome, as reports have it: "pending" where there is none, and else at most 31 bytes. A kind above 5
 /// stands for 5.
 #[unsafe(no_mangle)]
-pub extern "C" fn cf_outcome_text(outcome: CfOutcome, text: &mut [u8], length: &mut usize) -> u32
-    ensures { TellsText (Some (settled_text (outcome_of outcome))) result text.old text.new length.old length.new }
+pub extern "C" fn cf_text_of_outcome(
+    outcome: &CfOutcome,
+    text: &mut [u8],
+    length: &mut usize,
+) -> u32
+    ensures { TellsText (Some (settled_text (outcome_of outcome.now))) result text.old text.new length.old length.new }
 {
-    give_text(settled_text(outcome_of(outcome)).as_bytes(), text, length);
+    give_text(settled_text(outcome_of(*outcome)).as_bytes(), text, length);
     0
 }
 

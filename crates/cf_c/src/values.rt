@@ -6,6 +6,7 @@ ghost use Rattle.cf_c.specs.Values.{answer_of, answer_with, args_with, as_answer
 
 pub(crate) mod attaching;
 pub(crate) mod event;
+pub(crate) mod task;
 
 use cf_model::{Attached, Claimed, Finished, Reply, Ticked};
 use cf_outcome::{Cause, Now, Outcome, Value};
@@ -80,6 +81,7 @@ pub struct CfReply {
 const NIL: CfValue = CfValue { kind: 0, number: 0 };
 
 /// The value that C means.
+#[inline(always)]
 pub(crate) fn value_of(v: CfValue) -> Value
     ensures { result ≡ value_of v }
 {
@@ -91,6 +93,7 @@ pub(crate) fn value_of(v: CfValue) -> Value
 }
 
 /// The answer that C means.
+#[inline(always)]
 pub(crate) fn answer_of(a: CfAnswer) -> Answer
     ensures { result ≡ answer_of a }
 {
@@ -102,6 +105,7 @@ pub(crate) fn answer_of(a: CfAnswer) -> Answer
 }
 
 /// An answer for C.
+#[inline(always)]
 pub(crate) fn as_answer(a: Answer) -> CfAnswer
     ensures { result ≡ as_answer a }
 {
@@ -113,6 +117,7 @@ pub(crate) fn as_answer(a: Answer) -> CfAnswer
 }
 
 /// An answer with these parts.
+#[inline(always)]
 fn answer_with(kind: u32, code: u32, value: Value, stage: u16) -> CfAnswer
     ensures { result ≡ answer_with kind code value stage }
 {
@@ -125,6 +130,7 @@ fn answer_with(kind: u32, code: u32, value: Value, stage: u16) -> CfAnswer
 }
 
 /// A value for C.
+#[inline(always)]
 pub(crate) fn as_value(v: Value) -> CfValue
     ensures { result ≡ as_value v }
 {
@@ -135,6 +141,7 @@ pub(crate) fn as_value(v: Value) -> CfValue
 }
 
 /// A cause for C: its kind and its code.
+#[inline(always)]
 fn fault(cause: Cause, wrapped: bool) -> CfOutcome
     ensures { result ≡ as_fault cause wrapped }
 {
@@ -153,6 +160,7 @@ fn fault(cause: Cause, wrapped: bool) -> CfOutcome
 }
 
 /// An outcome, or that there is none, for C.
+#[inline(always)]
 pub(crate) fn as_outcome(o: Option<Outcome>) -> CfOutcome
     ensures { result ≡ as_outcome o }
 {
@@ -164,6 +172,7 @@ pub(crate) fn as_outcome(o: Option<Outcome>) -> CfOutcome
 }
 
 /// The outcome that C means, or that there is none.
+#[inline(always)]
 pub(crate) fn outcome_of(o: CfOutcome) -> Option<Outcome>
     ensures { result ≡ outcome_of o }
 {
@@ -178,6 +187,7 @@ pub(crate) fn outcome_of(o: CfOutcome) -> Option<Outcome>
 }
 
 /// The cause that C means.
+#[inline(always)]
 fn cause_of(kind: u32, code: u32) -> Cause
     ensures { result ≡ cause_of kind code }
 {
@@ -190,6 +200,7 @@ fn cause_of(kind: u32, code: u32) -> Cause
 }
 
 /// What is no fault, for C.
+#[inline(always)]
 fn no_fault(kind: u32, value: CfValue) -> CfOutcome
     ensures { result ≡ no_fault kind value }
 {
@@ -202,6 +213,7 @@ fn no_fault(kind: u32, value: CfValue) -> CfOutcome
 }
 
 /// What a function is called with, for C.
+#[inline(always)]
 pub(crate) fn as_args(args: Args) -> CfArgs
     ensures { result ≡ as_args args }
 {
@@ -214,6 +226,7 @@ pub(crate) fn as_args(args: Args) -> CfArgs
 }
 
 /// Arguments for C.
+#[inline(always)]
 fn args_with(kind: u32, first: CfValue, second: CfValue, got: Option<Outcome>) -> CfArgs
     ensures { result ≡ args_with kind first second got }
 {
@@ -226,6 +239,7 @@ fn args_with(kind: u32, first: CfValue, second: CfValue, got: Option<Outcome>) -
 }
 
 /// What is told of a stage at present, for C.
+#[inline(always)]
 pub(crate) fn as_now(now: Now) -> CfNow
     ensures { result ≡ as_now now }
 {
@@ -238,12 +252,14 @@ pub(crate) fn as_now(now: Now) -> CfNow
 }
 
 /// What is told at present, for C.
+#[inline(always)]
 fn now_with(kind: u32, outcome: CfOutcome) -> CfNow
     ensures { result ≡ record { kind = kind; outcome = outcome } }
 {
     CfNow { kind, outcome }
 }
 
+#[inline(always)]
 fn reply_with(answer: u32, number: u16, args: Args) -> CfReply
     ensures { result ≡ reply_with answer number args }
 {
@@ -255,6 +271,7 @@ fn reply_with(answer: u32, number: u16, args: Args) -> CfReply
 }
 
 /// No reply: all of it is 0.
+#[inline(always)]
 pub(crate) fn no_reply() -> CfReply
     ensures { result ≡ reply_with 0 0 NoArgs }
 {
@@ -262,6 +279,7 @@ pub(crate) fn no_reply() -> CfReply
 }
 
 /// A reply for C.
+#[inline(always)]
 pub(crate) fn as_reply(reply: Reply) -> CfReply
     ensures { result ≡ as_reply reply }
 {

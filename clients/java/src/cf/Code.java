@@ -33,6 +33,7 @@ public enum Code {
     NO_WORD(26),
     BAD_SCRIPT(27),
     STILL_SHARED(28),
+    NOT_HELD(29),
     NULL(255);
 
     private final int number;

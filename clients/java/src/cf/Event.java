@@ -2,6 +2,7 @@ package cf;
 
 import java.util.List;
 import jdk.incubator.foreign.MemoryAccess;
+import jdk.incubator.foreign.MemoryAddress;
 import jdk.incubator.foreign.MemorySegment;
 import jdk.incubator.foreign.ResourceScope;
 
@@ -27,8 +28,9 @@ public sealed interface Event {
     /** Its word. NO_WORD: its caller is above 63, a stage or a function above 4,095, or what it attaches doesn't fit its form. */
     default long word() {
         try (ResourceScope scope = ResourceScope.newConfinedScope()) {
-            MemorySegment event = MemorySegment.allocateNative(Library.EVENT, scope);
-            write(event, this);
+            MemorySegment memory = MemorySegment.allocateNative(Library.EVENT, scope);
+            write(memory, this);
+            MemoryAddress event = memory.address();
             return Text.told(scope, 8, told -> (int) Library.WORD_OF.invokeExact(event, told)).longNumber();
         }
     }

@@ -91,8 +91,8 @@ final class Handle implements AutoCloseable {
         return value;
     }
 
-    MemorySegment answer(Answer given) {
+    MemoryAddress answer(Answer given) {
         Given.answer(answer, given);
-        return answer;
+        return answer.address();
     }
 }

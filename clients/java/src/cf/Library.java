@@ -25,7 +25,6 @@ final class Library {
     private static final MemoryLayout VALUE = MemoryLayout.structLayout(C_INT, C_INT);
     private static final MemoryLayout ANSWER =
             MemoryLayout.structLayout(C_INT, C_INT, VALUE, C_SHORT, MemoryLayout.paddingLayout(16));
-    private static final MemoryLayout OUTCOME = MemoryLayout.structLayout(C_INT, C_INT, C_INT, VALUE);
     static final MemoryLayout EVENT =
             MemoryLayout.structLayout(
                     C_INT, C_CHAR, MemoryLayout.paddingLayout(8), C_SHORT, VALUE, C_INT, ANSWER, C_INT, C_INT, C_INT, C_SHORT, C_SHORT, C_INT);
@@ -42,7 +41,7 @@ final class Library {
     static final MethodHandle FAIL = call("cf_fail", C_POINTER, C_SHORT, C_INT, C_POINTER);
     static final MethodHandle CANCEL = call("cf_cancel", C_POINTER, C_SHORT, C_POINTER);
     static final MethodHandle CLAIM = call("cf_claim", C_POINTER, C_CHAR, C_SHORT, C_POINTER);
-    static final MethodHandle FINISH = call("cf_finish", C_POINTER, C_CHAR, C_SHORT, ANSWER, C_POINTER);
+    static final MethodHandle FINISH = call("cf_finish_with", C_POINTER, C_CHAR, C_SHORT, C_POINTER, C_POINTER);
     static final MethodHandle TICK = call("cf_tick", C_POINTER, C_INT, C_POINTER);
     static final MethodHandle ATTACH = call("cf_attach", C_POINTER, C_INT, C_POINTER, C_LONG, C_INT, C_POINTER);
     static final MethodHandle GET = call("cf_get", C_POINTER, C_SHORT, C_POINTER);
@@ -53,13 +52,12 @@ final class Library {
     static final MethodHandle TURNS = call("cf_turns", C_POINTER, C_POINTER);
     static final MethodHandle RESTART = call("cf_restart", C_POINTER);
     static final MethodHandle DESK_OPEN = call("cf_desk_open", C_POINTER, C_POINTER, C_LONG, C_SHORT, C_SHORT);
-    static final MethodHandle DESK_OPEN_GROWING =
-            call("cf_desk_open_growing", C_POINTER, C_POINTER, C_LONG, C_SHORT, C_SHORT, C_SHORT, C_INT);
+    static final MethodHandle DESK_OPEN_WITH = call("cf_desk_open_with", C_POINTER, C_POINTER, C_LONG, C_POINTER);
     static final MethodHandle DESK_COMPLETE = call("cf_desk_complete", C_POINTER, C_SHORT, VALUE, C_POINTER);
     static final MethodHandle DESK_FAIL = call("cf_desk_fail", C_POINTER, C_SHORT, C_INT, C_POINTER);
     static final MethodHandle DESK_CANCEL = call("cf_desk_cancel", C_POINTER, C_SHORT, C_POINTER);
     static final MethodHandle DESK_CLAIM = call("cf_desk_claim", C_POINTER, C_SHORT, C_POINTER);
-    static final MethodHandle DESK_FINISH = call("cf_desk_finish", C_POINTER, C_SHORT, ANSWER, C_POINTER);
+    static final MethodHandle DESK_FINISH = call("cf_desk_finish_with", C_POINTER, C_SHORT, C_POINTER, C_POINTER);
     static final MethodHandle DESK_TICK = call("cf_desk_tick", C_POINTER, C_INT, C_POINTER);
     static final MethodHandle DESK_ATTACH = call("cf_desk_attach", C_POINTER, C_INT, C_POINTER, C_LONG, C_INT, C_POINTER);
     static final MethodHandle DESK_READ = call("cf_desk_read", C_POINTER, C_SHORT, C_POINTER);
@@ -79,11 +77,11 @@ final class Library {
     static final MethodHandle CLOSED_RECORDS = call("cf_closed_records", C_POINTER, C_CHAR, C_POINTER);
     static final MethodHandle CLOSED_RECORD = call("cf_closed_record", C_POINTER, C_CHAR, C_SHORT, C_POINTER);
     static final MethodHandle CLOSED_GRAPH = call("cf_closed_graph", C_POINTER);
-    static final MethodHandle WORD_OF = call("cf_word_of", EVENT, C_POINTER);
+    static final MethodHandle WORD_OF = call("cf_word_of_event", C_POINTER, C_POINTER);
     static final MethodHandle EVENT_OF = call("cf_event_of", C_LONG, C_POINTER);
     static final MethodHandle APPLY = call("cf_apply", C_POINTER, C_LONG, C_POINTER);
     static final MethodHandle RUN_SCRIPT = call("cf_run_script", C_POINTER, C_LONG, C_POINTER, C_LONG, C_POINTER);
-    static final MethodHandle OUTCOME_TEXT = call("cf_outcome_text", OUTCOME, C_POINTER, C_LONG, C_POINTER);
+    static final MethodHandle OUTCOME_TEXT = call("cf_text_of_outcome", C_POINTER, C_POINTER, C_LONG, C_POINTER);
     static final MethodHandle CODE_TEXT = call("cf_code_text", C_INT, C_POINTER, C_LONG, C_POINTER);
 
     private Library() {}

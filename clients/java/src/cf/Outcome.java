@@ -2,6 +2,7 @@ package cf;
 
 import java.util.concurrent.CancellationException;
 import java.util.concurrent.TimeoutException;
+import jdk.incubator.foreign.MemoryAddress;
 import jdk.incubator.foreign.MemorySegment;
 import jdk.incubator.foreign.ResourceScope;
 
@@ -42,8 +43,9 @@ public record Outcome(Kind kind, Integer value, long code, boolean wrapped) {
     /** As reports have it: {@code value 3}, {@code fault timeout raw}. */
     public String text() {
         try (ResourceScope scope = ResourceScope.newConfinedScope()) {
-            MemorySegment outcome = MemorySegment.allocateNative(20, 4, scope);
-            Given.outcome(outcome, this);
+            MemorySegment memory = MemorySegment.allocateNative(20, 4, scope);
+            Given.outcome(memory, this);
+            MemoryAddress outcome = memory.address();
             return Text.told((text, room, length) -> (int) Library.OUTCOME_TEXT.invokeExact(outcome, text, room, length));
         }
     }

@@ -1,5 +1,10 @@
 package cf;
 
+import jdk.incubator.foreign.MemoryAccess;
+import jdk.incubator.foreign.MemoryAddress;
+import jdk.incubator.foreign.MemorySegment;
+import jdk.incubator.foreign.ResourceScope;
+
 /** Stages and limits, of which any number of graphs and desks is opened. They share its memory, and outlive it. */
 public final class Plan implements AutoCloseable {
     private final Handle handle;
@@ -43,10 +48,16 @@ public final class Plan implements AutoCloseable {
         short records = Given.unsignedShort(calls);
         short places = Given.unsignedShort(room);
         int most = Given.unsignedInt(functions);
-        return Desk.open(
-                callers,
-                (handles, n) -> (h, none) -> (int) Library.DESK_OPEN_GROWING.invokeExact(h, handles, n, words, records, places, most),
-                handle);
+        try (ResourceScope scope = ResourceScope.newConfinedScope()) {
+            MemorySegment memory = MemorySegment.allocateNative(12, 4, scope);
+            MemoryAccess.setShortAtOffset(memory, 0, words);
+            MemoryAccess.setShortAtOffset(memory, 2, records);
+            MemoryAccess.setShortAtOffset(memory, 4, places);
+            MemoryAccess.setIntAtOffset(memory, 8, most);
+            MemoryAddress sizes = memory.address();
+            return Desk.open(
+                    callers, (handles, n) -> (h, none) -> (int) Library.DESK_OPEN_WITH.invokeExact(h, handles, n, sizes), handle);
+        }
     }
 
     /** Frees the plan; its graphs and desks stay. */

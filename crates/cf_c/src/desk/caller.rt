@@ -17,6 +17,7 @@ use std::alloc::Global;
 use std::sync::Arc;
 
 /// Does a changing call, unless there is a reason why there is none.
+#[inline(always)]
 pub(crate) fn act(held: &mut Object, call: Result<Call, Code>) -> Result<CfReply, Code>
     ensures { ByCaller (Acts call) held.old result held.new }
 {
@@ -34,6 +35,7 @@ pub(crate) fn act(held: &mut Object, call: Result<Call, Code>) -> Result<CfReply
 }
 
 /// Looks once, and tells the outcome of a stage, or that there is none.
+#[inline(always)]
 pub(crate) fn outcome(held: &mut Object, stage: u16) -> Result<CfOutcome, Code>
     ensures { ByCaller (Reads told_outcome (AsksOutcome stage)) held.old result held.new }
 {
@@ -47,6 +49,7 @@ pub(crate) fn outcome(held: &mut Object, stage: u16) -> Result<CfOutcome, Code>
 }
 
 /// Looks once, and tells what a stage gives at present.
+#[inline(always)]
 pub(crate) fn now(held: &mut Object, stage: u16, absent: Value) -> Result<CfNow, Code>
     ensures { ByCaller (Reads told_now (AsksNow stage absent)) held.old result held.new }
 {
@@ -60,6 +63,7 @@ pub(crate) fn now(held: &mut Object, stage: u16, absent: Value) -> Result<CfNow,
 }
 
 /// Looks for the outcome of a stage, at most so many times, and once at least.
+#[inline(always)]
 pub(crate) fn join(held: &mut Object, stage: u16, looks: u32) -> Result<CfNow, Code>
     ensures { ByCaller (Joins stage looks) held.old result held.new }
 {
@@ -73,6 +77,7 @@ pub(crate) fn join(held: &mut Object, stage: u16, looks: u32) -> Result<CfNow, C
 }
 
 /// Looks once, and tells the lowest ready stage.
+#[inline(always)]
 pub(crate) fn ready(held: &mut Object) -> Result<u16, Code>
     ensures { ByCaller FindsReady held.old result held.new }
 {
@@ -83,6 +88,7 @@ pub(crate) fn ready(held: &mut Object) -> Result<u16, Code>
 }
 
 /// The number of a stage's function, in what the caller has seen.
+#[inline(always)]
 pub(crate) fn function(held: &mut Object, stage: u16) -> Result<u16, Code>
     ensures { ByCaller (Knows (function_known stage)) held.old result held.new }
 {
@@ -96,6 +102,7 @@ pub(crate) fn function(held: &mut Object, stage: u16) -> Result<u16, Code>
 }
 
 /// How many events the caller has seen.
+#[inline(always)]
 pub(crate) fn seen(held: &mut Object) -> Result<u16, Code>
     ensures { ByCaller (Knows seen_told) held.old result held.new }
 {
@@ -106,6 +113,7 @@ pub(crate) fn seen(held: &mut Object) -> Result<u16, Code>
 }
 
 /// How many records the caller still takes.
+#[inline(always)]
 pub(crate) fn left(held: &mut Object) -> Result<u16, Code>
     ensures { ByCaller IsLeft held.old result held.new }
 {
@@ -116,6 +124,7 @@ pub(crate) fn left(held: &mut Object) -> Result<u16, Code>
 }
 
 /// The caller's number.
+#[inline(always)]
 pub(crate) fn number(held: &mut Object) -> Result<u8, Code>
     ensures { ByCaller (Knows number_told) held.old result held.new }
 {
@@ -191,6 +200,7 @@ pub(crate) fn is_one_desk(a: &Arc<Desk, Global>, b: &Arc<Desk, Global>) -> bool 
 }
 
 /// What is told of a stage's outcome.
+#[inline(always)]
 fn told_outcome(told: Told) -> CfOutcome
     ensures { result ≡ told_outcome told }
 {
@@ -201,6 +211,7 @@ fn told_outcome(told: Told) -> CfOutcome
 }
 
 /// What is told of a stage at present.
+#[inline(always)]
 fn told_now(told: Told) -> CfNow
     ensures { result ≡ told_now told }
 {
@@ -211,6 +222,7 @@ fn told_now(told: Told) -> CfNow
 }
 
 /// What a join is answered.
+#[inline(always)]
 fn as_joined(joined: Joined) -> CfNow
     ensures { result ≡ as_joined joined }
 {
@@ -223,6 +235,7 @@ fn as_joined(joined: Joined) -> CfNow
 }
 
 /// An outcome beside the kind of a stage that isn't settled.
+#[inline(always)]
 fn unsettled(outcome: Option<Outcome>) -> CfNow
     ensures { result ≡ record { kind = 0; outcome = as_outcome outcome } }
 {
@@ -233,6 +246,7 @@ fn unsettled(outcome: Option<Outcome>) -> CfNow
 }
 
 /// At least one look.
+#[inline(always)]
 fn looks_of(looks: u32) -> u32
     ensures at_least { 0 < looks_of looks }
     ensures looks { result ≡ looks_of looks }

@@ -6,7 +6,7 @@ ghost use Rattle.cf_desk.specs.Faults.{AreCounts};
 ghost use Rattle.cf_desk.specs.Functions.{function_bound};
 ghost use Rattle.cf_desk.specs.Views.{opened};
 ghost use Rattle.cf_c.specs.declared.code.Code.TheVariants.{NoMemory};
-ghost use Rattle.cf_c.specs.Opening.{AreBehind, AreBoxed, AreEmpty, ArePut, DeskOf, IsCallerOf, OpensDesk, growing_of, is_due, is_due_to_grow, setting_of};
+ghost use Rattle.cf_c.specs.Opening.{AreBehind, AreBoxed, AreEmpty, ArePut, DeskOf, GrowingDeskOf, IsCallerOf, OpensDesk, growing_of, is_due, is_due_to_grow, setting_of};
 
 use crate::code::{Code, open_code};
 use crate::handle::CfHandle;
@@ -38,23 +38,30 @@ pub extern "C" fn cf_desk_open(
     }
 }
 
+/// How much a desk is to hold: events, records of each caller, stages that callers attach later, and functions.
+#[repr(C)]
+#[derive(Clone, Copy)]
+pub struct CfDeskSizes {
+    pub log: u16,
+    pub calls: u16,
+    pub room: u16,
+    pub functions: u32,
+}
+
 /// The same with room for so many stages that callers attach later, and so many functions.
 #[unsafe(no_mangle)]
-pub extern "C" fn cf_desk_open_growing(
+pub extern "C" fn cf_desk_open_with(
     alloc: Global,
     plan: &mut CfHandle,
     callers: &mut [CfHandle],
-    log: u16,
-    calls: u16,
-    room: u16,
-    functions: u32,
+    sizes: &CfDeskSizes,
 ) -> u32
-    ensures { OpensDesk (DeskOf (growing_of room functions) (is_due_to_grow log calls room functions) log calls) plan.old.inner.held plan.new.inner.held result callers.old callers.new }
+    ensures { OpensDesk (GrowingDeskOf sizes.now) plan.old.inner.held plan.new.inner.held result callers.old callers.new }
 {
     match plan.take(alloc) {
         None => Code::Empty.number(),
         Some(held) => {
-            let done = open_growing(alloc, &held, callers, log, calls, room, functions);
+            let done = open_growing(alloc, &held, callers, *sizes);
             plan.put(held);
             code_of(done)
         }
@@ -88,12 +95,9 @@ fn open_growing(
     alloc: Global,
     held: &Object,
     callers: &mut [CfHandle],
-    log: u16,
-    calls: u16,
-    room: u16,
-    functions: u32,
+    sizes: CfDeskSizes,
 ) -> Result<(), Code>
-    ensures { DeskOf (growing_of room functions) (is_due_to_grow log calls room functions) log calls held.now callers.old result callers.new }
+    ensures { GrowingDeskOf sizes held.now callers.old result callers.new }
 {
     let Object::Plan(plan) = held else {
         return Err(Code::WrongKind);
@@ -101,6 +105,12 @@ fn open_growing(
     if !are_empty(callers) {
         return Err(Code::Full);
     }
+    let CfDeskSizes {
+        log,
+        calls,
+        room,
+        functions,
+    } = sizes;
     match growing_desk_of(alloc, plan, callers.len(), log, calls, room, functions) {
         Ok((desk, passes)) => seat_all(alloc, desk, passes, callers),
         Err(fault) => Err(open_code(fault)),

@@ -12,6 +12,7 @@ use cf_outcome::Value;
 use cf_plan::fits_form;
 
 /// Hands a graph an event, unless there is a reason why there is none.
+#[inline(always)]
 pub(crate) fn answer(held: &mut Object, event: Result<Event, Code>) -> Result<CfReply, Code>
     ensures { Answers event held.old result held.new }
 {
@@ -29,6 +30,7 @@ pub(crate) fn answer(held: &mut Object, event: Result<Event, Code>) -> Result<Cf
 }
 
 /// Why an event isn't done to a graph of so many stages, if it isn't.
+#[inline(always)]
 fn refusal_of(stages: u16, event: &Event) -> Option<Code>
     ensures { MatchOption result (EventFits stages event.now) (IsRefused stages event.now) }
 {
@@ -57,6 +59,7 @@ fn refusal_of(stages: u16, event: &Event) -> Option<Code>
 }
 
 /// The outcome of a stage of a graph.
+#[inline(always)]
 pub(crate) fn outcome(held: &mut Object, stage: u16) -> Result<CfOutcome, Code>
     ensures { Asked (outcome_told stage) (RestsAt stage) held.old result held.new }
 {
@@ -70,6 +73,7 @@ pub(crate) fn outcome(held: &mut Object, stage: u16) -> Result<CfOutcome, Code>
 }
 
 /// What a stage of a graph gives at present.
+#[inline(always)]
 pub(crate) fn now(held: &mut Object, stage: u16, absent: Value) -> Result<CfNow, Code>
     ensures { Asked (now_told stage absent) (RestsAt stage) held.old result held.new }
 {
@@ -83,6 +87,7 @@ pub(crate) fn now(held: &mut Object, stage: u16, absent: Value) -> Result<CfNow,
 }
 
 /// The lowest ready stage of a graph.
+#[inline(always)]
 pub(crate) fn lowest_ready(held: &mut Object) -> Result<u16, Code>
     ensures { Asked ready_told RestsAtReady held.old result held.new }
 {
@@ -93,6 +98,7 @@ pub(crate) fn lowest_ready(held: &mut Object) -> Result<u16, Code>
 }
 
 /// The number of a stage's function.
+#[inline(always)]
 pub(crate) fn function(held: &mut Object, stage: u16) -> Result<u16, Code>
     ensures { Asked (function_told stage) RestsAlways held.old result held.new }
 {
@@ -106,6 +112,7 @@ pub(crate) fn function(held: &mut Object, stage: u16) -> Result<u16, Code>
 }
 
 /// How many stages a graph has by now.
+#[inline(always)]
 pub(crate) fn stages(held: &mut Object) -> Result<u16, Code>
     ensures { Asked stages_told RestsAlways held.old result held.new }
 {
@@ -116,6 +123,7 @@ pub(crate) fn stages(held: &mut Object) -> Result<u16, Code>
 }
 
 /// How many turns a graph has taken.
+#[inline(always)]
 pub(crate) fn turns(held: &mut Object) -> Result<u64, Code>
     ensures { Asked turns_told RestsAlways held.old result held.new }
 {
@@ -126,6 +134,7 @@ pub(crate) fn turns(held: &mut Object) -> Result<u64, Code>
 }
 
 /// Starts a graph again.
+#[inline(always)]
 pub(crate) fn restart(held: &mut Object) -> Result<(), Code>
     ensures { Restarts held.old result held.new }
 {
@@ -139,6 +148,7 @@ pub(crate) fn restart(held: &mut Object) -> Result<(), Code>
 }
 
 /// Refuses a stage that isn't there.
+#[inline(always)]
 fn unless(there: bool) -> Option<Code>
     ensures { result ≡ (if there then None else Some NoStage) }
 {

@@ -53,6 +53,7 @@ pub struct ClosedDesk {
 }
 
 /// That a handle may go to another thread.
+#[inline(always)]
 pub(crate) fn assert_send<T: Send + Drop>(held: Box<T>) -> Box<T>
     ensures { result ≡ held }
 {

@@ -21,6 +21,7 @@ impl<T, A: Allocator> Model for BoxParts<T, A> {
 }
 
 impl<T, A: Allocator> BoxParts<T, A> {
+    #[inline(always)]
     pub fn of(b: Box<T, A>) -> BoxParts<T, A>
     where
         T: Drop,
@@ -30,6 +31,7 @@ impl<T, A: Allocator> BoxParts<T, A> {
         BoxParts { ptr, alloc }
     }
 
+    #[inline(always)]
     pub fn into_box(self) -> Box<T, A>
         ensures { result.value ≡ self.value }
     {
@@ -54,6 +56,7 @@ impl Model for RawBox {
 }
 
 impl RawBox {
+    #[inline(always)]
     pub fn of_parts(parts: BoxParts<Object, Global>) -> RawBox
         ensures { result.held ≡ Some parts.value }
     {
@@ -64,6 +67,7 @@ impl RawBox {
         }
     }
 
+    #[inline(always)]
     pub fn into_parts(self) -> BoxParts<Object, Global>
         requires { IsFull self.held }
         ensures { Some result.value ≡ self.held }
@@ -75,6 +79,7 @@ impl RawBox {
         }
     }
 
+    #[inline(always)]
     pub fn empty(alloc: Global) -> RawBox
         ensures { result.held ≡ None }
     {

@@ -39,6 +39,7 @@ pub(crate) use ask;
 pub(crate) use tell;
 
 /// Gives C what it is told: the code, and where that is 0 the answer.
+#[inline(always)]
 pub(crate) fn give<X: Drop>(told: Result<X, Code>, out: &mut X) -> u32
     ensures { Gives told result out.old out.new }
 {
@@ -52,6 +53,7 @@ pub(crate) fn give<X: Drop>(told: Result<X, Code>, out: &mut X) -> u32
 }
 
 /// The code of what was done or not.
+#[inline(always)]
 pub(crate) fn code_of(done: Result<(), Code>) -> u32
     ensures { Codes done result }
 {

@@ -9,6 +9,7 @@ use cf_model::Event;
 use cf_plan::{Form, Of};
 
 /// A function's number, or none where it is above 65,535.
+#[inline(always)]
 pub(crate) fn function_of(function: u32) -> Option<u16>
     ensures { result ≡ function_of function }
 {
@@ -20,6 +21,7 @@ pub(crate) fn function_of(function: u32) -> Option<u16>
 }
 
 /// A function's number for C, or one that is none.
+#[inline(always)]
 pub(crate) fn as_function(function: Option<u16>) -> u32
     ensures { result ≡ as_function function }
 {
@@ -30,6 +32,7 @@ pub(crate) fn as_function(function: Option<u16>) -> u32
 }
 
 /// The sources of an attached stage, of which there are at most two.
+#[inline(always)]
 fn sources_as(of: &[u16]) -> Option<Of>
     ensures { result ≡ sources_as of.now }
 {
@@ -42,6 +45,7 @@ fn sources_as(of: &[u16]) -> Option<Of>
 }
 
 /// So many sources of these two, of which there are at most two.
+#[inline(always)]
 pub(crate) fn sources_with(count: u32, first: u16, second: u16) -> Option<Of>
     ensures { result ≡ sources_with count first second }
 {
@@ -62,6 +66,7 @@ pub struct AttachParts {
 }
 
 /// The stage that is to be attached, or why there is none.
+#[inline(always)]
 fn parts_of(form: u32, of: &[u16], function: u32) -> Result<AttachParts, Code>
     ensures { result ≡ parts_of form of.now function }
 {
@@ -69,6 +74,7 @@ fn parts_of(form: u32, of: &[u16], function: u32) -> Result<AttachParts, Code>
 }
 
 /// The same of a form and sources that were looked up.
+#[inline(always)]
 pub(crate) fn parts_with(
     form: Option<Form>,
     of: Option<Of>,
@@ -87,6 +93,7 @@ pub(crate) fn parts_with(
 }
 
 /// The event by which a caller attaches a stage, or why there is none.
+#[inline(always)]
 pub(crate) fn event_with(who: u8, parts: Result<AttachParts, Code>) -> Result<Event, Code>
     ensures { result ≡ event_with who parts }
 {
@@ -102,6 +109,7 @@ pub(crate) fn event_with(who: u8, parts: Result<AttachParts, Code>) -> Result<Ev
 }
 
 /// The event by which the caller of a graph attaches a stage, or why there is none.
+#[inline(always)]
 pub(crate) fn attach_event(form: u32, of: &[u16], function: u32) -> Result<Event, Code>
     ensures { result ≡ attach_event form of.now function }
 {
@@ -109,6 +117,7 @@ pub(crate) fn attach_event(form: u32, of: &[u16], function: u32) -> Result<Event
 }
 
 /// The call by which the caller of a desk attaches a stage, or why there is none.
+#[inline(always)]
 pub(crate) fn attach_call(form: u32, of: &[u16], function: u32) -> Result<Call, Code>
     ensures { result ≡ call_with (parts_of form of.now function) }
 {

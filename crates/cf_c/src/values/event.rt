@@ -44,13 +44,13 @@ pub struct CfEvent {
 
 /// The word of an event.
 #[unsafe(no_mangle)]
-pub extern "C" fn cf_word_of(event: CfEvent, word: &mut u64) -> u32
-    ensures { GivesWord (event_of event) result word.old word.new }
+pub extern "C" fn cf_word_of_event(event: &CfEvent, word: &mut u64) -> u32
+    ensures { GivesWord (event_of event.entry.now) result word.old word.new }
 {
-    give(word_of(event_of(event)), word)
+    give(word_of(event_of(*event)), word)
 }
 
-/// The event of a word, of which `cf_word_of` tells this word again.
+/// The event of a word, of which `cf_word_of_event` tells this word again.
 #[unsafe(no_mangle)]
 #[tactic(auto, using(crate::proofs::EventsBack::back_given))]
 pub extern "C" fn cf_event_of(word: u64, event: &mut CfEvent) -> u32
@@ -184,6 +184,7 @@ fn word_of(event: Result<Event, Code>) -> Result<u64, Code>
 }
 
 /// The event of a word, or that it is no event's.
+#[inline(always)]
 pub(crate) fn event_at(word: u64) -> Result<Event, Code>
     ensures event { result ≡ event_at word }
     ensures has_word { IfOk result (λ e. HasWord e word) }
