@@ -347,6 +347,22 @@ static inline uint32_t cf_outcome_text(cf_outcome outcome, uint8_t *text, size_t
 }
 uint32_t cf_code_text(uint32_t code, uint8_t *text, size_t room, size_t *length);
 
+/* ---- The library itself ---- */
+
+/* The version of this header. A library of a later one with the same first number has all that stands here, and as it stands here. */
+#define CF_VERSION_MAJOR 1
+#define CF_VERSION_MINOR 0
+#define CF_VERSION_PATCH 0
+
+/* The library's version ("1.0.0"); whether a program that was written for this version of the header runs with the library; the name of a
+ * code as cf_code_text has it ("NoStage"), or null where a number is no code's; of a struct ("cf_reply") its size, and of a field of one
+ * ("cf_reply.args") its offset, in bytes, or SIZE_MAX where there is none of this name or it is null. The texts are static and end in a
+ * zero byte. None of these calls answers a cf_code. */
+const char *cf_version(void);
+bool cf_fits(uint32_t major, uint32_t minor);
+const char *cf_code_name(uint32_t code);
+size_t cf_layout(const char *name);
+
 #ifdef __cplusplus
 }
 #endif

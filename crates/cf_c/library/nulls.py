@@ -5,9 +5,10 @@
     nulls.py --names HEADER    the names of the calls that are proved, a line each
     nulls.py --all HEADER      those of all calls: work.c, beside this, has the others, which test their pointers themselves
 
-The header is the only table: a function with a body, `static inline`, is passed over, and each call that it declares gets a function of its name, which tests the pointers and calls the proved
-export under the name proved_NAME. A pointer that a `size_t` follows may be null where that is 0; no other may be. Where one is null the
-call answers CF_NULL, and a call without an answer does nothing. It ends with status 1 where a declaration isn't understood.
+The header is the only table: a function with a body, `static inline`, is passed over, and each other call gets a function of its name,
+which tests the pointers and calls the proved export under the name proved_NAME. A pointer that a `size_t` follows may be null where that is 0; no other may be. Where one is null the
+call answers CF_NULL, and a call without an answer does nothing. Calls that answer no code, but a text, a size or a bool, are facts.py's.
+It ends with status 1 where a declaration isn't understood.
 """
 import re
 import sys
@@ -15,6 +16,7 @@ from pathlib import Path
 
 DECLARED = re.compile(r"^(uint32_t|void) (cf_[a-z0-9_]+)\(([^)]*)\);", re.M)
 INLINE = re.compile(r"^static inline .*?^\}$", re.M | re.S)
+TOLD = re.compile(r"^(?:const char \*|size_t |bool )(cf_[a-z0-9_]+)\(", re.M)  # (facts.py's)
 PARAMETER = re.compile(r"(const )?([a-z0-9_]+) (\*?)([a-z0-9_]+)$")
 
 
@@ -30,7 +32,7 @@ def declarations(header):
                 raise SystemExit(f"nulls.py: {name}: {said.strip()} isn't understood")
             parameters.append((said.strip(), parts[2], bool(parts[3]), parts[4]))
         found.append((gives, name, parameters))
-    mentioned = len(re.findall(r"\bcf_[a-z0-9_]+\s*\(", text))
+    mentioned = len(re.findall(r"\bcf_[a-z0-9_]+\s*\(", text)) - len(TOLD.findall(text))
     if not found or mentioned != len(found):
         raise SystemExit(f"nulls.py: {mentioned} calls are mentioned, and {len(found)} understood")
     return found
