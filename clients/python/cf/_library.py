@@ -5,6 +5,7 @@ from types import SimpleNamespace
 from typing import Callable, List, Sequence
 
 NO_FUNCTION = 0xFFFFFFFF
+VERSION = (1, 0)  # of the library that this module is written for
 
 
 class CHandle(c.Structure):
@@ -142,9 +143,25 @@ def _checked(call: Callable[..., int], arguments: List[object]) -> Callable[...,
     return made
 
 
+# The structures by their names in C.
+STRUCTURES = {"cf_handle": CHandle, "cf_value": CValue, "cf_answer": CAnswer, "cf_outcome": COutcome, "cf_args": CArgs, "cf_now": CNow,
+              "cf_reply": CReply, "cf_record": CRecord, "cf_desk_sizes": CDeskSizes, "cf_event": CEvent}
+
+
+def fit(loaded: c.CDLL, path: str) -> None:
+    """Whether the library is one that this module was written for: its version, and the sizes of its structures."""
+    loaded.cf_version.restype, loaded.cf_fits.restype, loaded.cf_layout.restype = c.c_char_p, c.c_bool, _SIZE
+    if not loaded.cf_fits(_U32(VERSION[0]), _U32(VERSION[1])):
+        raise ImportError(f"{path} has version {loaded.cf_version().decode()}, and {VERSION[0]}.{VERSION[1]} is wanted")
+    for name, structure in STRUCTURES.items():
+        if loaded.cf_layout(name.encode()) != c.sizeof(structure):
+            raise ImportError(f"{path}: {name} has another size than here")
+
+
 def load(path: str) -> SimpleNamespace:
     """The calls of the library."""
     loaded, calls = c.CDLL(path), SimpleNamespace()
+    fit(loaded, path)
     for name, arguments in CALLS.items():
         call = getattr(loaded, name)
         call.argtypes = arguments
