@@ -58,6 +58,10 @@ pub enum Code {
     BadScript,
     /// 28: all callers of a desk were given back, and it is held all the same.
     StillShared,
+    /// 29: the caller hasn't claimed the stage that its task holds.
+    NotHeld,
+    /// 30: a ledger has no room for the stage that a word attaches.
+    NoRoom,
 }
 
 impl Code {
@@ -103,6 +107,8 @@ pub(crate) fn text_of(number: u32) -> Option<&'static str>
         26 => Some("NoWord"),
         27 => Some("BadScript"),
         28 => Some("StillShared"),
+        29 => Some("NotHeld"),
+        30 => Some("NoRoom"),
         255 => Some("Null"),
         _ => None,
     }
