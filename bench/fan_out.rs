@@ -9,10 +9,13 @@
 //! - `fan-out std, channel`: the functions come by a channel, whose receiver stands behind a `Mutex`, and the answers go by another.
 //! - `fan-out std, own parts`: each thread waits for the source by a `Condvar`, runs each eighth function, and puts its answers behind a
 //!   `Mutex`.
-//! - `fan-out futures`: with the feature `futures`, a thread pool of that crate and `join_all`.
+//! - `fan-out futures`, `fan-out tokio, ..`, `fan-out rayon, ..`: bench/peers.rs, with the features of these names.
 use std::sync::atomic::{AtomicUsize, Ordering};
 use std::sync::{mpsc, Condvar, Mutex};
 use std::time::{Duration, Instant};
+
+#[cfg(any(feature = "futures", feature = "tokio", feature = "rayon"))]
+mod peers;
 
 const THREADS: usize = 8;
 const STAGES: usize = 512;
@@ -98,7 +101,7 @@ mod cf {
         pub fn cf_desk_open(plan: *mut Handle, callers: *mut Handle, n: usize, log: u16, calls: u16) -> u32;
         pub fn cf_desk_complete(caller: *mut Handle, stage: u16, value: Value, reply: *mut Reply) -> u32;
         pub fn cf_desk_claim(caller: *mut Handle, stage: u16, reply: *mut Reply) -> u32;
-        pub fn cf_desk_finish(caller: *mut Handle, stage: u16, answer: Answer, reply: *mut Reply) -> u32;
+        pub fn cf_desk_finish_with(caller: *mut Handle, stage: u16, answer: *const Answer, reply: *mut Reply) -> u32;
         pub fn cf_desk_read(caller: *mut Handle, stage: u16, outcome: *mut Outcome) -> u32;
         pub fn cf_desk_ready(caller: *mut Handle, stage: *mut u16) -> u32;
         pub fn cf_desk_seen(caller: *mut Handle, events: *mut u16) -> u32;
@@ -162,6 +165,25 @@ fn show(name: &str, mut round: impl FnMut() -> Duration) {
 
 // ---- The library ----
 
+/// What the function of a stage answers.
+fn answer(args: &cf::Args) -> cf::Answer {
+    let value = cf::Value {
+        kind: 1,
+        number: one_more(args.first.number),
+    };
+    cf::Answer {
+        value,
+        ..cf::Answer::default()
+    }
+}
+
+/// How a thread gets its stages.
+#[derive(Clone, Copy)]
+enum Way {
+    LowestReady,
+    OwnParts,
+}
+
 /// A handle in memory of its own: four in one line of a cache would wait for each other.
 #[repr(align(128))]
 struct Caller(cf::Handle);
@@ -194,15 +216,8 @@ impl Caller {
         let mut reply = cf::Reply::default();
         must(unsafe { cf::cf_desk_claim(&mut self.0, stage, &mut reply) });
         if reply.answer == 0 {
-            let value = cf::Value {
-                kind: 1,
-                number: one_more(reply.args.first.number),
-            };
-            let answer = cf::Answer {
-                value,
-                ..cf::Answer::default()
-            };
-            must(unsafe { cf::cf_desk_finish(&mut self.0, stage, answer, &mut reply) });
+            let answer = answer(&reply.args);
+            must(unsafe { cf::cf_desk_finish_with(&mut self.0, stage, &answer, &mut reply) });
         }
     }
 
@@ -255,17 +270,16 @@ fn plan() -> Caller {
 }
 
 /// A round over a new desk of the plan.
-fn over_library(plan: &mut Caller, has_own_parts: bool) -> Duration {
+fn over_library(plan: &mut Caller, way: Way) -> Duration {
     let mut callers = [cf::EMPTY; THREADS];
     must(unsafe { cf::cf_desk_open(&mut plan.0, callers.as_mut_ptr(), THREADS, u16::MAX, u16::MAX / 2) });
     let mut callers: Vec<Caller> = callers.into_iter().map(Caller).collect();
     let work = callers.iter_mut().enumerate().map(|(k, caller)| {
         move || {
             caller.begin(k == 0);
-            if has_own_parts {
-                (1 + k..=PARTS).step_by(THREADS).for_each(|stage| caller.run(stage as u16));
-            } else {
-                caller.run_ready();
+            match way {
+                Way::LowestReady => caller.run_ready(),
+                Way::OwnParts => (1 + k..=PARTS).step_by(THREADS).for_each(|stage| caller.run(stage as u16)),
             }
         }
     });
@@ -383,45 +397,17 @@ fn by_parts() -> Duration {
     took
 }
 
-// ---- The crate futures ----
-
-#[cfg(feature = "futures")]
-mod with_futures {
-    use super::{one_more, show, PARTS, THREADS};
-    use futures::channel::oneshot;
-    use futures::executor::{block_on, ThreadPool};
-    use futures::future::{join_all, FutureExt};
-    use futures::task::SpawnExt;
-    use std::time::{Duration, Instant};
-
-    /// The futures are made and spawned before the source is completed, as the plan is built before.
-    fn round(pool: &ThreadPool) -> Duration {
-        let (source, came) = oneshot::channel::<i32>();
-        let came = came.map(|value| value.expect("it is sent")).shared();
-        let parts: Vec<_> = (0..PARTS)
-            .map(|_| pool.spawn_with_handle(came.clone().map(one_more)).expect("it is spawned"))
-            .collect();
-        let since = Instant::now();
-        source.send(1).expect("it is received");
-        let answers = block_on(join_all(parts));
-        let took = since.elapsed();
-        assert!(answers.iter().all(|it| *it == 2));
-        took
-    }
-
-    pub fn run() {
-        let pool = ThreadPool::builder().pool_size(THREADS).create().expect("there are threads");
-        show("fan-out futures", || round(&pool));
-    }
-}
-
 fn main() {
     let mut plan = plan();
-    show("fan-out library, lowest ready", || over_library(&mut plan, false));
-    show("fan-out library, own parts", || over_library(&mut plan, true));
+    show("fan-out library, lowest ready", || over_library(&mut plan, Way::LowestReady));
+    show("fan-out library, own parts", || over_library(&mut plan, Way::OwnParts));
     show("fan-out std, queue", by_queue);
     show("fan-out std, channel", by_channel);
     show("fan-out std, own parts", by_parts);
     #[cfg(feature = "futures")]
-    with_futures::run();
+    peers::by_futures();
+    #[cfg(feature = "tokio")]
+    peers::by_tokio();
+    #[cfg(feature = "rayon")]
+    peers::by_rayon();
 }

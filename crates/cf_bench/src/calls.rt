@@ -1,4 +1,4 @@
-//! Single calls over a fan-out whose source is completed: of a graph, and of a desk's one caller.
+//! Single calls over a fan-out whose source is completed: of a graph, and of a desk's one caller. And completions of a graph's sources.
 ghost use Rattle.std.specs.Prelude.{◌≡◌, All, IfOk};
 
 use crate::graphs::graph_of;
@@ -176,6 +176,37 @@ pub(crate) fn measured_graph_calls<R: Clock>(rt: &R, alloc: Global) -> Result<Ca
         call_graph(rt, &mut rounds, &mut graph)?;
     }
     Ok(rounds.a_call())
+}
+
+fn completed_in(graph: &mut Graph) -> u16 {
+    let mut right = 0u16;
+    for i in 0..STAGES - 1 {
+        if graph.has(i) {
+            if graph.complete(i, GIVEN) {
+                right = right.saturating_add(1);
+            }
+        }
+    }
+    right
+}
+
+/// A round of completions, of which the last settles the allOf, too.
+fn complete_round<R: Clock>(rt: &R, times: &mut Times, graph: &mut Graph) -> Result<()> {
+    graph.restart();
+    let start = Instant::now(rt)?;
+    let completed = completed_in(graph);
+    times.add_since(rt, start)?;
+    all_right(completed)
+}
+
+/// What a completion of a source took, of those of an allOf.
+pub(crate) fn measured_completions<R: Clock>(rt: &R, alloc: Global) -> Result<Shown> {
+    let mut times = Times::new(alloc, ROUNDS)?;
+    let mut graph = graph_of(alloc, Shape::AllOf, STAGES)?;
+    for _ in 0..ROUNDS {
+        complete_round(rt, &mut times, &mut graph)?;
+    }
+    Ok(times.a_part(STAGES - 1))
 }
 
 fn ready_on(desk: &Desk, p: &mut Pass) -> u16

@@ -17,7 +17,8 @@
 //! - `desk`: a desk for so many callers is opened of a plan that is there, its 16 stages are settled and seen by each
 //!   caller, and it is closed; all of it.
 //! - `read`: a read that finds nothing new.
-//! - `call graph`, `call desk`: a call of each kind over a fan-out of 512, of a graph and of a desk's one caller.
+//! - `call graph`, `call desk`: a call of each kind over a fan-out of 512, of a graph and of a desk's one caller; and a
+//!   completion of a source of an allOf of 512.
 #![tactic(auto)]
 
 mod args;
@@ -35,7 +36,7 @@ mod work;
 use anyhow::Result;
 use args::{Words, read_words};
 use attach::{attach_checksum, measured_attach};
-use calls::{Calls, measured_desk_calls, measured_graph_calls};
+use calls::{Calls, measured_completions, measured_desk_calls, measured_graph_calls};
 use desk::{desk_checksum, measured_desk};
 use graphs::{measured_from_scratch, measured_per_request, sums_of};
 use race::{measured_race, measured_read, race_checksum};
@@ -223,6 +224,7 @@ fn show_all<R: Clock + Print + Threads + Sync>(rt: &R, alloc: Global, timed: boo
 /// How long single calls take.
 fn show_all_calls<R: Clock + Print>(rt: &R, alloc: Global) -> Result<()> {
     show_read(rt, alloc)?;
+    show_took(rt, "call graph complete", measured_completions(rt, alloc)?)?;
     show_calls(rt, "graph", measured_graph_calls(rt, alloc)?)?;
     show_calls(rt, "desk", measured_desk_calls(rt, alloc)?)
 }

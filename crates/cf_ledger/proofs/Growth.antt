@@ -1,5 +1,5 @@
 -- Events for which there was room do the same where there is more.
-use Rattle.std.proofs.Common.{◌≡◌, ℕ, zero, suc, ◌+◌, ◌-◌, ◌<◌, ◌≤◌, List, [], ◌∷◌, ◌++◌, length, map, refl, ap, sym, ◌∙◌, arith, subst, Bool, true, false, cond}
+use Rattle.std.proofs.Common.{◌≡◌, ℕ, zero, suc, ◌+◌, ◌-◌, ◌<◌, List, [], ◌∷◌, ◌++◌, length, map, refl, ap, sym, ◌∙◌, arith, subst, Bool, true, false, cond}
 use Rattle.std.specs.Prelude.{Option, Some, None, ◌≢◌, nat_lt, ◌==◌, slice_set, unwrap_or}
 use Rattle.std.specs.Option.{option_map_or}
 use Rattle.cf_outcome.specs.declared.outcome.Outcome.{Outcome}
@@ -13,19 +13,15 @@ use Rattle.cf_plan.specs.Forms.{landing}
 use Rattle.cf_plan.specs.Plans.{form_at}
 use Rattle.cf_model.specs.declared.stage.Stage.{Stage}
 use Rattle.cf_model.specs.declared.stage.Stage.TheVariants.{Pending, Ready, Claimed as IsClaimed, Linked, Settled}
-use Rattle.cf_model.specs.declared.replies.Claimed.{Claimed}
-use Rattle.cf_model.specs.declared.replies.Finished.{Finished}
 use Rattle.cf_model.specs.declared.replies.Finished.TheVariants.{Won, NotYours}
-use Rattle.cf_model.specs.declared.replies.Ticked.{Ticked}
 use Rattle.cf_model.specs.declared.replies.Ticked.TheVariants.{Fired, Past}
-use Rattle.cf_model.specs.declared.replies.Attached.{Attached}
 use Rattle.cf_model.specs.declared.replies.Attached.TheVariants.{At}
 use Rattle.cf_model.specs.declared.events.Event.{Event}
 use Rattle.cf_model.specs.declared.events.Event.TheVariants.{Complete as Completes, Fail as Fails, Cancel as Cancels, Claim as Claims, Finish as Finishes, Tick as Ticks, Attach as Attaches}
 use Rattle.cf_model.specs.declared.events.Reply.{Reply}
 use Rattle.cf_model.specs.declared.events.Reply.TheVariants.{Flag as ToldFlag, Claim as ToldClaim, Finish as ToldFinish, Tick as ToldTick, Attach as ToldAttach}
-use Rattle.cf_model.specs.States.{State, after, claim_at, outcome_at, stage_at, start, flowed}
-use Rattle.cf_model.specs.Events.{answered, attached_by, attaching, cancelled_by, cancelling, claimed_by, claiming, due_limits, finished_by, finishing, firing, landed, limit_outcome, linked_to, settled_by, settling, source_outcome, state_after, ticking, told_as}
+use Rattle.cf_model.specs.States.{State, claim_at, outcome_at, stage_at, flowed}
+use Rattle.cf_model.specs.Events.{answered, attached_by, cancelled_by, claimed_by, due_limits, finished_by, finishing, firing, landed, limit_outcome, linked_to, settled_by, settling, source_outcome, state_after, ticking, told_as}
 use Rattle.cf_model.specs.Ranges.{EventFits}
 use Rattle.cf_event.specs.Words.{word_of}
 use Rattle.cf_event.specs.Decoding.{decoded, decoded_with, event_of}

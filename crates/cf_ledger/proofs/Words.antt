@@ -1,14 +1,18 @@
 -- Words that are written one behind another.
-use Rattle.std.proofs.Common.{◌≡◌, ℕ, zero, suc, ◌+◌, ◌*◌, ◌<◌, ◌≤◌, List, [], ◌∷◌, ◌++◌, length, map, refl, ap, sym, ◌∙◌, arith, subst}
-use Rattle.std.specs.Prelude.{Option, Some, None}
-use Rattle.cf_plan.specs.Plans.{Planned, edges_of}
+use Rattle.std.proofs.Common.{◌≡◌, ℕ, zero, suc, ◌+◌, ◌<◌, ◌≤◌, List, [], ◌∷◌, ◌++◌, length, length-append, map, refl, ap, sym, ◌∙◌, arith, subst, take, Bool}
+use Rattle.std.specs.Prelude.{Option, Some, None, position, slice_get}
+use Rattle.cf_plan.specs.Plans.{Planned, PlannedStage}
+use Rattle.cf_model.specs.Graphs.{AreChanges, Graph}
+use Rattle.cf_model.proofs.Shape.{answered-grows}
+use Rattle.cf_ledger.specs.News.{AreNews, AreNoted, EndsIn}
+use Rattle.cf_ledger.proofs.Flags.{flagged_news}
 use Rattle.cf_model.specs.declared.events.Event.{Event}
 use Rattle.cf_model.specs.declared.events.Reply.{Reply}
 use Rattle.cf_model.specs.States.{State, start}
 use Rattle.cf_model.specs.Events.{answered, state_after}
 use Rattle.cf_event.specs.Words.{word_of}
 use Rattle.cf_event.specs.Decoding.{decoded, decoded_with, event_of}
-use Rattle.cf_ledger.specs.Ledgers.{AreTaken, Does, IsFirstRefused, IsKept, IsRefused, IsTaken, Ledger, and_event, state_of}
+use Rattle.cf_ledger.specs.Ledgers.{AreTaken, Does, IsFirstRefused, IsKept, IsRefused, IsTaken, Ledger, state_of}
 use Rattle.cf_ledger.specs.declared.faults.LedgerFault.{LedgerFault}
 use Rattle.std.proofs.Common.{drop, get_or}
 use Rattle.std.proofs.lemmas.List.{drop_more, drop_all}
@@ -35,31 +39,74 @@ map_push : (es : List Event) (e : Event) → map word_of (es ++ e ∷ []) ≡ ma
 map_push [] e = refl
 map_push (d ∷ es) e = ap (λ (ws : List ℕ). word_of d ∷ ws) (map_push es e)
 
--- what is kept, once one more word is done and written
-pub kept_push : (plan : Planned) (ws : List ℕ) (s t : State) (w : ℕ) (e : Event) (reply : Reply) → IsKept plan ws s → event_of w ≡ Some e → word_of e ≡ w → IsTaken s e →
-    (reply, t) ≡ answered s e → IsKept plan (ws ++ w ∷ []) t
-kept_push plan ws s t w e reply h is word taken told =
-    let more = decoded_push ws w e h.written is in
+noted_push : (s : State) (es : List Event) (e : Event) (lists : List (List ℕ)) (news : List ℕ) → AreNoted s es lists → AreNews (state_after s es).stages ((answered (state_after s es) e).1).stages news →
+    AreNoted s (es ++ e ∷ []) (lists ++ news ∷ [])
+noted_push s [] e [] news h more = (more, tt)
+noted_push s [] e (x ∷ lists) news h more = absurd h
+noted_push s (d ∷ es) e [] news h more = absurd h
+noted_push s (d ∷ es) e (x ∷ lists) news h more = (h.0, noted_push ((answered s d).1) es e lists news h.1 more)
+
+pub noted_count : (s : State) (es : List Event) (lists : List (List ℕ)) → AreNoted s es lists → length lists ≡ length es
+noted_count s [] [] h = refl
+noted_count s [] (x ∷ lists) h = absurd h
+noted_count s (e ∷ es) [] h = absurd h
+noted_count s (e ∷ es) (x ∷ lists) h = ap suc (noted_count ((answered s e).1) es lists h.1)
+
+pub noted_at : (s : State) (es : List Event) (lists : List (List ℕ)) (k : ℕ) (news : List ℕ) → AreNoted s es lists → slice_get lists k ≡ Some news →
+    AreNews (state_after s (take k es)).stages (state_after s (take (k + 1) es)).stages news
+noted_at s [] [] k news h is = cc
+noted_at s [] (x ∷ lists) k news h is = absurd h
+noted_at s (e ∷ es) [] k news h is = absurd h
+noted_at s (e ∷ es) (x ∷ lists) zero news h is =
+    let same : x ≡ news = cc in
+    subst (AreNews s.stages ((answered s e).1).stages) same h.0
+noted_at s (e ∷ es) (x ∷ lists) (suc k) news h is =
+    let next : suc k + 1 ≡ suc (k + 1) = omega arith in
+    subst (λ n. AreNews (state_after ((answered s e).1) (take k es)).stages (state_after s (take n (e ∷ es))).stages news) (sym next) (noted_at ((answered s e).1) es lists k news h.1 is)
+
+-- what is kept, once one more word is done and written with its news
+pub kept_push : (plan : Planned) (ws : List ℕ) (g h : Graph) (w : ℕ) (e : Event) (reply : Reply) (flags down set : List Bool) (lists more : List (List ℕ)) → IsKept plan ws g flags lists →
+    length g.state.stages ≡ length g.state.plan.stages → length h.state.stages ≡ length h.state.plan.stages →
+    event_of w ≡ Some e → word_of e ≡ w → IsTaken g.state e → (reply, h.state) ≡ answered g.state e →
+    h.left ≡ None → position (λ b. b) down ≡ None → length down ≡ length flags → length set ≡ length flags → AreChanges g.state.stages h.state.stages set → EndsIn set lists more → IsKept plan (ws ++ w ∷ []) h down more
+kept_push plan ws g h w e reply flags down set lists more kept all_before all_after is word taken told none unset same all changes ends =
+    let pushed = decoded_push ws w e kept.written is in
+    let next : h.state ≡ (answered g.state e).1 = ap (λ p. p.1) told in
+    let grows = answered-grows g.state e in
+    let total : length h.state.plan.stages + h.state.plan.room ≡ length g.state.plan.stages + g.state.plan.room =
+    (let stages = ap (λ (x : State). length x.plan.stages) next ∙ ap (λ (l : List PlannedStage). length l) grows.stages ∙ length-append g.state.plan.stages grows.more in
+    let room = grows.room in
+    let here = ap (λ (x : State). x.plan.room) next in
+    omega (arith, stages, room, here)) in
+    let was = kept.flags in
+    let news = flagged_news g.state.stages h.state.stages set ends.xs (omega (arith, all_before, all, was)) (omega (arith, all_after, all, was, total)) changes ends.flagged in
     record {
-      place = h.place;
-      written = ap (λ (xs : List ℕ). xs ++ w ∷ []) h.written ∙ ap (λ (x : ℕ). map word_of (decoded ws) ++ x ∷ []) (sym word) ∙ sym (map_push (decoded ws) e) ∙ ap (map word_of) (sym more);
-      taken = subst (AreTaken (start plan)) (sym more) (taken_push (start plan) (decoded ws) e h.taken (subst (λ (x : State). IsTaken x e) h.left taken));
-      left = ap (λ p. p.1) told ∙ ap (λ (x : State). (answered x e).1) h.left ∙ sym (state_push (start plan) (decoded ws) e) ∙ ap (state_after (start plan)) (sym more);
+      place = kept.place;
+      written = ap (λ (xs : List ℕ). xs ++ w ∷ []) kept.written ∙ ap (λ (x : ℕ). map word_of (decoded ws) ++ x ∷ []) (sym word) ∙ sym (map_push (decoded ws) e) ∙ ap (map word_of) (sym pushed);
+      taken = subst (AreTaken (start plan)) (sym pushed) (taken_push (start plan) (decoded ws) e kept.taken (subst (λ (x : State). IsTaken x e) kept.left taken));
+      left = next ∙ ap (λ (x : State). (answered x e).1) kept.left ∙ sym (state_push (start plan) (decoded ws) e) ∙ ap (state_after (start plan)) (sym pushed);
+      worked_out = none;
+      unset = unset;
+      flags = omega (arith, same, was, total);
+      noted = subst (λ es. AreNoted (start plan) es more) (sym pushed) (subst (AreNoted (start plan) (decoded ws ++ e ∷ [])) (sym ends.written)
+          (noted_push (start plan) (decoded ws) e lists ends.xs kept.noted
+          (subst (λ (x : State). AreNews x.stages ((answered x e).1).stages ends.xs) kept.left (subst (λ (x : State). AreNews g.state.stages x.stages ends.xs) next news))));
     }
 
 -- and so the word is done
-pub does_push : (plan : Planned) (ws : List ℕ) (s t : State) (w : ℕ) (e : Event) (reply : Reply) → IsKept plan ws s → event_of w ≡ Some e → word_of e ≡ w → IsTaken s e → (reply, t) ≡ answered s e →
+pub does_push : (plan : Planned) (ws : List ℕ) (s t : State) (w : ℕ) (e : Event) (reply : Reply) → ws ≡ map word_of (decoded ws) → s ≡ state_after (start plan) (decoded ws) → event_of w ≡ Some e → word_of e ≡ w →
+    IsTaken s e → (reply, t) ≡ answered s e →
     Does w (record { plan = plan; events = decoded ws }) reply (record { plan = plan; events = decoded (ws ++ w ∷ []) })
-does_push plan ws s t w e reply h is word taken told =
-    let more = decoded_push ws w e h.written is in
+does_push plan ws s t w e reply written left_was is word taken told =
+    let more = decoded_push ws w e written is in
     let left : t ≡ state_after (start plan) (decoded (ws ++ w ∷ [])) =
-    ap (λ p. p.1) told ∙ ap (λ (x : State). (answered x e).1) h.left ∙ sym (state_push (start plan) (decoded ws) e) ∙ ap (state_after (start plan)) (sym more) in
+    ap (λ p. p.1) told ∙ ap (λ (x : State). (answered x e).1) left_was ∙ sym (state_push (start plan) (decoded ws) e) ∙ ap (state_after (start plan)) (sym more) in
     record {
       event = e;
       read = is;
       named = word;
-      taken = subst (λ (x : State). IsTaken x e) h.left taken;
-      told = ap (λ (x : State). (reply, x)) (sym left) ∙ told ∙ ap (λ (x : State). answered x e) h.left;
+      taken = subst (λ (x : State). IsTaken x e) left_was taken;
+      told = ap (λ (x : State). (reply, x)) (sym left) ∙ told ∙ ap (λ (x : State). answered x e) left_was;
       written = ap (λ (es : List Event). let l : Ledger = record { plan = plan; events = es } in l) more;
     }
 

@@ -1,14 +1,16 @@
 -- What a contract sees of a ledger, and what a word does to it.
-use Rattle.std.specs.Prelude.{◌≡◌, ℕ, ◌+◌, ◌<◌, zero, suc, true, Some, None, List, [], ◌∷◌, ◌++◌, length, map}
+use Rattle.std.specs.Prelude.{◌≡◌, ℕ, ◌+◌, ◌<◌, zero, suc, Bool, true, Some, None, List, [], ◌∷◌, ◌++◌, length, map, position, take}
 use Rattle.cf_plan.specs.Plans.{Planned, has_place}
 use Rattle.cf_model.specs.States.{State, start}
 use Rattle.cf_model.specs.declared.events.Event.{Event}
 use Rattle.cf_model.specs.declared.events.Event.TheVariants.{Attach as Attaches}
 use Rattle.cf_model.specs.declared.events.Reply.{Reply}
 use Rattle.cf_model.specs.Events.{answered, state_after}
+use Rattle.cf_model.specs.Graphs.{Graph}
 use Rattle.cf_model.specs.Ranges.{EventFits}
 use Rattle.cf_event.specs.Words.{word_of}
 use Rattle.cf_event.specs.Decoding.{decoded, event_of}
+use Rattle.cf_ledger.specs.News.{AreNoted}
 use Rattle.cf_ledger.specs.declared.faults.LedgerFault.{LedgerFault}
 use Rattle.cf_ledger.specs.declared.faults.LedgerFault.TheVariants.{NoMemory, NoEvent, NoStage, NoRoom}
 
@@ -20,6 +22,10 @@ pub record Ledger : Type 0 where
 -- the graph's state, which is what the events leave
 abbrev pub state_of : Ledger → State
 state_of ledger = state_after (start ledger.plan) ledger.events
+
+-- and its state after so many events
+abbrev pub state_at : Ledger → ℕ → State
+state_at ledger place = state_after (start ledger.plan) (take place ledger.events)
 
 -- a stage that an event attaches has room
 abbrev pub HasRoomFor : State → Event → Type 0
@@ -63,12 +69,16 @@ IsFirstRefused s zero (w ∷ words) why = IsRefused s w why
 IsFirstRefused s (suc k) (w ∷ words) why =
     (e : Event) × (event_of w ≡ Some e) × IsTaken s e × IsFirstRefused ((answered s e).1) k words why
 
--- the plan and the words of a ledger, whose graph is in this state
-pub record IsKept (plan : Planned) (words : List ℕ) (s : State) : Type 0 where
+-- The plan and the words of a ledger: its graph is in the state that they leave, with no turn left, no flag is set, and it has noted which stages each changed.
+pub record IsKept (plan : Planned) (words : List ℕ) (g : Graph) (changed : List Bool) (lists : List (List ℕ)) : Type 0 where
   pub place : has_place plan.stages plan.room ≡ true
   pub written : words ≡ map word_of (decoded words)
   pub taken : AreTaken (start plan) (decoded words)
-  pub left : s ≡ state_after (start plan) (decoded words)
+  pub left : g.state ≡ state_after (start plan) (decoded words)
+  pub worked_out : g.left ≡ None
+  pub unset : position (λ b. b) changed ≡ None
+  pub flags : length changed ≡ length g.state.plan.stages + g.state.plan.room
+  pub noted : AreNoted (start plan) (decoded words) lists
 
 -- the ledger with room for more stages, by which nothing else changes
 abbrev pub with_more : Ledger → ℕ → Ledger

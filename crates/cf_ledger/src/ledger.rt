@@ -1,15 +1,19 @@
 //! The ledger.
-ghost use Rattle.std.specs.Prelude.{◌≡◌, ◌+◌, ◌≢◌, ◌<◌, ◌↔◌, [], IfErr, IfOk, IsTrue, OnErr, OnOk, length, map, true};
+ghost use Rattle.std.specs.Prelude.{◌≡◌, ◌+◌, ◌≢◌, ◌<◌, ◌≤◌, ◌↔◌, [], IfErr, IfNone, IfOk, IfSome, IsTrue, None, OnErr, OnOk, false, length, map, replicate, true};
 ghost use Rattle.cf_plan.specs.Plans.{function_at, has_place, with_room};
-ghost use Rattle.cf_model.specs.States.{lowest_ready_of, outcome_at, start};
+ghost use Rattle.cf_model.specs.Graphs.{NoneReady, stage_in};
+ghost use Rattle.cf_model.specs.States.{claim_at, is_ready, lowest_ready_of, outcome_at, start};
 ghost use Rattle.cf_event.specs.Words.{word_of};
-ghost use Rattle.cf_ledger.specs.Ledgers.{Does, HasRoomFor, IsFirstRefused, IsRefused, state_of, with_more};
+ghost use Rattle.cf_ledger.specs.Ledgers.{Does, HasRoomFor, IsFirstRefused, IsRefused, state_at, state_of, with_more};
+ghost use Rattle.cf_ledger.specs.News.{AreNews};
 ghost use Rattle.cf_event.specs.Decoding.{decoded};
 
 use crate::faults::{LedgerFault, Misfit};
+use crate::news::News;
+use cf_bits::BitSet;
 use cf_core::Graph;
 use cf_event::decode;
-use cf_model::{Event, Reply};
+use cf_model::{Event, Reply, Stage};
 use cf_outcome::Outcome;
 use cf_plan::Plan;
 use std::alloc::Global;
@@ -18,15 +22,18 @@ use std::marker::Model;
 /// No plan has place for more room.
 const MAX_ROOM: u16 = 4096;
 
-/// A graph with the words of all that was done to it.
+/// A graph with the words of all that was done to it, and with the stages that each changed.
 ///
-/// A contract sees its plan with its room, and the events of its words. The graph is in the state that these leave.
+/// A contract sees its plan with its room, and the events of its words. The graph is in the state that these leave, and no
+/// turn is left.
 #[derive(Drop)]
 pub struct Ledger {
     plan: Plan,
     room: u16,
     graph: Graph,
     words: Vec<u64>,
+    changed: BitSet,
+    news: News,
 }
 
 impl Model for Ledger {
@@ -40,7 +47,7 @@ impl Model for Ledger {
 
     ghost view = { λ l. record { plan = with_room l.plan l.room; events = decoded l.words.items } };
 
-    ghost invariant = { λ l. IsKept (with_room l.plan l.room) l.words.items l.graph.state };
+    ghost invariant = { λ l. IsKept (with_room l.plan l.room) l.words.items l.graph l.changed l.news.lists };
 }
 
 impl Ledger {
@@ -55,18 +62,22 @@ impl Ledger {
         let Ok(plan) = plan.copy() else {
             return Err(LedgerFault::NoMemory);
         };
+        let changed = flags_of(alloc, &graph)?;
         Ok(Ledger {
             plan,
             room,
             graph,
             words: Vec::new(alloc),
+            changed,
+            news: News::new(alloc),
         })
     }
 
     /// Does a word, and writes it behind the others. It is refused for the first of: it is no event's word, its stages, its
     /// room, memory. A refused word leaves all as it was.
     ///
-    /// It costs what the graph's call costs, and from time to time a growth of the row of words.
+    /// It costs what the graph's call costs with all turns that it makes due, some nanoseconds for each stage that it
+    /// changes, and from time to time a growth of the two rows.
     pub fn apply(&mut self, word: u64) -> Result<Reply, LedgerFault>
         ensures done { IfOk result (λ reply. Does word self.old reply self.new) }
         ensures refused { OnErr result (self.new ≡ self.old) }
@@ -84,8 +95,15 @@ impl Ledger {
         if self.words.reserve(1).is_err() {
             return Err(LedgerFault::NoMemory);
         }
-        let reply = self.graph.answer(&event);
+        if self.news.reserve(self.changed.bound() as usize).is_err() {
+            return Err(LedgerFault::NoMemory);
+        }
+        // There is a state for each stage, before and after.
+        let _before = self.graph.stages();
+        let reply = self.graph.answer_telling(&event, &mut self.changed);
+        let _after = self.graph.stages();
         self.words.push_reserved(word);
+        self.news.push(&mut self.changed);
         Ok(reply)
     }
 
@@ -102,6 +120,14 @@ impl Ledger {
         ensures { result ≡ length self.now.events }
     {
         self.words.len()
+    }
+
+    /// The stages that the event at a place changed, rising: these and no others.
+    pub fn news(&self, place: usize) -> &[u16]
+        requires { place < length self.now.events }
+        ensures { AreNews (state_at self.now place).stages (state_at self.now (place + 1)).stages result.now }
+    {
+        self.news.at(place)
     }
 
     /// How many stages there are by now, the attached ones too.
@@ -126,7 +152,35 @@ impl Ledger {
         self.graph.function(i)
     }
 
-    /// The outcome of a stage, if it is settled. It works out what is left over for that stage.
+    /// A stage's state.
+    pub fn stage(&mut self, i: u16) -> Stage
+        requires { i < length (state_of self.old).plan.stages }
+        ensures told { result ≡ stage_in (state_of self.old).stages i }
+        ensures same { self.new ≡ self.old }
+    {
+        self.graph.stage(i)
+    }
+
+    /// The caller whose claim of a stage is open, if there is one.
+    pub fn claimant(&self, i: u16) -> Option<u8>
+        requires { i < length (state_of self.now).plan.stages }
+        ensures { result ≡ claim_at (state_of self.now) i }
+    {
+        self.graph.claimant(i)
+    }
+
+    /// The lowest ready stage from a number on. It costs a look at each stage between.
+    pub fn next_ready(&self, from: u16) -> Option<u16>
+        ensures ready { IfSome result (λ i. is_ready (stage_in (state_of self.now).stages i) ≡ true) }
+        ensures above { IfSome result (λ i. from ≤ i) }
+        ensures there { IfSome result (λ i. i < length (state_of self.now).plan.stages) }
+        ensures first { IfSome result (λ i. NoneReady from i (state_of self.now).stages) }
+        ensures none { IfNone result (NoneReady from (length (state_of self.now).plan.stages) (state_of self.now).stages) }
+    {
+        self.graph.next_ready(from)
+    }
+
+    /// The outcome of a stage, if it is settled.
     pub fn outcome(&mut self, i: u16) -> Option<Outcome>
         requires { i < length (state_of self.old).plan.stages }
         ensures told { result ≡ outcome_at (state_of self.old) i }
@@ -135,7 +189,7 @@ impl Ledger {
         self.graph.outcome(i)
     }
 
-    /// The lowest ready stage, or none where no stage is ready. It works out what is left over below it.
+    /// The lowest ready stage, or none where no stage is ready.
     pub fn lowest_ready(&mut self) -> Option<u16>
         ensures told { result ≡ lowest_ready_of (state_of self.old) }
         ensures same { self.new ≡ self.old }
@@ -195,17 +249,42 @@ impl Ledger {
     }
 }
 
-/// The graph of a plan with room.
+/// The graph of a plan with room, in which no turn is left.
 fn graph_of(alloc: Global, plan: &Plan, room: u16) -> Result<Graph, LedgerFault>
     requires place { has_place plan.now.stages room ≡ true }
     ensures graph { IfOk result (λ graph. graph.state ≡ start (with_room plan.now room)) }
+    ensures worked_out { IfOk result (λ graph. graph.left ≡ None) }
     ensures refused { IfErr result (λ fault. fault ≡ LedgerFault.NoMemory) }
 {
     let Ok(own) = plan.copy() else {
         return Err(LedgerFault::NoMemory);
     };
     match Graph::new_growing(alloc, own, room) {
-        Ok(graph) => Ok(graph),
+        Ok(graph) => Ok(worked_out(graph)),
+        Err(_) => Err(LedgerFault::NoMemory),
+    }
+}
+
+/// The graph once all turns that are left are taken.
+fn worked_out(graph: Graph) -> Graph
+    ensures same { result.state ≡ graph.state }
+    ensures worked_out { result.left ≡ None }
+{
+    let mut graph = graph;
+    graph.nudge(u32::MAX);
+    // A plan has so few stages and edges that these are fewer turns.
+    let _stages = graph.stages();
+    graph
+}
+
+/// A flag for each stage that there may ever be.
+fn flags_of(alloc: Global, graph: &Graph) -> Result<BitSet, LedgerFault>
+    ensures unset { IfOk result (λ flags. flags ≡ replicate (length graph.now.state.plan.stages + graph.now.state.plan.room) false) }
+    ensures refused { IfErr result (λ fault. fault ≡ LedgerFault.NoMemory) }
+{
+    let count = graph.stages() + graph.room();
+    match BitSet::new(alloc, count) {
+        Ok(flags) => Ok(flags),
         Err(_) => Err(LedgerFault::NoMemory),
     }
 }

@@ -2,7 +2,7 @@ ghost use Rattle.std.specs.Prelude.{◌≡◌, true};
 ghost use Rattle.cf_plan.specs.Plans.{has_place};
 
 use crate::steps::{Step, plan, take};
-use cf_ledger::{Ledger, LedgerFault, Misfit, Reply};
+use cf_ledger::{Ledger, LedgerFault, Misfit, Reply, Stage};
 use cf_model::{Attached, Claimed, Finished};
 use cf_outcome::{Outcome, Value};
 use cf_plan::{Args, Plan};
@@ -25,7 +25,7 @@ const NO_STAGE: u64 = 0x0400009000000000;
 const WORDS: [u64; 6] = [COMPLETE, COMPLETE, CLAIM, FINISH, ATTACH, ATTACH];
 
 /// What the graph of these words is like.
-const AFTER: [Step; 8] = [
+const AFTER: [Step; 18] = [
     Step::Outcome(0, Some(Outcome::Value(Value::Int(5)))),
     Step::Outcome(1, Some(Outcome::Value(Value::Int(6)))),
     Step::Outcome(2, None),
@@ -34,10 +34,20 @@ const AFTER: [Step; 8] = [
     Step::Room(1),
     Step::Function(3, Some(0)),
     Step::Len(6),
+    Step::News(0, &[0, 1]),
+    Step::News(1, &[]),
+    Step::News(2, &[1]),
+    Step::News(3, &[1]),
+    Step::News(4, &[2]),
+    Step::Stage(2, Stage::Ready(Args::One(Value::Int(5)))),
+    Step::Stage(1, Stage::Settled(Outcome::Value(Value::Int(6)))),
+    Step::Claimant(2, None),
+    Step::NextReady(3, Some(3)),
+    Step::NextReady(4, None),
 ];
 
 /// What each word of the first test is answered, and those between them that are refused.
-const STEPS: [Step; 12] = [
+const STEPS: [Step; 13] = [
     Step::LowestReady(None),
     Step::Apply(COMPLETE, Ok(Reply::Flag(true))),
     Step::Apply(0, Err(LedgerFault::NoEvent)),
@@ -48,6 +58,7 @@ const STEPS: [Step; 12] = [
         CLAIM,
         Ok(Reply::Claim(Claimed::Granted(Args::One(Value::Int(5))))),
     ),
+    Step::Claimant(1, Some(0)),
     Step::Apply(FINISH, Ok(Reply::Finish(Finished::Won))),
     Step::Apply(ATTACH, Ok(Reply::Attach(Attached::At(2)))),
     Step::Apply(ATTACH, Err(LedgerFault::NoRoom)),

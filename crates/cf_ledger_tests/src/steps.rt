@@ -1,5 +1,5 @@
 //! What is done to a ledger and asked of it, as rows: a call, and what it is answered.
-use cf_ledger::{Ledger, LedgerFault, Reply};
+use cf_ledger::{Ledger, LedgerFault, Reply, Stage};
 use cf_outcome::Outcome;
 use cf_plan::{Form, Plan, PlanBuilder, PlanFault};
 use std::alloc::Global;
@@ -17,6 +17,11 @@ pub(crate) enum Step {
     Room(u16),
     Function(u16, Option<u16>),
     Len(usize),
+    /// The stages that the event at a place changed.
+    News(usize, &'static [u16]),
+    Stage(u16, Stage),
+    Claimant(u16, Option<u8>),
+    NextReady(u16, Option<u16>),
 }
 
 /// The plan of a source, and an apply of it by function 0.
@@ -41,6 +46,10 @@ fn is_answered(rt: &impl Abort, alloc: Global, ledger: &mut Ledger, step: Step) 
         Step::Room(answer) => ledger.room() == answer,
         Step::Function(i, answer) => i < ledger.stages() && ledger.function(i) == answer,
         Step::Len(answer) => ledger.len() == answer,
+        Step::News(place, answer) => place < ledger.len() && ledger.news(place) == answer,
+        Step::Stage(i, answer) => i < ledger.stages() && ledger.stage(i) == answer,
+        Step::Claimant(i, answer) => i < ledger.stages() && ledger.claimant(i) == answer,
+        Step::NextReady(from, answer) => ledger.next_ready(from) == answer,
     }
 }
 

@@ -1,0 +1,197 @@
+/* What it takes to settle graphs and desks from C by one call a step, beside several: bench/c builds and runs it. A line for each, as
+ * bench/calls.c prints them; all ways of one kind take their rounds in turn. Where a name has a comma, the way stands behind it, and
+ * crates/cf_bench prints what stands in front of it, where the product has that.
+ *
+ *   from scratch ..   a plan built, a graph of it opened, and settled by cf_work; a stage
+ *   per request ..    a graph that is there restarted, its source completed, and settled: the lowest ready stage asked for, claimed and
+ *                     finished, a call each; by cf_next; by cf_work, which calls the function. The product does it by one call of
+ *                     work. An allOf is settled by the completions of its sources. A stage
+ *   desk chain        a chain on a new desk settled by its one caller: ready, claim and finish; a stage
+ *   desk 1            a desk of one caller opened of a plan that is there, its chain of 16 settled so, and closed; all of it
+ *   race 1            a stage of 4,095 completed by a desk's one caller */
+#define _POSIX_C_SOURCE 200809L
+#include "times.h"
+
+enum { STAGES = 512, RACED = 4095, SMALL = 16, SMALL_ROOM = 64 };
+enum { ROUNDS = 300, SETTLED_ROUNDS = 2000, SMALL_ROUNDS = MOST_ROUNDS };
+
+/* ---- Graphs ---- */
+
+static void by_three(cf_handle *graph) {
+  cf_reply reply = {0};
+  uint16_t stage;
+  while (cf_lowest_ready(graph, &stage) == CF_OK) {
+    MUST(cf_claim(graph, ME, stage, &reply));
+    const cf_answer given = answer(&reply.args);
+    MUST(cf_finish_with(graph, ME, stage, &given, &reply));
+  }
+  must_be(reply.answer == CF_WON, "a finish");
+}
+
+static void by_next(cf_handle *graph) {
+  cf_task task = {0};
+  while (cf_next(graph, ME, &task) == CF_OK) task.answer = answer(&task.args);
+  must_be(!task.held && task.finished == CF_WON, "a finish");
+}
+
+static void one_more(void *context, const cf_task *task, cf_answer *given) {
+  (void)context;
+  *given = answer(&task->args);
+}
+
+static void by_work(cf_handle *graph) {
+  static void (*const functions[])(void *, const cf_task *, cf_answer *) = {one_more};
+  uint32_t calls;
+  MUST(cf_work(graph, ME, functions, 1, NULL, &calls));
+  must_be(calls == STAGES - 1, "the calls of functions");
+}
+
+enum { WAYS = 3 };
+static void (*const ways[WAYS])(cf_handle *graph) = {by_three, by_next, by_work};
+
+static struct times chain[WAYS] = {{.name = "per request chain 512"}, {.name = "per request chain 512, by cf_next"},
+                                   {.name = "per request chain 512, by cf_work"}};
+static struct times fan_out[WAYS] = {{.name = "per request fan-out 512"}, {.name = "per request fan-out 512, by cf_next"},
+                                     {.name = "per request fan-out 512, by cf_work"}};
+static struct times all_of = {.name = "per request allOf 512"};
+
+static void must_hold(cf_handle *graph, uint16_t stage, uint32_t kind, int32_t number) {
+  cf_outcome outcome;
+  MUST(cf_get(graph, stage, &outcome));
+  must_be(outcome.kind == CF_VALUE && outcome.value.kind == kind && outcome.value.number == number, "an outcome");
+}
+
+static struct times scratch_chain = {.name = "from scratch chain 512"}, scratch_fan_out = {.name = "from scratch fan-out 512"};
+
+static void time_scratch(enum shape shape, struct times *times) {
+  for (int i = 0; i < SETTLED_ROUNDS; i++) {
+    cf_handle graph = {0};
+    cf_reply reply;
+    uint64_t since = moment();
+    cf_handle plan = plan_of(shape, STAGES);
+    MUST(cf_graph_new(&plan, 0, &graph));
+    MUST(cf_complete(&graph, 0, number(1), &reply));
+    by_work(&graph);
+    add(times, since);
+    cf_free(&graph);
+    cf_free(&plan);
+  }
+}
+
+/* A chain's last stage holds one more for each stage below, a fan-out's one more than the source. */
+static void time_ways(enum shape shape, struct times times[WAYS]) {
+  cf_handle plan = plan_of(shape, STAGES), graph = {0};
+  cf_reply reply;
+  MUST(cf_graph_new(&plan, 0, &graph));
+  for (int i = 0; i < WAYS * SETTLED_ROUNDS; i++) {
+    uint64_t since = moment();
+    MUST(cf_restart(&graph));
+    MUST(cf_complete(&graph, 0, number(1), &reply));
+    ways[i % WAYS](&graph);
+    add(&times[i % WAYS], since);
+    must_hold(&graph, STAGES - 1, CF_INT, shape == CHAIN ? STAGES : 2);
+  }
+  cf_free(&graph);
+  cf_free(&plan);
+}
+
+static void time_all_of(void) {
+  cf_handle plan = plan_of(ALL_OF, STAGES), graph = {0};
+  cf_reply reply;
+  MUST(cf_graph_new(&plan, 0, &graph));
+  for (int i = 0; i < SETTLED_ROUNDS; i++) {
+    uint64_t since = moment();
+    MUST(cf_restart(&graph));
+    for (uint16_t at = 0; at < STAGES - 1; at++) MUST(cf_complete(&graph, at, number(at), &reply));
+    add(&all_of, since);
+    must_hold(&graph, STAGES - 1, CF_NIL, 0);
+  }
+  cf_free(&graph);
+  cf_free(&plan);
+}
+
+/* ---- Desks ---- */
+
+static struct times desk_chain = {.name = "desk chain 512"}, small = {.name = "desk 1"}, race = {.name = "race 1"};
+
+static void desk_by_three(cf_handle *caller) {
+  cf_reply reply = {0};
+  uint16_t stage;
+  while (cf_desk_ready(caller, &stage) == CF_OK) {
+    MUST(cf_desk_claim(caller, stage, &reply));
+    const cf_answer given = answer(&reply.args);
+    MUST(cf_desk_finish_with(caller, stage, &given, &reply));
+  }
+  must_be(reply.answer == CF_WON, "a finish");
+}
+
+static void time_desk_chain(cf_handle *plan) {
+  cf_handle caller = {0};
+  cf_reply reply;
+  uint16_t events;
+  MUST(cf_desk_open(plan, &caller, 1, 3 * STAGES, 3 * STAGES));
+  uint64_t since = moment();
+  MUST(cf_desk_complete(&caller, 0, number(1), &reply));
+  desk_by_three(&caller);
+  add(&desk_chain, since);
+  MUST(cf_desk_seen(&caller, &events));
+  must_be(events == 2 * STAGES - 1, "the events of a desk");
+  cf_free(&caller);
+}
+
+static void time_small(cf_handle *plan) {
+  cf_handle desk = {0};
+  cf_reply reply;
+  uint16_t events;
+  uint64_t since = moment();
+  MUST(cf_desk_open(plan, &desk, 1, SMALL_ROOM, SMALL_ROOM));
+  MUST(cf_desk_complete(&desk, 0, number(0), &reply));
+  desk_by_three(&desk);
+  MUST(cf_close_begin(&desk));
+  MUST(cf_close_end(&desk));
+  MUST(cf_closed_events(&desk, &events));
+  cf_free(&desk);
+  add(&small, since);
+  must_be(events == 2 * SMALL - 1, "the events of a desk");
+}
+
+static void time_race(cf_handle *plan) {
+  cf_handle caller = {0};
+  cf_reply reply = {0};
+  MUST(cf_desk_open(plan, &caller, 1, RACED, RACED));
+  uint64_t since = moment();
+  for (uint16_t i = 0; i < RACED; i++) MUST(cf_desk_complete(&caller, i, number(i), &reply));
+  add(&race, since);
+  must_be(reply.answer == 1, "a completion");
+  cf_free(&caller);
+}
+
+static void time_rounds(void (*round)(cf_handle *plan), enum shape shape, uint16_t stages, int rounds) {
+  cf_handle plan = plan_of(shape, stages);
+  for (int i = 0; i < rounds; i++) round(&plan);
+  cf_free(&plan);
+}
+
+static void show_all(struct times *times, int count, uint64_t parts) {
+  for (int i = 0; i < count; i++) show(&times[i], parts);
+}
+
+int main(void) {
+  time_scratch(CHAIN, &scratch_chain);
+  time_scratch(FAN_OUT, &scratch_fan_out);
+  time_ways(CHAIN, chain);
+  time_ways(FAN_OUT, fan_out);
+  time_all_of();
+  time_rounds(time_desk_chain, CHAIN, STAGES, ROUNDS);
+  time_rounds(time_small, CHAIN, SMALL, SMALL_ROUNDS);
+  time_rounds(time_race, SOURCES, RACED, ROUNDS);
+  show(&scratch_chain, STAGES);
+  show(&scratch_fan_out, STAGES);
+  show_all(chain, WAYS, STAGES);
+  show_all(fan_out, WAYS, STAGES);
+  show(&all_of, STAGES);
+  show(&desk_chain, STAGES);
+  show(&small, 1);
+  show(&race, RACED);
+  return 0;
+}

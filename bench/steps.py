@@ -1,0 +1,139 @@
+"""A chain of 512 stages started again and settled over the library for C, from Python: bench/c runs it.
+
+    steps.py LIBRARY [MODULE]
+
+LIBRARY is the path of libcf.so, and MODULE that of bench/step_module.c as it was built, if it was. A line for each way, as bench/steps.c
+prints them; all ways take their rounds in turn:
+
+    step ctypes, three calls   cf_lowest_ready, cf_claim and cf_finish_with for each stage
+    step ctypes, by cf_next    one cf_next for each stage
+    step module, by next       the same by the module's next
+    step module, by work       the module calls the function of each stage, written in Python
+"""
+import ctypes as c
+import sys
+import time
+from importlib.util import module_from_spec, spec_from_file_location
+
+STAGES, ROUNDS = 512, 2000
+SOURCE, APPLY, NO_FUNCTION = 0, 3, 0xFFFFFFFF
+# At which word of 32 bits the numbers stand in a cf_task, a cf_reply, a cf_answer and a cf_outcome.
+TASK_FIRST, TASK_KIND, TASK_VALUE = 4, 14, 15
+REPLY_FIRST, ANSWER_KIND, ANSWER_VALUE, OUTCOME_VALUE = 4, 2, 3, 4
+
+
+def words(n):
+    """So many words of 32 bits, and what points to them in a call."""
+    memory = (c.c_int32 * n)()
+    return memoryview(memory).cast("B").cast("i"), c.byref(memory)
+
+
+class ByCtypes:
+    """The chain by ctypes, whose calls take what stands ready as it is: no object is made for a call."""
+
+    def __init__(self, path):
+        self.calls = c.CDLL(path)
+        self.plan, self.graph = (c.c_uint64 * 2)(), (c.c_uint64 * 2)()
+        self.at = c.byref(self.graph)
+        number, plan = c.c_uint16(), c.byref(self.plan)
+        must(self.calls.cf_builder_new(plan, STAGES, STAGES))
+        for stage in range(STAGES):
+            of, function = c.byref(c.c_uint16(max(stage - 1, 0))), c.c_uint32(0 if stage else NO_FUNCTION)
+            must(self.calls.cf_builder_stage(plan, APPLY if stage else SOURCE, of, c.c_size_t(min(stage, 1)), function, c.byref(number)))
+        must(self.calls.cf_build(plan))
+        must(self.calls.cf_graph_new(plan, 0, self.at))
+        self.one = c.c_uint64(1 << 32 | 1)  # a cf_value has 8 bytes, which C hands over as one number of 64 bits
+        self.stage = c.c_uint16()
+
+    def start(self):
+        must(self.calls.cf_restart(self.at))
+        must(self.calls.cf_complete(self.at, 0, self.one, words(12)[1]))
+
+    def by_three(self):
+        self.start()
+        calls, graph, stage = self.calls, self.at, self.stage
+        lowest_ready, claim, finish = calls.cf_lowest_ready, calls.cf_claim, calls.cf_finish_with
+        told = c.byref(stage)
+        (reply, reply_at), (answer, answer_at) = words(12), words(5)
+        answer[ANSWER_KIND] = 1
+        while lowest_ready(graph, told) == 0:
+            number = stage.value
+            must(claim(graph, 0, number, reply_at))
+            answer[ANSWER_VALUE] = reply[REPLY_FIRST] + 1
+            must(finish(graph, 0, number, answer_at, reply_at))
+
+    def by_next(self):
+        self.start()
+        graph, following = self.at, self.calls.cf_next
+        task, task_at = words(18)
+        task[TASK_KIND] = 1
+        while following(graph, 0, task_at) == 0:
+            task[TASK_VALUE] = task[TASK_FIRST] + 1
+
+    def last(self):
+        outcome, outcome_at = words(5)
+        must(self.calls.cf_get(self.at, STAGES - 1, outcome_at))
+        return outcome[OUTCOME_VALUE]
+
+
+class ByModule:
+    """The chain by the module."""
+
+    def __init__(self, path):
+        spec = spec_from_file_location("step_module", path)
+        module = module_from_spec(spec)
+        spec.loader.exec_module(module)
+        self.chain = module.Chain(STAGES)
+
+    def by_next(self):
+        self.chain.start(1)
+        following = self.chain.next
+        number = following(0)
+        while number is not None:
+            number = following(number + 1)
+
+    def by_work(self):
+        self.chain.start(1)
+        if self.chain.work(one_more) != STAGES - 1:
+            raise SystemExit("steps.py: a function wasn't called")
+
+    def last(self):
+        return self.chain.outcome(STAGES - 1)
+
+
+def one_more(number):
+    return number + 1
+
+
+def must(code):
+    if code:
+        raise SystemExit(f"steps.py: a call answered {code}")
+
+
+def took(way, last):
+    since = time.perf_counter_ns()
+    way()
+    nanos = time.perf_counter_ns() - since
+    if last() != STAGES:
+        raise SystemExit("steps.py: the last stage holds something else")
+    return nanos
+
+
+def main(library, *module):
+    chain = ByCtypes(library)
+    ways = {"ctypes, three calls": (chain.by_three, chain.last), "ctypes, by cf_next": (chain.by_next, chain.last)}
+    for path in module:
+        built = ByModule(path)
+        ways.update({"module, by next": (built.by_next, built.last), "module, by work": (built.by_work, built.last)})
+    found = {name: [] for name in ways}
+    for _ in range(ROUNDS):
+        for name, way in ways.items():
+            found[name].append(took(*way))
+    for name, nanos in found.items():
+        nanos.sort()
+        best, median = (it * 1000 // STAGES for it in (nanos[0], nanos[ROUNDS // 2]))
+        print(f"step {name}: best {best} ps, median {median} ps, {ROUNDS} rounds")
+
+
+if __name__ == "__main__":
+    main(*sys.argv[1:])

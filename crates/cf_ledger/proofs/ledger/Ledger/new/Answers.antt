@@ -1,0 +1,25 @@
+use Rattle.std.proofs.Common.{◌+◌, ◌∙◌, [], List, ℕ, ap, false, length, refl, rules, subst, sym}
+use Rattle.std.proofs.lemmas.List.{length-replicate}
+use Rattle.std.specs.Prelude.{position}
+use Rattle.cf_plan.specs.Plans.{with_room}
+use Rattle.cf_ledger.specs.Ledgers.{IsKept}
+use Rattle.cf_ledger.proofs.Flags.{none_set}
+use Rattle.cf_ledger.proofs.ledger.Ledger.new.Goals as goal
+
+pub invariant_of-result : goal.invariant_of-result
+invariant_of-result c =
+    let g = c.in_ok-graph.graph in
+    let all = length g.state.plan.stages + g.state.plan.room in
+    let flags = c.in_ok-changed.ensures.unset in
+    let none : IsKept (with_room c.in-Ok.plan c.args.room) [] g c.in_ok-changed.changed [] = record {
+      place = search rules;
+      written = refl;
+      taken = tt;
+      left = search rules;
+      worked_out = c.in_ok-graph.ensures.worked_out;
+      unset = ap (position (λ b. b)) flags ∙ none_set all;
+      flags = ap length flags ∙ length-replicate all false;
+      noted = tt;
+    } in
+    subst (λ lists. IsKept (with_room c.in-Ok.plan c.args.room) c.new.result.items g c.in_ok-changed.changed lists) (sym c.new-2.ensures)
+    (subst (λ (words : List ℕ). IsKept (with_room c.in-Ok.plan c.args.room) words g c.in_ok-changed.changed []) (sym c.new.ensures.items) none)
