@@ -5,13 +5,15 @@
     nulls.py --names HEADER    the names of the calls, a line each
 
 The header is the only table: each call that it declares gets a function of its name, which tests the pointers and calls the proved
-export under the name proved_NAME. A pointer that a `size_t` follows may be null where that is 0; no other may be. Where one is null the
-call answers CF_NULL, and a call without an answer does nothing. It ends with status 1 where a declaration isn't understood.
+export under the name proved_NAME. A pointer that a count follows, `size_t n` or `size_t room`, may be null where that is 0; no other may
+be. Where one is null the call answers CF_NULL, and a call without an answer does nothing. It ends with status 1 where a declaration isn't
+understood.
 """
 import re
 import sys
 
 DECLARED = re.compile(r"^(uint32_t|void) (cf_[a-z0-9_]+)\(([^)]*)\);", re.M)
+COUNTS = ("size_t", False, "n"), ("size_t", False, "room")
 PARAMETER = re.compile(r"(const )?([a-z0-9_]+) (\*?)([a-z0-9_]+)$")
 
 
@@ -39,7 +41,7 @@ def tests(parameters):
     for at, (_, _, is_pointer, name) in enumerate(parameters):
         follows = parameters[at + 1] if at + 1 < len(parameters) else None
         if is_pointer:
-            said.append(f"(!{name} && {follows[3]})" if follows and follows[1:3] == ("size_t", False) else f"!{name}")
+            said.append(f"(!{name} && {follows[3]})" if follows and follows[1:] in COUNTS else f"!{name}")
     return " || ".join(said)
 
 

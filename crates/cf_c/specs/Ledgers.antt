@@ -1,5 +1,6 @@
 -- What a ledger behind a handle is asked.
 use Rattle.std.specs.Prelude.{◌≡◌, ℕ, ◌+◌, ◌<◌, ◌≤◌, true, false, Option, Some, None, Result, Ok, Err, List, [], ◌∷◌, drop, length, map, nat_lt, slice_get, take, if◌then◌else◌}
+use Rattle.std.specs.Option.{option_map}
 use Rattle.cf_outcome.specs.declared.outcome.Outcome.{Outcome}
 use Rattle.cf_plan.specs.Plans.{Planned, function_at, has_place, with_room}
 use Rattle.cf_model.specs.declared.events.Reply.{Reply}
@@ -8,7 +9,6 @@ use Rattle.cf_model.specs.declared.stage.Stage.TheVariants.{Pending, Ready, Clai
 use Rattle.cf_model.specs.Graphs.{NoneReady, stage_in}
 use Rattle.cf_model.specs.States.{State, claim_at, is_ready, start}
 use Rattle.cf_event.specs.Words.{word_of}
-use Rattle.cf_event.specs.Decoding.{decoded}
 use Rattle.cf_ledger.specs.declared.faults.LedgerFault.{LedgerFault}
 use Rattle.cf_ledger.specs.declared.faults.LedgerFault.TheVariants as faults
 use Rattle.cf_ledger.specs.Ledgers.{Ledger as Ledger', Does, IsFirstRefused, IsRefused, state_at, state_of, with_more}
@@ -140,11 +140,30 @@ pub record IsNotDone (s : State) (word : ℕ) (code : Code) : Type 0 where
   pub due : IsRefused s word why
   pub is : code ≡ word_code why
 
--- C has these stages, each as it is in this state, as far as its buffer reaches, and behind them what was there
-pub record AreGiven (s : State) (stages : List ℕ) (old new : List CfNews) : Type 0 where
+abbrev pub blank_news : ℕ → CfNews
+blank_news i = record { stage = i; now = stage_with 0 None 0 None }
+
+abbrev pub news_in : State → ℕ → CfNews
+news_in s i = record { stage = i; now = stage_now s i }
+
+-- these stand in a buffer as far as it reaches, and behind them what was there
+pub record AreWritten {X : Type 0} (from : ℕ → X) (stages : List ℕ) (old new : List X) : Type 0 where
   pub reach : length new ≡ length old
-  pub given : (k : ℕ) → (i : ℕ) → slice_get stages k ≡ Some i → k < length old → slice_get new k ≡ Some (record { stage = i; now = stage_now s i })
+  pub given : (k : ℕ) → k < length stages → k < length old → slice_get new k ≡ option_map from (slice_get stages k)
   pub kept : (k : ℕ) → length stages ≤ k → slice_get new k ≡ slice_get old k
+
+-- the first of these say what their stages are in this state, and the others are as they were
+pub record AreFilled (s : State) (reach : ℕ) (old new : List CfNews) : Type 0 where
+  pub all : length new ≡ length old
+  pub given : (k : ℕ) → k < reach → slice_get new k ≡ option_map (λ (x : CfNews). news_in s x.stage) (slice_get old k)
+  pub kept : (k : ℕ) → reach ≤ k → slice_get new k ≡ slice_get old k
+
+-- the stages that the event at a place changed are written, each as it is now
+pub record HaveNews (l : Ledger') (place : ℕ) (old new : List CfNews) (count : ℕ) : Type 0 where
+  pub stages : List ℕ
+  pub changed : AreNews (state_at l place).stages (state_at l (place + 1)).stages stages
+  pub given : AreWritten (news_in (state_of l)) stages old new
+  pub count_is : count ≡ length stages
 
 -- a word is done, and C has its reply, the stages that it changed, and how many these are
 pub record HasDone (word : ℕ) (l : Ledger') (new : Object) (had has : CfReply × List CfNews × ℕ) : Type 0 where
@@ -155,7 +174,7 @@ pub record HasDone (word : ℕ) (l : Ledger') (new : Object) (had has : CfReply 
   pub replied : has.0 ≡ as_reply told
   pub stages : List ℕ
   pub changed : AreNews (state_of l).stages (state_of now).stages stages
-  pub given : AreGiven (state_of now) stages had.1 has.1
+  pub given : AreWritten (news_in (state_of now)) stages had.1 has.1
   pub count : has.2 ≡ length stages
 
 abbrev pub DoesWord : ℕ → Object → CfReply × List CfNews × ℕ → Result (Unit {0}) Code → Object → CfReply × List CfNews × ℕ → Type 0

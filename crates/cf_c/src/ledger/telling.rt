@@ -1,15 +1,15 @@
 //! What a ledger behind a handle writes for C.
-ghost use Rattle.std.specs.Prelude.{◌≡◌, ℕ, ◌<◌, ◌≤◌, All, Some, length, slice_get};
+ghost use Rattle.std.specs.Prelude.{◌≡◌, ◌<◌, ◌≤◌, length};
 ghost use Rattle.cf_ledger.specs.Ledgers.{state_of};
-ghost use Rattle.cf_c.specs.Ledgers.{AreGiven, DoesWord, WritesNews, WritesWords, stage_now};
+ghost use Rattle.cf_c.specs.Ledgers.{AreFilled, AreWritten, DoesWord, HaveNews, WritesNews, WritesWords, blank_news, stage_now};
 ghost use Rattle.cf_c.specs.Texts.{GivesText};
 
 use crate::code::Code;
 use crate::handle::object::Object;
 use crate::ledger::word_code;
-use crate::values::stage::{CfNews, as_stage};
+use crate::values::stage::{CfNews, CfStage, as_stage};
 use crate::values::{CfReply, as_reply};
-use cf_ledger::Ledger;
+use cf_ledger::{Ledger, Stage};
 
 /// Does a word to a ledger. The stages that it changed go out as far as the buffer reaches, and how many they are.
 pub(crate) fn apply(
@@ -70,6 +70,66 @@ pub(crate) fn news(
     }
     give_stages(ledger.news(place), stages, n);
     Ok(())
+}
+
+/// The stages that the event at a place changed go out as far as the buffer reaches, each as it is now. It tells how many
+/// they are.
+fn give_news(ledger: &mut Ledger, place: usize, news: &mut [CfNews]) -> usize
+    requires { place < length ledger.old.events }
+    ensures given { HaveNews ledger.old place news.old news.new result }
+    ensures same { ledger.new ≡ ledger.old }
+{
+    let count = name_all(ledger.news(place), news);
+    let reach = count.min(news.len());
+    fill_all(ledger, news, reach);
+    count
+}
+
+/// Writes the numbers of stages as far as the buffer reaches, and tells how many they are.
+fn name_all(stages: &[u16], news: &mut [CfNews]) -> usize
+    ensures named { AreWritten blank_news stages.now news.old news.new }
+    ensures count { result ≡ length stages.now }
+{
+    let reach = stages.len().min(news.len());
+    'each: for k in 0..reach {
+        news[k] = blank_news(stages[k]);
+    }
+    stages.len()
+}
+
+fn blank_news(stage: u16) -> CfNews
+    ensures { result ≡ blank_news stage }
+{
+    CfNews {
+        stage,
+        now: as_stage(Stage::Pending, None),
+    }
+}
+
+/// Writes what each of the first stages in a buffer is.
+fn fill_all(ledger: &mut Ledger, news: &mut [CfNews], reach: usize)
+    requires { reach ≤ length news.old }
+    ensures filled { AreFilled (state_of ledger.old) reach news.old news.new }
+    ensures same { ledger.new ≡ ledger.old }
+{
+    'each: for k in 0..reach {
+        let stage = news[k].stage;
+        let now = stage_now(ledger, stage);
+        news[k] = CfNews { stage, now };
+    }
+}
+
+/// What a stage is; one that isn't there is pending.
+#[tactic(auto, using(crate::proofs::News::none_there))]
+fn stage_now(ledger: &mut Ledger, stage: u16) -> CfStage
+    ensures told { result ≡ stage_now (state_of ledger.old) stage }
+    ensures same { ledger.new ≡ ledger.old }
+{
+    if stage >= ledger.stages() {
+        return as_stage(Stage::Pending, None);
+    }
+    let claimant = ledger.claimant(stage);
+    as_stage(ledger.stage(stage), claimant)
 }
 
 fn give_words(words: &[u64], buffer: &mut [u64], n: &mut usize)
