@@ -3,9 +3,10 @@
  * Java's CompletableFuture (Java SE 17) over numbered stages: callers complete, fail and cancel stages, claim the function of a ready
  * one and finish it with what the function answered; limits fire when a moment is handed in.
  *
- * A handle is a builder (cf_builder_new), a plan (cf_build), a graph that one thread has alone (cf_graph_new), or one of the callers of
- * a desk (cf_desk_open), which is a graph that several threads share without a lock: each thread has a caller's handle of its own. A
- * desk ends as a closing (cf_close_begin) and a closed desk (cf_close_end). An empty handle is all bytes 0: `cf_handle h = {0};`.
+ * A handle is a builder (cf_builder_new), a plan (cf_build), a graph that one thread has alone (cf_graph_new), a ledger, which is a graph
+ * under one lock with the words of all that was done to it (cf_ledger_new), or one of the callers of a desk (cf_desk_open), which is a
+ * graph that several threads share without a lock: each thread has a caller's handle of its own. A desk ends as a closing
+ * (cf_close_begin) and a closed desk (cf_close_end). An empty handle is all bytes 0: `cf_handle h = {0};`.
  *
  * What C owes, and nothing can check (docs/C.md has more):
  *   - a handle isn't copied and then used twice; it may be moved, by memcpy too, if the old one isn't used again;
@@ -15,12 +16,14 @@
  * A null pointer is answered CF_NULL, unless a count or a room follows it that is 0; cf_free of one does nothing.
  *
  * Each call answers a cf_code: 0 where it did what it was asked. What it tells goes through its last pointer then; after any other
- * code that is left as it was, and so is what stands behind the handle, but as cf_build says, and a desk's caller may have looked. Every
+ * code that is left as it was, and so is what stands behind the handle, but as cf_build and cf_ledger_of say, and a desk's caller may have
+ * looked. Every
  * call on an empty handle answers CF_EMPTY, and one on a handle of another kind CF_WRONG_KIND; neither changes anything.
  *
  * A function in this header stands for the call before it, which takes by pointer what the function takes by value.
  *
- * Building and opening take memory, and so do cf_close_begin and cf_run_script; no other call takes any. */
+ * Building and opening take memory, and so do cf_ledger_apply, cf_ledger_grow, cf_close_begin and cf_run_script; no other call takes
+ * any. */
 #ifndef CF_H
 #define CF_H
 #include <stdbool.h>
@@ -64,6 +67,7 @@ typedef enum {
   CF_BAD_SCRIPT = 27,         /* the script has a fault, whose line stands in the report */
   CF_STILL_SHARED = 28,       /* all callers were given back, and the desk is held all the same */
   CF_NOT_HELD = 29,           /* the caller hasn't claimed the stage that its task holds */
+  CF_NO_ROOM = 30,            /* a ledger has no room for the stage that a word attaches */
   CF_NULL = 255               /* a pointer is null that may not be; nothing was done */
 } cf_code;
 
@@ -332,6 +336,50 @@ uint32_t cf_event_of(uint64_t word, cf_event *event);
 
 /* Does the event of a word to a graph, and gives its reply. CF_NO_WORD, CF_NO_STAGE, CF_BAD_ATTACH. */
 uint32_t cf_apply(cf_handle *graph, uint64_t word, cf_reply *reply);
+
+/* ---- Ledgers: one graph under one lock, with the words of all that was done to it ---- */
+
+/* What a stage is: CF_IS_READY, as cf_claim says; CF_IS_CLAIMED, until it is finished or settled; CF_IS_LINKED, it waits for the stage
+ * `target`; CF_IS_SETTLED, with its `outcome`. `who` is the caller whose claim of it is open, also once it is settled by another call, or
+ * CF_NOBODY. What it doesn't have is 0. */
+enum { CF_IS_PENDING = 0, CF_IS_READY = 1, CF_IS_CLAIMED = 2, CF_IS_LINKED = 3, CF_IS_SETTLED = 4 };
+#define CF_NOBODY UINT32_MAX
+typedef struct { uint32_t kind; uint32_t who; uint16_t target; cf_outcome outcome; } cf_stage;
+
+/* A stage that a word changed, and what it is now. */
+typedef struct { uint16_t stage; cf_stage now; } cf_news;
+
+/* Puts a ledger of the plan behind an empty handle, with room for so many stages that are attached later. The plan stays. CF_FULL,
+ * CF_EMPTY, CF_WRONG_KIND, CF_ROOM, CF_NO_MEMORY, the first that holds in this order. */
+uint32_t cf_ledger_new(cf_handle *plan, uint16_t room, cf_handle *ledger);
+
+/* The same, in which these words are done and written, one after another: so a ledger is read back, or made of a desk's history. After
+ * CF_ROOM: where a word can't be done, why, CF_NO_WORD, CF_NO_STAGE or CF_NO_ROOM of the first such; `place` tells which then, 0, 1, ..,
+ * and is left as it was with any other code. CF_NO_MEMORY may come in place of these. */
+uint32_t cf_ledger_of(cf_handle *plan, uint16_t room, const uint64_t *words, size_t n, cf_handle *ledger, size_t *place);
+
+/* Does the event of a word, writes the word behind the others, and gives the reply. The stages that it changed, rising, each as it is now,
+ * go to `news` as far as there is room, and how many they are to `n`: room for all stages, one that is attached too, is always enough.
+ * CF_NO_WORD, CF_NO_STAGE, CF_NO_ROOM for the stage that it attaches (cf_ledger_grow makes some), CF_NO_MEMORY, the first that holds in
+ * this order. */
+uint32_t cf_ledger_apply(cf_handle *ledger, uint64_t word, cf_reply *reply, cf_news *news, size_t room, size_t *n);
+
+/* The words from a place 0, 1, .. on, as far as there is room, and how many there are from there on: none past the end. */
+uint32_t cf_ledger_words(cf_handle *ledger, size_t from, uint64_t *words, size_t room, size_t *n);
+
+/* The stages that the event at a place 0, 1, .. changed, rising, as far as there is room, and how many they are. CF_NOTHING where there is
+ * no such event. */
+uint32_t cf_ledger_news(cf_handle *ledger, size_t place, uint16_t *stages, size_t room, size_t *n);
+
+/* The lowest ready stage from a number on, or CF_NOTHING; what a stage is, or CF_NO_STAGE; a stage's function, or CF_NOTHING, or
+ * CF_NO_STAGE; how many stages there are by now. */
+uint32_t cf_ledger_ready(cf_handle *ledger, uint16_t from, uint16_t *stage);
+uint32_t cf_ledger_stage(cf_handle *ledger, uint16_t stage, cf_stage *now);
+uint32_t cf_ledger_function(cf_handle *ledger, uint16_t stage, uint16_t *function);
+uint32_t cf_ledger_stages(cf_handle *ledger, uint16_t *stages);
+
+/* Makes room for so many stages more, by doing all words again. CF_ROOM, CF_NO_MEMORY. */
+uint32_t cf_ledger_grow(cf_handle *ledger, uint16_t more);
 
 /* ---- Scripts and texts ---- */
 

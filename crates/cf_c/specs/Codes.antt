@@ -7,7 +7,7 @@ use Rattle.cf_desk.specs.declared.faults.DeskFault.TheVariants as desk
 use Rattle.cf_desk.specs.declared.faults.OpenFault.{OpenFault}
 use Rattle.cf_desk.specs.declared.faults.OpenFault.TheVariants as opening
 use Rattle.cf_c.specs.declared.code.Code.{Code}
-use Rattle.cf_c.specs.declared.code.Code.TheVariants.{TooManyStages, SourceNotLower, WrongSourceCount, FunctionMissing, FunctionUnwanted, TooManyEdges, NoSuchStage, NoMemory, TooManyLimits, Empty, Full, WrongKind, NoSuchNumber, NoStage, BadAttach, Room, Nothing, Callers, Log, Calls, Functions, PassFull, LogFull, OtherDesk, NotAll, NoWord, BadScript, StillShared, NotHeld}
+use Rattle.cf_c.specs.declared.code.Code.TheVariants.{TooManyStages, SourceNotLower, WrongSourceCount, FunctionMissing, FunctionUnwanted, TooManyEdges, NoSuchStage, NoMemory, TooManyLimits, Empty, Full, WrongKind, NoSuchNumber, NoStage, BadAttach, Room, Nothing, Callers, Log, Calls, Functions, PassFull, LogFull, OtherDesk, NotAll, NoWord, BadScript, StillShared, NotHeld, NoRoom}
 
 -- the number that C sees
 abbrev pub number_of : Code → ℕ
@@ -40,6 +40,7 @@ number_of NoWord = 26
 number_of BadScript = 27
 number_of StillShared = 28
 number_of NotHeld = 29
+number_of NoRoom = 30
 
 -- the code of a plan's fault
 abbrev pub plan_code : PlanFault → Code

@@ -60,11 +60,12 @@ pub enum Code {
     StillShared,
     /// 29: the caller hasn't claimed the stage that its task holds.
     NotHeld,
+    /// 30: a ledger has no room for the stage that a word attaches.
+    NoRoom,
 }
 
 impl Code {
     /// The number that C sees.
-    #[inline(always)]
     pub fn number(self) -> u32
         ensures { result ≡ number_of self }
     {
@@ -107,6 +108,7 @@ pub(crate) fn text_of(number: u32) -> Option<&'static str>
         27 => Some("BadScript"),
         28 => Some("StillShared"),
         29 => Some("NotHeld"),
+        30 => Some("NoRoom"),
         255 => Some("Null"),
         _ => None,
     }
@@ -144,7 +146,6 @@ pub(crate) fn open_code(fault: OpenFault) -> Code
 }
 
 /// The code of a fault for which a desk's call is refused.
-#[inline(always)]
 pub(crate) fn desk_code(fault: DeskFault) -> Code
     ensures { result ≡ desk_code fault }
 {

@@ -8,6 +8,7 @@
 //! | `handle` | the handle, and what may stand behind it |
 //! | `plan` | a plan that is being built |
 //! | `graph` | a graph that one caller has alone |
+//! | `ledger` | a graph with the words of all that was done to it |
 //! | `desk` | the callers of a graph that several share: how it is opened, and what each of them is asked |
 //! | `close` | a desk that is being closed, and a closed one with its records |
 //! | `values` | values, replies and events |
@@ -20,6 +21,7 @@ mod code;
 mod desk;
 mod graph;
 mod handle;
+mod ledger;
 mod plan;
 mod texts;
 mod values;

@@ -6,6 +6,7 @@ ghost use Rattle.cf_c.specs.Values.{answer_of, answer_with, args_with, as_answer
 
 pub(crate) mod attaching;
 pub(crate) mod event;
+pub(crate) mod stage;
 pub(crate) mod task;
 
 use cf_model::{Attached, Claimed, Finished, Reply, Ticked};

@@ -133,6 +133,8 @@ impl Ledger {
     /// How many stages there are by now, the attached ones too.
     pub fn stages(&self) -> u16
         ensures count { result ≡ length (state_of self.now).plan.stages }
+        ensures all_stages { length (state_of self.now).stages ≡ length (state_of self.now).plan.stages }
+        ensures all_claims { length (state_of self.now).claims ≡ length (state_of self.now).plan.stages }
     {
         self.graph.stages()
     }

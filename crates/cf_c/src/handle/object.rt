@@ -5,6 +5,7 @@ ghost use Rattle.cf_c.specs.Records.{CallsHaveWords, HasWord};
 
 use cf_core::Graph;
 use cf_desk::{Closed, Desk, Pass};
+use cf_ledger::Ledger;
 use cf_plan::{Plan, PlanBuilder};
 use std::alloc::Global;
 use std::sync::Arc;
@@ -18,6 +19,8 @@ pub enum Object {
     Plan(Plan),
     /// A graph that one caller has alone.
     Graph(Graph),
+    /// A graph with the words of all that was done to it.
+    Ledger(Ledger),
     /// A caller of a graph that several share.
     Caller(Caller),
     /// Callers that were given back, of a desk that is being closed.
