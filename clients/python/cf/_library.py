@@ -47,6 +47,14 @@ class CDeskSizes(c.Structure):
     _fields_ = [("log", c.c_uint16), ("calls", c.c_uint16), ("room", c.c_uint16), ("functions", c.c_uint32)]
 
 
+class CStage(c.Structure):
+    _fields_ = [("kind", c.c_uint32), ("who", c.c_uint32), ("target", c.c_uint16), ("outcome", COutcome)]
+
+
+class CNews(c.Structure):
+    _fields_ = [("stage", c.c_uint16), ("now", CStage)]
+
+
 class CEvent(c.Structure):
     _fields_ = [("call", c.c_uint32), ("who", c.c_uint8), ("stage", c.c_uint16), ("value", CValue), ("code", c.c_uint32),
                 ("answer", CAnswer), ("now", c.c_uint32), ("form", c.c_uint32), ("sources", c.c_uint32), ("first", c.c_uint16),
@@ -69,6 +77,7 @@ _H, _R, _OF = c.POINTER(CHandle), c.POINTER(CReply), c.POINTER(c.c_uint16)
 _U8, _U16, _U32, _U64, _SIZE = c.c_uint8, c.c_uint16, c.c_uint32, c.c_uint64, c.c_size_t
 _U8_OUT, _U16_OUT, _U64_OUT = c.POINTER(c.c_uint8), c.POINTER(c.c_uint16), c.POINTER(c.c_uint64)
 _ANSWER = c.POINTER(CAnswer)
+_SIZE_OUT = c.POINTER(c.c_size_t)
 _OUTCOME, _NOW, _TEXT = c.POINTER(COutcome), c.POINTER(CNow), [c.c_char_p, _SIZE, c.POINTER(_SIZE)]
 
 # The arguments of each call that the module makes.
@@ -122,6 +131,16 @@ CALLS = {
     "cf_word_of_event": [c.POINTER(CEvent), _U64_OUT],
     "cf_event_of": [_U64, c.POINTER(CEvent)],
     "cf_apply": [_H, _U64, _R],
+    "cf_ledger_new": [_H, _U16, _H],
+    "cf_ledger_of": [_H, _U16, c.POINTER(_U64), _SIZE, _H, _SIZE_OUT],
+    "cf_ledger_apply": [_H, _U64, _R, c.POINTER(CNews), _SIZE, _SIZE_OUT],
+    "cf_ledger_words": [_H, _SIZE, c.POINTER(_U64), _SIZE, _SIZE_OUT],
+    "cf_ledger_news": [_H, _SIZE, _OF, _SIZE, _SIZE_OUT],
+    "cf_ledger_ready": [_H, _U16, _U16_OUT],
+    "cf_ledger_stage": [_H, _U16, c.POINTER(CStage)],
+    "cf_ledger_function": [_H, _U16, _U16_OUT],
+    "cf_ledger_stages": [_H, _U16_OUT],
+    "cf_ledger_grow": [_H, _U16],
     "cf_run_script": [c.c_char_p, _SIZE, *_TEXT],
     "cf_text_of_outcome": [_OUTCOME, *_TEXT],
     "cf_code_text": [_U32, *_TEXT],
@@ -145,7 +164,8 @@ def _checked(call: Callable[..., int], arguments: List[object]) -> Callable[...,
 
 # The structures by their names in C.
 STRUCTURES = {"cf_handle": CHandle, "cf_value": CValue, "cf_answer": CAnswer, "cf_outcome": COutcome, "cf_args": CArgs, "cf_now": CNow,
-              "cf_reply": CReply, "cf_record": CRecord, "cf_desk_sizes": CDeskSizes, "cf_event": CEvent}
+              "cf_reply": CReply, "cf_record": CRecord, "cf_desk_sizes": CDeskSizes, "cf_stage": CStage, "cf_news": CNews,
+              "cf_event": CEvent}
 
 
 def fit(loaded: c.CDLL, path: str) -> None:
