@@ -1,4 +1,4 @@
-"""A fan-out, a limit that gives a fallback, and a fault that is handled: by one thread, and by four that share a desk."""
+"""A fan-out, a limit that gives a fallback, and a fault that is handled: by one thread, and by four that share a desk; and a ledger."""
 import cf
 
 
@@ -76,6 +76,22 @@ def judge(plan, closed):
     return records[0]
 
 
+def flight_recorder() -> None:
+    """Each event tells which stages it changed, and the words of all make the same ledger again."""
+    plan, source, total, *_ = fan_out()
+    with cf.Ledger(plan) as ledger:
+        told = ledger.do(cf.events.Complete(0, source, 3))
+        print("changed", [(stage.number, stage.kind.name) for stage in told.news if stage.number <= 2])
+        ready = ledger.ready()
+        print("claimed", ledger.do(cf.events.Claim(1, ready)).reply.status.name, "by", ledger.stage(ready).who)
+        with cf.Ledger.of_words(plan, ledger.words()) as again:
+            print("made again", [again.stage(stage) for stage in range(total)] == [ledger.stage(stage) for stage in range(total)])
+        try:
+            cf.Ledger.of_words(plan, ledger.words() + [0])
+        except cf.Misfit as misfit:
+            print("word", misfit.place, "refused:", misfit)
+
+
 def scripts() -> None:
     script = '{"cf":1,"stages":[{"form":"source"},{"form":"apply","of":[0],"fn":{"add":5}}],"steps":[["complete",0,3],["work"]]}'
     print(cf.run_script(script), end="")
@@ -89,4 +105,5 @@ def scripts() -> None:
 if __name__ == "__main__":
     one_thread()
     four_threads()
+    flight_recorder()
     scripts()
