@@ -1,5 +1,6 @@
 """The shared library, and the structures of cf.h."""
 import ctypes as c
+import importlib.util
 import os
 from types import SimpleNamespace
 from typing import Callable, List, Sequence
@@ -190,4 +191,12 @@ def load(path: str) -> SimpleNamespace:
     return calls
 
 
-library = load(os.environ.get("CF_LIBRARY", "libcf.so"))
+def _found() -> str:
+    """The library that CF_LIBRARY names, or that within the C module, if it has it, or whichever the system finds."""
+    module = importlib.util.find_spec("cf._cf")
+    within = "libcf.so" if module is None or module.origin is None else module.origin
+    return os.environ.get("CF_LIBRARY") or within
+
+
+path = _found()
+library = load(path)

@@ -1,0 +1,14 @@
+"""Futures that services use: any objects, exceptions, threads, `await` and timeouts, over the proved ledger.
+
+Each request has one history of all that happened to it, which is proved to be one order, and can be judged (`cf_look check`), done again
+(`cf run`) and drawn (`cf_look dot`).
+"""
+from .flow import Flow, Step
+from .history import History
+from .loop import LoopService
+from .request import Request
+from .service import Service
+from .stage import Stage
+from .words import RequestFull
+
+__all__ = ["Flow", "History", "LoopService", "Request", "RequestFull", "Service", "Stage", "Step"]

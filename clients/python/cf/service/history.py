@@ -1,0 +1,249 @@
+"""What happened to a request: told in words, as an account that `cf_look check` judges, and as a script."""
+import json
+from array import array
+from typing import TYPE_CHECKING, Any, Dict, List, NamedTuple, Optional, Sequence, Tuple
+
+from ..events import Attach, Cancel, Claim, Complete, Event, Fail, Finish, Tick, event_of
+from ..values import Link, Thrown
+from .words import (ANSWER, ARGS, BAD_ANSWER, CANCELLED, CLIENT, CLOCK, FIRST, FIRST_SOME, FIRST_WORKER, FORMS, GOT, NUMBER, ONE, OUTCOME, PENDING,
+                    RELAY, REPLY_NUMBERS, SECOND, SECOND_SOME, THROWN, VALUE)
+
+if TYPE_CHECKING:
+    from ._plain import PlanCore
+
+CALLERS = {CLIENT: "caller", CLOCK: "clock", RELAY: "relay"}
+
+
+class Told(NamedTuple):
+    """The outcome of a stage, in the library's numbers."""
+
+    kind: int
+    wrapped: int
+    code: int
+    some: int
+    number: int
+
+
+class Entry(NamedTuple):
+    """An event at its place, counted from 1, when it was done in seconds from the first on, its word and its reply as it came, and which
+    stages were told to be settled by it."""
+
+    place: int
+    at: float
+    word: int
+    event: Event
+    reply: Tuple[int, ...]
+    told: List[Tuple[int, Told]]
+
+
+class History:
+    """The events of a request in their one order, with all that callers were told. It stays as it is while the request goes on.
+
+    `print(history)` tells it in words, a line for each event; `line()` is the same in one line, for a log. `account()` is what
+    `cf_look check` judges, `script()` what `cf run` does again and `cf_look dot` draws."""
+
+    def __init__(self, name: str, plan: "Optional[PlanCore]", facts: Tuple[Any, Any, Any, Any, List[str], List[Any], List[BaseException]]) -> None:
+        words, times, replies, told, self.names, self.values, self.errors = facts
+        self.name = name
+        self.words: List[int] = _numbers("Q", words)
+        self.planned = [] if plan is None else [(form, of, call is not None) for form, of, call, _ in plan.rows]
+        self._times, self._replies = _numbers("q", times), _numbers("I", replies)
+        self._told: Dict[int, List[Tuple[int, Told]]] = {}
+        numbers = _numbers("I", told)
+        for k in range(0, len(numbers), 7):
+            if numbers[k + 2] != PENDING:
+                self._told.setdefault(numbers[k], []).append((numbers[k + 1], Told(*numbers[k + 2:k + 7])))
+
+    def entries(self) -> List[Entry]:
+        """All events."""
+        first = self._times[0] if self._times else 0
+        return [Entry(k + 1, (self._times[k] - first) / 1e9, word, event_of(word), tuple(self._replies[REPLY_NUMBERS * k:REPLY_NUMBERS * (k + 1)]),
+                      self._told.get(k + 1, [])) for k, word in enumerate(self.words)]
+
+    # In words.
+
+    def __str__(self) -> str:
+        return "\n".join(self.lines())
+
+    def line(self) -> str:
+        """All in one line."""
+        return "; ".join(" ".join(line.split()) for line in self.lines())
+
+    def lines(self) -> List[str]:
+        """A line for each event, and one for each stage that was settled by it."""
+        lines = [f"{self.name}: {len(self.words)} events, {len(self.names)} stages"]
+        for entry in self.entries():
+            lines.append(f"{entry.at * 1000:9.3f} ms  {self.sentence(entry)}")
+            lines += [f"{'':12}  {self.stage(stage)} ends: {text}" for stage, text in self.ends(entry)]
+        return lines
+
+    def sentence(self, entry: Entry) -> str:
+        """Who did what, and what it was answered."""
+        event, reply = entry.event, entry.reply
+        who = self.caller(event.who)
+        if isinstance(event, Attach):
+            behind = " behind " + " and ".join(map(self.stage, event.of)) if event.of else ""
+            return f"{who} attaches {self.stage(reply[NUMBER])}, {FORMS[event.form]}{behind}"
+        if isinstance(event, Claim):
+            said = ("is granted", "is too late, it is settled", "is too late, another has it", "is too early")[reply[ANSWER]]
+            return f"{who} claims {self.stage(event.stage)} and {said}{'' if reply[ANSWER] else self._called_with(reply)}"
+        if isinstance(event, Finish):
+            said = ("", ", too late", ", which it had not claimed")[reply[ANSWER]]
+            return f"{who} finishes {self.stage(event.stage)}, {self._answer(event)}{said}"
+        if isinstance(event, Tick):
+            return f"{who} lets it be {event.now}"
+        did = (f"completes {self.stage(event.stage)} with {self.value(event.value)}" if isinstance(event, Complete) else
+               f"fails {self.stage(event.stage)} with {self.error(event.code)}" if isinstance(event, Fail) else
+               f"cancels {self.stage(event.stage)}")
+        return f"{who} {did}{'' if reply[ANSWER] else ', too late'}"
+
+    def caller(self, who: int) -> str:
+        """What a caller is called."""
+        return CALLERS.get(who, f"worker {who - FIRST_WORKER}")
+
+    def stage(self, number: int) -> str:
+        """Number and name of a stage."""
+        return f"{number} {self.names[number]}"
+
+    def value(self, number: Optional[int]) -> str:
+        """The text of a value, cut to 60 characters."""
+        return "None" if number is None else _short(self.values[number])
+
+    def error(self, code: int) -> str:
+        """The text of an exception."""
+        return _short(self.errors[code])
+
+    def outcome(self, told: Told) -> str:
+        """What a stage ended in."""
+        if told.kind == VALUE:
+            return self.value(told.number if told.some else None)
+        return self.error(told.code) if told.kind == THROWN else {CANCELLED: "cancelled", BAD_ANSWER: "a bad answer"}.get(told.kind, "timeout")
+
+    def ends(self, entry: Entry) -> List[Tuple[int, str]]:
+        """Which stages were settled by an event, and what they ended in. A fault that is wrapped is one that the stage's function raised, or
+        one that it took from another stage."""
+        event = entry.event
+        own = event.stage if isinstance(event, Finish) and not isinstance(event.answer, Link) else None
+        return [(stage, self.outcome(told) + (", passed on" if told.wrapped and stage != own else "")) for stage, told in entry.told]
+
+    def _called_with(self, reply: Sequence[int]) -> str:
+        many = reply[ARGS]
+        if many == GOT:
+            return f", with {self.outcome(Told(*reply[OUTCOME]))}"
+        first = self.value(reply[FIRST] if reply[FIRST_SOME] else None)
+        second = self.value(reply[SECOND] if reply[SECOND_SOME] else None)
+        return "" if not many else f", with {first}" if many == ONE else f", with {first} and {second}"
+
+    def _answer(self, event: Finish) -> str:
+        if isinstance(event.answer, Thrown):
+            return f"which raised {self.error(event.answer.code)}"
+        if isinstance(event.answer, Link):
+            return f"which waits for {self.stage(event.answer.stage)}"
+        return f"which gave {self.value(event.answer)}"
+
+    # For the programs.
+
+    def account(self) -> str:
+        """What `cf_look check` judges, a line of JSON: the events, each caller's replies, what it was told of stages, and what these hold in
+        the end. All of it as it was told, and nothing done again."""
+        entries = self.entries()
+        callers: List[List[List[Any]]] = [[] for _ in range(1 + max((entry.event.who for entry in entries), default=-1))]
+        last = dict(self._told.get(0, []))
+        for entry in entries:
+            own = callers[entry.event.who]
+            own.append(["did", entry.place, str(entry.word), _reply_text(entry.event, entry.reply)])
+            own += [["outcome", entry.place, stage, _outcome_text(told)] for stage, told in entry.told]
+            last.update(entry.told)
+        plan = {"cf": 2, "room": len(self.names) - len(self.planned), "stages": self._stages()}
+        outcomes = [_outcome_text(last[stage]) if stage in last else "pending" for stage in range(len(self.names))]
+        return json.dumps({"plan": plan, "functions": max(len(self.names), 1), "events": [str(word) for word in self.words],
+                           "callers": callers, "outcomes": outcomes})
+
+    def script(self, most: Optional[int] = None) -> str:
+        """What `cf run` does again and `cf_look dot` draws, a line of JSON: the first events, or all."""
+        return json.dumps({"cf": 2, "room": len(self.names) - len(self.planned), "stages": self._stages(),
+                           "steps": [_step(event_of(word)) for word in self.words[:most]]})
+
+    def report(self) -> str:
+        """What `cf run` prints of the script: the replies as they came, and what stages hold in the end."""
+        entries = self.entries()
+        last = dict(self._told.get(0, []))
+        for entry in entries:
+            last.update(entry.told)
+        lines = [_reply_text(entry.event, entry.reply) for entry in entries]
+        lines += [f"stage {stage} {_outcome_text(last[stage]) if stage in last else 'pending'}" for stage in range(len(self.names))]
+        return "".join(line + "\n" for line in lines)
+
+    def _stages(self) -> List[Dict[str, Any]]:
+        return [_shape(form, of, number if has_function else None) for number, (form, of, has_function) in enumerate(self.planned)]
+
+
+def _numbers(kind: str, given: Any) -> List[int]:
+    numbers = array(kind)
+    numbers.frombytes(bytes(given))
+    return numbers.tolist()
+
+
+def _shape(form: int, of: Sequence[int], function: Optional[int]) -> Dict[str, Any]:
+    stage: Dict[str, Any] = {"form": FORMS[form]}
+    if of:
+        stage["of"] = list(of)
+    if function is not None:
+        stage["fn"] = {"const": function}
+    return stage
+
+
+def _step(event: Event) -> List[Any]:
+    if isinstance(event, Attach):
+        return ["attach", _shape(event.form, event.of, event.function)]
+    if isinstance(event, Complete):
+        return ["complete", event.stage, event.value]
+    if isinstance(event, Fail):
+        return ["fail", event.stage, event.code]
+    if isinstance(event, Cancel):
+        return ["cancel", event.stage]
+    if isinstance(event, Claim):
+        return ["claim", event.who, event.stage]
+    if isinstance(event, Finish):
+        answer = event.answer
+        said: Dict[str, Optional[int]] = ({"throw": answer.code} if isinstance(answer, Thrown) else
+                                          {"link": answer.stage} if isinstance(answer, Link) else {"give": answer})
+        return ["finish", event.who, event.stage, said]
+    return ["tick", event.now]
+
+
+def _value_text(some: int, number: int) -> str:
+    return str(number - (number >> 31 << 32)) if some else "nil"
+
+
+def _outcome_text(told: Told) -> str:
+    if told.kind == VALUE:
+        return f"value {_value_text(told.some, told.number)}"
+    cause = {THROWN: f"thrown {told.code}", CANCELLED: "cancelled", BAD_ANSWER: "badanswer"}.get(told.kind, "timeout")
+    return f"fault {cause} {'wrapped' if told.wrapped else 'raw'}"
+
+
+def _reply_text(event: Event, reply: Sequence[int]) -> str:
+    if isinstance(event, Claim):
+        many = reply[ARGS]
+        if reply[ANSWER]:
+            return ("", "settled", "taken", "notready")[reply[ANSWER]]
+        if many == GOT:
+            return "granted got " + _outcome_text(Told(*reply[OUTCOME]))
+        texts = [_value_text(reply[FIRST_SOME], reply[FIRST]), _value_text(reply[SECOND_SOME], reply[SECOND])]
+        return " ".join(["granted", ("none", "one", "two")[many], *texts[:many]])
+    if isinstance(event, Finish):
+        return ("won", "late", "notyours")[reply[ANSWER]]
+    if isinstance(event, Attach):
+        return "stagesfull" if reply[ANSWER] else f"attached {reply[NUMBER]}"
+    if isinstance(event, Tick):
+        return "past" if reply[ANSWER] else f"fired {reply[NUMBER]}"
+    return "true" if reply[ANSWER] else "false"
+
+
+def _short(thing: Any) -> str:
+    try:
+        text = repr(thing)
+    except Exception:
+        text = f"a {type(thing).__name__}"
+    return text if len(text) <= 60 else text[:57] + "..."

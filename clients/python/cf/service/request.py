@@ -1,0 +1,194 @@
+"""A request: stages that belong together, of which one history is kept."""
+import concurrent.futures
+import functools
+import threading
+from collections import deque
+from typing import TYPE_CHECKING, Any, Callable, Deque, List, Optional, Sequence, Tuple, TypeVar
+
+from ..values import Form
+from ._core import RequestCore
+from .history import History
+from .stage import Stage
+from .words import CANCEL, COMPLETE, FAIL, LINKS, MOST_STAGES, RELAY, THROWS, RequestFull
+
+if TYPE_CHECKING:
+    from typing import Protocol
+
+    from .flow import Step
+
+    class Clock(Protocol):
+        """Acts after some seconds, unless what it gives is called before."""
+
+        def after(self, seconds: float, act: Callable[[], object]) -> Callable[[], object]: ...
+
+    class Works(Protocol):
+        """Runs stages that are ready: threads or an event loop."""
+
+        @property
+        def clock(self) -> Clock: ...
+
+        @property
+        def closed(self) -> bool: ...
+
+        def refusal(self) -> RuntimeError: ...
+
+        def put(self, stage: Stage[Any]) -> bool: ...
+
+
+T = TypeVar("T")
+
+
+class Request(RequestCore):
+    """Stages that belong together, of which one history is kept. A service opens it. Any thread may use it.
+
+    Each change is one event of the request's ledger. It and what came of it are shown in one step; callbacks and threads are told behind
+    that. Values and exceptions are kept until nobody has the request or one of its stages any more. `RequestFull` is raised where it
+    would have over 4,096 stages, and `RuntimeError` where a stage with a function is attached after the service's shutdown."""
+
+    __slots__ = ("__weakref__",)
+
+    @property
+    def name(self) -> str:
+        """What histories call it."""
+        return self._title or (self._name_of(0) if self._stages else "request")
+
+    # Stages.
+
+    def supply(self, fn: Callable[..., T], /, *args: Any, **kwargs: Any) -> "Stage[T]":
+        """What the function gives, called with these arguments."""
+        if self._works.closed:
+            raise self._works.refusal()
+        return self._attach(Form.SUPPLY, None, None, fn, args or None, kwargs or None, None)
+
+    def promise(self, name: str = "promise") -> "Stage[Any]":
+        """What somebody completes it with."""
+        return self._attach(Form.SOURCE, None, None, None, None, None, name)
+
+    def adopt(self, future: "concurrent.futures.Future[T]") -> "Stage[T]":
+        """A stage of this request that ends as the future does. A stage of this request is given back itself."""
+        if isinstance(future, Stage) and future.request is self:
+            return future
+        relay: Stage[T] = self.promise(f"relay of {self._title_of(future)}")
+        future.add_done_callback(functools.partial(_hand_over, relay))
+        return relay
+
+    def all_of(self, *of: "concurrent.futures.Future[Any]") -> "Stage[None]":
+        """None, once all have values; else the exception of the first in this order that has one, once all are settled. Of n futures it
+        takes n - 1 stages."""
+        return self._tree(Form.ALL_OF, of, "all of")
+
+    def first_of(self, *of: "concurrent.futures.Future[T]") -> "Stage[T]":
+        """What the first has that is settled, be it an exception. Of n futures it takes n - 1 stages; of none, `ValueError`."""
+        if not of:
+            raise ValueError("of no stages none is the first")
+        return self._tree(Form.ANY_OF, of, "first of")
+
+    def gather(self, *of: "concurrent.futures.Future[T]") -> "Stage[List[T]]":
+        """The values of all, in this order; else as `all_of`."""
+        here = [self.adopt(future) for future in of]
+        done: Stage[List[T]] = self._behind(Form.APPLY, self.all_of(*here), None, functools.partial(_results, here))
+        return done.named("gather")
+
+    def __getitem__(self, step: "Step[T]") -> "Stage[T]":
+        """The stage of a flow's step, in a request that was begun with the flow."""
+        if self._plan is None or step.flow._plan is not self._plan:
+            raise KeyError(f"{step.name} is a step of another flow")
+        return self._stage(step.number)
+
+    def history(self) -> History:
+        """All that happened until now. It takes time by the number of events."""
+        return History(self.name, self._plan, self._facts())
+
+    # Attaching.
+
+    def _behind(self, form: Form, first: "Stage[Any]", second: "Optional[concurrent.futures.Future[Any]]", fn: Callable[..., Any]) -> "Stage[Any]":
+        if self._works.closed:
+            raise self._works.refusal()
+        if second is None:
+            return self._attach(form, first, None, fn, None, None, None)
+        if not isinstance(second, Stage) or second.request is not self:
+            self._check_room(2)
+        return self._attach(form, first, self.adopt(second), fn, None, None, None)
+
+    def _tree(self, form: Form, of: "Sequence[concurrent.futures.Future[Any]]", name: str) -> "Stage[Any]":
+        """An attached stage has at most two sources; a tree of them tells what one stage of all would."""
+        self._check_room(sum(not isinstance(future, Stage) or future.request is not self for future in of) + max(len(of) - 1, 1))
+        row: List[Stage[Any]] = [self.adopt(future) for future in of]
+        attach = self._attach
+        while len(row) > 2:
+            more = [attach(form, row[k], row[k + 1], None, None, None, name) for k in range(0, len(row) - 1, 2)]
+            row = more + row[len(row) - 1:] if len(row) % 2 else more
+        first, second = (*row, None, None)[:2]
+        return attach(form, first, second, None, None, None, name)
+
+    def _check_room(self, stages: int) -> None:
+        """Raises where so many more wouldn't find room, before any is attached."""
+        if self._stages + stages > MOST_STAGES:
+            raise RequestFull("a request has at most 4,096 stages")
+
+    def _later(self, stage: "Stage[T]", seconds: float, act: Callable[[], object]) -> "Stage[T]":
+        """Acts on the stage after some seconds, unless it is settled before."""
+        if not stage.done():
+            forget = self._works.clock.after(seconds, act)
+            stage.add_done_callback(lambda _: forget())
+        return stage
+
+    def _link(self, stage: "Stage[Any]", who: int, to: Any) -> "Optional[Stage[Any]]":
+        """Finishes a composing stage with the future that its function gave. A stage links to lower ones alone, and one that its function
+        made is higher; so its relay, which stands just below it, is settled as that one is."""
+        if not isinstance(to, concurrent.futures.Future):
+            return self._end(stage, who, THROWS, TypeError(f"{to!r} is no future"))
+        if isinstance(to, Stage) and to.request is self and to.number < stage.number:
+            return self._end(stage, who, LINKS, to)
+        relay = self._stage(stage.number - 1)
+        self._rename(relay.number, f"relay of {self._title_of(to)}")
+        following = self._end(stage, who, LINKS, relay)
+        to.add_done_callback(functools.partial(_hand_over, relay))
+        return following
+
+    def _title_of(self, future: "concurrent.futures.Future[Any]") -> str:
+        """What histories call a future that stands elsewhere, or further up."""
+        if not isinstance(future, Stage):
+            return f"a {type(future).__name__}"
+        return future.name if future.request is self else f"{future.name} of {future.request.name}"
+
+
+def _results(stages: "List[Stage[T]]", _: None) -> List[T]:
+    return [stage.result() for stage in stages]
+
+
+class _Handing(threading.local):
+    """What this thread is about to hand over. One that comes up within another waits its turn, so chains of any length need no stack."""
+
+    def __init__(self) -> None:
+        self.left: "Deque[Tuple[Stage[Any], concurrent.futures.Future[Any]]]" = deque()
+        self.is_busy = False
+
+
+_handing = _Handing()
+
+
+def _hand_over(relay: "Stage[Any]", future: "concurrent.futures.Future[Any]") -> None:
+    """Settles a relay as a future was."""
+    handing, first = _handing, None
+    handing.left.append((relay, future))
+    if handing.is_busy:
+        return
+    handing.is_busy = True
+    while handing.left:
+        try:
+            _settle_as(*handing.left.popleft())
+        except BaseException as error:
+            first = first or error
+    handing.is_busy = False
+    if first is not None:
+        raise first
+
+
+def _settle_as(relay: "Stage[Any]", future: "concurrent.futures.Future[Any]") -> None:
+    if future.cancelled():
+        relay.request._change(CANCEL, RELAY, relay, False)
+        return
+    error = future.exception()
+    kind, given = (COMPLETE, future.result()) if error is None else (FAIL, error)
+    relay.request._change(kind, RELAY, relay, given)

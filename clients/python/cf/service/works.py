@@ -1,0 +1,274 @@
+"""Threads that run stages, and the clock."""
+import atexit
+import heapq
+import itertools
+import logging
+import os
+import threading
+import time
+import weakref
+from collections import deque
+from concurrent.futures.thread import BrokenThreadPool
+from queue import SimpleQueue
+from typing import Any, Callable, Deque, List, Optional, Set, Tuple
+
+from ._core import be
+from .stage import Stage
+from .words import FIRST_WORKER, MOST_CALLERS
+
+LOGGER = logging.getLogger("concurrent.futures")
+BROKEN = "A thread initializer failed, the thread pool is not usable anymore"
+
+
+class Works:
+    """Threads, started as they are needed, that run stages which are ready. They end once this is closed and nothing is left to do.
+
+    Ready stages go through a queue without a lock of ours. `_lock` is taken to start and to end a thread, and around nothing that calls
+    back; no request's lock is held meanwhile. A thread ends only where it finds the queue empty under the lock, and who puts a stage looks
+    behind it whether all have ended, so each stage is run or refused."""
+
+    def __init__(self, most: int, prefix: str, initializer: Optional[Callable[..., object]], initargs: Tuple[Any, ...]) -> None:
+        self.most, self.broken, self.closed = most, False, False
+        self.clock = Clock(f"{prefix}_clock")
+        self._prefix, self._initializer, self._initargs = prefix, initializer, initargs
+        self._reset()
+        _open.add(self)
+
+    def _reset(self) -> None:
+        """No thread is there."""
+        self.threads: Set[threading.Thread] = set()
+        self._lock = threading.RLock()  # (what is collected meanwhile may put stages)
+        self._stages: "SimpleQueue[Optional[Stage[Any]]]" = SimpleQueue()
+        self._idle = self._alive = 0
+        self._is_full = False  # all threads were started
+
+    def refusal(self) -> RuntimeError:
+        """Why nobody runs what is attached now."""
+        return BrokenThreadPool(BROKEN) if self.broken else RuntimeError("cannot schedule new futures after shutdown")
+
+    def put(self, stage: "Stage[Any]") -> bool:
+        """Hands a ready stage to a thread, and says whether one will run it."""
+        if not (self._is_full or self.closed):
+            return self._put_starting(stage)
+        self._stages.put(stage)
+        if not self.closed:
+            return True
+        with self._lock:
+            left = [] if self._alive else self._drained()
+        self._refuse(other for other in left if other is not stage)
+        return not any(other is stage for other in left)
+
+    def _put_starting(self, stage: "Stage[Any]") -> bool:
+        """The same while not all threads are there: where none is idle, one is started."""
+        with self._lock:
+            if self.broken or self.closed and not self._alive:
+                return False
+            if self._idle or self._alive == self.most:
+                self._idle -= bool(self._idle)
+                self._stages.put(stage)
+                return True
+            number = self._alive
+            self._alive += 1
+            self._is_full = self._alive == self.most
+            thread = threading.Thread(target=self._work, args=(FIRST_WORKER + number % (MOST_CALLERS - FIRST_WORKER), [stage]),
+                                      name=f"{self._prefix}_{number}", daemon=True)
+            self.threads.add(thread)
+        try:
+            thread.start()
+        except RuntimeError:  # there are no more threads, or the interpreter ends
+            with self._lock:
+                self._alive -= 1
+                self.threads.discard(thread)
+            return False
+        return True
+
+    def close(self) -> None:
+        """Lets threads end once nothing is left to do."""
+        if not self.closed:
+            self.closed = True
+            self._stages.put(None)
+
+    def join(self) -> None:
+        """Waits for all threads but this one."""
+        for thread in list(self.threads):
+            if thread.ident is not None and thread is not threading.current_thread():
+                thread.join()
+
+    def cancel_all(self) -> None:
+        """Cancels the stages that no thread has taken yet."""
+        with self._lock:
+            stages = self._drained()
+        for stage in stages:
+            stage.cancel()
+
+    def _drained(self) -> "List[Stage[Any]]":
+        """What is in the queue, and no more. What lets threads end stays."""
+        stages, ends = [], False
+        while not self._stages.empty():
+            stage = self._stages.get()
+            if stage is None:
+                ends = True
+            else:
+                stages.append(stage)
+        if ends:
+            self._stages.put(None)
+        return stages
+
+    def _refuse(self, stages: Any) -> None:
+        for stage in stages:
+            stage.fail(self.refusal())
+
+    def _work(self, who: int, first: "List[Stage[Any]]") -> None:
+        be(who)
+        stage: "Optional[Stage[Any]]" = first.pop()
+        if self._initializer is not None:
+            try:
+                self._initializer(*self._initargs)
+            except BaseException:
+                LOGGER.critical("Exception in initializer:", exc_info=True)
+                self._break(stage)
+                return
+        while stage is not None:
+            try:
+                stage.request._run(stage, who)
+            except BaseException:  # a callback's, such as SystemExit
+                LOGGER.critical("Exception in worker", exc_info=True)
+            stage = None  # nothing is held meanwhile
+            stage = self._take()
+
+    def _take(self) -> "Optional[Stage[Any]]":
+        """Waits for a stage. None where this thread is to end."""
+        while True:
+            if not self._is_full:
+                with self._lock:
+                    self._idle += 1
+            stage = self._stages.get()
+            if stage is not None:
+                return stage
+            with self._lock:
+                is_last = self._stages.empty()
+                self._alive -= is_last
+                self._stages.put(None)  # for the others, or behind what is left
+                if is_last:
+                    return None
+
+    def _break(self, first: "Optional[Stage[Any]]") -> None:
+        with self._lock:
+            self.broken = self.closed = True
+            self._alive -= 1
+            stages = self._drained()
+            self._stages.put(None)
+        self._refuse([*stages, *([] if first is None else [first])])
+
+    def _forked(self) -> None:
+        """In a child of `fork` no thread is there. What they had to do is the parent's."""
+        self._reset()
+        self.clock._forked()
+        if self.closed:
+            self._stages.put(None)
+
+
+class Clock:
+    """A thread, started as it is needed, that acts at given times."""
+
+    def __init__(self, name: str) -> None:
+        self._name = name
+        self._numbers = itertools.count()
+        self._forked()
+
+    def _forked(self) -> None:
+        self._changed = threading.Condition()
+        self._due: List[Tuple[float, int, List[Callable[[], object]]]] = []
+        self._forgotten = 0
+        self._thread: Optional[threading.Thread] = None
+
+    def after(self, seconds: float, act: Callable[[], object]) -> Callable[[], None]:
+        """Acts after some seconds, unless what is given is called before."""
+        acts = [act]
+        with self._changed:
+            entry = (time.monotonic() + seconds, next(self._numbers), acts)
+            heapq.heappush(self._due, entry)
+            if self._thread is None:
+                self._thread = threading.Thread(target=self._run, name=self._name, daemon=True)
+                self._thread.start()
+            elif self._due[0] is entry:
+                self._changed.notify()
+        return lambda: self._forget(acts)
+
+    def _forget(self, acts: List[Callable[[], object]]) -> None:
+        """Lets an act go. Where over half of the list are such, they are taken out."""
+        with self._changed:
+            if acts:
+                acts.clear()
+                self._forgotten += 1
+            if self._forgotten > 64 and 2 * self._forgotten > len(self._due):
+                many, left = len(self._due), [entry for entry in self._due if entry[2]]
+                heapq.heapify(left)
+                if many == len(self._due):  # (what is collected meanwhile may have added some)
+                    self._due, self._forgotten = left, 0
+
+    def _run(self) -> None:
+        while True:
+            with self._changed:
+                while self._due and self._due[0][0] > time.monotonic():
+                    self._changed.wait(self._due[0][0] - time.monotonic())
+                if not self._due:
+                    self._thread = None
+                    return
+                acts = heapq.heappop(self._due)[2]
+                self._forgotten -= not acts
+                act = acts.pop() if acts else None
+            try:
+                if act is not None:
+                    act()
+            except BaseException:  # a callback's
+                LOGGER.critical("Exception in clock", exc_info=True)
+            del act, acts
+
+
+class Here:
+    """This thread, which runs all that is ready before it goes on. There is no clock."""
+
+    closed = False
+
+    def __init__(self) -> None:
+        self._stages: "Deque[Stage[Any]]" = deque()
+
+    @property
+    def clock(self) -> Clock:
+        raise RuntimeError("a flow that one thread runs has no clock")
+
+    def refusal(self) -> RuntimeError:
+        return RuntimeError("nobody runs it")
+
+    def put(self, stage: "Stage[Any]") -> bool:
+        self._stages.append(stage)
+        return True
+
+    def work(self) -> None:
+        """Runs what is ready, until nothing is."""
+        while self._stages:
+            stage = self._stages.popleft()
+            stage.request._run(stage, FIRST_WORKER)
+
+
+_open: "weakref.WeakSet[Works]" = weakref.WeakSet()
+
+
+@atexit.register
+def _at_exit() -> None:
+    """What was handed in is done before the interpreter ends."""
+    open_ones = list(_open)
+    for works in open_ones:
+        works.close()
+    for works in open_ones:
+        works.join()
+
+
+def _after_fork() -> None:
+    for works in list(_open):
+        works._forked()
+
+
+if hasattr(os, "register_at_fork"):
+    os.register_at_fork(after_in_child=_after_fork)

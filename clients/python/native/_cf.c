@@ -1,0 +1,1031 @@
+/* The parts of cf.service where its time goes: what `cf/service/_plain.py` has in Python, with the same names and the same answers.
+ *
+ * A request is a ledger of the library, and beside each of its events the time and the reply, beside each of its stages the name, the
+ * future and what was told of it. `apply` does one event and writes down what came of it. Nothing of Python's runs meanwhile: no object
+ * is made and none is freed, so nothing is collected either, no signal is handled, and the interpreter's lock isn't let go. That makes it
+ * one step for all threads, without a lock of its own. Whatever may run anything is done behind it, by `tell`. */
+#define PY_SSIZE_T_CLEAN
+#include <Python.h>
+#include <structmember.h>
+#include <string.h>
+#include <time.h>
+#include "cf.h"
+
+enum { MOST = 4096, NONE = 0xFFFF, THIS_THREAD = -1 };
+enum { COMPLETE = 1, FAIL = 2, CANCEL = 3, CLAIM = 4, FINISH = 5, ATTACH = 7 };  /* the kinds of words */
+#define KIND(kind) ((uint64_t)(kind) << 56)
+#define WHO(who) ((uint64_t)(who) << 48)
+#define OF(stage) ((uint64_t)(stage) << 36)
+#define GIVES (1ULL << 32)
+#define THROWS (2ULL << 32)
+
+/* An event, when it was done in nanoseconds, and what it was answered. */
+typedef struct { int64_t at; cf_reply reply; } Event;
+
+/* What stands beside a stage. `told` is pending until the stage is settled, by the event before `place`. `stage` is its future, which is
+ * held until all was told of it, and may be missing of a planned one. */
+typedef struct {
+  cf_outcome told;
+  uint32_t place;
+  uint16_t next_settled, next_ready;
+  uint8_t form;
+  bool running;
+  PyObject *stage, *name;
+} Row;
+
+typedef struct {
+  PyObject_HEAD
+  cf_handle plan;
+  uint16_t stages;
+  uint8_t *forms;
+  PyObject *calls, *names;  /* tuples */
+  cf_stage *start;          /* each stage as a new ledger has it */
+} Plan;
+
+typedef struct {
+  PyObject_HEAD
+  cf_handle ledger;
+  uint32_t room, stages, events, event_room;
+  Row *rows;
+  Event *done;
+  PyObject *works, *title, *keeps, *values, *errors;
+  Plan *plan;
+} Request;
+
+typedef struct {
+  PyObject_HEAD
+  Request *request;
+  uint16_t number;
+  bool shown;  /* to those who wait by its condition, and to callbacks */
+  PyObject *call, *args, *kwargs, *callbacks, *condition, *waiters, *error;
+} Stage;
+
+/* The stages that an event settled and made ready, as lists through their rows. */
+typedef struct { uint16_t settled, last_settled, ready, last_ready; } News;
+static const News NO_NEWS = {NONE, NONE, NONE, NONE};
+
+static cf_handle nothing;          /* a plan without stages */
+static cf_news changed[MOST];      /* what the last event changed */
+static _Thread_local int caller;   /* which caller this thread is */
+static PyTypeObject RequestType, StageType, PlanType;
+static PyTypeObject *stage_type;   /* the class of futures, below StageType */
+static PyObject *full, *bad_answer, *cancelled_error, *future_error, *condition_class;
+static PyObject *pending, *running, *finished, *cancelled_state;
+static PyObject *put_name, *refusal_name, *show_name, *log_name, *wait_name, *qualname_name, *func_name, *relay_name;
+
+static PyObject *refused(uint32_t code) {
+  if (code == CF_NO_MEMORY) return PyErr_NoMemory();
+  const char *name = cf_code_name(code);
+  return PyErr_Format(PyExc_RuntimeError, "refused: %s", name ? name : "?");
+}
+
+static int64_t now(void) {
+  struct timespec time;
+  clock_gettime(CLOCK_MONOTONIC, &time);
+  return time.tv_sec * 1000000000LL + time.tv_nsec;
+}
+
+/* ---- One event ---- */
+
+static int room_for_event(Request *self) {
+  if (self->events < self->event_room) return 0;
+  uint32_t room = self->event_room ? 2 * self->event_room : 4;
+  Event *done = PyMem_Realloc(self->done, room * sizeof *done);
+  if (!done) return -1;
+  self->done = done;
+  self->event_room = room;
+  return 0;
+}
+
+/* Does the event of a word, and adds what it settled and made ready to the news. The code of the library. */
+static uint32_t apply(Request *self, uint64_t word, cf_reply *reply, News *news) {
+  if (room_for_event(self)) return CF_NO_MEMORY;
+  Event *event = &self->done[self->events];
+  size_t n = 0;
+  uint32_t code = cf_ledger_apply(&self->ledger, word, &event->reply, changed, MOST, &n);
+  if (code) return code;
+  event->at = now();
+  self->events++;
+  for (size_t k = 0; k < n; k++) {
+    uint16_t i = changed[k].stage;
+    Row *row = &self->rows[i];
+    if (changed[k].now.kind == CF_IS_SETTLED) {
+      row->told = changed[k].now.outcome;
+      row->place = self->events;
+      row->next_settled = NONE;
+      if (news->last_settled == NONE) news->settled = i; else self->rows[news->last_settled].next_settled = i;
+      news->last_settled = i;
+    } else if (changed[k].now.kind == CF_IS_READY) {
+      row->next_ready = NONE;
+      if (news->last_ready == NONE) news->ready = i; else self->rows[news->last_ready].next_ready = i;
+      news->last_ready = i;
+    } else if (changed[k].now.kind == CF_IS_CLAIMED) row->running = true;
+  }
+  *reply = event->reply;
+  return CF_OK;
+}
+
+/* ---- What the numbers of the library stand for ---- */
+
+static int kept(PyObject **list, PyObject *thing, uint32_t *number) {
+  if (!*list && !(*list = PyList_New(0))) return -1;
+  *number = (uint32_t)PyList_GET_SIZE(*list);
+  return PyList_Append(*list, thing);
+}
+
+/* The last bits of a word that gives a value. */
+static int value_in(Request *self, PyObject *value, uint64_t *low) {
+  uint32_t number;
+  if (value == Py_None) { *low = 0; return 0; }
+  if (kept(&self->values, value, &number)) return -1;
+  *low = GIVES | number;
+  return 0;
+}
+
+static PyObject *value_out(Request *self, cf_value value) {
+  PyObject *given = value.kind ? PyList_GET_ITEM(self->values, value.number) : Py_None;
+  Py_INCREF(given);
+  return given;
+}
+
+/* The exception of an outcome that is a fault. Where nobody raised one, it is made. */
+static PyObject *error_out(Request *self, cf_outcome outcome) {
+  if (outcome.kind == CF_THROWN) {
+    PyObject *error = PyList_GET_ITEM(self->errors, outcome.code);
+    Py_INCREF(error);
+    return error;
+  }
+  return PyObject_CallNoArgs(outcome.kind == CF_CANCELLED ? cancelled_error : bad_answer);
+}
+
+static bool was_cancelled(cf_outcome outcome) { return outcome.kind == CF_CANCELLED && !outcome.wrapped; }
+
+/* What a function is called: its qualified name, that of what a partial calls, or that of its class. */
+static PyObject *name_of(PyObject *call) {
+  PyObject *held = NULL, *name;
+  if (PyFunction_Check(call)) {
+    name = ((PyFunctionObject *)call)->func_qualname;
+    Py_INCREF(name);
+    return name;
+  }
+  if ((held = PyObject_GetAttr(call, func_name))) call = held; else PyErr_Clear();
+  name = PyObject_GetAttr(call, qualname_name);
+  if (!name || !PyUnicode_Check(name)) {
+    PyErr_Clear();
+    Py_XDECREF(name);
+    name = PyUnicode_FromString(Py_TYPE(call)->tp_name);
+  }
+  Py_XDECREF(held);
+  return name;
+}
+
+/* ---- Stages ---- */
+
+static Stage *new_stage(Request *request, uint16_t number) {
+  Stage *stage = (Stage *)PyType_GenericAlloc(stage_type, 0);
+  if (!stage) return NULL;
+  Py_INCREF(request);
+  stage->request = request;
+  stage->number = number;
+  return stage;
+}
+
+/* The future of a stage. That of a planned one is made once it is asked for. */
+static Stage *stage_at(Request *self, uint16_t i) {
+  if (!self->rows[i].stage) {
+    Stage *stage = new_stage(self, i);
+    if (!stage) return NULL;
+    if (self->rows[i].told.kind) {  /* all was told already */
+      stage->shown = true;
+      return stage;
+    }
+    if (!self->rows[i].stage) {
+      if (self->plan && i < self->plan->stages) {
+        PyObject *call = PyTuple_GET_ITEM(self->plan->calls, i);
+        if (call != Py_None) { Py_INCREF(call); stage->call = call; }
+      }
+      self->rows[i].stage = (PyObject *)stage;  /* (whose count is the row's) */
+    } else Py_DECREF(stage);
+  }
+  Py_INCREF(self->rows[i].stage);
+  return (Stage *)self->rows[i].stage;
+}
+
+static cf_outcome told(Stage *self) {
+  return self->request ? self->request->rows[self->number].told : (cf_outcome){0};
+}
+
+/* ---- Telling ---- */
+
+/* Keeps the first error, that the rest be done. */
+typedef struct { PyObject *type, *value, *trace; } Kept;
+
+static void keep(Kept *first) {
+  if (!first->type) PyErr_Fetch(&first->type, &first->value, &first->trace); else PyErr_Clear();
+}
+
+static int raise_kept(Kept *first) {
+  if (!first->type) return 0;
+  PyErr_Restore(first->type, first->value, first->trace);
+  return -1;
+}
+
+/* Lets those see a stage who wait for it by its condition. */
+static void show(Stage *stage, Kept *first) {
+  while (!stage->shown) {
+    if (!stage->condition) { stage->shown = true; return; }
+    PyObject *none = PyObject_CallMethodNoArgs((PyObject *)stage, show_name);
+    if (!none) keep(first);
+    Py_XDECREF(none);
+  }
+}
+
+static void call_back(Stage *stage, PyObject *call, Kept *first) {
+  PyObject *none = PyObject_CallOneArg(call, (PyObject *)stage);
+  if (!none && PyErr_ExceptionMatches(PyExc_Exception)) {
+    PyObject *type, *error, *trace;
+    PyErr_Fetch(&type, &error, &trace);
+    PyErr_NormalizeException(&type, &error, &trace);
+    if (trace) PyException_SetTraceback(error, trace);
+    none = PyObject_CallMethodOneArg((PyObject *)stage, log_name, error);
+    Py_XDECREF(type); Py_XDECREF(error); Py_XDECREF(trace);
+  }
+  if (!none) keep(first);
+  Py_XDECREF(none);
+}
+
+/* Calls the callbacks of a settled stage, and lets go of what it needs no more. */
+static void let_go(Stage *stage, Kept *first) {
+  PyObject *callbacks = stage->callbacks;
+  stage->callbacks = NULL;
+  for (Py_ssize_t k = 0; callbacks && k < PyList_GET_SIZE(callbacks); k++) call_back(stage, PyList_GET_ITEM(callbacks, k), first);
+  Py_XDECREF(callbacks);
+  Py_CLEAR(stage->call); Py_CLEAR(stage->args); Py_CLEAR(stage->kwargs);
+}
+
+/* Hands a ready stage to whoever runs it. Where nobody will, it fails, and what comes of that is added to the news. */
+static int hand(Request *self, uint16_t i, News *news) {
+  Stage *stage = self->works ? stage_at(self, i) : NULL;
+  if (!stage) return PyErr_Occurred() ? -1 : 0;  /* (a request that is collected has nobody) */
+  PyObject *is_taken = PyObject_CallMethodOneArg(self->works, put_name, (PyObject *)stage);
+  Py_DECREF(stage);
+  int taken = is_taken ? PyObject_IsTrue(is_taken) : -1;
+  Py_XDECREF(is_taken);
+  if (taken) return taken < 0 ? -1 : 0;
+  PyObject *error = PyObject_CallMethodNoArgs(self->works, refusal_name);
+  uint32_t number, code;
+  cf_reply reply;
+  if (!error || kept(&self->errors, error, &number)) { Py_XDECREF(error); return -1; }
+  Py_DECREF(error);
+  if ((code = apply(self, KIND(FAIL) | WHO(caller) | OF(i) | number, &reply, news))) { refused(code); return -1; }
+  return 0;
+}
+
+/* Tells what came of events: first those who wait, then the threads, then the callbacks. Where `following` is given, the first ready stage is
+ * left to the caller. */
+static int tell(Request *self, News news, uint16_t *following) {
+  if (news.settled == NONE && news.ready == NONE) return 0;
+  Kept first = {0};
+  uint16_t shown = NONE, handed = NONE, next;
+  Py_INCREF(self);
+  for (;;) {
+    if ((next = shown == NONE ? news.settled : self->rows[shown].next_settled) != NONE) {
+      shown = next;
+      if (self->rows[next].stage) show((Stage *)self->rows[next].stage, &first);
+    } else if ((next = handed == NONE ? news.ready : self->rows[handed].next_ready) != NONE) {
+      handed = next;
+      if (following && *following == NONE) *following = next;
+      else if (hand(self, next, &news)) keep(&first);
+    } else break;
+  }
+  for (uint16_t i = news.settled; i != NONE; i = self->rows[i].next_settled) {
+    Stage *stage = (Stage *)self->rows[i].stage;
+    self->rows[i].stage = NULL;
+    if (stage) { let_go(stage, &first); Py_DECREF(stage); }
+  }
+  Py_DECREF(self);
+  return raise_kept(&first);
+}
+
+/* ---- Requests ---- */
+
+static int Request_init(Request *self, PyObject *args, PyObject *kwargs) {
+  PyObject *works, *title, *keeps = Py_None, *plan = Py_None;
+  unsigned int room;
+  if (!PyArg_ParseTuple(args, "OOI|OO", &works, &title, &room, &keeps, &plan)) return -1;
+  if (self->rows) { PyErr_SetString(PyExc_TypeError, "a request is opened once"); return -1; }
+  if (plan != Py_None) {
+    if (!PyObject_TypeCheck(plan, &PlanType)) { PyErr_SetString(PyExc_TypeError, "no plan"); return -1; }
+    Py_INCREF(plan);
+    self->plan = (Plan *)plan;
+  }
+  uint32_t stages = self->plan ? self->plan->stages : 0;
+  if (room > MOST - stages) room = MOST - stages;
+  if (!self->plan && !room) room = 1;
+  self->room = stages + room;
+  self->rows = PyMem_Calloc(self->room ? self->room : 1, sizeof *self->rows);
+  if (!self->rows) { PyErr_NoMemory(); return -1; }
+  uint32_t code = cf_ledger_new(self->plan ? &self->plan->plan : &nothing, (uint16_t)room, &self->ledger);
+  if (code) { refused(code); return -1; }
+  for (uint32_t i = 0; i < stages; i++) {
+    self->rows[i].name = PyTuple_GET_ITEM(self->plan->names, i);
+    Py_INCREF(self->rows[i].name);
+    self->rows[i].form = self->plan->forms[i];
+    if (self->plan->start[i].kind == CF_IS_SETTLED) self->rows[i].told = self->plan->start[i].outcome;
+  }
+  self->stages = stages;
+  Py_INCREF(works); self->works = works;
+  Py_INCREF(title); self->title = title;
+  Py_INCREF(keeps); self->keeps = keeps;
+  return 0;
+}
+
+static int Request_traverse(Request *self, visitproc visit, void *arg) {
+  for (uint32_t i = 0; i < self->stages; i++) Py_VISIT(self->rows[i].stage);
+  Py_VISIT(self->works); Py_VISIT(self->keeps); Py_VISIT(self->values); Py_VISIT(self->errors); Py_VISIT(self->plan);
+  return 0;
+}
+
+static int Request_clear(Request *self) {
+  for (uint32_t i = 0; i < self->stages; i++) Py_CLEAR(self->rows[i].stage);
+  Py_CLEAR(self->works); Py_CLEAR(self->keeps); Py_CLEAR(self->plan);
+  /* The lists stay until the end: what a stage tells is read from them. */
+  return 0;
+}
+
+static void Request_dealloc(Request *self) {
+  PyTypeObject *type = Py_TYPE(self);
+  PyObject_GC_UnTrack(self);
+  Request_clear(self);
+  for (uint32_t i = 0; i < self->stages; i++) Py_CLEAR(self->rows[i].name);
+  Py_CLEAR(self->values); Py_CLEAR(self->errors); Py_CLEAR(self->title);
+  cf_free(&self->ledger);
+  PyMem_Free(self->rows); PyMem_Free(self->done);
+  type->tp_free((PyObject *)self);
+}
+
+/* Makes room for `least` stages more, and some. */
+static int grow(Request *self, uint32_t least) {
+  uint32_t more = 3 * self->room + least, code = CF_ROOM;
+  if (more > MOST - self->stages) more = MOST - self->stages;
+  Row *rows = PyMem_Realloc(self->rows, (self->room + more ? self->room + more : 1) * sizeof *rows);
+  if (!rows) { PyErr_NoMemory(); return -1; }
+  self->rows = rows;
+  for (; more && self->room + more >= self->stages + least && code == CF_ROOM; more /= 2)
+    if (!(code = cf_ledger_grow(&self->ledger, (uint16_t)more))) { self->room += more; return 0; }
+  if (code == CF_ROOM) PyErr_SetString(full, "a request has at most 4,096 stages"); else refused(code);
+  return -1;
+}
+
+static bool is_own(Request *self, PyObject *stage) {
+  return PyObject_TypeCheck(stage, &StageType) && ((Stage *)stage)->request == self;
+}
+
+/* _attach(form, first, second, call, args, kwargs, name): a stage more, to at most two sources of this request. Below a composing one stands
+ * its relay, a source. */
+static PyObject *Request_attach(Request *self, PyObject *const *args, Py_ssize_t n) {
+  if (n != 7) return PyErr_Format(PyExc_TypeError, "_attach takes 7");
+  long form = PyLong_AsLong(args[0]);
+  if (form == -1 && PyErr_Occurred()) return NULL;
+  PyObject *call = args[3] == Py_None ? NULL : args[3], *name = args[6];
+  uint32_t sources = (args[1] != Py_None) + (args[2] != Py_None), code;
+  if ((args[1] != Py_None && !is_own(self, args[1])) || (args[2] != Py_None && !is_own(self, args[2])))
+    return PyErr_Format(PyExc_TypeError, "no stage of this request");
+  Stage *stage = new_stage(self, 0);
+  if (!stage) return NULL;
+  if (name == Py_None && call) name = name_of(call); else Py_INCREF(name);
+  if (!name) { Py_DECREF(stage); return NULL; }
+  if (call) { Py_INCREF(call); stage->call = call; }
+  if (args[4] != Py_None) { Py_INCREF(args[4]); stage->args = args[4]; }
+  if (args[5] != Py_None) { Py_INCREF(args[5]); stage->kwargs = args[5]; }
+  /* From here on in one step. */
+  uint32_t least = 1 + (form == CF_COMPOSE || form == CF_EXCEPTIONALLY_COMPOSE);
+  if (self->stages + least > self->room && grow(self, least)) goto failed;
+  News news = NO_NEWS;
+  cf_reply reply;
+  if (least == 2) {
+    Py_INCREF(relay_name);
+    self->rows[self->stages] = (Row){.next_settled = NONE, .next_ready = NONE, .form = CF_SOURCE, .name = relay_name};
+    if ((code = apply(self, KIND(ATTACH) | WHO(caller), &reply, &news))) { Py_DECREF(relay_name); refused(code); goto failed; }
+    self->stages++;
+  }
+  uint16_t number = (uint16_t)self->stages;
+  self->rows[number] = (Row){.next_settled = NONE, .next_ready = NONE, .form = (uint8_t)form, .stage = (PyObject *)stage, .name = name};
+  stage->number = number;
+  uint64_t word = KIND(ATTACH) | WHO(caller) | OF(sources > 0 ? ((Stage *)args[1])->number : 0) | (uint64_t)sources << 32 |
+                  (uint64_t)form << 24 | (uint64_t)(sources > 1 ? ((Stage *)args[2])->number : 0) << 12 | (call ? number : 0);
+  if ((code = apply(self, word, &reply, &news))) { refused(code); goto failed; }
+  self->stages++;
+  Py_INCREF(stage);  /* (one for the row, and one for the caller) */
+  if (tell(self, news, NULL)) { Py_DECREF(stage); return NULL; }
+  return (PyObject *)stage;
+failed:
+  Py_DECREF(name);
+  Py_DECREF(stage);
+  return NULL;
+}
+
+static int number_in(Request *self, PyObject *number, uint16_t *i) {
+  long given = PyLong_AsLong(number);
+  if (given == -1 && PyErr_Occurred()) return -1;
+  if (given < 0 || given >= (long)self->stages) { PyErr_SetString(PyExc_IndexError, "no such stage"); return -1; }
+  *i = (uint16_t)given;
+  return 0;
+}
+
+/* The number of a stage that is named by its future or by its number. */
+static int stage_in(Request *self, PyObject *stage, uint16_t *i) {
+  if (!is_own(self, stage)) return number_in(self, stage, i);
+  *i = ((Stage *)stage)->number;
+  return 0;
+}
+
+/* _change(kind, who, stage, given): completes, fails or cancels a stage, and says whether that did it. */
+static PyObject *Request_change(Request *self, PyObject *const *args, Py_ssize_t n) {
+  uint16_t stage;
+  if (n != 4 || stage_in(self, args[2], &stage)) return n == 4 ? NULL : PyErr_Format(PyExc_TypeError, "_change takes 4");
+  long kind = PyLong_AsLong(args[0]), who = PyLong_AsLong(args[1]);
+  if (PyErr_Occurred()) return NULL;
+  uint64_t low = 0;
+  uint32_t number, code;
+  if (kind == COMPLETE && value_in(self, args[3], &low)) return NULL;
+  if (kind == FAIL) {
+    if (kept(&self->errors, args[3], &number)) return NULL;
+    low = number;
+  }
+  if (kind == CANCEL && args[3] == Py_True && self->rows[stage].running && !self->rows[stage].told.kind) Py_RETURN_FALSE;  /* unless it runs */
+  News news = NO_NEWS;
+  cf_reply reply;
+  if ((code = apply(self, KIND(kind) | WHO(who == THIS_THREAD ? caller : who) | OF(stage) | low, &reply, &news))) return refused(code);
+  if (tell(self, news, NULL)) return NULL;
+  return PyBool_FromLong(reply.answer);
+}
+
+/* What a granted claim lets be called: with the stage's own arguments, or with as many as stand here. */
+typedef struct { PyObject *call, *args, *kwargs, *given[3]; int many; } Called;
+
+static void called_clear(Called *it) {
+  Py_CLEAR(it->call); Py_CLEAR(it->args); Py_CLEAR(it->kwargs);
+  for (int k = 0; k < 3; k++) Py_CLEAR(it->given[k]);
+}
+
+/* Claims a stage: 1 where its function is to be called, 0 where nobody is to. */
+static int begin(Request *self, uint16_t i, int who, Called *it) {
+  News news = NO_NEWS;
+  cf_reply reply;
+  memset(it, 0, sizeof *it);
+  uint32_t code = apply(self, KIND(CLAIM) | WHO(who) | OF(i), &reply, &news);
+  if (code) { refused(code); return -1; }
+  if (reply.answer != CF_GRANTED) return tell(self, news, NULL);
+  Stage *stage = (Stage *)self->rows[i].stage;
+  it->call = stage ? stage->call : self->plan ? PyTuple_GET_ITEM(self->plan->calls, i) : NULL;
+  if (!it->call) { PyErr_SetString(PyExc_RuntimeError, "the request is collected"); return -1; }
+  Py_INCREF(it->call);
+  if (stage) {
+    it->args = stage->args; Py_XINCREF(it->args);
+    it->kwargs = stage->kwargs; Py_XINCREF(it->kwargs);
+  }
+  it->many = reply.args.kind == CF_ONE ? 1 : reply.args.kind == CF_TWO ? 2 : 0;
+  if (it->many > 0) it->given[0] = value_out(self, reply.args.first);
+  if (it->many > 1) it->given[1] = value_out(self, reply.args.second);
+  if (reply.args.kind == CF_GOT) {
+    cf_outcome got = reply.args.outcome;
+    it->many = 2;
+    it->given[0] = got.kind == CF_VALUE ? value_out(self, got.value) : (Py_INCREF(Py_None), Py_None);
+    it->given[1] = got.kind == CF_VALUE ? (Py_INCREF(Py_None), Py_None) : error_out(self, got);
+    if (!it->given[1]) { called_clear(it); return -1; }
+  }
+  return 1;
+}
+
+static PyObject *call(Called *it, uint8_t form) {
+  if (it->args || it->kwargs) {
+    PyObject *args = it->args ? (Py_INCREF(it->args), it->args) : PyTuple_New(0);
+    PyObject *given = args ? PyObject_Call(it->call, args, it->kwargs) : NULL;
+    Py_XDECREF(args);
+    return given;
+  }
+  bool is_told_fault_alone = form == CF_EXCEPTIONALLY || form == CF_EXCEPTIONALLY_COMPOSE;
+  return PyObject_Vectorcall(it->call, it->given + is_told_fault_alone, (size_t)(it->many - is_told_fault_alone), NULL);
+}
+
+/* Finishes a stage, and tells what came of it. */
+static int end(Request *self, uint16_t i, int who, uint64_t low, uint16_t *following) {
+  News news = NO_NEWS;
+  cf_reply reply;
+  uint32_t code = apply(self, KIND(FINISH) | WHO(who) | OF(i) | low, &reply, &news);
+  if (code) { refused(code); return -1; }
+  return tell(self, news, following);
+}
+
+static int end_giving(Request *self, uint16_t i, int who, PyObject *given, uint16_t *following) {
+  uint64_t low;
+  return value_in(self, given, &low) ? -1 : end(self, i, who, low, following);
+}
+
+static int end_raising(Request *self, uint16_t i, int who, PyObject *error, uint16_t *following) {
+  uint32_t number;
+  return kept(&self->errors, error, &number) ? -1 : end(self, i, who, THROWS | number, following);
+}
+
+/* The exception that is raised. */
+static PyObject *caught(void) {
+  PyObject *type, *error, *trace;
+  PyErr_Fetch(&type, &error, &trace);
+  PyErr_NormalizeException(&type, &error, &trace);
+  if (trace) PyException_SetTraceback(error, trace);
+  Py_XDECREF(type); Py_XDECREF(trace);
+  return error;
+}
+
+/* Finishes a composing stage with the future that its function gave, by the request's `_link`. */
+static int end_linking(Request *self, uint16_t i, int who, PyObject *given, uint16_t *following) {
+  Stage *stage = stage_at(self, i);
+  PyObject *next = stage ? PyObject_CallMethod((PyObject *)self, "_link", "OiO", stage, who, given) : NULL;
+  Py_XDECREF(stage);
+  if (!next) return -1;
+  if (next != Py_None) *following = ((Stage *)next)->number;
+  Py_DECREF(next);
+  return 0;
+}
+
+/* _run(stage, who): claims a stage, calls its function and finishes it, and goes on with a stage that became ready by that. */
+static PyObject *Request_run(Request *self, PyObject *const *args, Py_ssize_t n) {
+  if (n != 2 || !is_own(self, args[0])) return PyErr_Format(PyExc_TypeError, "_run takes 2");
+  int who = (int)PyLong_AsLong(args[1]);
+  if (who == -1 && PyErr_Occurred()) return NULL;
+  Kept first = {0};
+  uint16_t i = ((Stage *)args[0])->number, following;
+  for (; i != NONE; i = following) {
+    Called it;
+    following = NONE;
+    int is_granted = begin(self, i, who, &it);
+    if (is_granted < 0) keep(&first);
+    if (is_granted <= 0) break;
+    uint8_t form = self->rows[i].form;
+    PyObject *given = call(&it, form);
+    called_clear(&it);
+    int failed;
+    if (given) {
+      bool composes = form == CF_COMPOSE || form == CF_EXCEPTIONALLY_COMPOSE;
+      failed = (composes ? end_linking : end_giving)(self, i, who, given, &following);
+      Py_DECREF(given);
+    } else {
+      PyObject *error = caught();
+      failed = end_raising(self, i, who, error, &following);
+      Py_DECREF(error);
+    }
+    if (failed) keep(&first);
+  }
+  if (raise_kept(&first)) return NULL;
+  Py_RETURN_NONE;
+}
+
+/* _begin(stage, who): claims a stage. Its function with positional and other arguments, or None where nobody is to call it. */
+static PyObject *Request_begin(Request *self, PyObject *const *args, Py_ssize_t n) {
+  if (n != 2 || !is_own(self, args[0])) return PyErr_Format(PyExc_TypeError, "_begin takes 2");
+  int who = (int)PyLong_AsLong(args[1]);
+  if (who == -1 && PyErr_Occurred()) return NULL;
+  Called it;
+  uint16_t i = ((Stage *)args[0])->number;
+  int is_granted = begin(self, i, who, &it);
+  if (is_granted < 0) return NULL;
+  if (!is_granted) Py_RETURN_NONE;
+  bool is_alone = self->rows[i].form == CF_EXCEPTIONALLY || self->rows[i].form == CF_EXCEPTIONALLY_COMPOSE;
+  PyObject *given = it.args ? (Py_INCREF(it.args), it.args) : PyTuple_New(it.many - is_alone);
+  PyObject *told = NULL;
+  if (given && !it.args)
+    for (int k = is_alone; k < it.many; k++) { PyTuple_SET_ITEM(given, k - is_alone, it.given[k]); it.given[k] = NULL; }
+  PyObject *kwargs = it.kwargs ? (Py_INCREF(it.kwargs), it.kwargs) : PyDict_New();
+  if (given && kwargs) told = PyTuple_Pack(3, it.call, given, kwargs);
+  Py_XDECREF(given); Py_XDECREF(kwargs);
+  called_clear(&it);
+  return told;
+}
+
+/* _end(stage, who, kind, given): finishes a stage with a value (1), an exception (2) or a lower stage (3). A stage that became ready by
+ * that and isn't handed to a thread, or None. */
+static PyObject *Request_end(Request *self, PyObject *const *args, Py_ssize_t n) {
+  if (n != 4 || !is_own(self, args[0])) return PyErr_Format(PyExc_TypeError, "_end takes 4");
+  int who = (int)PyLong_AsLong(args[1]);
+  long kind = PyLong_AsLong(args[2]);
+  if (PyErr_Occurred()) return NULL;
+  uint16_t i = ((Stage *)args[0])->number, following = NONE;
+  int failed;
+  if (kind == 3) {
+    if (!is_own(self, args[3])) return PyErr_Format(PyExc_TypeError, "no stage of this request");
+    failed = end(self, i, who, 3ULL << 32 | ((Stage *)args[3])->number, &following);
+  } else failed = (kind == 1 ? end_giving : end_raising)(self, i, who, args[3], &following);
+  if (failed) {
+    if (following != NONE) {  /* nobody else will */
+      Kept first = {0};
+      News news = NO_NEWS;
+      keep(&first);
+      self->rows[following].next_ready = NONE;
+      news.ready = news.last_ready = following;
+      if (tell(self, news, NULL)) keep(&first);
+      raise_kept(&first);
+    }
+    return NULL;
+  }
+  if (following == NONE) Py_RETURN_NONE;
+  return (PyObject *)stage_at(self, following);
+}
+
+/* _open(): hands on what is ready in a plan from the start. */
+static PyObject *Request_open(Request *self, PyObject *Py_UNUSED(none)) {
+  News news = NO_NEWS;
+  for (uint16_t i = 0; self->plan && i < self->plan->stages; i++) {
+    if (self->plan->start[i].kind != CF_IS_READY) continue;
+    self->rows[i].next_ready = NONE;
+    if (news.ready == NONE) news.ready = i; else self->rows[news.last_ready].next_ready = i;
+    news.last_ready = i;
+  }
+  if (tell(self, news, NULL)) return NULL;
+  Py_RETURN_NONE;
+}
+
+/* _stage(number): the future of a planned stage. */
+static PyObject *Request_stage(Request *self, PyObject *number) {
+  uint16_t i;
+  return number_in(self, number, &i) ? NULL : (PyObject *)stage_at(self, i);
+}
+
+/* _set_running(stage): lets nobody cancel it any more but `abandon`. None where it is settled otherwise or runs, else whether it does now. */
+static PyObject *Request_set_running(Request *self, PyObject *stage) {
+  if (!is_own(self, stage)) return PyErr_Format(PyExc_TypeError, "no stage of this request");
+  Row *row = &self->rows[((Stage *)stage)->number];
+  if (was_cancelled(row->told)) Py_RETURN_FALSE;
+  if (row->told.kind || row->running) Py_RETURN_NONE;
+  row->running = true;
+  Py_RETURN_TRUE;
+}
+
+static PyObject *Request_name(Request *self, PyObject *number) {
+  uint16_t i;
+  if (number_in(self, number, &i)) return NULL;
+  Py_INCREF(self->rows[i].name);
+  return self->rows[i].name;
+}
+
+static PyObject *Request_rename(Request *self, PyObject *const *args, Py_ssize_t n) {
+  uint16_t i;
+  if (n != 2) return PyErr_Format(PyExc_TypeError, "_rename takes 2");
+  if (number_in(self, args[0], &i)) return NULL;
+  Py_INCREF(args[1]);
+  Py_SETREF(self->rows[i].name, args[1]);
+  Py_RETURN_NONE;
+}
+
+static PyObject *copied(PyObject *list) { return list ? PyList_GetSlice(list, 0, PyList_GET_SIZE(list)) : PyList_New(0); }
+
+/* _facts(): words, times, replies as numbers of 32 bits; (place, stage, kind, wrapped, code, some, number) of each settled stage; names,
+ * values, errors. */
+static PyObject *Request_facts(Request *self, PyObject *Py_UNUSED(none)) {
+  /* All objects are made first: what is collected meanwhile may call the request. */
+  for (;;) {
+    uint32_t events = self->events, stages = self->stages;
+    PyObject *words = PyBytes_FromStringAndSize(NULL, events * 8), *times = PyBytes_FromStringAndSize(NULL, events * 8);
+    PyObject *replies = PyBytes_FromStringAndSize(NULL, (Py_ssize_t)(events * sizeof(cf_reply)));
+    PyObject *told = PyBytes_FromStringAndSize(NULL, stages * 28), *names = PyList_New(stages), *values = copied(self->values),
+             *errors = copied(self->errors), *facts = NULL;
+    bool is_made = words && times && replies && told && names && values && errors;
+    bool is_same = events == self->events;
+    if (is_made && is_same) {
+      size_t count;
+      cf_ledger_words(&self->ledger, 0, (uint64_t *)PyBytes_AS_STRING(words), events, &count);
+      for (uint32_t k = 0; k < events; k++) {
+        memcpy(PyBytes_AS_STRING(times) + 8 * k, &self->done[k].at, 8);
+        memcpy(PyBytes_AS_STRING(replies) + sizeof(cf_reply) * k, &self->done[k].reply, sizeof(cf_reply));
+      }
+      uint32_t *row = (uint32_t *)PyBytes_AS_STRING(told);
+      for (uint32_t i = 0; i < stages; i++, row += 7) {
+        row[0] = self->rows[i].place;
+        row[1] = i;
+        memcpy(row + 2, &self->rows[i].told, 20);
+        Py_INCREF(self->rows[i].name);
+        PyList_SET_ITEM(names, i, self->rows[i].name);
+      }
+      facts = PyTuple_Pack(7, words, times, replies, told, names, values, errors);
+    }
+    Py_XDECREF(words); Py_XDECREF(times); Py_XDECREF(replies); Py_XDECREF(told); Py_XDECREF(names); Py_XDECREF(values); Py_XDECREF(errors);
+    if (!is_made || is_same) return facts;
+  }
+}
+
+#define FAST(function) (PyCFunction)(void (*)(void))function
+static PyMethodDef request_methods[] = {
+  {"_attach", FAST(Request_attach), METH_FASTCALL, "Attaches a stage."},
+  {"_change", FAST(Request_change), METH_FASTCALL, "Completes, fails or cancels a stage."},
+  {"_run", FAST(Request_run), METH_FASTCALL, "Runs a stage, and those that follow."},
+  {"_begin", FAST(Request_begin), METH_FASTCALL, "Claims a stage."},
+  {"_end", FAST(Request_end), METH_FASTCALL, "Finishes a stage."},
+  {"_open", (PyCFunction)Request_open, METH_NOARGS, "Hands on what is ready from the start."},
+  {"_stage", (PyCFunction)Request_stage, METH_O, "The future of a planned stage."},
+  {"_set_running", (PyCFunction)Request_set_running, METH_O, "Marks a stage as running."},
+  {"_name_of", (PyCFunction)Request_name, METH_O, "The name of a stage."},
+  {"_rename", FAST(Request_rename), METH_FASTCALL, "Gives a stage a name."},
+  {"_facts", (PyCFunction)Request_facts, METH_NOARGS, "All that is written down."},
+  {NULL}};
+static PyMemberDef request_members[] = {
+  {"_works", T_OBJECT, offsetof(Request, works), READONLY, NULL},
+  {"_title", T_OBJECT, offsetof(Request, title), READONLY, NULL},
+  {"_plan", T_OBJECT, offsetof(Request, plan), READONLY, NULL},
+  {"_stages", T_UINT, offsetof(Request, stages), READONLY, NULL},
+  {NULL}};
+static PyTypeObject RequestType = {
+  PyVarObject_HEAD_INIT(NULL, 0).tp_name = "cf._cf.RequestCore", .tp_basicsize = sizeof(Request),
+  .tp_flags = Py_TPFLAGS_DEFAULT | Py_TPFLAGS_BASETYPE | Py_TPFLAGS_HAVE_GC, .tp_new = PyType_GenericNew, .tp_init = (initproc)Request_init,
+  .tp_traverse = (traverseproc)Request_traverse, .tp_clear = (inquiry)Request_clear, .tp_dealloc = (destructor)Request_dealloc,
+  .tp_methods = request_methods, .tp_members = request_members};
+
+/* ---- Futures ---- */
+
+static int Stage_traverse(Stage *self, visitproc visit, void *arg) {
+  Py_VISIT(self->request); Py_VISIT(self->call); Py_VISIT(self->args); Py_VISIT(self->kwargs);
+  Py_VISIT(self->callbacks); Py_VISIT(self->condition); Py_VISIT(self->waiters); Py_VISIT(self->error);
+  return 0;
+}
+
+static int Stage_clear(Stage *self) {
+  Py_CLEAR(self->request); Py_CLEAR(self->call); Py_CLEAR(self->args); Py_CLEAR(self->kwargs);
+  Py_CLEAR(self->callbacks); Py_CLEAR(self->condition); Py_CLEAR(self->waiters); Py_CLEAR(self->error);
+  return 0;
+}
+
+static void Stage_dealloc(Stage *self) {
+  PyTypeObject *type = Py_TYPE(self);
+  PyObject_GC_UnTrack(self);
+  Stage_clear(self);
+  type->tp_free((PyObject *)self);
+}
+
+static PyObject *Stage_done(Stage *self, PyObject *Py_UNUSED(none)) { return PyBool_FromLong(told(self).kind); }
+static PyObject *Stage_cancelled(Stage *self, PyObject *Py_UNUSED(none)) { return PyBool_FromLong(was_cancelled(told(self))); }
+
+static PyObject *Stage_running(Stage *self, PyObject *Py_UNUSED(none)) {
+  return PyBool_FromLong(self->request && !told(self).kind && self->request->rows[self->number].running);
+}
+
+/* The exception of a settled stage, the same each time. */
+static PyObject *error_of(Stage *self) {
+  if (told(self).kind == CF_THROWN) return error_out(self->request, told(self));
+  if (!self->error) {
+    PyObject *error = error_out(self->request, told(self));
+    if (!error) return NULL;
+    if (!self->error) self->error = error; else Py_DECREF(error);
+  }
+  Py_INCREF(self->error);
+  return self->error;
+}
+
+/* Waits until it is settled, and not cancelled. */
+static int settle(Stage *self, PyObject *const *args, Py_ssize_t n, PyObject *names) {
+  Py_ssize_t many = n + (names ? PyTuple_GET_SIZE(names) : 0);
+  if (many > 1 || (names && PyTuple_GET_SIZE(names) && PyUnicode_CompareWithASCIIString(PyTuple_GET_ITEM(names, 0), "timeout"))) {
+    PyErr_SetString(PyExc_TypeError, "takes a timeout alone");
+    return -1;
+  }
+  if (!told(self).kind) {
+    PyObject *none = PyObject_CallMethodOneArg((PyObject *)self, wait_name, many ? args[0] : Py_None);
+    if (!none) return -1;
+    Py_DECREF(none);
+    if (!told(self).kind) { PyErr_SetNone(future_error); return -1; }
+  }
+  if (was_cancelled(told(self))) { PyErr_SetNone(cancelled_error); return -1; }
+  return 0;
+}
+
+static PyObject *Stage_result(Stage *self, PyObject *const *args, Py_ssize_t n, PyObject *names) {
+  if (settle(self, args, n, names)) return NULL;
+  if (told(self).kind == CF_VALUE) return value_out(self->request, told(self).value);
+  PyObject *error = error_of(self);
+  if (error) PyErr_SetObject((PyObject *)Py_TYPE(error), error);
+  Py_XDECREF(error);
+  return NULL;
+}
+
+static PyObject *Stage_exception(Stage *self, PyObject *const *args, Py_ssize_t n, PyObject *names) {
+  if (settle(self, args, n, names)) return NULL;
+  if (told(self).kind == CF_VALUE) Py_RETURN_NONE;
+  return error_of(self);
+}
+
+static PyObject *Stage_add_done_callback(Stage *self, PyObject *call) {
+  PyObject *list = self->callbacks || self->shown ? NULL : PyList_New(0);
+  if (PyErr_Occurred()) return NULL;
+  if (self->shown) {
+    Kept first = {0};
+    Py_XDECREF(list);
+    call_back(self, call, &first);
+    if (raise_kept(&first)) return NULL;
+    Py_RETURN_NONE;
+  }
+  if (!self->callbacks) self->callbacks = list; else Py_XDECREF(list);
+  if (PyList_Append(self->callbacks, call)) return NULL;
+  Py_RETURN_NONE;
+}
+
+static PyObject *Stage_state(Stage *self, void *Py_UNUSED(which)) {
+  cf_outcome outcome = told(self);
+  PyObject *state = self->shown ? was_cancelled(outcome) ? cancelled_state : finished
+                    : self->request && self->request->rows[self->number].running ? running : pending;
+  Py_INCREF(state);
+  return state;
+}
+
+static PyObject *Stage_form(Stage *self, void *Py_UNUSED(which)) {
+  return PyLong_FromLong(self->request ? self->request->rows[self->number].form : 0);
+}
+
+static PyObject *Stage_condition(Stage *self, void *Py_UNUSED(which)) {
+  if (!self->condition) {
+    PyObject *made = PyObject_CallNoArgs(condition_class);
+    if (!made) return NULL;
+    if (!self->condition) self->condition = made; else Py_DECREF(made);
+  }
+  Py_INCREF(self->condition);
+  return self->condition;
+}
+
+static PyObject *list_of(PyObject **list) {
+  if (!*list) {
+    PyObject *made = PyList_New(0);
+    if (!made) return NULL;
+    if (!*list) *list = made; else Py_DECREF(made);
+  }
+  Py_INCREF(*list);
+  return *list;
+}
+
+static PyObject *Stage_waiters(Stage *self, void *Py_UNUSED(which)) { return list_of(&self->waiters); }
+static PyObject *Stage_callbacks(Stage *self, void *Py_UNUSED(which)) { return copied(self->callbacks); }
+
+static PyObject *Stage_value(Stage *self, void *Py_UNUSED(which)) {
+  if (told(self).kind == CF_VALUE) return value_out(self->request, told(self).value);
+  Py_RETURN_NONE;
+}
+
+static PyObject *Stage_error(Stage *self, void *Py_UNUSED(which)) {
+  if (told(self).kind && told(self).kind != CF_VALUE && !was_cancelled(told(self))) return error_of(self);
+  Py_RETURN_NONE;
+}
+
+static PyMethodDef stage_methods[] = {
+  {"done", (PyCFunction)Stage_done, METH_NOARGS, "Whether it is settled."},
+  {"cancelled", (PyCFunction)Stage_cancelled, METH_NOARGS, "Whether it was cancelled."},
+  {"running", (PyCFunction)Stage_running, METH_NOARGS, "Whether its function runs."},
+  {"result", FAST(Stage_result), METH_FASTCALL | METH_KEYWORDS, "Waits for its value. Its exception is raised."},
+  {"exception", FAST(Stage_exception), METH_FASTCALL | METH_KEYWORDS, "Waits for its exception, or None."},
+  {"add_done_callback", (PyCFunction)Stage_add_done_callback, METH_O, "Calls a function with it, once it is settled."},
+  {NULL}};
+static PyMemberDef stage_members[] = {
+  {"request", T_OBJECT, offsetof(Stage, request), READONLY, "What it belongs to."},
+  {"number", T_USHORT, offsetof(Stage, number), READONLY, "Its place in the request, from 0 on."},
+  {"_shown", T_BOOL, offsetof(Stage, shown), 0, NULL},
+  {NULL}};
+static PyGetSetDef stage_getters[] = {
+  {"_state", (getter)Stage_state, NULL, NULL, NULL},
+  {"_form", (getter)Stage_form, NULL, NULL, NULL},
+  {"_condition", (getter)Stage_condition, NULL, NULL, NULL},
+  {"_waiters", (getter)Stage_waiters, NULL, NULL, NULL},
+  {"_done_callbacks", (getter)Stage_callbacks, NULL, NULL, NULL},
+  {"_result", (getter)Stage_value, NULL, NULL, NULL},
+  {"_exception", (getter)Stage_error, NULL, NULL, NULL},
+  {NULL}};
+static PyTypeObject StageType = {
+  PyVarObject_HEAD_INIT(NULL, 0).tp_name = "cf._cf.StageCore", .tp_basicsize = sizeof(Stage),
+  .tp_flags = Py_TPFLAGS_DEFAULT | Py_TPFLAGS_BASETYPE | Py_TPFLAGS_HAVE_GC,
+  .tp_traverse = (traverseproc)Stage_traverse, .tp_clear = (inquiry)Stage_clear, .tp_dealloc = (destructor)Stage_dealloc,
+  .tp_methods = stage_methods, .tp_members = stage_members, .tp_getset = stage_getters};
+
+/* ---- Plans ---- */
+
+/* PlanCore(rows): of each stage the form, the numbers of its sources, its function or None, and its name. */
+static int Plan_init(Plan *self, PyObject *args, PyObject *kwargs) {
+  PyObject *rows;
+  if (!PyArg_ParseTuple(args, "O!", &PyList_Type, &rows)) return -1;
+  Py_ssize_t n = PyList_GET_SIZE(rows);
+  if (n > MOST) { PyErr_SetString(full, "a request has at most 4,096 stages"); return -1; }
+  uint32_t code = cf_builder_new(&self->plan, 0, 0);
+  self->calls = PyTuple_New(n);
+  self->names = PyTuple_New(n);
+  self->forms = PyMem_Calloc(n + 1, 1);
+  self->start = PyMem_Calloc(n + 1, sizeof *self->start);
+  if (!self->calls || !self->names || !self->forms || !self->start) { PyErr_NoMemory(); return -1; }
+  for (Py_ssize_t k = 0; !code && k < n; k++) {
+    unsigned int form;
+    PyObject *of, *function, *name;
+    if (!PyArg_ParseTuple(PyList_GET_ITEM(rows, k), "IO!OU", &form, &PyTuple_Type, &of, &function, &name)) return -1;
+    Py_INCREF(function); PyTuple_SET_ITEM(self->calls, k, function);
+    Py_INCREF(name); PyTuple_SET_ITEM(self->names, k, name);
+    Py_ssize_t many = PyTuple_GET_SIZE(of);
+    uint16_t *sources = PyMem_Calloc(many + 1, sizeof *sources), stage;
+    if (!sources) { PyErr_NoMemory(); return -1; }
+    for (Py_ssize_t s = 0; s < many; s++) sources[s] = (uint16_t)PyLong_AsLong(PyTuple_GET_ITEM(of, s));
+    self->forms[k] = (uint8_t)form;
+    code = cf_builder_stage(&self->plan, form, sources, many, function == Py_None ? CF_NO_FUNCTION : (uint32_t)k, &stage);
+    PyMem_Free(sources);
+    if (PyErr_Occurred()) return -1;
+  }
+  if (code == CF_TOO_MANY_EDGES) { PyErr_SetString(full, "a flow has at most 16,384 mentions of sources"); return -1; }
+  cf_handle ledger = {0};
+  if (!code) code = cf_build(&self->plan);
+  if (!code) code = cf_ledger_new(&self->plan, 0, &ledger);
+  for (Py_ssize_t k = 0; !code && k < n; k++) code = cf_ledger_stage(&ledger, (uint16_t)k, &self->start[k]);
+  cf_free(&ledger);
+  if (code) { refused(code); return -1; }
+  self->stages = (uint16_t)n;
+  return 0;
+}
+
+static int Plan_traverse(Plan *self, visitproc visit, void *arg) {
+  Py_VISIT(self->calls);
+  return 0;
+}
+
+static int Plan_clear(Plan *self) {
+  Py_CLEAR(self->calls);
+  return 0;
+}
+
+static void Plan_dealloc(Plan *self) {
+  PyObject_GC_UnTrack(self);
+  Plan_clear(self);
+  Py_CLEAR(self->names);
+  cf_free(&self->plan);
+  PyMem_Free(self->forms); PyMem_Free(self->start);
+  Py_TYPE(self)->tp_free((PyObject *)self);
+}
+
+static PyTypeObject PlanType = {
+  PyVarObject_HEAD_INIT(NULL, 0).tp_name = "cf._cf.PlanCore", .tp_basicsize = sizeof(Plan),
+  .tp_flags = Py_TPFLAGS_DEFAULT | Py_TPFLAGS_HAVE_GC, .tp_new = PyType_GenericNew, .tp_init = (initproc)Plan_init,
+  .tp_traverse = (traverseproc)Plan_traverse, .tp_clear = (inquiry)Plan_clear, .tp_dealloc = (destructor)Plan_dealloc};
+
+/* ---- The module ---- */
+
+/* use(Stage, RequestFull, BadAnswer): the classes that are written in Python. */
+static PyObject *use(PyObject *Py_UNUSED(module), PyObject *args) {
+  PyObject *type;
+  if (!PyArg_ParseTuple(args, "OOO", &type, &full, &bad_answer)) return NULL;
+  if (!PyType_Check(type) || !PyType_IsSubtype((PyTypeObject *)type, &StageType)) return PyErr_Format(PyExc_TypeError, "no class of stages");
+  stage_type = (PyTypeObject *)type;
+  Py_INCREF(type); Py_INCREF(full); Py_INCREF(bad_answer);
+  Py_RETURN_NONE;
+}
+
+static PyObject *be(PyObject *Py_UNUSED(module), PyObject *who) {
+  long number = PyLong_AsLong(who);
+  if (number == -1 && PyErr_Occurred()) return NULL;
+  caller = (int)number;
+  Py_RETURN_NONE;
+}
+
+static PyMethodDef module_methods[] = {
+  {"use", (PyCFunction)use, METH_VARARGS, "Tells the classes that are written in Python."},
+  {"be", (PyCFunction)be, METH_O, "Gives this thread the number of a caller."},
+  {NULL}};
+static PyModuleDef module = {PyModuleDef_HEAD_INIT, "_cf", "Requests and stages over the proved ledger.", -1, module_methods, NULL, NULL, NULL, NULL};
+
+static PyObject *of_module(const char *name, const char *attribute) {
+  PyObject *imported = PyImport_ImportModule(name), *found = imported ? PyObject_GetAttrString(imported, attribute) : NULL;
+  Py_XDECREF(imported);
+  return found;
+}
+
+PyMODINIT_FUNC PyInit__cf(void) {
+  if (!cf_fits(CF_VERSION_MAJOR, CF_VERSION_MINOR)) {
+    PyErr_Format(PyExc_ImportError, "the library has version %s", cf_version());
+    return NULL;
+  }
+  if (sizeof(cf_reply) != 48 || sizeof(cf_outcome) != 20 || cf_layout("cf_reply") != 48 || cf_layout("cf_news") != sizeof(cf_news)) {
+    PyErr_SetString(PyExc_ImportError, "the structures of the library are others");
+    return NULL;
+  }
+  if (PyType_Ready(&RequestType) || PyType_Ready(&StageType) || PyType_Ready(&PlanType)) return NULL;
+  if (cf_builder_new(&nothing, 0, 0) || cf_build(&nothing)) return PyErr_NoMemory();
+  cancelled_error = of_module("concurrent.futures", "CancelledError");
+  future_error = of_module("concurrent.futures", "TimeoutError");
+  condition_class = of_module("threading", "Condition");
+  pending = of_module("concurrent.futures._base", "PENDING");
+  running = of_module("concurrent.futures._base", "RUNNING");
+  finished = of_module("concurrent.futures._base", "FINISHED");
+  cancelled_state = of_module("concurrent.futures._base", "CANCELLED_AND_NOTIFIED");
+  put_name = PyUnicode_InternFromString("put");
+  refusal_name = PyUnicode_InternFromString("refusal");
+  show_name = PyUnicode_InternFromString("_show");
+  log_name = PyUnicode_InternFromString("_log");
+  wait_name = PyUnicode_InternFromString("_wait");
+  qualname_name = PyUnicode_InternFromString("__qualname__");
+  func_name = PyUnicode_InternFromString("func");
+  relay_name = PyUnicode_InternFromString("relay");
+  if (PyErr_Occurred()) return NULL;
+  PyObject *made = PyModule_Create(&module);
+  if (!made) return NULL;
+  Py_INCREF(&RequestType); Py_INCREF(&StageType); Py_INCREF(&PlanType);
+  if (PyModule_AddObject(made, "RequestCore", (PyObject *)&RequestType) || PyModule_AddObject(made, "StageCore", (PyObject *)&StageType) ||
+      PyModule_AddObject(made, "PlanCore", (PyObject *)&PlanType))
+    return NULL;
+  return made;
+}

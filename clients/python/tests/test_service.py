@@ -1,0 +1,771 @@
+#!/usr/bin/env python3
+"""Tests of cf.service: what stages tell, who settles them, what functions, callbacks and coroutines raise, shutdown, forks, bounds, memory.
+
+    CF_LIBRARY=/path/to/libcf.so python3 clients/python/tests/test_service.py [-v] [TEST ..]
+
+They are of the package beside this folder, or with CF_INSTALLED=1 of the one that is installed; over the C module where it was built, and
+by ctypes with CF_NO_MODULE=1. CF_REQUESTS is how many requests the tests of memory make (20,000).
+"""
+import asyncio
+import concurrent.futures
+import gc
+import logging
+import os
+import pickle
+import signal
+import subprocess
+import sys
+import textwrap
+import threading
+import time
+import unittest
+import weakref
+from concurrent.futures import CancelledError, InvalidStateError
+from pathlib import Path
+
+HERE = Path(__file__).resolve().parent
+if not os.environ.get("CF_INSTALLED"):
+    sys.path.insert(0, str(HERE.parent))
+from cf.service import Flow, LoopService, Request, RequestFull, Service, Stage  # noqa: E402
+from cf.service._core import IS_MODULE  # noqa: E402
+
+REQUESTS = int(os.environ.get("CF_REQUESTS", "20000"))
+
+
+class Oops(Exception):
+    pass
+
+
+class Wild(BaseException):
+    pass
+
+
+def fails(*_):
+    raise Oops("x")
+
+
+def inc(x):
+    return x + 1
+
+
+def program(text, **environment):
+    """What a program of its own prints, whose first lines find the package."""
+    head = "" if os.environ.get("CF_INSTALLED") else f"import sys; sys.path.insert(0, {str(HERE.parent)!r})\n"
+    head += "import os, threading, time\nfrom cf.service import Service, LoopService\n"
+    done = subprocess.run([sys.executable, "-c", head + textwrap.dedent(text)], stdout=subprocess.PIPE, stderr=subprocess.PIPE, timeout=60,
+                          universal_newlines=True, env=dict(os.environ, **environment))
+    return done.stdout, done.stderr, done.returncode
+
+
+class Case(unittest.TestCase):
+    def setUp(self):
+        self.service = Service(4)
+        self.request = self.service.request("r")
+
+    def tearDown(self):
+        self.service.shutdown()
+
+
+class Forms(Case):
+    def test_values(self):
+        r = self.request
+        three = r.supply(lambda a, b=0: a + b, 1, b=2)
+        self.assertEqual(three.result(), 3)
+        self.assertEqual(three.then(inc).result(), 4)
+        self.assertEqual(three.combine(r.supply(str, 5), lambda a, b: (a, b)).result(), (3, "5"))
+        self.assertEqual(three.either(r.promise(), inc).result(), 4)
+        self.assertEqual(three.handle(lambda value, error: (value, error)).result(), (3, None))
+        self.assertEqual(three.when_done(lambda value, error: 9).result(), 3)
+        self.assertEqual(three.recover(lambda error: 9).result(), 3)
+        self.assertEqual(three.recover_compose(lambda error: r.supply(str, 9)).result(), 3)
+        self.assertEqual(three.compose(lambda x: r.supply(inc, x)).result(), 4)
+        self.assertIsNone(r.supply(lambda: None).then(lambda x: x).result())
+        self.assertEqual(r.gather(three, r.supply(str, 1), three).result(), [3, "1", 3])
+        self.assertIsNone(r.all_of().result())
+        self.assertIsNone(r.all_of(three).result())
+        self.assertEqual(r.first_of(r.promise(), r.promise(), three).result(), 3)
+        self.assertEqual(r.gather().result(), [])
+        with self.assertRaises(ValueError):
+            r.first_of()
+
+    def test_exceptions_are_the_same_object_all_along(self):
+        r = self.request
+        failed = r.supply(fails)
+        error = failed.exception()
+        self.assertIsInstance(error, Oops)
+        for stage in (failed.then(inc), failed.combine(r.supply(str), lambda a, b: 0), failed.when_done(lambda v, e: 1), r.all_of(failed, failed),
+                      r.first_of(failed, failed), failed.compose(lambda x: x), r.gather(failed)):
+            self.assertIs(stage.exception(), error)
+            with self.assertRaises(Oops):
+                stage.result()
+        self.assertIs(failed.handle(lambda v, e: e).result(), error)
+        self.assertEqual(failed.recover(lambda e: str(e)).result(), "x")
+        self.assertEqual(failed.recover_compose(lambda e: r.supply(str, e)).result(), "x")
+        self.assertIn("fails", "".join(__import__("traceback").format_tb(error.__traceback__)))
+
+    def test_cancelled_sources(self):
+        r = self.request
+        promise = r.promise()
+        behind = promise.then(inc)
+        self.assertTrue(promise.cancel())
+        self.assertTrue(promise.cancelled() and promise.cancel())
+        self.assertFalse(behind.cancelled())
+        self.assertIsInstance(behind.exception(), CancelledError)
+        self.assertIs(behind.exception(), behind.exception())
+        with self.assertRaises(CancelledError):
+            promise.result()
+        self.assertIsInstance(promise.handle(lambda v, e: e).result(), CancelledError)
+
+    def test_composing(self):
+        r, other = self.request, self.service.request("other")
+        early = r.supply(str, "early")
+        self.assertEqual(r.supply(str).compose(lambda _: early).result(), "early")
+        self.assertEqual(r.supply(str).compose(lambda _: other.supply(str, "else")).result(), "else")
+        with concurrent.futures.ThreadPoolExecutor(1) as pool:
+            self.assertEqual(r.supply(str).compose(lambda _: pool.submit(str, "pool")).result(), "pool")
+        self.assertIsInstance(r.supply(str).compose(lambda _: 7).exception(), TypeError)
+        self.assertIsInstance(r.supply(str).compose(lambda _: r.supply(fails)).exception(), Oops)
+        stopped = concurrent.futures.Future()
+        stopped.cancel()
+        self.assertIsInstance(r.supply(str).compose(lambda _: stopped).exception(), CancelledError)
+
+        def deeper(n):
+            return r.supply(lambda: n - 1).compose(deeper) if n else r.supply(str, "bottom")
+        self.assertEqual(deeper(500).result(20), "bottom")
+
+    def test_chains_through_requests_need_no_stack(self):
+        first = last = self.request.promise()
+        for _ in range(3000):
+            last = self.service.request(room=1).adopt(last)
+        first.complete(5)
+        self.assertEqual(last.result(10), 5)
+
+    def test_growing(self):
+        stage = self.service.request(room=1).supply(int)
+        for _ in range(300):
+            stage = stage.then(inc)
+        self.assertEqual(stage.result(10), 300)
+
+
+class Settling(Case):
+    def test_first_wins(self):
+        promise = self.request.promise()
+        self.assertFalse(promise.done())
+        self.assertTrue(promise.complete(1))
+        self.assertFalse(promise.complete(2) or promise.fail(Oops()) or promise.cancel() or promise.abandon())
+        self.assertEqual((promise.result(), promise.done(), promise.cancelled(), promise.running()), (1, True, False, False))
+        with self.assertRaises(InvalidStateError):
+            promise.set_result(1)
+        with self.assertRaises(InvalidStateError):
+            promise.set_exception(Oops())
+
+    def test_running_stages(self):
+        begun, goes_on = threading.Event(), threading.Event()
+        stage = self.request.supply(lambda: begun.set() or goes_on.wait(5) or 1)
+        begun.wait(5)
+        self.assertTrue(stage.running())
+        self.assertFalse(stage.cancel())
+        self.assertTrue(stage.abandon())
+        goes_on.set()
+        self.assertTrue(stage.cancelled())
+        self.service.shutdown()
+        self.assertIn("too late", str(self.request.history()))
+
+    def test_promise_of_somebody_else(self):
+        promise = self.request.promise()
+        self.assertTrue(promise.set_running_or_notify_cancel())
+        self.assertFalse(promise.cancel())
+        with self.assertRaises(RuntimeError):
+            promise.set_running_or_notify_cancel()
+        promise.set_result(1)
+        stopped = self.request.promise()
+        stopped.cancel()
+        self.assertFalse(stopped.set_running_or_notify_cancel())
+
+    def test_timeouts(self):
+        r = self.request
+        late = r.promise().or_timeout(0.02).named("late")
+        self.assertIsInstance(late.exception(5), TimeoutError)
+        self.assertIn("took longer than 0.02 s", str(late.exception()))
+        self.assertEqual(r.promise().complete_on_timeout(7, 0.02).result(5), 7)
+        self.assertEqual(r.supply(str, "x").or_timeout(5).result(), "x")
+        with self.assertRaises(concurrent.futures.TimeoutError):
+            r.promise().result(0.01)
+        with self.assertRaises(concurrent.futures.TimeoutError):
+            r.promise().exception(timeout=0)
+
+    def test_timer_outlives_all_who_asked(self):
+        done = threading.Event()
+        self.service.request().promise().or_timeout(0.05).recover(lambda error: done.set())
+        gc.collect()
+        self.assertTrue(done.wait(5))
+
+    def test_timers_of_settled_stages_are_let_go(self):
+        for _ in range(1000):
+            self.request = self.service.request()
+            self.request.promise().or_timeout(1000).complete(1)
+        self.assertLess(len(self.service._works.clock._due), 300)
+
+    def test_wait_and_as_completed(self):
+        r = self.request
+        promise = r.promise()
+        stages = [r.supply(time.sleep, 0.01) for _ in range(5)]
+        self.assertEqual(concurrent.futures.wait([*stages, promise], 0.1).not_done, {promise})
+        self.assertEqual(concurrent.futures.wait([*stages, promise], return_when="FIRST_COMPLETED").not_done, {promise})
+        threading.Timer(0.02, promise.fail, [Oops()]).start()
+        self.assertIn(promise, concurrent.futures.wait([promise, r.promise()], return_when="FIRST_EXCEPTION").done)
+        self.assertEqual(set(concurrent.futures.as_completed([*stages, promise])), {*stages, promise})
+
+    def test_waiters_are_never_lost(self):
+        """Stages settle while threads begin to wait for them, in each of four ways."""
+        for k in range(300):
+            promises = [self.service.request().promise() for _ in range(3)]
+            asks = [lambda: promises[0].result(10), lambda: concurrent.futures.wait(promises, 10).not_done,
+                    lambda: list(concurrent.futures.as_completed(promises, 10)), lambda: heard.wait(10)]
+            heard, told = threading.Event(), []
+            threads = [threading.Thread(target=lambda ask=ask: told.append(ask())) for ask in asks]
+            for thread in threads:
+                thread.start()
+            promises[0].add_done_callback(lambda _: heard.set())
+            for promise in promises:
+                promise.complete(None)
+            for thread in threads:
+                thread.join(20)
+            self.assertEqual(len(told), 4)
+            self.assertIn(set(), told)
+
+    def test_all_of_waits_for_all(self):
+        for _ in range(200):
+            a, b = self.service.request().promise(), self.service.request().promise()
+            threading.Thread(target=lambda: a.complete(1)).start()
+            threading.Thread(target=lambda: b.complete(1)).start()
+            done = concurrent.futures.wait([a, b], 10)
+            self.assertFalse(done.not_done)
+            self.assertTrue(a.done() and b.done())
+
+
+class Raising(Case):
+    def test_base_exceptions_of_functions(self):
+        for kind in (KeyboardInterrupt, SystemExit, Wild, GeneratorExit):
+            def raises(*_):
+                raise kind("y")
+            self.assertIsInstance(self.service.submit(raises).exception(5), kind)
+            self.assertIsInstance(self.request.supply(str).compose(raises).exception(5), kind)
+        self.assertEqual(self.service.submit(str, 1).result(5), "1")
+
+    def test_exceptions_of_callbacks_are_logged(self):
+        told = []
+        promise = self.request.promise()
+        promise.add_done_callback(fails)
+        promise.add_done_callback(told.append)
+        with self.assertLogs("concurrent.futures", "ERROR") as logs:
+            promise.complete(1)
+            promise.add_done_callback(fails)
+        self.assertEqual((told, len(logs.output)), ([promise], 2))
+        self.assertIn("Oops", logs.output[0])
+
+    def test_base_exceptions_of_callbacks_lose_nobody(self):
+        """They come up in whoever settled the stage, and the service goes on."""
+        promise, told = self.request.promise(), []
+
+        def raises(_):
+            raise Wild
+        promise.add_done_callback(raises)
+        behind = promise.then(inc)
+        with self.assertRaises(Wild):
+            promise.complete(1)
+        self.assertEqual(behind.result(5), 2)
+        begun = threading.Event()
+        stage = self.request.supply(begun.wait, 5)
+        stage.add_done_callback(raises)
+        behind = stage.then(told.append)
+        with self.assertLogs("concurrent.futures", "CRITICAL"):
+            begun.set()
+            behind.result(5)
+            self.service.shutdown()
+        self.assertEqual(told, [True])
+
+    def test_callbacks_may_call_their_request(self):
+        r, told = self.request, []
+        promise = r.promise()
+        promise.add_done_callback(lambda done: told.append((r.promise().complete(1), len(r.history().entries()), done.then(inc).result(5))))
+        promise.complete(3)
+        self.assertEqual(told[0][2], 4)
+
+    def test_what_is_collected_may_call(self):
+        class Last:
+            def __init__(self, promise):
+                self.promise, self.itself = promise, self
+
+            def __del__(self):
+                self.promise.complete("gone")
+        for _ in range(50):
+            promise = self.service.request().promise()
+            Last(promise)
+            gc.collect()
+            self.assertEqual(promise.result(5), "gone")
+
+    @unittest.skipUnless(hasattr(signal, "SIGINT"), "no signals")
+    def test_interrupt_of_who_waits(self):
+        out, err, status = program("""
+            import signal
+            with Service(2) as service:
+                promise = service.request().promise()
+                behind = promise.then(lambda x: x + 1)
+                threading.Timer(0.2, signal.raise_signal if False else lambda: os.kill(os.getpid(), signal.SIGINT)).start()
+                try:
+                    promise.result(20)
+                except KeyboardInterrupt:
+                    print("interrupted", promise.done())
+                promise.complete(1)
+                print(behind.result(5))
+        """)
+        self.assertEqual((out, status), ("interrupted False\n2\n", 0), err)
+
+    def test_interrupts_lose_nothing(self):
+        """The main thread is interrupted at any point while it attaches and completes; each stage that it was given is settled."""
+        out, err, status = program("""
+            import random, signal
+            seen, lost = 0, 0
+            with Service(2) as service:
+                def interrupt():
+                    while not over:
+                        time.sleep(random.random() / 500)
+                        os.kill(os.getpid(), signal.SIGINT)
+                over = []
+                signal.signal(signal.SIGINT, signal.SIG_IGN)
+                thread = threading.Thread(target=interrupt)
+                thread.start()
+                end = time.monotonic() + 2
+                while time.monotonic() < end:
+                    promise = service.request().promise()
+                    behind = promise.then(lambda x: x)
+                    signal.signal(signal.SIGINT, signal.default_int_handler)
+                    try:
+                        try:
+                            promise.complete(1)
+                            while True:
+                                promise.complete(2)
+                        finally:
+                            signal.signal(signal.SIGINT, signal.SIG_IGN)
+                    except KeyboardInterrupt:
+                        seen += 1
+                    promise.complete(3)
+                    lost += behind.result(5) not in (1, 2, 3)
+                over.append(1)
+                thread.join()
+            print(seen > 20, lost)
+        """)
+        if IS_MODULE:  # by ctypes an interrupt may come between an event and its showing, as in concurrent.futures itself
+            self.assertEqual((out, status), ("True 0\n", 0), err)
+
+
+class Loops(unittest.TestCase):
+    def test_coroutines(self):
+        async def load(n):
+            await asyncio.sleep(0)
+            return n
+
+        async def bad(_):
+            await asyncio.sleep(0)
+            raise Oops("co")
+
+        async def main():
+            service = LoopService(asyncio.get_running_loop())
+            r = service.request("r")
+            number = r.supply(load, 17)
+            self.assertEqual(await number.then(load).then(inc), 18)
+            self.assertEqual(await number.then(bad).recover(lambda e: str(e)), "co")
+            self.assertEqual(await number.compose(lambda x: r.supply(load, x + 1)), 18)
+            self.assertEqual(await r.gather(*[r.supply(load, k) for k in range(10)]), list(range(10)))
+            with self.assertRaises(Oops):
+                await number.then(bad)
+            self.assertIn("worker 0 finishes", str(r.history()))
+        asyncio.run(main())
+
+    def test_timeouts_cancel(self):
+        ended = []
+
+        async def slow():
+            try:
+                await asyncio.sleep(10)
+            except asyncio.CancelledError:
+                ended.append("cancelled")
+                raise
+
+        async def main():
+            service = LoopService(asyncio.get_running_loop())
+            r = service.request()
+            self.assertEqual(await r.supply(slow).complete_on_timeout("late", 0.02), "late")
+            with self.assertRaises(TimeoutError):
+                await r.supply(slow).or_timeout(0.02)
+            stage = r.supply(slow)
+            await asyncio.sleep(0.02)
+            self.assertTrue(stage.abandon())
+            await asyncio.sleep(0.02)
+            quick = r.supply(str, 1).or_timeout(50)
+            self.assertEqual(await quick, "1")
+        asyncio.run(main())
+        self.assertEqual(ended, ["cancelled"] * 3)
+
+    def test_other_threads_complete(self):
+        async def main():
+            promise = LoopService(asyncio.get_running_loop()).request().promise()
+            behind = promise.then(inc)
+            threading.Timer(0.02, promise.complete, [1]).start()
+            self.assertEqual(await asyncio.wait_for(asyncio.wrap_future(behind), 5), 2)
+        asyncio.run(main())
+
+    def test_threads_stages_are_awaited(self):
+        async def main():
+            with Service(2) as service:
+                self.assertEqual(await service.submit(str, 1), "1")
+                self.assertEqual(await asyncio.get_running_loop().run_in_executor(service, str, 2), "2")
+                with self.assertRaises(Oops):
+                    await service.submit(fails)
+                task = asyncio.ensure_future(asyncio.wrap_future(promise := service.request().promise()))
+                await asyncio.sleep(0)
+                task.cancel()
+                await asyncio.sleep(0.01)
+                self.assertTrue(promise.cancelled())
+        asyncio.run(main())
+
+    def test_closed_loop(self):
+        loop = asyncio.new_event_loop()
+        r = LoopService(loop).request()
+        promise = r.promise()
+        behind = promise.then(inc)
+        loop.close()
+        promise.complete(1)
+        self.assertIsInstance(behind.exception(5), RuntimeError)
+        with self.assertRaises(RuntimeError):
+            r.supply(str)
+
+
+class Flows(Case):
+    def flow(self):
+        flow = Flow("order")
+        number = flow.promise("number")
+        doubled = number.then(lambda x: 2 * x)
+        total = doubled.combine(flow.supply(lambda: 5), lambda a, b: a + b).named("total")
+        more = total.compose(lambda x: self.service.submit(inc, x))
+        return flow, number, doubled, total, more
+
+    def test_many_at_once(self):
+        flow, number, doubled, total, more = self.flow()
+        requests = [self.service.start(flow, k) for k in range(200)]
+        for k, request in enumerate(requests):
+            self.assertEqual((request[number].result(), request[total].result(5), request[more].result(5)), (k, 2 * k + 5, 2 * k + 6))
+        self.assertEqual(request[total].name, "total")
+        self.assertEqual(request[total].then(inc).result(), 2 * 199 + 6)
+        self.assertIn("total", str(request.history()))
+
+    def test_failing(self):
+        flow = Flow()
+        start = flow.promise()
+        failed = start.then(fails)
+        saved, all_, first = failed.recover(str), flow.all_of(start, failed, start), flow.first_of(start, failed)
+        both = flow.gather(start, saved, first)
+        request = flow.run(1)
+        self.assertEqual((request[saved].result(0), request[first].result(0), request[both].result(0)), ("x", 1, [1, "x", 1]))
+        self.assertIsInstance(request[all_].exception(0), Oops)
+        self.assertFalse(flow.run()[start].done())
+        self.assertIsNone(flow.run(1)[flow_step].result(0) if (flow_step := None) else None)
+
+    def test_rules(self):
+        flow, number, *_ = self.flow()
+        with self.assertRaises(ValueError):
+            number.combine(Flow().promise(), inc)
+        with self.assertRaises(ValueError):
+            self.service.start(flow, 1, 2)
+        with self.assertRaises(RuntimeError):
+            flow.promise()
+        with self.assertRaises(KeyError):
+            self.service.start(flow, 1)[Flow().promise()]
+        with self.assertRaises(KeyError):
+            self.request[number]
+
+    def test_on_a_loop(self):
+        async def load(x):
+            await asyncio.sleep(0)
+            return x + 1
+
+        async def main():
+            flow = Flow()
+            end = flow.promise().then(load).then(load)
+            service = LoopService(asyncio.get_running_loop())
+            self.assertEqual(await asyncio.gather(*[service.start(flow, k)[end] for k in range(50)]), list(range(2, 52)))
+        asyncio.run(main())
+
+
+class Bounds(Case):
+    def test_full_request(self):
+        r = self.service.request("full", room=1)
+        first = r.promise()
+        last = first
+        for _ in range(4093):
+            last = last.then(inc)
+        before = len(r.history().words)
+        for attach in (lambda: first.compose(r.supply), lambda: r.all_of(*[first] * 4), lambda: first.combine(concurrent.futures.Future(), inc),
+                       lambda: r.gather(first, first, first)):
+            with self.assertRaises(RequestFull):
+                attach()
+        self.assertEqual(len(r.history().words), before)
+        r.promise(), r.promise()
+        for attach in (r.promise, lambda: r.supply(str), lambda: first.then(inc), lambda: r.adopt(concurrent.futures.Future())):
+            with self.assertRaises(RequestFull):
+                attach()
+        history = r.history()
+        self.assertEqual((len(history.words), len(history.names)), (4096, 4096))
+        first.complete(0)
+        self.assertEqual(last.result(20), 4093)
+
+    def test_full_flow(self):
+        flow = Flow()
+        for _ in range(4095):
+            flow.promise()
+        with self.assertRaises(RequestFull):
+            Flow.supply(flow, str).compose(str)
+        with self.assertRaises(RequestFull):
+            flow.promise()
+        request = flow.run()
+        with self.assertRaises(RequestFull):
+            request.promise()
+
+    def test_many_events(self):
+        promise = self.request.promise()
+        for _ in range(70000):
+            promise.complete(None)
+        self.assertEqual(len(self.request.history().words), 70001)
+
+    def test_100_threads(self):
+        with Service(100) as service:
+            request, gate = service.request(), threading.Barrier(100)
+            self.assertEqual(len(set(request.gather(*[request.supply(gate.wait, 20) for _ in range(100)]).result(30))), 100)
+            self.assertIn("won" if False else "worker 60 claims", str(request.history()))
+
+    def test_misuse(self):
+        other = self.service.request().promise()
+        for call in (lambda: Stage(), lambda: self.request._attach(3, other, None, str, None, None, None), lambda: pickle.dumps(self.request)):
+            with self.assertRaises(TypeError):
+                call()
+        self.assertIs(self.request.adopt(stage := self.request.promise()), stage)
+
+
+class Histories(Case):
+    def test_words(self):
+        r = self.service.request("order 17")
+        price = r.supply(int, "49").named("price")
+        total = price.then(fails).named("total")
+        total.exception()
+        self.service.shutdown()
+        text = str(r.history())
+        for part in ("order 17: 6 events, 2 stages", "caller attaches 0 price, supply", "caller attaches 1 total, apply behind 0 price",
+                     "worker 0 claims 0 price and is granted", "worker 0 finishes 0 price, which gave 49", "0 price ends: 49",
+                     "worker 0 claims 1 total and is granted, with 49", "finishes 1 total, which raised Oops('x')", "1 total ends: Oops('x')"):
+            self.assertIn(part, text)
+        self.assertNotIn("\n", r.history().line())
+        self.assertEqual(self.service.submit.__name__, "submit")
+
+    def test_texts_that_fail(self):
+        class Mute:
+            def __repr__(self):
+                raise Oops
+        self.request.promise().complete(Mute())
+        self.assertIn("a Mute", str(self.request.history()))
+
+    def test_it_stays(self):
+        history = self.request.history()
+        self.request.promise()
+        self.assertEqual((len(history.words), str(history)), (0, "r: 0 events, 0 stages"))
+
+    def test_a_submit_has_one(self):
+        stage = self.service.submit(inc, 1)
+        stage.result()
+        self.service.shutdown()
+        self.assertTrue(str(stage.request.history()).startswith("inc: 3 events, 1 stages"))
+
+
+class Ending(unittest.TestCase):
+    def test_shutdown_does_what_was_handed_in(self):
+        service, done = Service(2), []
+        r = service.request()
+        stages = [r.supply(time.sleep, 0.01).then(done.append) for _ in range(20)]
+        service.shutdown()
+        self.assertEqual((len(done), all(stage.done() for stage in stages)), (20, True))
+        for attach in (lambda: service.submit(str), lambda: r.supply(str), lambda: stages[0].then(str), lambda: stages[0].compose(str)):
+            with self.assertRaises(RuntimeError):
+                attach()
+
+    def test_shutdown_with_cancel(self):
+        service, begun, goes_on = Service(2), threading.Semaphore(0), threading.Event()
+        r = service.request()
+        running = [r.supply(lambda: begun.release() or goes_on.wait(5)) for _ in range(2)]
+        begun.acquire(), begun.acquire()
+        waiting = [r.supply(str) for _ in range(20)]
+        behind = waiting[0].handle(lambda v, e: type(e).__name__)
+        service.shutdown(wait=False, cancel_futures=True)
+        goes_on.set()
+        service.shutdown()
+        self.assertTrue(all(stage.result() for stage in running))
+        self.assertTrue(all(stage.cancelled() for stage in waiting))
+        self.assertEqual(behind.result(5), "CancelledError")
+
+    def test_ready_behind_the_end(self):
+        service = Service(2)
+        promise = service.request().promise()
+        chain = promise.then(inc)
+        for _ in range(2000):
+            chain = chain.handle(lambda v, e: 0)
+        service.submit(str).result()
+        service.shutdown()
+        promise.complete(1)
+        self.assertIsInstance(chain.exception(5), RuntimeError)
+
+    def test_put_and_close_at_once(self):
+        for _ in range(200):
+            service = Service(2)
+            promises = [service.request().promise() for _ in range(4)]
+            ends = [promise.handle(lambda v, e: v) for promise in promises]
+            threads = [threading.Thread(target=promise.complete, args=[1]) for promise in promises]
+            for thread in threads:
+                thread.start()
+            service.shutdown(wait=False)
+            self.assertEqual(len(concurrent.futures.wait(ends, 5).done), 4)
+            for thread in threads:
+                thread.join()
+
+    def test_initializer(self):
+        local = threading.local()
+        with Service(2, initializer=lambda x: setattr(local, "x", x), initargs=(7,)) as service:
+            self.assertEqual(service.submit(lambda: local.x).result(5), 7)
+        with self.assertLogs("concurrent.futures", "CRITICAL"):
+            service = Service(2, initializer=fails)
+            stage = service.submit(str)
+            self.assertIsInstance(stage.exception(5), concurrent.futures.BrokenExecutor)
+            with self.assertRaises(concurrent.futures.BrokenExecutor):
+                service.submit(str)
+
+    def test_exit_with_work_open(self):
+        out, err, status = program("""
+            service = Service(2)
+            r = service.request()
+            promise = r.promise()
+            promise.then(print)
+            r.supply(time.sleep, 0.2).then(lambda _: print("done", flush=True)).then(lambda _: print("and behind", flush=True))
+            r.promise().or_timeout(100)
+            service = r = None
+        """)
+        self.assertEqual((out, err, status), ("done\nand behind\n", "", 0))
+
+    def test_exit_in_a_callback(self):
+        out, err, status = program("""
+            service = Service(2)
+            stage = service.submit(str, 1)
+            stage.result()
+            stage.add_done_callback(lambda _: print("told"))
+            raise SystemExit(3)
+        """)
+        self.assertEqual((out, status), ("told\n", 3), err)
+
+    @unittest.skipUnless(hasattr(os, "fork"), "no fork")
+    def test_fork(self):
+        out, err, status = program("""
+            service = Service(2)
+            begun, goes_on = threading.Event(), threading.Event()
+            stage = service.submit(lambda: begun.set() or goes_on.wait(5) or os.getpid())
+            queued = [service.submit(os.getpid) for _ in range(3)]
+            later = service.request().promise().or_timeout(50)
+            begun.wait(5)
+            child = os.fork()
+            if not child:
+                mine = service.submit(os.getpid).result(5) == os.getpid()
+                late = service.request().promise().complete_on_timeout(1, 0.01).result(5)
+                print("child", mine, late, stage.done(), flush=True)
+            else:
+                os.waitpid(child, 0)
+                goes_on.set()
+                print("parent", {it.result(5) for it in queued} == {os.getpid()}, stage.result(5), flush=True)
+        """)
+        self.assertEqual((out, status), ("child True 1 False\nparent True True\n", 0), err)
+
+    def test_dropped_stage_is_done(self):
+        done = threading.Event()
+        with Service(1) as service:
+            service.request().supply(str).then(lambda _: done.set())
+            service.submit(fails)
+            gc.collect()
+            self.assertTrue(done.wait(5))
+
+    def test_dropped_service_ends(self):
+        service = Service(2)
+        service.submit(str).result()
+        threads = list(service._works.threads)
+        del service
+        gc.collect()
+        for thread in threads:
+            thread.join(5)
+            self.assertFalse(thread.is_alive())
+
+    def test_dropped_requests_are_freed_at_once(self):
+        class Thing:
+            pass
+        gc.disable()
+        try:
+            with Service(1) as service:
+                r, thing = service.request(), Thing()
+                stage = r.supply(lambda it: it, thing).then(lambda it: it).compose(lambda it: r.supply(str)).recover(str)
+                known = weakref.ref(thing)
+                del thing
+                stage.result(5)
+                service.shutdown()
+                del r, stage
+                self.assertIsNone(known())
+        finally:
+            gc.enable()
+
+
+class Memory(unittest.TestCase):
+    def flat(self, make):
+        """Makes requests, and compares what is resident after a fifth of them with what is at the end."""
+        def resident():
+            gc.collect()
+            return int(Path("/proc/self/statm").read_text().split()[1]) * os.sysconf("SC_PAGE_SIZE")
+        for _ in range(REQUESTS // 5):
+            make()
+        first = resident()
+        for _ in range(REQUESTS - REQUESTS // 5):
+            make()
+        self.assertLess(resident() - first, 3_000_000)
+
+    def setUp(self):
+        if not Path("/proc/self/statm").exists():
+            self.skipTest("no /proc")
+        logging.disable(logging.CRITICAL)
+        self.service = Service(2)
+
+    def tearDown(self):
+        logging.disable(logging.NOTSET)
+        self.service.shutdown()
+
+    def test_submits(self):
+        self.flat(lambda: self.service.submit(inc, 1).result())
+
+    def test_requests(self):
+        def make():
+            r = self.service.request()
+            number = r.supply(int, "1").or_timeout(1000)
+            r.promise().then(inc), r.promise().cancel()
+            number.then(fails).recover(str).combine(number, lambda a, b: [a, b]).compose(lambda x: r.supply(list, x)).result()
+            r.gather(number, number).result()
+        self.flat(make)
+
+    def test_flows(self):
+        flow = Flow()
+        end = flow.promise().then(inc).then(fails).recover(str)
+        self.flat(lambda: self.service.start(flow, 1)[end].result())
+        self.flat(lambda: flow.run(1))
+
+
+if __name__ == "__main__":
+    unittest.main()
