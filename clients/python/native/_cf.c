@@ -39,6 +39,7 @@ typedef struct {
   uint16_t stages;
   uint8_t *forms;
   PyObject *calls, *names;  /* tuples */
+  PyObject *rows;           /* what it was made of */
   cf_stage *start;          /* each stage as a new ledger has it */
 } Plan;
 
@@ -936,16 +937,20 @@ static int Plan_init(Plan *self, PyObject *args, PyObject *kwargs) {
   cf_free(&ledger);
   if (code) { refused(code); return -1; }
   self->stages = (uint16_t)n;
+  Py_INCREF(rows);
+  self->rows = rows;
   return 0;
 }
 
+static PyMemberDef plan_members[] = {{"rows", T_OBJECT, offsetof(Plan, rows), READONLY, NULL}, {NULL}};
+
 static int Plan_traverse(Plan *self, visitproc visit, void *arg) {
-  Py_VISIT(self->calls);
+  Py_VISIT(self->calls); Py_VISIT(self->rows);
   return 0;
 }
 
 static int Plan_clear(Plan *self) {
-  Py_CLEAR(self->calls);
+  Py_CLEAR(self->calls); Py_CLEAR(self->rows);
   return 0;
 }
 
@@ -961,7 +966,7 @@ static void Plan_dealloc(Plan *self) {
 static PyTypeObject PlanType = {
   PyVarObject_HEAD_INIT(NULL, 0).tp_name = "cf._cf.PlanCore", .tp_basicsize = sizeof(Plan),
   .tp_flags = Py_TPFLAGS_DEFAULT | Py_TPFLAGS_HAVE_GC, .tp_new = PyType_GenericNew, .tp_init = (initproc)Plan_init,
-  .tp_traverse = (traverseproc)Plan_traverse, .tp_clear = (inquiry)Plan_clear, .tp_dealloc = (destructor)Plan_dealloc};
+  .tp_members = plan_members, .tp_traverse = (traverseproc)Plan_traverse, .tp_clear = (inquiry)Plan_clear, .tp_dealloc = (destructor)Plan_dealloc};
 
 /* ---- The module ---- */
 

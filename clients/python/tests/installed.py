@@ -1,8 +1,9 @@
 #!/usr/bin/env python3
 """Builds the wheel, installs it in a fresh virtual environment, and runs there the README's first program and the tests. Nothing is fetched.
 
-    CF_LIBRARY_DIR=/folder/of/libcf.a python3 clients/python/tests/installed.py
+    CF_LIBRARY_DIR=/folder/of/libcf.a python3 clients/python/tests/installed.py [FOLDER]
 
+It is made in FOLDER, which has the environment then, in `venv`, or in a temporary one.
 The wheel has the C module, with the library within, so nothing else is needed where it is installed; CF_LIBRARY is not set there. Tests run
 over the module, and once more by ctypes. Status 1 where something isn't as it should be.
 """
@@ -26,27 +27,31 @@ def told(*command, **environment):
     return done.stdout
 
 
-def main():
-    with tempfile.TemporaryDirectory() as folder:
-        made = Path(folder)
-        client = made / "client"
-        shutil.copytree(str(CLIENT), str(client), ignore=shutil.ignore_patterns("*.so", "build", "*.egg-info", "__pycache__"))
-        include = CLIENT.parents[1] / "crates/cf_c/include"
-        told(sys.executable, "-m", "pip", "wheel", "--no-index", "--no-build-isolation", "--no-deps", "-w", made, client, CF_INCLUDE=str(include))
-        wheel = next(made.glob("*.whl"))
-        told(sys.executable, "-m", "venv", made / "venv")
-        python = made / "venv/bin/python"
-        told(python, "-m", "pip", "install", "--no-index", wheel)
-        way = told(python, "-c", "from cf.service._core import IS_MODULE; print(IS_MODULE)").strip()
-        if way != "True":
-            raise SystemExit("installed.py: the wheel has no C module")
-        wanted = told(python, CLIENT / "first.py")
-        for no_module in ("", "1"):
-            if told(python, CLIENT / "first.py", CF_NO_MODULE=no_module) != wanted:
-                raise SystemExit("installed.py: the first program prints otherwise")
-            told(python, CLIENT / "tests/test_service.py", CF_INSTALLED="1", CF_NO_MODULE=no_module, CF_REQUESTS="2000")
-        print(wheel.name, "is installed and runs")
+def main(made):
+    made.mkdir(parents=True, exist_ok=True)
+    client = made / "client"
+    shutil.copytree(str(CLIENT), str(client), ignore=shutil.ignore_patterns("*.so", "build", "*.egg-info", "__pycache__"))
+    include = CLIENT.parents[1] / "crates/cf_c/include"
+    told(sys.executable, "-m", "pip", "wheel", "--no-index", "--no-build-isolation", "--no-deps", "-w", made, client, CF_INCLUDE=str(include))
+    wheel = next(made.glob("*.whl"))
+    told(sys.executable, "-m", "venv", made / "venv")
+    python = made / "venv/bin/python"
+    told(python, "-m", "pip", "install", "--no-index", wheel)
+    way = told(python, "-c", "from cf.service._core import IS_MODULE; print(IS_MODULE)").strip()
+    if way != "True":
+        raise SystemExit("installed.py: the wheel has no C module")
+    first = shutil.copy(str(CLIENT / "first.py"), str(made))  # (beside it the package of the tree would be found)
+    wanted = told(python, first)
+    for no_module in ("", "1"):
+        if told(python, first, CF_NO_MODULE=no_module) != wanted:
+            raise SystemExit("installed.py: the first program prints otherwise")
+        told(python, CLIENT / "tests/test_service.py", CF_INSTALLED="1", CF_NO_MODULE=no_module, CF_REQUESTS="2000")
+    print(wheel.name, "is installed and runs")
 
 
 if __name__ == "__main__":
-    main()
+    if len(sys.argv) > 1:
+        main(Path(sys.argv[1]).resolve())
+    else:
+        with tempfile.TemporaryDirectory() as folder:
+            main(Path(folder))

@@ -4,6 +4,9 @@ A request has one lock. Each change is a word that the ledger does under it, and
 same lock: nobody reads what lies behind what he was told. Callbacks and threads are told once the lock is free. The only locks that are
 taken under it are those of stages' conditions, and under these no request's lock is ever taken.
 
+What no lock can help is what comes up between two bytecodes: a signal's handler that raises in the main thread, or a `__del__` that calls
+the very request in which it was collected, as within concurrent.futures. The C module has neither.
+
 The library is called by `PyDLL`, which keeps the interpreter's lock: to let it go and take it again costs more than a call does.
 """
 import ctypes as c
@@ -282,6 +285,8 @@ class RequestCore:
                 args: Optional[Tuple[Any, ...]], kwargs: Optional[Dict[str, Any]], name: Optional[str]) -> "Stage[Any]":
         """A stage more, to at most two sources of this request. Below a composing one stands its relay, a source."""
         of = [source.number for source in (first, second) if source is not None]
+        if any(source is not None and source.request is not self for source in (first, second)):
+            raise TypeError("no stage of this request")
         known = name if name is not None else _name(call)
         kind: "Type[Stage[Any]]" = _classes["stage"]
         stage, news = kind(self, 0), _News([], [])
