@@ -88,9 +88,10 @@ static int64_t now(void) {
 
 /* ---- One event ---- */
 
+/* Memory for one event more. At first for those of a request whose stages are each attached, claimed and finished. */
 static int room_for_event(Request *self) {
   if (self->events < self->event_room) return 0;
-  uint32_t room = self->event_room ? 2 * self->event_room : 4;
+  uint32_t room = self->event_room ? 2 * self->event_room : self->room < 64 ? 3 * self->room : 192;
   Event *done = PyMem_Realloc(self->done, room * sizeof *done);
   if (!done) return -1;
   self->done = done;

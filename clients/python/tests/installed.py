@@ -17,11 +17,11 @@ from pathlib import Path
 CLIENT = Path(__file__).resolve().parents[1]
 
 
-def told(*command, **environment):
-    """What a command prints. One that fails ends this."""
+def told(folder, *command, **environment):
+    """What a command prints that is run in a folder. One that fails ends this."""
     env = {name: value for name, value in os.environ.items() if name not in ("CF_LIBRARY", "PYTHONPATH")}
     pipes = {"stdout": subprocess.PIPE, "stderr": subprocess.STDOUT, "universal_newlines": True}
-    done = subprocess.run([str(word) for word in command], env=dict(env, **environment), **pipes)
+    done = subprocess.run([str(word) for word in command], cwd=str(folder), env=dict(env, **environment), **pipes)
     if done.returncode:
         raise SystemExit(f"installed.py: {' '.join(map(str, command))}:\n{done.stdout}")
     return done.stdout
@@ -32,20 +32,20 @@ def main(made):
     client = made / "client"
     shutil.copytree(str(CLIENT), str(client), ignore=shutil.ignore_patterns("*.so", "build", "*.egg-info", "__pycache__"))
     include = CLIENT.parents[1] / "crates/cf_c/include"
-    told(sys.executable, "-m", "pip", "wheel", "--no-index", "--no-build-isolation", "--no-deps", "-w", made, client, CF_INCLUDE=str(include))
+    told(made, sys.executable, "-m", "pip", "wheel", "--no-index", "--no-build-isolation", "--no-deps", "-w", made, client, CF_INCLUDE=str(include))
     wheel = next(made.glob("*.whl"))
-    told(sys.executable, "-m", "venv", made / "venv")
+    told(made, sys.executable, "-m", "venv", made / "venv")
     python = made / "venv/bin/python"
-    told(python, "-m", "pip", "install", "--no-index", wheel)
-    way = told(python, "-c", "from cf.service._core import IS_MODULE; print(IS_MODULE)").strip()
+    told(made, python, "-m", "pip", "install", "--no-index", wheel)
+    way = told(made, python, "-c", "from cf.service._core import IS_MODULE; print(IS_MODULE)").strip()
     if way != "True":
         raise SystemExit("installed.py: the wheel has no C module")
     first = shutil.copy(str(CLIENT / "first.py"), str(made))  # (beside it the package of the tree would be found)
-    wanted = told(python, first)
+    wanted = told(made, python, first)
     for no_module in ("", "1"):
-        if told(python, first, CF_NO_MODULE=no_module) != wanted:
+        if told(made, python, first, CF_NO_MODULE=no_module) != wanted:
             raise SystemExit("installed.py: the first program prints otherwise")
-        told(python, CLIENT / "tests/test_service.py", CF_INSTALLED="1", CF_NO_MODULE=no_module, CF_REQUESTS="2000")
+        told(made, python, CLIENT / "tests/test_service.py", CF_INSTALLED="1", CF_NO_MODULE=no_module, CF_REQUESTS="2000")
     print(wheel.name, "is installed and runs")
 
 

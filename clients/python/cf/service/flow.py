@@ -6,10 +6,12 @@ from typing import TYPE_CHECKING, Any, Callable, Generic, List, Optional, Sequen
 
 from ..values import Form
 from ._core import PlanCore
-from .words import MOST_STAGES, RequestFull
+from .request import Request
+from .words import COMPLETE, MOST_STAGES, THIS_THREAD, RequestFull
+from .works import Here
 
 if TYPE_CHECKING:
-    from .request import Request, Works
+    from .request import Works
 
 T = TypeVar("T")
 U = TypeVar("U")
@@ -115,11 +117,9 @@ class Flow:
             row = [pair[0].combine(pair[1], operator.add).named("gather") if len(pair) == 2 else pair[0] for pair in pairs]
         return row[0]
 
-    def run(self, *given: Any, name: str = "") -> "Request":
+    def run(self, *given: Any, name: str = "") -> Request:
         """A request of the flow, of which this thread runs all that becomes ready, and comes back once nothing is. It is the quickest way.
         Stages may be attached to it later, and are run by nobody."""
-        from .works import Here
-
         works = Here()
         request = self._start(works, name or self.name, None, given)
         works.work()
@@ -145,10 +145,7 @@ class Flow:
     def _rename(self, number: int, name: str) -> None:
         self._rows[number] = (*self._rows[number][:3], name)
 
-    def _start(self, works: "Works", name: str, keeps: object, given: Sequence[Any]) -> "Request":
-        from .request import Request
-        from .words import COMPLETE, THIS_THREAD
-
+    def _start(self, works: "Works", name: str, keeps: object, given: Sequence[Any]) -> Request:
         if len(given) > len(self._promises):
             raise ValueError(f"{self.name} has {len(self._promises)} promises")
         if self._plan is None:
