@@ -93,6 +93,7 @@ class Works:
         for thread in list(self.threads):
             if thread.ident is not None and thread is not threading.current_thread():
                 thread.join()
+                self.threads.discard(thread)
 
     def cancel_all(self) -> None:
         """Cancels the stages that no thread has taken yet."""
