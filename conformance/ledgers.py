@@ -28,6 +28,8 @@ def changed(old, new):
 
 
 def has_word(call):
+    if call[0] == "attach" and call[2] not in model.FORMS:
+        return False
     return call[0] in CHANGING and histories.event_of(histories.word_of(call)) == call
 
 

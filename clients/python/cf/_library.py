@@ -3,7 +3,7 @@ import ctypes as c
 import importlib.util
 import os
 from types import SimpleNamespace
-from typing import Callable, List, Sequence
+from typing import Any, Callable, Dict, List, Sequence
 
 NO_FUNCTION = 0xFFFFFFFF
 VERSION = (1, 0)  # of the library that this module is written for
@@ -82,7 +82,7 @@ _SIZE_OUT = c.POINTER(c.c_size_t)
 _OUTCOME, _NOW, _TEXT = c.POINTER(COutcome), c.POINTER(CNow), [c.c_char_p, _SIZE, c.POINTER(_SIZE)]
 
 # The arguments of each call that the module makes.
-CALLS = {
+CALLS: Dict[str, List[Any]] = {
     "cf_free": [_H],
     "cf_builder_new": [_H, _U16, _U16],
     "cf_builder_stage": [_H, _U32, _OF, _SIZE, _U32, _U16_OUT],
@@ -151,11 +151,11 @@ CALLS = {
 _HIGHEST = {_U8: 2**8 - 1, _U16: 2**16 - 1, _U32: 2**32 - 1, _U64: 2**64 - 1, _SIZE: 2**64 - 1}
 
 
-def _checked(call: Callable[..., int], arguments: List[object]) -> Callable[..., int]:
+def _checked(call: Callable[..., int], arguments: List[Any]) -> Callable[..., int]:
     """The call, with its numbers in their ranges."""
     bounds = [(place, _HIGHEST[kind]) for place, kind in enumerate(arguments) if kind in _HIGHEST]
 
-    def made(*given: object) -> int:
+    def made(*given: Any) -> int:
         for place, highest in bounds:
             in_range(given[place], highest)
         return call(*given)

@@ -46,7 +46,7 @@ class Caller(Calls):
         return self
 
     def __exit__(self, *_cause: object) -> None:
-        self._lock.__exit__()
+        self._lock.__exit__(None, None, None)
 
     def read(self, stage: int) -> Optional[Outcome]:
         """What a stage is settled with, if it is, after a look at all that is there."""
@@ -69,11 +69,11 @@ class Caller(Calls):
 
     def seen(self) -> int:
         """How many events it has seen."""
-        return self._tell_number("cf_desk_seen")
+        return self._tell("cf_desk_seen", c.c_uint16()).value
 
     def left(self) -> int:
         """How many records it still takes."""
-        return self._tell_number("cf_desk_left")
+        return self._tell("cf_desk_left", c.c_uint16()).value
 
     def future(self, stage: int) -> "SharedFuture":
         """A view of a stage by this caller."""

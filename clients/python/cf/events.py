@@ -1,7 +1,7 @@
 """Changing calls as events, and the words of 64 bits that write them."""
 import ctypes as c
 from dataclasses import dataclass
-from typing import Optional, Tuple, Union
+from typing import Any, Callable, List, Optional, Tuple, Union
 
 from ._library import NO_FUNCTION, CEvent, CReply, in_range, library
 from .handle import function_in
@@ -61,7 +61,7 @@ class Attach:
 # A changing call, by a caller: 0 to 63 where it has a word.
 Event = Union[Complete, Fail, Cancel, Claim, Finish, Tick, Attach]
 
-_CALLS = [Complete, Fail, Cancel, Claim, Finish, Tick, Attach]
+_CALLS: List[Any] = [Complete, Fail, Cancel, Claim, Finish, Tick, Attach]
 
 
 def _event_in(event: Event) -> CEvent:
@@ -95,7 +95,8 @@ def _event_out(event: CEvent) -> Event:
     if call is Attach:
         function = None if event.function == NO_FUNCTION else event.function
         return Attach(who, Form(event.form), (event.first, event.second)[:event.sources], function)
-    return call(who, stage)
+    made: Event = call(who, stage)
+    return made
 
 
 def word_of(event: Event) -> int:
@@ -117,9 +118,10 @@ def _known(word: int) -> CEvent:
     return event
 
 
-_REPLIES = [flag_out, flag_out, flag_out, claim_out, finish_out, number_out, number_out]
+_REPLIES: List[Callable[[CReply], Reply]] = [flag_out, flag_out, flag_out, claim_out, finish_out, number_out, number_out]
 
 
 def reply_of(word: int, reply: CReply) -> Reply:
     """What the event of a word was answered."""
-    return _REPLIES[_known(word).call](reply)
+    told: Reply = _REPLIES[_known(word).call](reply)
+    return told

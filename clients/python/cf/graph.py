@@ -1,7 +1,7 @@
 """The graph of a plan, and views of its stages."""
 import ctypes as c
 from concurrent.futures import InvalidStateError
-from typing import Optional
+from typing import Optional, Tuple
 
 from ._library import CHandle, CNow, COutcome, CReply
 from .events import reply_of
@@ -39,7 +39,7 @@ class Graph(Calls):
 
     def stages(self) -> int:
         """How many stages there are by now."""
-        return self._tell_number("cf_stages")
+        return self._tell("cf_stages", c.c_uint16()).value
 
     def turns(self) -> int:
         """How many turns were taken since the graph was opened or last restarted."""
@@ -57,7 +57,7 @@ class Graph(Calls):
         """Starts again, as the graph was opened."""
         self._call("cf_restart")
 
-    def _by(self) -> tuple:
+    def _by(self) -> Tuple[int, ...]:
         return (self.who,)
 
 

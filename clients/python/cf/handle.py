@@ -1,14 +1,23 @@
 """Handles, and the calls that graphs and callers of a desk have in common."""
 import ctypes as c
 import threading
-from typing import Callable, Optional, Sequence, TypeVar, Union
+from typing import TYPE_CHECKING, Any, Callable, ContextManager, Optional, Tuple, TypeVar, Union, cast
 
 from ._library import NO_FUNCTION, CHandle, CReply, in_range, library, numbers
-from .values import (Answer, Args, ClaimReply, ClaimStatus, Code, FinishReply, Form, Link, Refused, Thrown, Value, answer_in, check, claim_out,
+from .values import (Answer, Args, ClaimReply, Code, FinishReply, Form, Link, Refused, Thrown, Value, answer_in, check, claim_out,
                      finish_out, flag_out, number_out, value_in)
 
 # The function of a stage. One that raises `Thrown(code)` throws the code.
 Function = Callable[..., Union[Value, Link]]
+
+if TYPE_CHECKING:
+    from typing import Protocol
+
+    class Functions(Protocol):
+        """The functions of stages, by their numbers."""
+
+        def __getitem__(self, __number: int) -> Function: ...
+
 
 Told = TypeVar("Told")
 Self = TypeVar("Self", bound="Handle")
@@ -20,10 +29,10 @@ class Handle:
 
     def __init__(self, handle: Optional[CHandle] = None) -> None:
         self._handle = CHandle() if handle is None else handle
-        self._lock = threading.RLock()
+        self._lock: ContextManager[Any] = threading.RLock()
 
     @property
-    def _at(self) -> "c.pointer[CHandle]":
+    def _at(self) -> Any:
         return c.pointer(self._handle)
 
     def _call(self, name: str, *arguments: object) -> None:
@@ -33,7 +42,7 @@ class Handle:
 
     def _tell(self, name: str, told: Told, *arguments: object) -> Told:
         """Makes a call on the handle that tells something in this."""
-        self._call(name, *arguments, c.byref(told))
+        self._call(name, *arguments, c.byref(cast(Any, told)))
         return told
 
     def _tell_number(self, name: str, *arguments: object) -> Optional[int]:
@@ -112,7 +121,7 @@ class Calls(Handle):
         """The number of a stage's function, if it has one."""
         return self._tell_number(self._prefix + "function", stage)
 
-    def work(self, functions: Sequence[Function], most: Optional[int] = None) -> int:
+    def work(self, functions: "Functions", most: Optional[int] = None) -> int:
         """Claims ready stages, the lowest first, calls their functions, which stand at their numbers, and finishes them, until none
         is ready, or so many were called: how many. A function that raises anything but `Thrown` ends it, and its stage stays
         claimed."""
@@ -121,14 +130,16 @@ class Calls(Handle):
             stage = self.ready()
             if stage is None:
                 break
-            function = functions[self.function(stage)]
+            number = self.function(stage)
+            assert number is not None  # a stage without one is never ready
+            function = functions[number]
             told = self.claim(stage)
-            if told.status is ClaimStatus.GRANTED:
+            if told.args is not None:
                 self.finish(stage, answer_of(function, told.args))
                 calls += 1
         return calls
 
-    def _by(self) -> tuple:
+    def _by(self) -> Tuple[int, ...]:
         """What a claim and a finish name their caller by."""
         return ()
 

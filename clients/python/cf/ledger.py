@@ -107,9 +107,7 @@ class Ledger(Handle):
 
     def stages(self) -> int:
         """How many stages there are by now."""
-        count = self._tell_number("cf_ledger_stages")
-        assert count is not None
-        return count
+        return self._tell("cf_ledger_stages", c.c_uint16()).value
 
     def grow(self, more: int) -> None:
         """Makes room for so many stages more."""

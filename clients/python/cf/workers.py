@@ -1,11 +1,11 @@
 """Threads that call the functions of a desk's stages."""
 import threading
 import time
-from typing import Iterable, List, Optional, Sequence, Tuple
+from typing import Iterable, List, Optional, Sequence, Tuple, Union
 
 from .desk import Caller
 from .handle import Function
-from .values import Answer, Thrown
+from .values import Link, Thrown, Value
 
 
 class Workers:
@@ -79,7 +79,7 @@ class _Caught:
         self._functions, self._code, self._errors = functions, code, errors
 
     def __getitem__(self, number: int) -> Function:
-        def called(*args: object) -> Answer:
+        def called(*args: object) -> Union[Value, Link]:
             try:
                 return self._functions[number](*args)
             except Thrown:
