@@ -5,7 +5,7 @@
 
 It is made in FOLDER, which has the environment then, in `venv`, or in a temporary one.
 The wheel has the C module, with the library within, so nothing else is needed where it is installed; CF_LIBRARY is not set there. Tests run
-over the module, and once more by ctypes. Status 1 where something isn't as it should be.
+over the module, the first program also by ctypes. Status 1 where something isn't as it should be.
 """
 import os
 import shutil
@@ -42,10 +42,9 @@ def main(made):
         raise SystemExit("installed.py: the wheel has no C module")
     first = shutil.copy(str(CLIENT / "first.py"), str(made))  # (beside it the package of the tree would be found)
     wanted = told(made, python, first)
-    for no_module in ("", "1"):
-        if told(made, python, first, CF_NO_MODULE=no_module) != wanted:
-            raise SystemExit("installed.py: the first program prints otherwise")
-        told(made, python, CLIENT / "tests/test_service.py", CF_INSTALLED="1", CF_NO_MODULE=no_module, CF_REQUESTS="2000")
+    if told(made, python, first, CF_NO_MODULE="1") != wanted:
+        raise SystemExit("installed.py: by ctypes the first program prints otherwise")
+    told(made, python, CLIENT / "tests/test_service.py", CF_INSTALLED="1")
     print(wheel.name, "is installed and runs")
 
 

@@ -49,6 +49,7 @@ class History:
         self.planned = [] if plan is None else [(form, of, call is not None) for form, of, call, _ in plan.rows]
         self._times, self._replies = _numbers("q", times), _numbers("I", replies)
         self._told: Dict[int, List[Tuple[int, Told]]] = {}
+        self._entries: Optional[List[Entry]] = None
         numbers = _numbers("I", told)
         for k in range(0, len(numbers), 7):
             if numbers[k + 2] != PENDING:
@@ -56,9 +57,12 @@ class History:
 
     def entries(self) -> List[Entry]:
         """All events."""
-        first = self._times[0] if self._times else 0
-        return [Entry(k + 1, (self._times[k] - first) / 1e9, word, event_of(word), tuple(self._replies[REPLY_NUMBERS * k:REPLY_NUMBERS * (k + 1)]),
-                      self._told.get(k + 1, [])) for k, word in enumerate(self.words)]
+        if self._entries is None:
+            first = self._times[0] if self._times else 0
+            replies = [tuple(self._replies[k:k + REPLY_NUMBERS]) for k in range(0, len(self._replies), REPLY_NUMBERS)]
+            self._entries = [Entry(k + 1, (self._times[k] - first) / 1e9, word, event_of(word), replies[k], self._told.get(k + 1, []))
+                             for k, word in enumerate(self.words)]
+        return self._entries
 
     # In words.
 
@@ -162,7 +166,7 @@ class History:
     def script(self, most: Optional[int] = None) -> str:
         """What `cf run` does again and `cf_look dot` draws, a line of JSON: the first events, or all."""
         return json.dumps({"cf": 2, "room": len(self.names) - len(self.planned), "stages": self._stages(),
-                           "steps": [_step(event_of(word)) for word in self.words[:most]]})
+                           "steps": [_step(entry.event) for entry in self.entries()[:most]]})
 
     def report(self) -> str:
         """What `cf run` prints of the script: the replies as they came, and what stages hold in the end."""
