@@ -80,6 +80,10 @@ pub record IsKept (plan : Planned) (words : List ℕ) (g : Graph) (changed : Lis
   pub flags : length changed ≡ length g.state.plan.stages + g.state.plan.room
   pub noted : AreNoted (start plan) (decoded words) lists
 
+-- the ledger of a plan and of these words
+abbrev pub ledger_of : Planned → List ℕ → Ledger
+ledger_of plan words = record { plan = plan; events = decoded words }
+
 -- the ledger with room for more stages, by which nothing else changes
 abbrev pub with_more : Ledger → ℕ → Ledger
 with_more ledger more = record ledger { plan = record ledger.plan { room = ledger.plan.room + more } }

@@ -6,10 +6,13 @@ ghost use Rattle.cf_model.specs.States.{claim_at, is_ready, lowest_ready_of, out
 ghost use Rattle.cf_event.specs.Words.{word_of};
 ghost use Rattle.cf_ledger.specs.Ledgers.{Does, HasRoomFor, IsFirstRefused, IsRefused, state_at, state_of, with_more};
 ghost use Rattle.cf_ledger.specs.News.{AreNews};
+ghost use Rattle.cf_ledger.specs.Steps.{IsNoStep, Steps};
 ghost use Rattle.cf_event.specs.Decoding.{decoded};
 
-use crate::faults::{LedgerFault, Misfit};
+use crate::faults::{LedgerFault, Misfit, StepFault};
 use crate::news::News;
+use crate::step::{Held, Step};
+use crate::writing::{finish, take, write};
 use cf_bits::BitSet;
 use cf_core::Graph;
 use cf_event::decode;
@@ -18,6 +21,9 @@ use cf_outcome::Outcome;
 use cf_plan::Plan;
 use std::alloc::Global;
 use std::marker::Model;
+
+/// The greatest caller that a word has room for.
+const LAST_CALLER: u8 = 63;
 
 /// No plan has place for more room.
 const MAX_ROOM: u16 = 4096;
@@ -95,16 +101,73 @@ impl Ledger {
         if self.words.reserve(1).is_err() {
             return Err(LedgerFault::NoMemory);
         }
-        if self.news.reserve(self.changed.bound() as usize).is_err() {
+        if self.news.reserve(1, self.changed.bound() as usize).is_err() {
             return Err(LedgerFault::NoMemory);
         }
-        // There is a state for each stage, before and after.
-        let _before = self.graph.stages();
-        let reply = self.graph.answer_telling(&event, &mut self.changed);
-        let _after = self.graph.stages();
-        self.words.push_reserved(word);
-        self.news.push(&mut self.changed);
-        Ok(reply)
+        Ok(write(
+            &self.plan,
+            self.room,
+            &mut self.graph,
+            &mut self.words,
+            &mut self.changed,
+            &mut self.news,
+            &event,
+            word,
+        ))
+    }
+
+    /// One step of a caller, in one call: finishes what it holds, if it holds a stage, and claims the lowest ready stage from a
+    /// number on, if there is one. Each is a word that is written. It is refused for the first of: its caller's number, the
+    /// stage that is held, its claim, memory. A refused step leaves all as it was.
+    ///
+    /// It costs what the two words cost by `apply`, and a look at each stage between.
+    pub fn step(&mut self, who: u8, held: Option<Held>, from: u16) -> Result<Step, StepFault>
+        ensures done { IfOk result (λ step. Steps who held from self.old step self.new) }
+        ensures refused { OnErr result (self.new ≡ self.old) }
+        ensures why { IfErr result (λ fault. IsNoStep who held (state_of self.old) fault) }
+    {
+        if who > LAST_CALLER {
+            return Err(StepFault::NoCaller);
+        }
+        if let Some(held) = held {
+            if held.stage >= self.graph.stages() {
+                return Err(StepFault::NoStage);
+            }
+            if self.graph.claimant(held.stage) != Some(who) {
+                return Err(StepFault::NotHeld);
+            }
+        }
+        if self.words.reserve(2).is_err() {
+            return Err(StepFault::NoMemory);
+        }
+        let most = self.changed.bound() as usize;
+        if self.news.reserve(2, 2 * most).is_err() {
+            return Err(StepFault::NoMemory);
+        }
+        let late = match held {
+            None => false,
+            Some(held) => finish(
+                &self.plan,
+                self.room,
+                &mut self.graph,
+                &mut self.words,
+                &mut self.changed,
+                &mut self.news,
+                who,
+                held,
+            ),
+        };
+        let taken = take(
+            &self.plan,
+            self.room,
+            &mut self.graph,
+            &mut self.words,
+            &mut self.changed,
+            &mut self.news,
+            who,
+            from,
+        );
+        Ok(Step { late, taken })
     }
 
     /// The words of all that was done, in order.
