@@ -1,10 +1,10 @@
 //! The ledger.
-ghost use Rattle.std.specs.Prelude.{◌≡◌, ◌+◌, ◌≢◌, ◌<◌, ◌≤◌, ◌↔◌, [], IfErr, IfNone, IfOk, IfSome, IsTrue, None, OnErr, OnOk, false, length, map, replicate, true};
+ghost use Rattle.std.specs.Prelude.{◌≡◌, ◌+◌, ◌≢◌, ◌<◌, ◌≤◌, ◌↔◌, [], IfErr, IfNone, IfOk, IfSome, IsTrue, None, OnErr, OnOk, false, length, map, get_or, replicate, take, true};
 ghost use Rattle.cf_plan.specs.Plans.{function_at, has_place, with_room};
 ghost use Rattle.cf_model.specs.Graphs.{NoneReady, stage_in};
 ghost use Rattle.cf_model.specs.States.{claim_at, is_ready, lowest_ready_of, outcome_at, start};
 ghost use Rattle.cf_event.specs.Words.{word_of};
-ghost use Rattle.cf_ledger.specs.Ledgers.{Does, HasRoomFor, IsFirstRefused, IsRefused, state_at, state_of, with_more};
+ghost use Rattle.cf_ledger.specs.Ledgers.{Does, DoesAll, HasRoomFor, IsFirstRefused, IsRefused, state_at, state_of, with_more};
 ghost use Rattle.cf_ledger.specs.News.{AreNews};
 ghost use Rattle.cf_ledger.specs.Steps.{IsNoStep, Steps};
 ghost use Rattle.cf_event.specs.Decoding.{decoded};
@@ -144,9 +144,9 @@ impl Ledger {
         if self.news.reserve(2, 2 * most).is_err() {
             return Err(StepFault::NoMemory);
         }
-        let late = match held {
-            None => false,
-            Some(held) => finish(
+        let finish = match held {
+            None => None,
+            Some(held) => Some(finish(
                 &self.plan,
                 self.room,
                 &mut self.graph,
@@ -155,7 +155,7 @@ impl Ledger {
                 &mut self.news,
                 who,
                 held,
-            ),
+            )),
         };
         let taken = take(
             &self.plan,
@@ -167,7 +167,23 @@ impl Ledger {
             who,
             from,
         );
-        Ok(Step { late, taken })
+        Ok(Step { finish, taken })
+    }
+
+    /// Does words one after another, up to the first that can't be done, which is told. Those before it are done then.
+    pub fn apply_all(&mut self, words: &[u64]) -> Result<(), Misfit>
+        ensures all { OnOk result (DoesAll self.old words.now self.new) }
+        ensures front { IfErr result (λ m. DoesAll self.old (take m.place words.now) self.new) }
+        ensures there { IfErr result (λ m. m.place < length words.now) }
+        ensures why { IfErr result (λ m. IsRefused (state_of self.new) (get_or words.now m.place 0) m.why) }
+    {
+        for (place, word) in words.iter().enumerate() {
+            match self.apply(*word) {
+                Ok(_) => {}
+                Err(why) => return Err(Misfit { place, why }),
+            }
+        }
+        Ok(())
     }
 
     /// The words of all that was done, in order.
@@ -285,6 +301,17 @@ impl Ledger {
                 Ok(ledger)
             }
         }
+    }
+
+    /// Starts again: nothing is written then, and all of its room is free. It takes as much memory as a new ledger; it fails only
+    /// where there is none, and then all is as it was.
+    pub fn restart(&mut self, alloc: Global) -> Result<(), LedgerFault>
+        ensures restarted { OnOk result (self.new ≡ record self.old { events = [] }) }
+        ensures unchanged { OnErr result (self.new ≡ self.old) }
+        ensures refused { IfErr result (λ fault. fault ≡ LedgerFault.NoMemory) }
+    {
+        *self = Ledger::new(alloc, &self.plan, self.room)?;
+        Ok(())
     }
 
     /// Whether its plan has place for so many stages more.

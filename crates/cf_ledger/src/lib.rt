@@ -16,4 +16,4 @@ mod writing;
 pub use cf_model::{Event, Reply, Stage};
 pub use faults::{LedgerFault, Misfit, StepFault};
 pub use ledger::Ledger;
-pub use step::{Held, Step, Taken};
+pub use step::{Finish, Held, Step, Taken};

@@ -8,18 +8,30 @@ pub struct Held {
     pub answer: Answer,
 }
 
-/// A stage that a step has claimed, and what its function is to be called with.
+/// How a step has finished what was held.
+#[derive(Clone, Copy, Debug, PartialEq, Eq)]
+pub struct Finish {
+    /// Whether the stage had been settled after its claim.
+    pub late: bool,
+    /// The word of it, which is written.
+    pub word: u64,
+}
+
+/// A stage that a step has claimed, with its function and what that is to be called with.
 #[derive(Clone, Copy, Debug, PartialEq, Eq)]
 pub struct Taken {
     pub stage: u16,
+    pub function: Option<u16>,
     pub args: Args,
+    /// The word of the claim, which is written.
+    pub word: u64,
 }
 
 /// What a step did.
 #[derive(Clone, Copy, Debug, PartialEq, Eq)]
 pub struct Step {
-    /// Whether the stage that was held had been settled after its claim.
-    pub late: bool,
-    /// What was claimed, if a stage was ready.
+    /// How it has finished what was held, if a stage was.
+    pub finish: Option<Finish>,
+    /// What it has claimed, if a stage was ready.
     pub taken: Option<Taken>,
 }

@@ -11,7 +11,7 @@ ghost use Rattle.cf_ledger.specs.Ledgers.{Does, IsKept, IsTaken, ledger_of};
 ghost use Rattle.cf_ledger.specs.Steps.{Finishes, Takes};
 
 use crate::news::News;
-use crate::step::{Held, Taken};
+use crate::step::{Finish, Held, Taken};
 use cf_bits::BitSet;
 use cf_core::Graph;
 use cf_event::encode;
@@ -54,7 +54,7 @@ pub(crate) fn write(
     reply
 }
 
-/// Finishes a stage that the caller has claimed, and tells whether that was late.
+/// Finishes a stage that the caller has claimed.
 pub(crate) fn finish(
     plan: &Plan,
     room: u16,
@@ -64,7 +64,7 @@ pub(crate) fn finish(
     news: &mut News,
     who: u8,
     held: Held,
-) -> bool
+) -> Finish
     requires kept { IsKept (with_room plan.now room) words.old.items graph.old changed.old news.old.lists }
     requires caller { who ≤ 63 }
     requires there { held.stage < length graph.old.state.plan.stages }
@@ -73,7 +73,7 @@ pub(crate) fn finish(
     requires free { length changed.old ≤ news.old.free }
     requires more { 0 < news.old.more }
     ensures kept { IsKept (with_room plan.now room) words.new.items graph.new changed.new news.new.lists }
-    ensures does { Finishes who (Some held) (ledger_of (with_room plan.now room) words.old.items) result (ledger_of (with_room plan.now room) words.new.items) }
+    ensures does { Finishes who (Some held) (ledger_of (with_room plan.now room) words.old.items) (Some result) (ledger_of (with_room plan.now room) words.new.items) }
     ensures one { length words.new.items ≡ length words.old.items + 1 }
     ensures place { vec_capacity words.new ≡ vec_capacity words.old }
     ensures free { news.old.free ≤ news.new.free + length changed.old }
@@ -89,8 +89,8 @@ pub(crate) fn finish(
     };
     let word = encode(&event);
     match write(plan, room, graph, words, changed, news, &event, word) {
-        Reply::Finish(Finished::Won) => false,
-        Reply::Finish(Finished::Late) => true,
+        Reply::Finish(Finished::Won) => Finish { late: false, word },
+        Reply::Finish(Finished::Late) => Finish { late: true, word },
         _ => unreachable!(),
     }
 }
@@ -119,10 +119,16 @@ pub(crate) fn take(
     let Some(stage) = graph.next_ready(from) else {
         return None;
     };
+    let function = graph.function(stage);
     let event = Event::Claim { who, stage };
     let word = encode(&event);
     match write(plan, room, graph, words, changed, news, &event, word) {
-        Reply::Claim(Claimed::Granted(args)) => Some(Taken { stage, args }),
+        Reply::Claim(Claimed::Granted(args)) => Some(Taken {
+            stage,
+            function,
+            args,
+            word,
+        }),
         _ => unreachable!(),
     }
 }
