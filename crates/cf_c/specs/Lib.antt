@@ -6,6 +6,7 @@ pub mod Codes
 pub mod Desks
 pub mod EventWords
 pub mod Graphs
+pub mod LedgerSteps
 pub mod Ledgers
 pub mod Meetings
 pub mod Opening
