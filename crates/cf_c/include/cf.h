@@ -219,6 +219,15 @@ uint32_t cf_turns(cf_handle *graph, uint64_t *turns);
 /* Starts again: the graph is as it was opened, with its room free. It takes no memory. */
 uint32_t cf_restart(cf_handle *graph);
 
+/* The same, and then completes these stages with their values, one after another: a request by a plan that is there. CF_NO_STAGE where
+ * one of them isn't a stage of the plan: nothing is done then. */
+typedef struct { uint16_t stage; cf_value value; } cf_given;
+uint32_t cf_restart_with(cf_handle *graph, const cf_given *given, size_t n);
+
+/* Puts the plan that the graph was opened of behind an empty handle; they share its memory. CF_FULL, CF_EMPTY, CF_WRONG_KIND,
+ * CF_NO_MEMORY, the first that holds in this order. */
+uint32_t cf_plan_of(cf_handle *graph, cf_handle *plan);
+
 /* ---- Desks: a graph that callers on several threads share without a lock ---- */
 
 /* Opens a desk of the plan, and puts its callers 0, 1, .. behind these n empty handles: 1 to 64, each one thread's. `log` is how many

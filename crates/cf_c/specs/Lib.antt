@@ -13,6 +13,7 @@ pub mod Opening
 pub mod Plans
 pub mod Records
 pub mod Replies
+pub mod Restarts
 pub mod Scripts
 pub mod Seals
 pub mod Tasks
