@@ -1,4 +1,4 @@
-use Rattle.std.proofs.Common.{◌≡◌, ℕ, ◌<◌, slice_index_or}
+use Rattle.std.proofs.Common.{ℕ, ◌<◌, slice_index_or}
 use Rattle.cf_c.specs.declared.values.CfGiven.{CfGiven}
 use Rattle.cf_c.proofs.graph.restarting.are_there.Given as goal
 
