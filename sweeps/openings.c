@@ -189,6 +189,65 @@ static uint32_t desk(long numbers[3]) { return desk_with(numbers, 0); }
 
 static uint32_t growing_desk(long numbers[3]) { return desk_with(numbers, 2); }
 
+static size_t words_of(cf_handle *ledger) {
+    size_t n = 0;
+    cf_ledger_words(ledger, 0, NULL, 0, &n);
+    return n;
+}
+
+enum { CHANGED = CF_STILL_SHARED }; /* a code that no call of a ledger answers: what was refused has changed something */
+
+/* One step of a ledger. Where memory is refused all has to be as it was. */
+static uint32_t step_of(cf_handle *ledger, cf_step *step, cf_task *task) {
+    const cf_task had = *task;
+    const size_t before = words_of(ledger);
+    size_t n = 99;
+    uint32_t code = cf_ledger_step(ledger, step, task, NULL, 0, &n);
+    bool same = task->held == had.held && task->stage == had.stage && task->answer.value.number == had.answer.value.number;
+    if (code == CF_NO_MEMORY && !(same && n == 99 && words_of(ledger) == before))
+        return CHANGED;
+    task->answer = four();
+    return code;
+}
+
+/* A request by a ledger: sources by words, the rest by steps; grown, started again, and its row of words done once more. */
+static uint32_t serve(cf_handle *ledger, long numbers[3]) {
+    uint64_t words[16], given = 0;
+    cf_step step = {.who = 1};
+    cf_task task = {0};
+    cf_reply reply;
+    size_t n = 0, done = 0;
+    cf_word_of((cf_event){.call = CF_CALL_COMPLETE, .who = 1, .value = {CF_INT, 3}}, &given);
+    uint32_t code = cf_ledger_apply(ledger, given, &reply, NULL, 0, &n);
+    if (code == CF_NO_MEMORY && words_of(ledger) != 0)
+        return CHANGED;
+    while (code == CF_OK)
+        code = step_of(ledger, &step, &task);
+    if (code != CF_NOTHING)
+        return code;
+    if ((code = cf_ledger_words(ledger, 0, words, 16, &n)) != CF_OK)
+        return code;
+    if ((code = cf_ledger_grow(ledger, 1)) != CF_OK || (code = cf_ledger_restart(ledger)) != CF_OK)
+        return words_of(ledger) == n ? code : CHANGED;
+    code = cf_ledger_apply_all(ledger, words, n, &done);
+    numbers[0] = (long)n;
+    numbers[1] = (long)done;
+    return words_of(ledger) == done ? code : CHANGED;
+}
+
+static uint32_t ledger(long numbers[3]) {
+    cf_handle plan = {0}, it = {0};
+    numbers[2] = 0;
+    uint32_t code = make_plan(&plan, &numbers[2]);
+    if (code == CF_OK)
+        code = cf_ledger_new(&plan, 1, &it);
+    if (code == CF_OK)
+        code = serve(&it, numbers);
+    cf_free(&it);
+    cf_free(&plan);
+    return code;
+}
+
 /* The code of a script's run, and how long what it prints is. */
 static uint32_t script_of(const char *text, uint32_t wanted, long numbers[3]) {
     uint8_t report[100];
@@ -213,8 +272,8 @@ static const struct {
     opening *open;
 } OPENINGS[] = {
     {"C builder", small_builder}, {"C builder with room", roomy_builder}, {"C plan", plan}, {"C graph", graph},
-    {"C growing graph", growing_graph}, {"C desk", desk}, {"C growing desk", growing_desk}, {"C script", script},
-    {"C wrong script", wrong_script},
+    {"C growing graph", growing_graph}, {"C desk", desk}, {"C growing desk", growing_desk}, {"C ledger", ledger},
+    {"C script", script}, {"C wrong script", wrong_script},
 };
 
 static void show(const char *name, opening *open) {

@@ -16,14 +16,13 @@
  * A null pointer is answered CF_NULL, unless a count or a room follows it that is 0; cf_free of one does nothing.
  *
  * Each call answers a cf_code: 0 where it did what it was asked. What it tells goes through its last pointer then; after any other
- * code that is left as it was, and so is what stands behind the handle, but as cf_build and cf_ledger_of say, and a desk's caller may have
- * looked. Every
- * call on an empty handle answers CF_EMPTY, and one on a handle of another kind CF_WRONG_KIND; neither changes anything.
+ * code that is left as it was, and so is what stands behind the handle, but as cf_build, cf_ledger_of, cf_ledger_step and
+ * cf_ledger_apply_all say, and a desk's caller may have looked. Every call on an empty handle answers CF_EMPTY, and one on a handle of another kind CF_WRONG_KIND; neither changes anything.
  *
  * A function in this header stands for the call before it, which takes by pointer what the function takes by value.
  *
- * Building and opening take memory, and so do cf_ledger_apply, cf_ledger_grow, cf_close_begin and cf_run_script; no other call takes
- * any. */
+ * Building and opening take memory, and so do cf_ledger_apply, cf_ledger_step, cf_ledger_apply_all, cf_ledger_grow, cf_ledger_restart,
+ * cf_close_begin and cf_run_script; no other call takes any. */
 #ifndef CF_H
 #define CF_H
 #include <stdbool.h>
@@ -139,7 +138,7 @@ enum { CF_AT = 0, CF_STAGES_FULL = 1 };
 typedef struct { uint32_t answer; uint32_t number; cf_args args; } cf_reply;
 
 /* What a caller has to do: where `held` isn't 0, the stage that it has claimed, with the number of its function and what that is to be
- * called with. `answer` is for what the function answered; cf_next and cf_desk_next leave it alone. `finished` is what the finish in the
+ * called with. `answer` is for what the function answered; cf_next and cf_ledger_step leave it alone. `finished` is what the finish in the
  * last step was answered: CF_WON, also where nothing was held, or CF_LATE. All bytes 0 is a task that holds nothing. */
 typedef struct { uint32_t held; uint16_t stage; uint16_t function; cf_args args; cf_answer answer; uint32_t finished; } cf_task;
 
@@ -219,6 +218,15 @@ uint32_t cf_turns(cf_handle *graph, uint64_t *turns);
 
 /* Starts again: the graph is as it was opened, with its room free. It takes no memory. */
 uint32_t cf_restart(cf_handle *graph);
+
+/* The same, and then completes these stages with their values, one after another: a request by a plan that is there. CF_NO_STAGE where
+ * one of them isn't a stage of the plan: nothing is done then. */
+typedef struct { uint16_t stage; cf_value value; } cf_given;
+uint32_t cf_restart_with(cf_handle *graph, const cf_given *given, size_t n);
+
+/* Puts the plan that the graph was opened of behind an empty handle; they share its memory. CF_FULL, CF_EMPTY, CF_WRONG_KIND,
+ * CF_NO_MEMORY, the first that holds in this order. */
+uint32_t cf_plan_of(cf_handle *graph, cf_handle *plan);
 
 /* ---- Desks: a graph that callers on several threads share without a lock ---- */
 
@@ -364,6 +372,20 @@ uint32_t cf_ledger_of(cf_handle *plan, uint16_t room, const uint64_t *words, siz
  * this order. */
 uint32_t cf_ledger_apply(cf_handle *ledger, uint64_t word, cf_reply *reply, cf_news *news, size_t room, size_t *n);
 
+/* One step of a caller's loop, in one call: finishes the stage that the task holds with the answer in it, claims the lowest ready stage
+ * from the number `from` on, and writes it into the task, as cf_next does. Both are words that are written. The stages that the finish
+ * changed, rising, each as it is now, go to `news` as far as there is room, and how many they are to `n`; the claim changes the task's
+ * stage alone. `step` tells the place of the first word that was written, and the words: 0 where nothing was finished or claimed. CF_NOTHING
+ * where none is ready then: all the same is told, and the task holds nothing. CF_NO_WORD where `who` is above 63, CF_NO_STAGE where the
+ * task's stage isn't there, CF_NOT_HELD where this caller has no open claim of it, CF_NO_MEMORY, the first that holds in this order:
+ * nothing is changed then, and nothing is written for C. */
+typedef struct { uint8_t who; uint16_t from; size_t place; uint64_t finish; uint64_t claim; } cf_step;
+uint32_t cf_ledger_step(cf_handle *ledger, cf_step *step, cf_task *task, cf_news *news, size_t room, size_t *n);
+
+/* Does words one after another, as cf_ledger_apply does each, up to the first that can't be done, and tells how many were done, also with
+ * the code of the one that can't be: CF_NO_WORD, CF_NO_STAGE, CF_NO_ROOM, CF_NO_MEMORY. */
+uint32_t cf_ledger_apply_all(cf_handle *ledger, const uint64_t *words, size_t n, size_t *done);
+
 /* The words from a place 0, 1, .. on, as far as there is room, and how many there are from there on: none past the end. */
 uint32_t cf_ledger_words(cf_handle *ledger, size_t from, uint64_t *words, size_t room, size_t *n);
 
@@ -380,6 +402,9 @@ uint32_t cf_ledger_stages(cf_handle *ledger, uint16_t *stages);
 
 /* Makes room for so many stages more, by doing all words again. CF_ROOM, CF_NO_MEMORY. */
 uint32_t cf_ledger_grow(cf_handle *ledger, uint16_t more);
+
+/* Starts again: no word is written then, and all of its room, also what cf_ledger_grow made, is free. CF_NO_MEMORY. */
+uint32_t cf_ledger_restart(cf_handle *ledger);
 
 /* ---- Scripts and texts ---- */
 
@@ -399,10 +424,10 @@ uint32_t cf_code_text(uint32_t code, uint8_t *text, size_t room, size_t *length)
 
 /* The version of this header. A library of a later one with the same first number has all that stands here, and as it stands here. */
 #define CF_VERSION_MAJOR 1
-#define CF_VERSION_MINOR 0
+#define CF_VERSION_MINOR 1
 #define CF_VERSION_PATCH 0
 
-/* The library's version ("1.0.0"); whether a program that was written for this version of the header runs with the library; the name of a
+/* The library's version ("1.1.0"); whether a program that was written for this version of the header runs with the library; the name of a
  * code as cf_code_text has it ("NoStage"), or null where a number is no code's; of a struct ("cf_reply") its size, and of a field of one
  * ("cf_reply.args") its offset, in bytes, or SIZE_MAX where there is none of this name or it is null. The texts are static and end in a
  * zero byte. None of these calls answers a cf_code. */

@@ -15,7 +15,9 @@ sys.dont_write_bytecode = True
 from nulls import TOLD, declarations  # noqa: E402
 from same import numbers_of, structs_of_header  # noqa: E402
 
-LATER: Dict[str, str] = {}  # the calls that came after 1.0, each with its version, as "1.1"
+# The calls that came after 1.0, each with its version.
+LATER: Dict[str, str] = dict.fromkeys(
+    ["cf_restart_with", "cf_plan_of", "cf_ledger_step", "cf_ledger_apply_all", "cf_ledger_restart"], "1.1")
 TEXT = """#include "cf.h"
 #include <string.h>
 

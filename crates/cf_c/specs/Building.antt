@@ -1,5 +1,5 @@
 -- How plans are built, and graphs of plans opened.
-use Rattle.std.specs.Prelude.{◌≡◌, ℕ, ◌<◌, ◌≤◌, ◌⊎◌, ◌==◌, true, false, Option, Some, None, Result, Ok, Err, List, [], IfNone, IfSome, IsOk, IsOkUnless, length, if◌then◌else◌}
+use Rattle.std.specs.Prelude.{◌≡◌, ℕ, ◌≤◌, ◌⊎◌, ◌==◌, true, false, Option, Some, None, Result, Ok, Err, List, [], IfNone, IfSome, IsOk, IsOkUnless, length, if◌then◌else◌}
 use Rattle.cf_plan.specs.declared.faults.PlanFault.{PlanFault}
 use Rattle.cf_plan.specs.declared.faults.PlanFault.TheVariants as plan
 use Rattle.cf_plan.specs.declared.forms.Form.{Form}

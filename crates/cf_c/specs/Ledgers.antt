@@ -1,5 +1,5 @@
 -- What a ledger behind a handle is asked.
-use Rattle.std.specs.Prelude.{◌≡◌, ℕ, ◌+◌, ◌<◌, ◌≤◌, true, false, Option, Some, None, Result, Ok, Err, List, [], ◌∷◌, drop, length, map, nat_lt, slice_get, take, if◌then◌else◌}
+use Rattle.std.specs.Prelude.{◌≡◌, ℕ, ◌+◌, ◌<◌, ◌≤◌, true, false, Option, Some, None, Result, Ok, Err, List, [], drop, get_or, length, map, nat_lt, slice_get, take, if◌then◌else◌}
 use Rattle.std.specs.Option.{option_map}
 use Rattle.cf_outcome.specs.declared.outcome.Outcome.{Outcome}
 use Rattle.cf_plan.specs.Plans.{Planned, function_at, has_place, with_room}
@@ -11,7 +11,7 @@ use Rattle.cf_model.specs.States.{State, claim_at, is_ready, start}
 use Rattle.cf_event.specs.Words.{word_of}
 use Rattle.cf_ledger.specs.declared.faults.LedgerFault.{LedgerFault}
 use Rattle.cf_ledger.specs.declared.faults.LedgerFault.TheVariants as faults
-use Rattle.cf_ledger.specs.Ledgers.{Ledger as Ledger', Does, IsFirstRefused, IsRefused, state_at, state_of, with_more}
+use Rattle.cf_ledger.specs.Ledgers.{Ledger as Ledger', Does, DoesAll, IsFirstRefused, IsRefused, state_at, state_of, with_more}
 use Rattle.cf_ledger.specs.News.{AreNews}
 use Rattle.cf_c.specs.Answers.{Codes}
 use Rattle.cf_c.specs.Building.{Fills}
@@ -181,6 +181,32 @@ abbrev pub DoesWord : ℕ → Object → CfReply × List CfNews × ℕ → Resul
 DoesWord word (Ledger l) had (Ok done) new has = HasDone word l new had has
 DoesWord word (Ledger l) had (Err fault) new has = IsNotDone (state_of l) word fault × (new ≡ Ledger l) × (has ≡ had)
 DoesWord word held had r new has = (r ≡ Err WrongKind) × (new ≡ held) × (has ≡ had)
+
+-- a row of words is done
+pub record IsRowDone (l : Ledger') (words : List ℕ) (new : Object) : Type 0 where
+  pub now : Ledger'
+  pub is : new ≡ Ledger now
+  pub done : DoesAll l words now
+
+-- those before the first that can't be done are done, and this one isn't
+pub record IsFrontDone (l : Ledger') (words : List ℕ) (code : Code) (new : Object) (has : ℕ) : Type 0 where
+  pub now : Ledger'
+  pub is : new ≡ Ledger now
+  pub done : DoesAll l (take has words) now
+  pub there : has < length words
+  pub next : IsNotDone (state_of now) (get_or words has 0) code
+
+-- words are done, and C is told how many
+abbrev pub DoesRow : List ℕ → Object → ℕ → Result (Unit {0}) Code → Object → ℕ → Type 0
+DoesRow words (Ledger l) had (Ok done) new has = IsRowDone l words new × (has ≡ length words)
+DoesRow words (Ledger l) had (Err fault) new has = IsFrontDone l words fault new has
+DoesRow words held had r new has = (r ≡ Err WrongKind) × (new ≡ held) × (has ≡ had)
+
+-- nothing is written, as when it was opened, and it has the room that it had in all
+abbrev pub StartsAgain : Object → Result (Unit {0}) Code → Object → Type 0
+StartsAgain (Ledger l) (Ok done) new = new ≡ Ledger (record l { events = [] })
+StartsAgain (Ledger l) (Err fault) new = (fault ≡ NoMemory) × (new ≡ Ledger l)
+StartsAgain held r new = (r ≡ Err WrongKind) × (new ≡ held)
 
 -- ---- what it writes for C
 

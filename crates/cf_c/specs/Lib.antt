@@ -6,12 +6,14 @@ pub mod Codes
 pub mod Desks
 pub mod EventWords
 pub mod Graphs
+pub mod LedgerSteps
 pub mod Ledgers
 pub mod Meetings
 pub mod Opening
 pub mod Plans
 pub mod Records
 pub mod Replies
+pub mod Restarts
 pub mod Scripts
 pub mod Seals
 pub mod Tasks

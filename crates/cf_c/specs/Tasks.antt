@@ -5,6 +5,7 @@ use Rattle.cf_plan.specs.Plans.{function_at}
 use Rattle.cf_model.specs.declared.replies.Claimed.TheVariants.{Granted}
 use Rattle.cf_model.specs.declared.replies.Finished.{Finished}
 use Rattle.cf_model.specs.declared.replies.Finished.TheVariants.{Won, Late, NotYours}
+use Rattle.cf_ledger.specs.declared.step.Held.{Held}
 use Rattle.cf_model.specs.Events.{claiming, finishing}
 use Rattle.cf_model.specs.Graphs.{Graph as Graph', NoneLeftFor, RestsUpTo}
 use Rattle.cf_model.specs.States.{State, lowest_ready_of}
@@ -16,7 +17,6 @@ use Rattle.cf_c.specs.declared.code.Code.TheVariants.{Empty, WrongKind, NoStage,
 use Rattle.cf_c.specs.declared.handle.object.Object.{Object}
 use Rattle.cf_c.specs.declared.handle.object.Object.TheVariants.{Graph}
 use Rattle.cf_c.specs.declared.values.task.CfTask.{CfTask}
-use Rattle.cf_c.specs.declared.values.task.Held.{Held}
 
 -- the stage that a task holds, if it holds one, with what its function answered
 abbrev pub held_by : CfTask → Option Held

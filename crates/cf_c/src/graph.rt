@@ -6,10 +6,12 @@ ghost use Rattle.cf_c.specs.Building.{GraphOf, Opens};
 ghost use Rattle.cf_c.specs.EventWords.{event_at};
 ghost use Rattle.cf_c.specs.Graphs.{Answers, Asked, Restarts, RestsAlways, RestsAt, RestsAtReady, function_told, now_told, outcome_told, ready_told, stages_told, turns_told};
 ghost use Rattle.cf_c.specs.Plans.{attach_event};
+ghost use Rattle.cf_c.specs.Restarts.{PlanOf, RestartsWith};
 ghost use Rattle.cf_c.specs.Tasks.{Nexts, Steps};
 ghost use Rattle.cf_c.specs.Values.{answer_of, value_of};
 
 mod asking;
+mod restarting;
 mod stepping;
 
 use crate::code::{Code, plan_code};
@@ -19,7 +21,7 @@ use crate::handle::with_handle::{ask, code_of, fill, give, tell};
 use crate::values::attaching::attach_event;
 use crate::values::event::event_at;
 use crate::values::task::CfTask;
-use crate::values::{CfAnswer, CfNow, CfOutcome, CfReply, CfValue, answer_of, value_of};
+use crate::values::{CfAnswer, CfGiven, CfNow, CfOutcome, CfReply, CfValue, answer_of, value_of};
 use cf_core::Graph;
 use cf_model::Event;
 use cf_plan::Plan;
@@ -241,6 +243,42 @@ pub extern "C" fn cf_restart(alloc: Global, h: &mut CfHandle) -> u32
     ensures { Does Restarts h.old.inner.held h.new.inner.held result }
 {
     ask!(alloc, h, held => asking::restart(&mut held))
+}
+
+/// Starts a graph again, and completes stages.
+#[unsafe(no_mangle)]
+pub extern "C" fn cf_restart_with(alloc: Global, h: &mut CfHandle, given: &[CfGiven]) -> u32
+    ensures { Does (RestartsWith given.now) h.old.inner.held h.new.inner.held result }
+{
+    ask!(alloc, h, held => restarting::restart_with(&mut held, given))
+}
+
+/// Puts the plan that a graph was opened of behind another handle, which is empty.
+#[unsafe(no_mangle)]
+pub extern "C" fn cf_plan_of(alloc: Global, h: &mut CfHandle, plan: &mut CfHandle) -> u32
+    ensures { Opens PlanOf h.old.inner.held h.new.inner.held result plan.old.inner.held plan.new.inner.held }
+{
+    match h.take(alloc) {
+        None => fill(alloc, plan, Err(Code::Empty)),
+        Some(held) => {
+            let made = plan_of(&held);
+            h.put(held);
+            fill(alloc, plan, made)
+        }
+    }
+}
+
+/// The plan that a graph was opened of.
+fn plan_of(held: &Object) -> Result<Object, Code>
+    ensures { PlanOf held.now result }
+{
+    let Object::Graph(graph) = held else {
+        return Err(Code::WrongKind);
+    };
+    match graph.plan().copy() {
+        Ok(plan) => Ok(Object::Plan(plan)),
+        Err(_) => Err(Code::NoMemory),
+    }
 }
 
 /// The graph of a plan with so much room.

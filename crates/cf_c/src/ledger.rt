@@ -2,9 +2,11 @@
 ghost use Rattle.std.specs.Prelude.{◌≡◌};
 ghost use Rattle.cf_c.specs.Answers.{Does, Tells};
 ghost use Rattle.cf_c.specs.Building.{Opens};
-ghost use Rattle.cf_c.specs.Ledgers.{DoesWord, Grows, LedgerFrom, LedgerOf, OfLedger, OpensFrom, TellsFunction, TellsReady, TellsStage, TellsStages, Writes, WritesNews, WritesWords, word_code};
+ghost use Rattle.cf_c.specs.LedgerSteps.{StepsLedger};
+ghost use Rattle.cf_c.specs.Ledgers.{DoesRow, DoesWord, Grows, LedgerFrom, LedgerOf, OfLedger, OpensFrom, StartsAgain, TellsFunction, TellsReady, TellsStage, TellsStages, Writes, WritesNews, WritesWords, word_code};
 
 mod asking;
+mod stepping;
 mod telling;
 
 use crate::code::{Code, plan_code};
@@ -13,6 +15,7 @@ use crate::handle::object::Object;
 use crate::handle::with_handle::{ask, code_of, fill, give, tell};
 use crate::values::CfReply;
 use crate::values::stage::{CfNews, CfStage};
+use crate::values::task::{CfStep, CfTask};
 use cf_ledger::{Ledger, LedgerFault};
 use std::alloc::Global;
 
@@ -74,6 +77,34 @@ pub extern "C" fn cf_ledger_apply(
     ensures { Writes (DoesWord word) h.old.inner.held h.new.inner.held result (reply.old, news.old, n.old) (reply.new, news.new, n.new) }
 {
     ask!(alloc, h, held => telling::apply(&mut held, word, reply, news, n))
+}
+
+/// Finishes what a task holds with the answer in it, and gives it the next ready stage, claimed: two words.
+#[unsafe(no_mangle)]
+pub extern "C" fn cf_ledger_step(
+    alloc: Global,
+    h: &mut CfHandle,
+    step: &mut CfStep,
+    task: &mut CfTask,
+    news: &mut [CfNews],
+    n: &mut usize,
+) -> u32
+    ensures { Writes StepsLedger h.old.inner.held h.new.inner.held result (step.old, task.old, news.old, n.old) (step.new, task.new, news.new, n.new) }
+{
+    ask!(alloc, h, held => stepping::step(&mut held, step, task, news, n))
+}
+
+/// Does a row of words, and tells how many were done.
+#[unsafe(no_mangle)]
+pub extern "C" fn cf_ledger_apply_all(
+    alloc: Global,
+    h: &mut CfHandle,
+    words: &[u64],
+    done: &mut usize,
+) -> u32
+    ensures { Writes (DoesRow words.now) h.old.inner.held h.new.inner.held result done.old done.new }
+{
+    ask!(alloc, h, held => telling::apply_all(&mut held, words, done))
 }
 
 /// The words from a place on.
@@ -157,6 +188,14 @@ pub extern "C" fn cf_ledger_grow(alloc: Global, h: &mut CfHandle, more: u16) -> 
     ensures { Does (Grows more) h.old.inner.held h.new.inner.held result }
 {
     ask!(alloc, h, held => asking::grow(alloc, &mut held, more))
+}
+
+/// Starts again.
+#[unsafe(no_mangle)]
+pub extern "C" fn cf_ledger_restart(alloc: Global, h: &mut CfHandle) -> u32
+    ensures { Does StartsAgain h.old.inner.held h.new.inner.held result }
+{
+    ask!(alloc, h, held => asking::restart(alloc, &mut held))
 }
 
 /// The ledger of a plan with so much room.

@@ -21,6 +21,14 @@ pub struct CfValue {
     pub number: i32,
 }
 
+/// A stage, and the value that it is completed with.
+#[repr(C)]
+#[derive(Clone, Copy)]
+pub struct CfGiven {
+    pub stage: u16,
+    pub value: CfValue,
+}
+
 /// What a stage's function answered: it gives a value (kind 0), throws a code (1), or names a stage (any other).
 #[repr(C)]
 #[derive(Clone, Copy)]

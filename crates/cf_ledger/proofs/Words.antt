@@ -12,7 +12,7 @@ use Rattle.cf_model.specs.States.{State, start}
 use Rattle.cf_model.specs.Events.{answered, state_after}
 use Rattle.cf_event.specs.Words.{word_of}
 use Rattle.cf_event.specs.Decoding.{decoded, decoded_with, event_of}
-use Rattle.cf_ledger.specs.Ledgers.{AreTaken, Does, IsFirstRefused, IsKept, IsRefused, IsTaken, Ledger, state_of}
+use Rattle.cf_ledger.specs.Ledgers.{DoesAll, AreTaken, Does, IsFirstRefused, IsKept, IsRefused, IsTaken, Ledger, state_of}
 use Rattle.cf_ledger.specs.declared.faults.LedgerFault.{LedgerFault}
 use Rattle.std.proofs.Common.{drop, get_or}
 use Rattle.std.proofs.lemmas.List.{drop_more, drop_all}
@@ -153,3 +153,38 @@ append_none (x ∷ xs) = ap (λ (zs : List ℕ). x ∷ zs) (append_none xs)
 
 pub done_all : (s : State) (words : List ℕ) (i : ℕ) (now : Ledger) → length words ≤ i → Done s words i now → map word_of now.events ≡ words
 done_all s words i now l h = sym (append_none (map word_of now.events)) ∙ ap (λ (ws : List ℕ). map word_of now.events ++ ws) (sym (drop_all i words l)) ∙ h.written
+
+-- ---- words behind others
+
+state_more : (s : State) (xs ys : List Event) → state_after s (xs ++ ys) ≡ state_after (state_after s xs) ys
+state_more s [] ys = refl
+state_more s (x ∷ xs) ys = state_more ((answered s x).1) xs ys
+
+events_assoc : (xs ys zs : List Event) → (xs ++ ys) ++ zs ≡ xs ++ (ys ++ zs)
+events_assoc [] ys zs = refl
+events_assoc (x ∷ xs) ys zs = ap (λ (es : List Event). x ∷ es) (events_assoc xs ys zs)
+
+no_events : (xs : List Event) → xs ++ [] ≡ xs
+no_events [] = refl
+no_events (x ∷ xs) = ap (λ (es : List Event). x ∷ es) (no_events xs)
+
+pub all_none : (old : Ledger) → DoesAll old [] old
+all_none old = record {
+  named = refl;
+  taken = tt;
+  written = ap (λ (es : List Event). let l : Ledger = record { plan = old.plan; events = es } in l) (sym (no_events old.events));
+}
+
+pub all_more : (old now next : Ledger) (ws : List ℕ) (w : ℕ) (reply : Reply) → DoesAll old ws now → Does w now reply next → DoesAll old (ws ++ w ∷ []) next
+all_more old now next ws w reply h d =
+    let pushed = decoded_push ws w d.event (sym h.named) d.read in
+    let events : now.events ≡ old.events ++ decoded ws = ap (λ (l : Ledger). l.events) h.written in
+    let plan : now.plan ≡ old.plan = ap (λ (l : Ledger). l.plan) h.written in
+    let state : state_of now ≡ state_after (state_of old) (decoded ws) = ap state_of h.written ∙ state_more (start old.plan) old.events (decoded ws) in
+    record {
+      named = ap (map word_of) pushed ∙ map_push (decoded ws) d.event ∙ ap (λ (w : ℕ). map word_of (decoded ws) ++ w ∷ []) d.named ∙ ap (λ (xs : List ℕ). xs ++ w ∷ []) h.named;
+      taken = subst (AreTaken (state_of old)) (sym pushed) (taken_push (state_of old) (decoded ws) d.event h.taken (subst (λ (x : State). IsTaken x d.event) state d.taken));
+      written = d.written ∙ ap (λ (p : Planned). let l : Ledger = record { plan = p; events = now.events ++ d.event ∷ [] } in l) plan
+          ∙ ap (λ (es : List Event). let l : Ledger = record { plan = old.plan; events = es } in l)
+          (ap (λ (es : List Event). es ++ d.event ∷ []) events ∙ events_assoc old.events (decoded ws) (d.event ∷ []) ∙ ap (λ (es : List Event). old.events ++ es) (sym pushed));
+    }

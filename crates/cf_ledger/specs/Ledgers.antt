@@ -55,6 +55,12 @@ pub record Does (word : ℕ) (old : Ledger) (reply : Reply) (new : Ledger) : Typ
   pub told : (reply, state_of new) ≡ answered (state_of old) event
   pub written : new ≡ and_event old event
 
+-- these words are done, one after another: each is that of an event that is taken, and the events are written behind the others
+pub record DoesAll (old : Ledger) (words : List ℕ) (new : Ledger) : Type 0 where
+  pub named : map word_of (decoded words) ≡ words
+  pub taken : AreTaken (state_of old) (decoded words)
+  pub written : new ≡ record old { events = old.events ++ decoded words }
+
 -- why a word isn't done: the first of these, want of memory being the last
 abbrev pub IsRefused : State → ℕ → LedgerFault → Type 0
 IsRefused s word NoMemory = (e : Event) × (event_of word ≡ Some e) × EventFits (length s.plan.stages) e × HasRoomFor s e
@@ -79,6 +85,10 @@ pub record IsKept (plan : Planned) (words : List ℕ) (g : Graph) (changed : Lis
   pub unset : position (λ b. b) changed ≡ None
   pub flags : length changed ≡ length g.state.plan.stages + g.state.plan.room
   pub noted : AreNoted (start plan) (decoded words) lists
+
+-- the ledger of a plan and of these words
+abbrev pub ledger_of : Planned → List ℕ → Ledger
+ledger_of plan words = record { plan = plan; events = decoded words }
 
 -- the ledger with room for more stages, by which nothing else changes
 abbrev pub with_more : Ledger → ℕ → Ledger

@@ -1,2 +1,3 @@
 pub mod News
 pub mod Ledgers
+pub mod Steps

@@ -20,3 +20,16 @@ pub struct Misfit {
     pub place: usize,
     pub why: LedgerFault,
 }
+
+/// Why a step isn't done. All is as it was then.
+#[derive(Clone, Copy, Debug, PartialEq, Eq)]
+pub enum StepFault {
+    /// There is no memory for it, and nothing else stands against it.
+    NoMemory,
+    /// Its caller's number is above 63, so that no word names it.
+    NoCaller,
+    /// The stage that is held isn't there.
+    NoStage,
+    /// The caller has no open claim of the stage that is held.
+    NotHeld,
+}

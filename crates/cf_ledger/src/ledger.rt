@@ -1,15 +1,18 @@
 //! The ledger.
-ghost use Rattle.std.specs.Prelude.{◌≡◌, ◌+◌, ◌≢◌, ◌<◌, ◌≤◌, ◌↔◌, [], IfErr, IfNone, IfOk, IfSome, IsTrue, None, OnErr, OnOk, false, length, map, replicate, true};
+ghost use Rattle.std.specs.Prelude.{◌≡◌, ◌+◌, ◌≢◌, ◌<◌, ◌≤◌, ◌↔◌, [], IfErr, IfNone, IfOk, IfSome, IsTrue, None, OnErr, OnOk, false, length, map, get_or, replicate, take, true};
 ghost use Rattle.cf_plan.specs.Plans.{function_at, has_place, with_room};
 ghost use Rattle.cf_model.specs.Graphs.{NoneReady, stage_in};
 ghost use Rattle.cf_model.specs.States.{claim_at, is_ready, lowest_ready_of, outcome_at, start};
 ghost use Rattle.cf_event.specs.Words.{word_of};
-ghost use Rattle.cf_ledger.specs.Ledgers.{Does, HasRoomFor, IsFirstRefused, IsRefused, state_at, state_of, with_more};
+ghost use Rattle.cf_ledger.specs.Ledgers.{Does, DoesAll, HasRoomFor, IsFirstRefused, IsRefused, state_at, state_of, with_more};
 ghost use Rattle.cf_ledger.specs.News.{AreNews};
+ghost use Rattle.cf_ledger.specs.Steps.{IsNoStep, Steps};
 ghost use Rattle.cf_event.specs.Decoding.{decoded};
 
-use crate::faults::{LedgerFault, Misfit};
+use crate::faults::{LedgerFault, Misfit, StepFault};
 use crate::news::News;
+use crate::step::{Held, Step};
+use crate::writing::{finish, take, write};
 use cf_bits::BitSet;
 use cf_core::Graph;
 use cf_event::decode;
@@ -18,6 +21,9 @@ use cf_outcome::Outcome;
 use cf_plan::Plan;
 use std::alloc::Global;
 use std::marker::Model;
+
+/// The greatest caller that a word has room for.
+const LAST_CALLER: u8 = 63;
 
 /// No plan has place for more room.
 const MAX_ROOM: u16 = 4096;
@@ -95,16 +101,89 @@ impl Ledger {
         if self.words.reserve(1).is_err() {
             return Err(LedgerFault::NoMemory);
         }
-        if self.news.reserve(self.changed.bound() as usize).is_err() {
+        if self.news.reserve(1, self.changed.bound() as usize).is_err() {
             return Err(LedgerFault::NoMemory);
         }
-        // There is a state for each stage, before and after.
-        let _before = self.graph.stages();
-        let reply = self.graph.answer_telling(&event, &mut self.changed);
-        let _after = self.graph.stages();
-        self.words.push_reserved(word);
-        self.news.push(&mut self.changed);
-        Ok(reply)
+        Ok(write(
+            &self.plan,
+            self.room,
+            &mut self.graph,
+            &mut self.words,
+            &mut self.changed,
+            &mut self.news,
+            &event,
+            word,
+        ))
+    }
+
+    /// One step of a caller, in one call: finishes what it holds, if it holds a stage, and claims the lowest ready stage from a
+    /// number on, if there is one. Each is a word that is written. It is refused for the first of: its caller's number, the
+    /// stage that is held, its claim, memory. A refused step leaves all as it was.
+    ///
+    /// It costs what the two words cost by `apply`, and a look at each stage between.
+    pub fn step(&mut self, who: u8, held: Option<Held>, from: u16) -> Result<Step, StepFault>
+        ensures done { IfOk result (λ step. Steps who held from self.old step self.new) }
+        ensures refused { OnErr result (self.new ≡ self.old) }
+        ensures why { IfErr result (λ fault. IsNoStep who held (state_of self.old) fault) }
+    {
+        if who > LAST_CALLER {
+            return Err(StepFault::NoCaller);
+        }
+        if let Some(held) = held {
+            if held.stage >= self.graph.stages() {
+                return Err(StepFault::NoStage);
+            }
+            if self.graph.claimant(held.stage) != Some(who) {
+                return Err(StepFault::NotHeld);
+            }
+        }
+        if self.words.reserve(2).is_err() {
+            return Err(StepFault::NoMemory);
+        }
+        let most = self.changed.bound() as usize;
+        if self.news.reserve(2, 2 * most).is_err() {
+            return Err(StepFault::NoMemory);
+        }
+        let finish = match held {
+            None => None,
+            Some(held) => Some(finish(
+                &self.plan,
+                self.room,
+                &mut self.graph,
+                &mut self.words,
+                &mut self.changed,
+                &mut self.news,
+                who,
+                held,
+            )),
+        };
+        let taken = take(
+            &self.plan,
+            self.room,
+            &mut self.graph,
+            &mut self.words,
+            &mut self.changed,
+            &mut self.news,
+            who,
+            from,
+        );
+        Ok(Step { finish, taken })
+    }
+
+    /// Does words one after another, up to the first that can't be done, which is told. Those before it are done then.
+    pub fn apply_all(&mut self, words: &[u64]) -> Result<(), Misfit>
+        ensures all { OnOk result (DoesAll self.old words.now self.new) }
+        ensures front { IfErr result (λ m. DoesAll self.old (take m.place words.now) self.new) }
+        ensures there { IfErr result (λ m. m.place < length words.now) }
+        ensures why { IfErr result (λ m. IsRefused (state_of self.new) (get_or words.now m.place 0) m.why) }
+    {
+        for (place, word) in words.iter().enumerate() {
+            match self.apply(*word) {
+                Ok(_) => {}
+                Err(why) => return Err(Misfit { place, why }),
+            }
+        }
+        Ok(())
     }
 
     /// The words of all that was done, in order.
@@ -222,6 +301,17 @@ impl Ledger {
                 Ok(ledger)
             }
         }
+    }
+
+    /// Starts again: nothing is written then, and all of its room is free. It takes as much memory as a new ledger; it fails only
+    /// where there is none, and then all is as it was.
+    pub fn restart(&mut self, alloc: Global) -> Result<(), LedgerFault>
+        ensures restarted { OnOk result (self.new ≡ record self.old { events = [] }) }
+        ensures unchanged { OnErr result (self.new ≡ self.old) }
+        ensures refused { IfErr result (λ fault. fault ≡ LedgerFault.NoMemory) }
+    {
+        *self = Ledger::new(alloc, &self.plan, self.room)?;
+        Ok(())
     }
 
     /// Whether its plan has place for so many stages more.

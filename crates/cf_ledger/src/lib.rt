@@ -10,7 +10,10 @@
 mod faults;
 mod ledger;
 mod news;
+mod step;
+mod writing;
 
 pub use cf_model::{Event, Reply, Stage};
-pub use faults::{LedgerFault, Misfit};
+pub use faults::{LedgerFault, Misfit, StepFault};
 pub use ledger::Ledger;
+pub use step::{Finish, Held, Step, Taken};

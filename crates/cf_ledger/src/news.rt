@@ -40,14 +40,15 @@ impl News {
         }
     }
 
-    /// Finds room for one list more of so many stages. It fails only where there is no memory, and changes no list.
-    pub fn reserve(&mut self, count: usize) -> Result<(), AllocError>
+    /// Finds room for so many lists more, of so many stages in all. It fails only where there is no memory, and changes no
+    /// list.
+    pub fn reserve(&mut self, lists: usize, count: usize) -> Result<(), AllocError>
         ensures free { OnOk result (count ≤ self.new.free) }
-        ensures more { OnOk result (0 < self.new.more) }
+        ensures more { OnOk result (lists ≤ self.new.more) }
         ensures same { self.new.lists ≡ self.old.lists }
     {
         self.all.reserve(count)?;
-        self.ends.reserve(1)
+        self.ends.reserve(lists)
     }
 
     /// Writes the stages whose flags are set behind the others, as a list of its own, and takes the flags down.
@@ -57,6 +58,8 @@ impl News {
         ensures lists { EndsIn changed.old self.old.lists self.new.lists }
         ensures down { position (λ b. b) changed.new ≡ None }
         ensures flags { length changed.new ≡ length changed.old }
+        ensures free { self.old.free ≤ self.new.free + length changed.old }
+        ensures more { self.old.more ≤ self.new.more + 1 }
     {
         drain(changed, &mut self.all);
         let end = self.all.len();
@@ -79,6 +82,7 @@ fn drain(changed: &mut BitSet, all: &mut Vec<u16>)
     ensures down { position (λ b. b) changed.new ≡ None }
     ensures flags { length changed.new ≡ length changed.old }
     ensures room { vec_capacity all.new ≡ vec_capacity all.old }
+    ensures few { length all.new.items ≤ length all.old.items + length changed.old }
 {
     while let Some(i) = changed.lowest() {
         changed.remove(i);

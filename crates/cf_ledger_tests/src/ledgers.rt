@@ -2,10 +2,10 @@ ghost use Rattle.std.specs.Prelude.{◌≡◌, true};
 ghost use Rattle.cf_plan.specs.Plans.{has_place};
 
 use crate::steps::{Step, plan, take};
-use cf_ledger::{Ledger, LedgerFault, Misfit, Reply, Stage};
+use cf_ledger::{Finish, Held, Ledger, LedgerFault, Misfit, Reply, Stage, StepFault, Taken};
 use cf_model::{Attached, Claimed, Finished};
 use cf_outcome::{Outcome, Value};
-use cf_plan::{Args, Plan};
+use cf_plan::{Answer, Args, Plan};
 use std::alloc::Global;
 use std::process::Abort;
 use std::test::Fail;
@@ -117,5 +117,90 @@ fn the_first_misfit_is_told(rt: HostRuntime) -> Result<(), Fail> {
         };
         assert!(rt; is_misfit(rt.alloc(), &plan, words, misfit), "{misfit:?}");
     }
+    Ok(())
+}
+
+/// The apply, held, whose function has given 6.
+const HELD: Option<Held> = Some(Held {
+    stage: 1,
+    answer: Answer::Give(Value::Int(6)),
+});
+
+/// A stage that isn't there, held.
+const FAR: Option<Held> = Some(Held {
+    stage: 9,
+    answer: Answer::Give(Value::Nil),
+});
+
+/// A step that does nothing.
+const IDLE: cf_ledger::Step = cf_ledger::Step {
+    finish: None,
+    taken: None,
+};
+
+/// A step that takes the apply.
+const TAKES: cf_ledger::Step = cf_ledger::Step {
+    finish: None,
+    taken: Some(Taken {
+        stage: 1,
+        function: Some(0),
+        args: Args::One(Value::Int(5)),
+        word: CLAIM,
+    }),
+};
+
+/// A step that finishes it in time, and one that comes late.
+const WON: cf_ledger::Step = cf_ledger::Step {
+    finish: Some(Finish {
+        late: false,
+        word: FINISH,
+    }),
+    taken: None,
+};
+
+const LATE: cf_ledger::Step = cf_ledger::Step {
+    finish: Some(Finish {
+        late: true,
+        word: FINISH,
+    }),
+    taken: None,
+};
+
+/// The second word is none.
+const MISFIT: Misfit = Misfit {
+    place: 1,
+    why: LedgerFault::NoEvent,
+};
+
+/// The apply is cancelled.
+const CANCEL: u64 = 0x0300001000000000;
+
+/// One request by steps; what is refused between them; and it is started again, and its words done in rows.
+const BY_STEPS: [Step; 16] = [
+    Step::Apply(COMPLETE, Ok(Reply::Flag(true))),
+    Step::Next(0, None, 2, Ok(IDLE)),
+    Step::Next(64, None, 0, Err(StepFault::NoCaller)),
+    Step::Next(0, FAR, 0, Err(StepFault::NoStage)),
+    Step::Next(0, HELD, 0, Err(StepFault::NotHeld)),
+    Step::Next(0, None, 0, Ok(TAKES)),
+    Step::Next(1, HELD, 0, Err(StepFault::NotHeld)),
+    Step::Len(2),
+    Step::Next(0, HELD, 0, Ok(WON)),
+    Step::News(2, &[1]),
+    Step::Restart,
+    Step::Len(0),
+    Step::ApplyAll(&[COMPLETE, 0, CLAIM], Err(MISFIT)),
+    Step::ApplyAll(&[CLAIM, CANCEL], Ok(())),
+    Step::Next(0, HELD, 0, Ok(LATE)),
+    Step::Len(4),
+];
+
+#[test]
+fn a_step_finishes_and_takes(rt: HostRuntime) -> Result<(), Fail> {
+    let plan = plan(rt.alloc())?;
+    assert!(rt; plan.has_place(0));
+    let mut ledger = Ledger::new(rt.alloc(), &plan, 0)?;
+    take(&rt, rt.alloc(), &mut ledger, &BY_STEPS);
+    assert!(rt; ledger.words() == [COMPLETE, CLAIM, CANCEL, FINISH].as_slice());
     Ok(())
 }

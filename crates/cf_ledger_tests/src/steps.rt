@@ -1,5 +1,5 @@
 //! What is done to a ledger and asked of it, as rows: a call, and what it is answered.
-use cf_ledger::{Ledger, LedgerFault, Reply, Stage};
+use cf_ledger::{Held, Ledger, LedgerFault, Misfit, Reply, Stage, StepFault};
 use cf_outcome::Outcome;
 use cf_plan::{Form, Plan, PlanBuilder, PlanFault};
 use std::alloc::Global;
@@ -9,6 +9,10 @@ use std::process::Abort;
 #[derive(Clone, Copy, Debug)]
 pub(crate) enum Step {
     Apply(u64, Result<Reply, LedgerFault>),
+    /// A caller, what it holds, and from which stage on it takes one.
+    Next(u8, Option<Held>, u16, Result<cf_ledger::Step, StepFault>),
+    ApplyAll(&'static [u64], Result<(), Misfit>),
+    Restart,
     /// So many stages of room more.
     Grow(u16),
     Outcome(u16, Option<Outcome>),
@@ -36,6 +40,9 @@ pub(crate) fn plan(alloc: Global) -> Result<Plan, PlanFault> {
 fn is_answered(rt: &impl Abort, alloc: Global, ledger: &mut Ledger, step: Step) -> bool {
     match step {
         Step::Apply(word, answer) => ledger.apply(word) == answer,
+        Step::Next(who, held, from, answer) => ledger.step(who, held, from) == answer,
+        Step::ApplyAll(words, answer) => ledger.apply_all(words) == answer,
+        Step::Restart => ledger.restart(alloc) == Ok(()),
         Step::Grow(more) => {
             assert!(rt; ledger.has_place(more));
             ledger.grow(alloc, more) == Ok(())

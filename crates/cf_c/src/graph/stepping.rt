@@ -5,8 +5,9 @@ ghost use Rattle.cf_c.specs.Tasks.{Finishes, Steps, Takes};
 use crate::code::Code;
 use crate::handle::object::Object;
 use crate::values::as_args;
-use crate::values::task::{CfTask, Held, finished_as, held_by, number_or_none};
+use crate::values::task::{CfTask, finished_as, held_by, number_or_none};
 use cf_core::Graph;
+use cf_ledger::Held;
 use cf_model::Claimed;
 
 /// Finishes what a task holds, and gives it the lowest ready stage.

@@ -1,5 +1,5 @@
 //! What a ledger behind a handle is asked.
-ghost use Rattle.cf_c.specs.Ledgers.{Grows, OfLedger, TellsFunction, TellsReady, TellsStage, TellsStages};
+ghost use Rattle.cf_c.specs.Ledgers.{Grows, OfLedger, StartsAgain, TellsFunction, TellsReady, TellsStage, TellsStages};
 
 use crate::code::Code;
 use crate::handle::object::Object;
@@ -67,6 +67,19 @@ pub(crate) fn grow(alloc: Global, held: &mut Object, more: u16) -> Result<(), Co
         return Err(Code::Room);
     }
     match ledger.grow(alloc, more) {
+        Ok(()) => Ok(()),
+        Err(_) => Err(Code::NoMemory),
+    }
+}
+
+/// Starts a ledger again.
+pub(crate) fn restart(alloc: Global, held: &mut Object) -> Result<(), Code>
+    ensures { StartsAgain held.old result held.new }
+{
+    let Object::Ledger(ledger) = held else {
+        return Err(Code::WrongKind);
+    };
+    match ledger.restart(alloc) {
         Ok(()) => Ok(()),
         Err(_) => Err(Code::NoMemory),
     }

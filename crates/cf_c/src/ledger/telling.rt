@@ -1,7 +1,7 @@
 //! What a ledger behind a handle writes for C.
 ghost use Rattle.std.specs.Prelude.{◌≡◌, ◌<◌, ◌≤◌, length};
 ghost use Rattle.cf_ledger.specs.Ledgers.{state_of};
-ghost use Rattle.cf_c.specs.Ledgers.{AreFilled, AreWritten, DoesWord, HaveNews, WritesNews, WritesWords, blank_news, stage_now};
+ghost use Rattle.cf_c.specs.Ledgers.{AreFilled, AreWritten, DoesRow, DoesWord, HaveNews, WritesNews, WritesWords, blank_news, stage_now};
 ghost use Rattle.cf_c.specs.Texts.{GivesText};
 
 use crate::code::Code;
@@ -31,6 +31,25 @@ pub(crate) fn apply(
             *reply = as_reply(told);
             *n = give_news(ledger, place, news);
             Ok(())
+        }
+    }
+}
+
+/// Does a row of words to a ledger, up to the first that can't be done, and tells how many were done.
+pub(crate) fn apply_all(held: &mut Object, words: &[u64], done: &mut usize) -> Result<(), Code>
+    ensures { DoesRow words.now held.old done.old result held.new done.new }
+{
+    let Object::Ledger(ledger) = held else {
+        return Err(Code::WrongKind);
+    };
+    match ledger.apply_all(words) {
+        Ok(()) => {
+            *done = words.len();
+            Ok(())
+        }
+        Err(misfit) => {
+            *done = misfit.place;
+            Err(word_code(misfit.why))
         }
     }
 }
@@ -74,7 +93,7 @@ pub(crate) fn news(
 
 /// The stages that the event at a place changed go out as far as the buffer reaches, each as it is now. It tells how many
 /// they are.
-fn give_news(ledger: &mut Ledger, place: usize, news: &mut [CfNews]) -> usize
+pub(crate) fn give_news(ledger: &mut Ledger, place: usize, news: &mut [CfNews]) -> usize
     requires { place < length ledger.old.events }
     ensures given { HaveNews ledger.old place news.old news.new result }
     ensures same { ledger.new ≡ ledger.old }

@@ -4,8 +4,8 @@ ghost use Rattle.cf_c.specs.Tasks.{finished_as, held_by, number_or_none};
 
 use crate::code::Code;
 use crate::values::{CfAnswer, CfArgs, answer_of};
+use cf_ledger::Held;
 use cf_model::Finished;
-use cf_plan::Answer;
 
 /// What a caller holds: nothing (`held` is 0), or a stage, with the number and the arguments of its function, and a place for
 /// what that answers. `finished` is what the last finish was answered: won (0), also where nothing was held, or late (1).
@@ -20,11 +20,16 @@ pub struct CfTask {
     pub finished: u32,
 }
 
-/// A stage that is held, and what its function answered.
+/// Who takes a step of a ledger, and from which stage on; and then the place of the first word that it wrote, and its words:
+/// that of the finish and that of the claim, or 0 where there is none.
+#[repr(C)]
 #[derive(Clone, Copy)]
-pub struct Held {
-    pub stage: u16,
-    pub answer: Answer,
+pub struct CfStep {
+    pub who: u8,
+    pub from: u16,
+    pub place: usize,
+    pub finish: u64,
+    pub claim: u64,
 }
 
 /// The stage that a task holds, if it holds one.

@@ -29,6 +29,7 @@ loop-i-preserved c =
     let is = ap (count_by (λ b. b)) c.remove.ensures in
     let more = ap (λ (xs : List ℕ). length xs) c.push_reserved.ensures.items ∙ length-append c.loop-i.all.items (c.in-Some.i ∷ []) in
     let fits = h.fits in
+    let few = h.few in
     let room = c.push_reserved.ensures.capacity in
     record {
       taken = subst (λ flags. Taken c.args.changed.now flags c.args.all.now.items c.push_reserved.new.self.items) (sym c.remove.ensures)
@@ -36,6 +37,7 @@ loop-i-preserved c =
           (taken_more c.args.changed.now c.loop-i.changed c.args.all.now.items c.loop-i.all.items c.in-Some.i first h.taken));
       room = c.push_reserved.ensures.capacity ∙ h.room;
       fits = omega (arith, count, is, more, fits, room);
+      few = omega (arith, count, is, more, few);
       flags = ap length c.remove.ensures ∙ length-set c.loop-i.changed c.in-Some.i _ ∙ h.flags;
     }
 

@@ -9,6 +9,7 @@ invariant-loop-i l = record {
   taken : Taken l.initial.changed l.changed l.initial.all.items l.all.items;
   room : vec_capacity l.all ≡ vec_capacity l.initial.all;
   fits : length l.all.items + count_by (λ b. b) l.changed ≤ vec_capacity l.all;
+  few : length l.all.items + count_by (λ b. b) l.changed ≤ length l.initial.all.items + length l.initial.changed;
   flags : length l.changed ≡ length l.initial.changed;
 }
 

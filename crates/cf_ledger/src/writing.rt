@@ -1,0 +1,134 @@
+//! How the parts of a ledger do an event, and write its word.
+//!
+//! Room for the word and for the stages that it changes was found before, so nothing here is refused.
+ghost use Rattle.std.specs.Prelude.{◌≡◌, ◌+◌, ◌*◌, ◌<◌, ◌≤◌, Some, length, vec_capacity};
+ghost use Rattle.cf_plan.specs.Plans.{with_room};
+ghost use Rattle.cf_model.specs.Events.{answered};
+ghost use Rattle.cf_model.specs.States.{claim_at};
+ghost use Rattle.cf_event.specs.Words.{word_of};
+ghost use Rattle.cf_event.specs.Decoding.{event_of};
+ghost use Rattle.cf_ledger.specs.Ledgers.{Does, IsKept, IsTaken, ledger_of};
+ghost use Rattle.cf_ledger.specs.Steps.{Finishes, Takes};
+
+use crate::news::News;
+use crate::step::{Finish, Held, Taken};
+use cf_bits::BitSet;
+use cf_core::Graph;
+use cf_event::encode;
+use cf_model::{Claimed, Event, Finished, Reply};
+use cf_plan::Plan;
+
+/// Does an event that is taken, and writes its word behind the others with the stages that it changed.
+pub(crate) fn write(
+    plan: &Plan,
+    room: u16,
+    graph: &mut Graph,
+    words: &mut Vec<u64>,
+    changed: &mut BitSet,
+    news: &mut News,
+    event: &Event,
+    word: u64,
+) -> Reply
+    requires kept { IsKept (with_room plan.now room) words.old.items graph.old changed.old news.old.lists }
+    requires read { event_of word ≡ Some event.now }
+    requires named { word_of event.now ≡ word }
+    requires taken { IsTaken graph.old.state event.now }
+    requires place { length words.old.items < vec_capacity words.old }
+    requires free { length changed.old ≤ news.old.free }
+    requires more { 0 < news.old.more }
+    ensures kept { IsKept (with_room plan.now room) words.new.items graph.new changed.new news.new.lists }
+    ensures does { Does word (ledger_of (with_room plan.now room) words.old.items) result (ledger_of (with_room plan.now room) words.new.items) }
+    ensures told { (result, graph.new.state) ≡ answered graph.old.state event.now }
+    ensures one { length words.new.items ≡ length words.old.items + 1 }
+    ensures place { vec_capacity words.new ≡ vec_capacity words.old }
+    ensures free { news.old.free ≤ news.new.free + length changed.old }
+    ensures more { news.old.more ≤ news.new.more + 1 }
+    ensures flags { length changed.new ≡ length changed.old }
+{
+    // There is a state for each stage, before and after.
+    let _before = graph.stages();
+    let reply = graph.answer_telling(event, changed);
+    let _after = graph.stages();
+    words.push_reserved(word);
+    news.push(changed);
+    reply
+}
+
+/// Finishes a stage that the caller has claimed.
+pub(crate) fn finish(
+    plan: &Plan,
+    room: u16,
+    graph: &mut Graph,
+    words: &mut Vec<u64>,
+    changed: &mut BitSet,
+    news: &mut News,
+    who: u8,
+    held: Held,
+) -> Finish
+    requires kept { IsKept (with_room plan.now room) words.old.items graph.old changed.old news.old.lists }
+    requires caller { who ≤ 63 }
+    requires there { held.stage < length graph.old.state.plan.stages }
+    requires held { claim_at graph.old.state held.stage ≡ Some who }
+    requires place { length words.old.items < vec_capacity words.old }
+    requires free { length changed.old ≤ news.old.free }
+    requires more { 0 < news.old.more }
+    ensures kept { IsKept (with_room plan.now room) words.new.items graph.new changed.new news.new.lists }
+    ensures does { Finishes who (Some held) (ledger_of (with_room plan.now room) words.old.items) (Some result) (ledger_of (with_room plan.now room) words.new.items) }
+    ensures one { length words.new.items ≡ length words.old.items + 1 }
+    ensures place { vec_capacity words.new ≡ vec_capacity words.old }
+    ensures free { news.old.free ≤ news.new.free + length changed.old }
+    ensures more { news.old.more ≤ news.new.more + 1 }
+    ensures flags { length changed.new ≡ length changed.old }
+{
+    // No stage's number is above 4,095.
+    let _stages = graph.stages();
+    let event = Event::Finish {
+        who,
+        stage: held.stage,
+        answer: held.answer,
+    };
+    let word = encode(&event);
+    match write(plan, room, graph, words, changed, news, &event, word) {
+        Reply::Finish(Finished::Won) => Finish { late: false, word },
+        Reply::Finish(Finished::Late) => Finish { late: true, word },
+        _ => unreachable!(),
+    }
+}
+
+/// Claims the lowest ready stage from a number on, if there is one.
+pub(crate) fn take(
+    plan: &Plan,
+    room: u16,
+    graph: &mut Graph,
+    words: &mut Vec<u64>,
+    changed: &mut BitSet,
+    news: &mut News,
+    who: u8,
+    from: u16,
+) -> Option<Taken>
+    requires kept { IsKept (with_room plan.now room) words.old.items graph.old changed.old news.old.lists }
+    requires caller { who ≤ 63 }
+    requires place { length words.old.items < vec_capacity words.old }
+    requires free { length changed.old ≤ news.old.free }
+    requires more { 0 < news.old.more }
+    ensures kept { IsKept (with_room plan.now room) words.new.items graph.new changed.new news.new.lists }
+    ensures does { Takes who from (ledger_of (with_room plan.now room) words.old.items) result (ledger_of (with_room plan.now room) words.new.items) }
+{
+    // No stage's number is above 4,095.
+    let _stages = graph.stages();
+    let Some(stage) = graph.next_ready(from) else {
+        return None;
+    };
+    let function = graph.function(stage);
+    let event = Event::Claim { who, stage };
+    let word = encode(&event);
+    match write(plan, room, graph, words, changed, news, &event, word) {
+        Reply::Claim(Claimed::Granted(args)) => Some(Taken {
+            stage,
+            function,
+            args,
+            word,
+        }),
+        _ => unreachable!(),
+    }
+}
