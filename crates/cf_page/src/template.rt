@@ -77,7 +77,7 @@ pub(crate) const HEAD: &str = r##"<!doctype html>
   #events { contain: strict; list-style: none; margin: 0; padding: 0; overflow: auto; border-top: 1px solid var(--line) }
   #events li { padding: 2px 8px 2px 6px; border-left: 4px solid transparent; cursor: pointer; display: grid; grid-template-columns: 74px 1fr; gap: 0 8px }
   #events time { text-align: right; color: var(--soft); font-variant-numeric: tabular-nums; font-size: 12.5px; padding-top: 1px }
-  #events .later { color: var(--soft) } #events.long li { content-visibility: auto; contain-intrinsic-size: auto 46px }
+  #events .later { color: var(--soft) }
   #events .now { background: var(--running); border-left-color: var(--accent); color: var(--text) }
   #events .hit { box-shadow: inset -4px 0 0 var(--ready-s) }
   #events .miss { display: none }
@@ -223,15 +223,22 @@ const shape = form => form === "source" ? H / 2 : ["handle", "whenComplete", "ex
 const boxes = S.map((s, n) => {
   const g = make("g", {class: "stage", transform: `translate(${s[3]},${s[4]})`, tabindex: -1, role: "button", "data-n": n}, boxLayer);
   make("rect", {width: W, height: H, rx: shape(s[1])}, g);
+  return g;
+});
+const dressed = S.map(() => false);
+const dress = n => {
+  const s = S[n], g = boxes[n]; if (dressed[n]) return; dressed[n] = true;
   const pad = shape(s[1]) > 14 ? 14 : 8;
   make("text", {x: pad, y: 16, class: "name"}, g, cut(name(n), pad > 8 ? 17 : 19));
   make("text", {x: pad, y: 32, class: "glyph"}, g); make("text", {x: pad + 17, y: 32}, g);
   make("rect", {x: -4, y: -4, width: W + 8, height: H + 8, rx: shape(s[1]) + 4, class: "ring"}, g); make("text", {x: W / 2, y: 29, class: "big"}, g, n); make("text", {x: W / 2, y: 27, class: "wide"}, g, cut(name(n), 11)); make("title", {}, g);
-  return g;
-});
+  shown[n] = null; paint(n, place, new Set(glow));
+};
+const LARGE = S.length > 700;
+const dressAll = () => { if (LARGE && view.k < .2) return; const [w, h] = room(); S.forEach((s, n) => { const x = s[3] * view.k + view.x, y = s[4] * view.k + view.y; if (!dressed[n] && (!LARGE || (x > -300 && y > -200 && x < w + 200 && y < h + 200))) dress(n) }) };
 let view = {x: 0, y: 0, k: 1}, chosen = null, only = null, place = N, follow = true, playing = 0, hits = [], found = new Set();
-const draw = () => { world.setAttribute("transform", `translate(${view.x},${view.y}) scale(${view.k})`); boxLayer.setAttribute("class", view.k < .2 ? "far" : view.k < .4 ? "mid" : view.k < .62 ? "wide" : "") };
-let sized; const room = () => { if (!sized) { const r = plan.getBoundingClientRect(); sized = [r.width || 900, r.height || 500] } return sized };
+const draw = () => { world.setAttribute("transform", `translate(${view.x},${view.y}) scale(${view.k})`); boxLayer.setAttribute("class", view.k < .2 ? "far" : view.k < .4 ? "mid" : view.k < .62 ? "wide" : ""); if (ready) dressAll() };
+let ready = false, sized; const room = () => { if (!sized) { const r = plan.getBoundingClientRect(); sized = [r.width || 900, r.height || 500] } return sized };
 new ResizeObserver(() => { sized = null; if (fitted) fit() }).observe(plan);
 let fitted = true;
 const fit = () => { fitted = true; const [w, h] = room(), k = Math.min(1.25, (w - 40) / PW, (h - 70) / PH); view = {k, x: (w - PW * k) / 2, y: 50 + (h - 70 - PH * k) / 2}; draw() };
@@ -287,14 +294,22 @@ const lanes = () => {
 el("scale").onclick = () => { byTime = !byTime; lanes(); show() };
 
 // ---- The list ----
-const list = el("events"); if (N > 1500) list.classList.add("long");
-const items = E.map((e, k) => {
+const list = el("events"), items = [], MOST = 400; let from = 0, till = 0, listing = null;
+const item = k => {
+  if (items[k]) return items[k]; const e = E[k];
   const li = html("li", {onclick: () => { choose(e[1]); go(k + 1) }}, html("time", {textContent: D.timed ? time(e[5]) : k + 1}), html("span", {textContent: e[2]}));
   if (e[6]) li.append(html("small", {textContent: "⚠ " + e[6]}));
   e[4].forEach(([n, s, t]) => { if (s < 4 || (n !== e[1] && s === 4)) { const b = html("b", {textContent: GLYPHS[s] + " " + WORDS[s]}), small = html("small", {className: "s" + s}, n === e[1] ? "it is " : name(n) + ": ", b, s < 4 ? ", " + t : ""); li.append(small) } });
   if (e[3]) li.classList.add("vain");
-  return list.appendChild(li);
-});
+  return items[k] = mark(li, k);
+};
+const mark = (li, k) => { const c = li.classList; c.toggle("now", k === place - 1); c.toggle("later", k >= place); c.toggle("hit", !!hits.set && hits.set.has(k + 1)); k === place - 1 ? li.setAttribute("aria-current", "step") : li.removeAttribute("aria-current"); return li };
+// The part of the list round an event.
+const listRound = k => {
+  const all = listing || E, length = all.length, at = listing ? Math.max(0, listing.findIndex(p => p >= k)) : Math.max(0, k - 1);
+  from = Math.max(0, Math.min(at - MOST / 2, length - MOST)); till = Math.min(length, from + MOST);
+  const part = []; for (let m = from; m < till; m++) part.push(mark(item(listing ? listing[m] - 1 : m), listing ? listing[m] - 1 : m)); list.replaceChildren(...part);
+};
 
 // ---- The chosen stage ----
 const stageLink = n => html("button", {className: "link", textContent: name(n), onclick: () => { choose(n); reveal(n, true) }});
@@ -323,7 +338,7 @@ const about = () => {
 
 // ---- All of it, at a place ----
 let shown = [], listed = 0, first = true, counted = "", noted, painted = -1, stale = true, drawn = "", glow = [], chained = "", counts = WORDS.map(() => 0);
-const state = S.map(() => -1); items.forEach(li => li.classList.add("later"));
+const state = S.map(() => -1);
 const grows = new Set([...S.map(s => s[5]), ...D.edges.map(e => e[2])]); grows.delete(0);
 const paint = (n, k, changed) => {
   const s = S[n], now = s[5] <= k ? is(n, k) : null, c = now ? now[1] : 7, box = boxes[n], was = state[n], will = now ? c : -1;
@@ -331,8 +346,9 @@ const paint = (n, k, changed) => {
   const dim = (only !== null && c !== only) || (hits.query && !found.has(n));
   const cls = `stage s${c}${now ? "" : " absent"}${changed.has(n) ? " changed" : ""}${n === chosen ? " chosen" : ""}${chain.length > 1 && chain.includes(n) ? " cause" : ""}${dim ? " dim" : ""}`, text = now ? c < 4 ? now[2] : c === 7 || c === 6 ? now[2] || WORDS[c] : WORDS[c] : "";
   const key = cls + "|" + text; if (shown[n] === key) return; shown[n] = key;
-  box.setAttribute("class", cls); box.children[2].textContent = now ? GLYPHS[c] : ""; box.children[5].textContent = n + (now && c < 4 ? " " + GLYPHS[c] : ""); box.children[3].textContent = cut(text, s[1] === "source" ? 15 : 18);
-  const said = `${name(n)}, ${s[1]}, ${now ? WORDS[c] + (text && text !== WORDS[c] ? ": " + text : "") : "not there yet"}`; box.setAttribute("aria-label", said); box.lastChild.textContent = said;
+  const said = `${name(n)}, ${s[1]}, ${now ? WORDS[c] + (text && text !== WORDS[c] ? ": " + text : "") : "not there yet"}`; box.setAttribute("class", cls); box.setAttribute("aria-label", said); if (!dressed[n]) return;
+  box.children[2].textContent = now ? GLYPHS[c] : ""; box.children[5].textContent = n + (now && c < 4 ? " " + GLYPHS[c] : ""); box.children[3].textContent = cut(text, s[1] === "source" ? 15 : 18);
+  box.lastChild.textContent = said;
 };
 const show = () => {
   const k = place, e = k ? E[k - 1] : null, changed = new Set(e ? e[4].map(c => c[0]) : []);
@@ -344,8 +360,9 @@ const show = () => {
   const pairs = new Set(); for (let m = 1; m < chain.length; m++) pairs.add(chain[m] + ">" + chain[m - 1]);
   if (grown) edges.forEach(e => { const cls = "edge" + (e.place ? " isLink" : "") + (e.a === chosen || e.b === chosen ? " near" : "") + (pairs.has(e.a + ">" + e.b) ? " cause" : "") + (S[e.b][5] > k || e.place > k ? " gone" : ""); if (e.cls !== cls) e.path.setAttribute("class", e.cls = cls) });
   painted = k; stale = false; drawn = mood; glow = [...changed];
-  for (let n = Math.max(0, Math.min(k, listed) - 1); n < Math.min(N, Math.max(k, listed) + 1); n++) { const c = items[n].classList; c.toggle("now", n === k - 1); c.toggle("later", n >= k); n === k - 1 ? items[n].setAttribute("aria-current", "step") : items[n].removeAttribute("aria-current") }
-  if (listed === k && !first) ; else if (k) { const li = items[k - 1], t = li.offsetTop - list.offsetTop; if (t < list.scrollTop || t + li.offsetHeight > list.scrollTop + list.clientHeight) list.scrollTop = t - list.clientHeight / 2 } else list.scrollTop = 0;
+  const spot = listing ? listing.indexOf(k) : k - 1;
+  if (first || (k && spot >= 0 && (spot < from || spot >= till)) || Math.abs(k - listed) > MOST) listRound(k); else for (let n = Math.max(0, Math.min(k, listed) - 1); n < Math.min(N, Math.max(k, listed) + 1); n++) if (items[n]) mark(items[n], n);
+  if (listed !== k || first) { const li = k ? items[k - 1] : null; if (li && li.isConnected) { const t = li.offsetTop - list.offsetTop; if (t < list.scrollTop || t + li.offsetHeight > list.scrollTop + list.clientHeight) list.scrollTop = t - list.clientHeight / 2 } else if (!k) list.scrollTop = 0 }
   listed = k; first = false;
   el("at").value = k; el("at").setAttribute("aria-valuetext", e ? `${k} of ${N}: ${e[2]}` : "before the first event");
   el("where").textContent = `event ${k} of ${N}` + (D.timed ? ` · ${time(at(k))}` : "");
@@ -374,8 +391,7 @@ WORDS.forEach((w, s) => el("chips").append(html("button", {className: "chip s" +
 const search = () => {
   const q = el("q").value.trim().toLowerCase(); found = new Set(); hits = []; hits.query = q;
   if (q) { S.forEach((_, n) => { if (stageText[n].includes(q) || past[n].some(p => (WORDS[p[1]] + " " + p[2]).toLowerCase().includes(q) && p[1] < 4)) found.add(n) }); E.forEach((e, k) => { if (searched[k].includes(q)) hits.push(k + 1) }) }
-  const set = new Set(hits), hide = q && el("only").getAttribute("aria-pressed") === "true";
-  items.forEach((li, k) => { li.classList.toggle("hit", set.has(k + 1)); li.classList.toggle("miss", !!hide && !set.has(k + 1)) });
+  hits.set = new Set(hits); listing = q && el("only").getAttribute("aria-pressed") === "true" ? [...hits] : null; listRound(place);
   el("count").textContent = q ? `${hits.length} events, ${found.size} stages` : ""; show();
 };
 el("q").oninput = search; el("only").onclick = () => { const b = el("only"); b.setAttribute("aria-pressed", b.getAttribute("aria-pressed") !== "true"); search() };
@@ -419,7 +435,7 @@ const hash = k => +(location.hash.match(new RegExp(k + "=(\\d+)")) || [0, NaN])[
 place = clamp(isNaN(hash("event")) ? N : hash("event"), 0, N); chosen = hash("stage") < S.length ? hash("stage") : null;
 el("sum").textContent = `${S.length} stages, ${N} events` + (D.timed && N ? `, ${time(E[N - 1][5])}` : "");
 el("title").textContent = document.title = D.name; el("verdict").textContent = D.fits ? "✓ " + (D.verdict === "fits" ? "fits one graph" : D.verdict) : "✕ doesn't fit: " + D.verdict; el("verdict").className = D.fits ? "" : "not";
-lanes(); strip(); choose(chosen); fit(); if (chosen !== null && view.k < .58) reveal(chosen, true);
+fit(); lanes(); strip(); choose(chosen); ready = true; dressAll(); if (chosen !== null && view.k < .58) reveal(chosen, true);
 </script>
 </body>
 </html>
