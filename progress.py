@@ -20,11 +20,12 @@ PROOFS = {
     "cf_c": 831, "cf_core": 280, "cf_desk": 204, "cf_pool": 253, "cf_script": 175, "cf_reading": 247, "cf_plan": 217, "cf_bench": 615,
     "cf_stress": 534, "cf_refused": 419, "cf_event": 62, "cf_outcome": 85, "cf_explain": 376, "cf_plain": 122, "cf_look": 393,
     "cf_history": 110, "cf_example": 114, "cf": 126, "cf_command": 78, "cf_picture": 221, "cf_bits": 28, "cf_expr": 20, "cf_model": 57,
+    "cf_page": 240,
 }  # fmt: skip
 TESTS = {
     "cf_script_tests": 602, "cf_event": 160, "cf_plan_tests": 252, "cf_desk_tests": 539, "cf_outcome": 203,
     "cf_pool_tests": 576, "cf_core_tests": 418, "cf_plain_tests": 274, "cf": 97,
-    "cf_reading_tests": 189, "cf_bits": 88, "cf_look_tests": 424,
+    "cf_reading_tests": 189, "cf_bits": 88, "cf_look_tests": 424, "cf_page_tests": 200,
 }  # fmt: skip
 OF_TESTS = 9  # to prove a crate that holds tests alone
 CALLERS = 420  # seconds, for the library for C and its callers, once rt ci has ended

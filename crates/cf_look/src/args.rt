@@ -14,9 +14,22 @@ pub(crate) enum Look {
     Explain,
     /// A script, as a picture.
     Dot,
+    /// An account or a script, for a tool or a browser.
+    Show(Shape),
     /// Nothing: help was asked for, or the words are no command. What there is to say is said, and the program ends with
     /// this status.
     Nothing(u8),
+}
+
+/// How an account or a script is shown.
+#[derive(Clone, Copy)]
+pub(crate) enum Shape {
+    /// As a page, for a browser.
+    Page,
+    /// As a trace, for Chrome's viewer or Perfetto.
+    Trace,
+    /// As OpenTelemetry's spans.
+    Spans,
 }
 
 /// What the words ask for.
@@ -44,7 +57,15 @@ fn command_of<'a>(alloc: Global) -> Result<Command<'a>> {
         .arg_required_else_help(true);
     let one = none.subcommand(check)?;
     let two = one.subcommand(explain_command(alloc))?;
-    Ok(two.subcommand(dot_command(alloc))?)
+    let three = two.subcommand(dot_command(alloc))?;
+    shown_too(alloc, three)
+}
+
+/// These words, and those that show.
+fn shown_too<'a>(alloc: Global, others: Command<'a>) -> Result<Command<'a>> {
+    let trace = trace_command(alloc)?;
+    let four = others.subcommand(page_command(alloc))?;
+    Ok(four.subcommand(trace)?)
 }
 
 /// What the command takes the words for.
@@ -57,11 +78,18 @@ fn look_in(matches: &ArgMatches<'_>) -> Look {
     match matches.subcommand() {
         Some(("explain", _)) => Look::Explain,
         Some(("dot", _)) => Look::Dot,
+        Some(("page", _)) => Look::Show(Shape::Page),
+        Some(("trace", inner)) => Look::Show(shape_of(inner.get_flag("spans"))),
         Some((_, inner)) => Look::Check {
             lines: inner.get_flag("lines"),
         },
         None => Look::Check { lines: false },
     }
+}
+
+/// As what a trace is written.
+fn shape_of(spans: bool) -> Shape {
+    if spans { Shape::Spans } else { Shape::Trace }
 }
 
 /// Says what there is to say of words that are no command.
@@ -96,4 +124,23 @@ fn dot_command<'a>(alloc: Global) -> Command<'a> {
     Command::new(alloc, "dot").about(
         "Draw the plan of the script on standard input for Graphviz, with what becomes of each stage",
     )
+}
+
+/// `page`
+fn page_command<'a>(alloc: Global) -> Command<'a> {
+    Command::new(alloc, "page").about(
+        "Write a page on which the account or script on standard input can be seen, event by event",
+    )
+}
+
+/// `trace`
+fn trace_command<'a>(alloc: Global) -> Result<Command<'a>> {
+    let spans = Arg::new(alloc, "spans")
+        .long("spans")
+        .action(ArgAction::SetTrue)
+        .help("Write OpenTelemetry's spans in place of a trace for Chrome's viewer and Perfetto");
+    let trace = Command::new(alloc, "trace")
+        .about("Write the account or script on standard input as a trace, for tools that show one")
+        .arg(spans)?;
+    Ok(trace)
 }

@@ -10,24 +10,47 @@ use cf_reading::script_of;
 use serde_json::Value as Json;
 use std::alloc::Global;
 
+/// A history that was read, with the plan that it begins with and for how many stages more there is room.
+#[derive(Drop)]
+pub(crate) struct Account {
+    pub(crate) plan: Plan,
+    pub(crate) room: u16,
+    pub(crate) history: History,
+}
+
 /// The verdict on a history that is written in JSON.
 pub(crate) fn judge(alloc: Global, bytes: &[u8]) -> Result<Verdict> {
     let json = Json::from_slice(alloc, bytes).map_err(|_| anyhow!("no JSON"))?;
-    let (plan, room, count) = plan_of(alloc, &json)?;
+    let account = account_of(alloc, &json)?;
+    verdict_on(alloc, &account)
+}
+
+/// The history that a JSON value says.
+pub(crate) fn account_of(alloc: Global, json: &Json) -> Result<Account> {
+    let (plan, room, count) = plan_of(alloc, json)?;
     let functions = match json.get("functions") {
         None => count,
         Some(said) => number(said).ok_or_else(|| anyhow!("functions"))?,
     };
     let history = History {
         functions,
-        words: words_of(alloc, &json)?,
-        callers: callers_of(alloc, &json)?,
-        outcomes: outcomes_of(alloc, &json)?,
+        words: words_of(alloc, json)?,
+        callers: callers_of(alloc, json)?,
+        outcomes: outcomes_of(alloc, json)?,
     };
-    if plan.stages() as u32 + room as u32 > 4_096 || plan.edges() + 2 * room as u32 > 16_384 {
+    Ok(Account {
+        plan,
+        room,
+        history,
+    })
+}
+
+/// The verdict on it.
+pub(crate) fn verdict_on(alloc: Global, account: &Account) -> Result<Verdict> {
+    if !account.plan.has_place(account.room) {
         return Err(anyhow!("plan: room"));
     }
-    Ok(check(alloc, &plan, room, &history)?)
+    Ok(check(alloc, &account.plan, account.room, &account.history)?)
 }
 
 /// The plan, for how many stages it has room, and how many functions it brings.
@@ -53,7 +76,7 @@ fn words_of(alloc: Global, json: &Json) -> Result<Vec<u64>> {
 }
 
 /// A word of 64 bits: a number, or one in decimal in a string, since not every reader keeps a number above 2^53.
-fn word(json: &Json) -> Option<u64> {
+pub(crate) fn word(json: &Json) -> Option<u64> {
     match json.as_str() {
         Some(text) => text.parse().ok(),
         None => json.as_u64(),
@@ -136,7 +159,7 @@ fn number(json: &Json) -> Option<u32> {
     u32::try_from(json.as_i64()?).ok()
 }
 
-fn small(json: &Json) -> Option<u16> {
+pub(crate) fn small(json: &Json) -> Option<u16> {
     u16::try_from(json.as_i64()?).ok()
 }
 

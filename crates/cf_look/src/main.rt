@@ -13,24 +13,31 @@
 //! by the script's steps. It ends with status 0, or with 1 where `cf run` would refuse the script, for the fault whose line
 //! then is on standard error.
 //!
+//! `cf_look page` reads an account, which is a history and what it says for people, or a script, and writes a page for a browser
+//! on which its events can be gone through; `cf_look trace` writes the same as a trace. They end with status 0, or with 1 where
+//! what is there is neither, for what `cf_look explain` says of it on standard error; and then nothing else is written.
+//!
 //! All end with 2 where the words or what is on standard input can't be read, and where standard output can't be written or
-//! memory is refused, which a line on standard error tells. The verdicts are those of `cf_history`, `cf_explain` and
-//! `cf_picture`, which are proved; this program reads in and writes out.
+//! memory is refused, which a line on standard error tells. The verdicts are those of `cf_history`, `cf_explain`,
+//! `cf_picture` and `cf_page`, which are proved; this program reads in and writes out.
 #![tactic(auto)]
 
 ghost use Rattle.std.specs.Prelude.{◌≡◌, ◌≢◌};
 
 mod args;
 mod history;
+mod page;
+mod people;
 mod script;
 mod show;
 mod texts;
 
 use anyhow::Result;
-use args::{Look, read_words};
+use args::{Look, Shape, read_words};
 use cf_explain::Verdict as Said;
 use cf_history::Verdict;
 use history::judge;
+use page::{Known, read_in, text_of, write_refusal};
 use script::{draw, explain_script, script_in};
 use show::line_of;
 use std::process::ExitCode;
@@ -73,6 +80,7 @@ fn look<R: Env + Input + Print + Eprint + AllocGlobal>(rt: &R) -> Result<u8> {
         Look::Nothing(status) => Ok(status),
         Look::Explain => explain_one(rt),
         Look::Dot => draw_one(rt),
+        Look::Show(shape) => show_one(rt, shape),
         Look::Check { lines } => check_input(rt, lines),
     }
 }
@@ -110,6 +118,37 @@ fn draw_one<R: Input + Print + Eprint + AllocGlobal>(rt: &R) -> Result<u8> {
     } else {
         REFUSED
     })
+}
+
+/// Shows the account or the script on standard input: all of it, or nothing.
+fn show_one<R: Input + Print + Eprint + AllocGlobal>(rt: &R, shape: Shape) -> Result<u8> {
+    let Ok(input) = std::io::read_to_string(rt.alloc(), rt.reader()) else {
+        eprintln!(rt; "unreadable: standard input")?;
+        return Ok(UNREADABLE);
+    };
+    show_bytes(rt, shape, input.as_bytes())
+}
+
+/// Shows the account or the script of these bytes.
+fn show_bytes<R: Print + Eprint + AllocGlobal>(rt: &R, shape: Shape, bytes: &[u8]) -> Result<u8> {
+    let found = match read_in(rt.alloc(), bytes) {
+        Ok(found) => found,
+        Err(why) => {
+            eprintln!(rt; "unreadable: {why}")?;
+            return Ok(UNREADABLE);
+        }
+    };
+    match found {
+        Known::Refused(fault) => {
+            write_refusal(rt, bytes, fault)?;
+            Ok(REFUSED)
+        }
+        Known::Shown(shown) => {
+            let text = text_of(rt.alloc(), &shown, shape)?;
+            print!(rt; "{text}")?;
+            Ok(DRAWN)
+        }
+    }
 }
 
 /// Judges a history, and writes the line of its verdict.

@@ -1,0 +1,120 @@
+//! Pages, traces and spans of an account or a script.
+use crate::args::Shape;
+use crate::history::{account_of, verdict_on};
+use crate::people::{people_in, people_of};
+use crate::show::line_of;
+use anyhow::{Result, anyhow};
+use cf_explain::explain;
+use cf_history::Verdict;
+use cf_page::{People, page_of, scene_of, spans_of, trace_of, words_of};
+use cf_plan::Plan;
+use cf_reading::{ReadingFault, Script, read_script};
+use cf_script::ScriptFault;
+use serde_json::Value as Json;
+use std::alloc::{AllocError, Global};
+
+/// What is to be shown.
+#[derive(Drop)]
+pub(crate) struct Shown {
+    plan: Plan,
+    room: u16,
+    words: Vec<u64>,
+    people: People,
+}
+
+/// What is known of an input.
+#[derive(Drop)]
+pub(crate) enum Known {
+    /// It can be shown.
+    Shown(Shown),
+    /// It is neither an account nor a script, for which `cf run` has this fault.
+    Refused(ReadingFault),
+}
+
+/// The account or the script of these bytes.
+pub(crate) fn read_in(alloc: Global, bytes: &[u8]) -> Result<Known> {
+    match Json::from_slice(alloc, bytes) {
+        Ok(json) if json.get("plan").is_some() => Ok(Known::Shown(shown_account(alloc, &json)?)),
+        Ok(json) => read_in_script(alloc, bytes, Some(&json)),
+        Err(_) => read_in_script(alloc, bytes, None),
+    }
+}
+
+/// An account with its verdict.
+fn shown_account(alloc: Global, json: &Json) -> Result<Shown> {
+    let account = account_of(alloc, json)?;
+    let mut people = people_of(alloc, json, &account)?;
+    let verdict = verdict_on(alloc, &account)?;
+    people.fits = verdict == Verdict::Fits;
+    people.verdict = line_of(alloc, verdict)?;
+    Ok(Shown {
+        plan: account.plan,
+        room: account.room,
+        words: account.history.words,
+        people,
+    })
+}
+
+/// The script of these bytes.
+fn read_in_script(alloc: Global, bytes: &[u8], json: Option<&Json>) -> Result<Known> {
+    match read_script(alloc, bytes) {
+        Ok(script) => {
+            let people = match json {
+                Some(json) => people_in(alloc, json)?,
+                None => People::new(alloc),
+            };
+            Ok(Known::Shown(shown_script(alloc, script, people)?))
+        }
+        Err(ReadingFault::NoMemory) => Err(AllocError.into()),
+        Err(fault) => Ok(Known::Refused(fault)),
+    }
+}
+
+/// A script with the events that its run makes.
+fn shown_script(alloc: Global, script: Script, people: People) -> Result<Shown> {
+    let mut people = people;
+    people.verdict = String::from_str(alloc, "a run of this script")?;
+    let (plan, room, functions, steps) = script.into_parts();
+    if !plan.has_place(room) {
+        return Err(anyhow!("plan: room"));
+    }
+    let words = words_of(alloc, &plan, room, &functions, &steps)?;
+    Ok(Shown {
+        plan,
+        room,
+        words,
+        people,
+    })
+}
+
+/// The text that shows it.
+pub(crate) fn text_of(alloc: Global, shown: &Shown, shape: Shape) -> Result<String> {
+    if !shown.plan.has_place(shown.room) {
+        return Err(anyhow!("plan: room"));
+    }
+    let people = &shown.people;
+    let scene = scene_of(alloc, &shown.plan, shown.room, &shown.words, people)?;
+    let text = match shape {
+        Shape::Page => page_of(alloc, &scene, people)?,
+        Shape::Trace => trace_of(alloc, &scene, people)?,
+        Shape::Spans => spans_of(alloc, &scene, people, &shown.words)?,
+    };
+    Ok(text)
+}
+
+/// Writes to standard error why these bytes are no script, and where.
+pub(crate) fn write_refusal<R: Eprint + AllocGlobal>(
+    rt: &R,
+    bytes: &[u8],
+    fault: ReadingFault,
+) -> Result<()> {
+    eprintln!(rt; "{}", ScriptFault::from(fault))?;
+    let said = explain(rt.alloc(), bytes)?;
+    if let Some(refusal) = &said.refusal {
+        eprintln!(rt; "{refusal}")?;
+    }
+    for remark in &said.remarks {
+        eprintln!(rt; "{remark}")?;
+    }
+    Ok(())
+}

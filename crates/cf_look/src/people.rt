@@ -1,0 +1,202 @@
+//! What an account or a script says for people alone.
+use crate::history::Account;
+use anyhow::{Result, anyhow};
+use cf_history::{Caller, Record};
+use cf_model::Reply;
+use cf_page::People;
+use serde_json::Value as Json;
+use std::alloc::Global;
+
+/// A stage's name has at most so many characters.
+const LONGEST: usize = 64;
+
+/// What an account says for people.
+pub(crate) fn people_of(alloc: Global, json: &Json, account: &Account) -> Result<People> {
+    let mut people = People::new(alloc);
+    let plan = json.get("plan").and_then(|plan| plan.get("stages"));
+    people.name = title_of(alloc, json, "a history")?;
+    people.names = names_of(alloc, json.get("names"), plan)?;
+    people.times = times_of(alloc, json.get("times"))?;
+    people.lanes = texts_of(alloc, json.get("lanes"), "lanes")?;
+    people.values = texts_of(alloc, json.get("values"), "values")?;
+    people.errors = texts_of(alloc, json.get("errors"), "errors")?;
+    people.relays = relays_of(alloc, json.get("relays"))?;
+    people.replies = replies_of(alloc, account)?;
+    Ok(people)
+}
+
+/// What a script says for people: names of its stages, in them or in a list.
+pub(crate) fn people_in(alloc: Global, json: &Json) -> Result<People> {
+    let mut people = People::new(alloc);
+    people.name = title_of(alloc, json, "a script")?;
+    people.names = names_of(alloc, json.get("names"), json.get("stages"))?;
+    add_attached(alloc, &mut people.names, json)?;
+    Ok(people)
+}
+
+/// The name of the whole.
+fn title_of(alloc: Global, json: &Json, none: &str) -> Result<String> {
+    match json.get("name") {
+        None => Ok(String::from_str(alloc, none)?),
+        Some(said) => {
+            let text = said
+                .as_str()
+                .ok_or_else(|| anyhow!("name: has to be a text"))?;
+            Ok(String::from_str(alloc, text)?)
+        }
+    }
+}
+
+/// The names of stages: those of the list, and else those that the stages of a plan have in them.
+fn names_of(alloc: Global, listed: Option<&Json>, stages: Option<&Json>) -> Result<Vec<String>> {
+    let mut names = Vec::new(alloc);
+    for (k, stage) in items(stages).iter().enumerate() {
+        let name = short(stage.get("name"));
+        let name = name.ok_or_else(|| anyhow!(
+            "stages[{k}].name: has to be a text of at most 64 characters"
+        ))?;
+        names.push(String::from_str(alloc, name)?)?;
+    }
+    let Some(said) = listed else {
+        return Ok(names);
+    };
+    let list = said
+        .as_array()
+        .ok_or_else(|| anyhow!("names: has to be an array"))?;
+    for (k, said) in list.iter().enumerate() {
+        let name = short(Some(said));
+        let name = name.ok_or_else(|| anyhow!(
+            "names[{k}]: has to be a text of at most 64 characters"
+        ))?;
+        put(alloc, &mut names, k, name)?;
+    }
+    Ok(names)
+}
+
+/// Puts a name in its place, or behind the others.
+fn put(alloc: Global, names: &mut Vec<String>, k: usize, name: &str) -> Result<()> {
+    let text = String::from_str(alloc, name)?;
+    if k >= names.len() {
+        names.push(text)?;
+        return Ok(());
+    }
+    if name.is_empty() {
+        return Ok(());
+    }
+    if let Some(held) = names.get_mut(k) {
+        *held = text;
+    }
+    Ok(())
+}
+
+/// A name: what isn't said is empty, what is none or too long isn't there.
+fn short(said: Option<&Json>) -> Option<&str> {
+    let Some(json) = said else {
+        return Some("");
+    };
+    let text = json.as_str()?;
+    if text.chars().count() > LONGEST {
+        return None;
+    }
+    Some(text)
+}
+
+/// The elements of an array, none of what is no array.
+fn items(said: Option<&Json>) -> &[Json] {
+    match said.and_then(Json::as_array) {
+        Some(list) => list.as_slice(),
+        None => &[],
+    }
+}
+
+/// Adds the names that attached stages have in them.
+fn add_attached(alloc: Global, names: &mut Vec<String>, json: &Json) -> Result<()> {
+    for (k, step) in items(json.get("steps")).iter().enumerate() {
+        if step.get(0usize).and_then(Json::as_str) == Some("attach") {
+            let name = short(step.get(1usize).and_then(|stage| stage.get("name")));
+            let name = name.ok_or_else(|| anyhow!(
+                "steps[{k}][1].name: has to be a text of at most 64 characters"
+            ))?;
+            names.push(String::from_str(alloc, name)?)?;
+        }
+    }
+    Ok(())
+}
+
+/// A list of texts.
+fn texts_of(alloc: Global, said: Option<&Json>, member: &str) -> Result<Vec<String>> {
+    let mut texts = Vec::new(alloc);
+    let Some(said) = said else {
+        return Ok(texts);
+    };
+    let list = said
+        .as_array()
+        .ok_or_else(|| anyhow!("{member}: has to be an array"))?;
+    for (k, said) in list.iter().enumerate() {
+        let text = said
+            .as_str()
+            .ok_or_else(|| anyhow!("{member}[{k}]: has to be a text"))?;
+        texts.push(String::from_str(alloc, text)?)?;
+    }
+    Ok(texts)
+}
+
+/// The times of events, in nanoseconds.
+fn times_of(alloc: Global, said: Option<&Json>) -> Result<Vec<u64>> {
+    let mut times = Vec::new(alloc);
+    let Some(said) = said else {
+        return Ok(times);
+    };
+    let list = said
+        .as_array()
+        .ok_or_else(|| anyhow!("times: has to be an array"))?;
+    for (k, said) in list.iter().enumerate() {
+        let time = crate::history::word(said);
+        times.push(time.ok_or_else(|| anyhow!("times[{k}]: has to be a whole number"))?)?;
+    }
+    Ok(times)
+}
+
+/// Pairs of a stage and the higher one for which it stands in.
+fn relays_of(alloc: Global, said: Option<&Json>) -> Result<Vec<(u16, u16)>> {
+    let mut relays = Vec::new(alloc);
+    let Some(said) = said else {
+        return Ok(relays);
+    };
+    let list = said
+        .as_array()
+        .ok_or_else(|| anyhow!("relays: has to be an array"))?;
+    for (k, said) in list.iter().enumerate() {
+        let pair = pair(said);
+        relays.push(pair.ok_or_else(|| anyhow!("relays[{k}]: has to be two stages"))?)?;
+    }
+    Ok(relays)
+}
+
+fn pair(json: &Json) -> Option<(u16, u16)> {
+    let stage = crate::history::small(json.get(0usize)?)?;
+    let to = crate::history::small(json.get(1usize)?)?;
+    Some((stage, to))
+}
+
+/// What the records say that each event was answered.
+fn replies_of(alloc: Global, account: &Account) -> Result<Vec<Option<Reply>>> {
+    let mut replies = Vec::new(alloc);
+    for _ in account.history.words.iter() {
+        replies.push(None)?;
+    }
+    for caller in account.history.callers.iter() {
+        add_replies(&mut replies, caller);
+    }
+    Ok(replies)
+}
+
+fn add_replies(replies: &mut Vec<Option<Reply>>, caller: &Caller) {
+    for record in caller.records.iter() {
+        if let Record::Did { place, reply, .. } = *record {
+            if let Some(held) = replies.get_mut(place.wrapping_sub(1)) {
+                *held = Some(reply);
+            }
+        }
+    }
+}

@@ -1,0 +1,55 @@
+//! What an account says for people alone.
+use cf_model::Reply;
+use std::alloc::Global;
+
+/// What an account says for people alone. Each list may be shorter than what it is of, or empty.
+#[derive(Drop)]
+pub struct People {
+    /// What the account is of.
+    pub name: String,
+    /// The verdict on it, in words.
+    pub verdict: String,
+    /// Whether the verdict is that it fits.
+    pub fits: bool,
+    /// A name for each stage; an empty one is none.
+    pub names: Vec<String>,
+    /// When each event was done, in nanoseconds; of any beginning.
+    pub times: Vec<u64>,
+    /// A name for each caller.
+    pub lanes: Vec<String>,
+    /// What the value n stands for.
+    pub values: Vec<String>,
+    /// What the thrown code n stands for.
+    pub errors: Vec<String>,
+    /// A stage, and the higher one for which it stands in.
+    pub relays: Vec<(u16, u16)>,
+    /// What the account says that each event was answered.
+    pub replies: Vec<Option<Reply>>,
+}
+
+impl People {
+    /// Of an account that says nothing.
+    pub fn new(alloc: Global) -> People {
+        People {
+            name: String::new(alloc),
+            verdict: String::new(alloc),
+            fits: true,
+            names: Vec::new(alloc),
+            times: Vec::new(alloc),
+            lanes: Vec::new(alloc),
+            values: Vec::new(alloc),
+            errors: Vec::new(alloc),
+            relays: Vec::new(alloc),
+            replies: Vec::new(alloc),
+        }
+    }
+
+    /// How long after the first event the one behind `k` others was done, in nanoseconds, if each has a time.
+    pub(crate) fn since(&self, count: usize, k: usize) -> Option<u64> {
+        if self.times.len() != count {
+            return None;
+        }
+        let first = *self.times.first()?;
+        Some(self.times.get(k)?.saturating_sub(first))
+    }
+}

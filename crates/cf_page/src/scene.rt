@@ -1,0 +1,277 @@
+//! A scene: the events of a history done again, and told.
+ghost use Rattle.std.specs.Prelude.{◌≡◌, true};
+ghost use Rattle.cf_plan.specs.Plans.{has_place};
+
+use crate::changes::write_change;
+use crate::layout::{Size, lay_out};
+use crate::noting::Notes;
+use crate::people::People;
+use crate::saying::write_event;
+use cf_event::decode;
+use cf_ledger::{Ledger, LedgerFault};
+use cf_model::{Attached, Claimed, Event, Finished, Reply, Stage, Ticked};
+use cf_plan::Plan;
+use cf_script::write_reply;
+use std::alloc::{AllocError, Global};
+
+/// A history done again.
+#[derive(Drop)]
+pub struct Scene {
+    pub(crate) plan: Plan,
+    pub(crate) notes: Notes,
+    /// What has become of each stage before the first event, as JSON.
+    pub(crate) start: String,
+    /// The events as JSON.
+    pub(crate) events: String,
+    /// How many events there are, and what each is: whose, of which stage.
+    pub(crate) calls: Vec<Event>,
+    pub(crate) size: Size,
+}
+
+/// The scene of a plan with room for so many stages more, and of the words of its events, up to the first that no graph takes.
+/// It fails only where there is no memory.
+pub fn scene_of(
+    alloc: Global,
+    plan: &Plan,
+    room: u16,
+    words: &[u64],
+    people: &People,
+) -> Result<Scene, AllocError>
+    requires place { has_place plan.now.stages room ≡ true }
+{
+    let ledger = Ledger::new(alloc, plan, room);
+    let Ok(ledger) = ledger else {
+        return Err(AllocError);
+    };
+    let Ok(plan) = plan.copy() else {
+        return Err(AllocError);
+    };
+    let notes = Notes::new(alloc, &plan)?;
+    let scene = Scene {
+        plan,
+        notes,
+        start: String::new(alloc),
+        events: String::new(alloc),
+        calls: Vec::new(alloc),
+        size: Size {
+            width: 0,
+            height: 0,
+        },
+    };
+    told(alloc, scene, ledger, words, people)
+}
+
+/// The scene once its events are done and told, and its stages laid out.
+fn told(
+    alloc: Global,
+    scene: Scene,
+    ledger: Ledger,
+    words: &[u64],
+    people: &People,
+) -> Result<Scene, AllocError> {
+    let mut scene = scene;
+    let mut ledger = ledger;
+    scene.tell_start(&mut ledger, people)?;
+    scene.tell_all(alloc, &mut ledger, words, people)?;
+    for (stage, to) in people.relays.iter() {
+        scene.notes.relay(*stage, *to);
+    }
+    scene.size = lay_out(alloc, &mut scene.notes)?;
+    Ok(scene)
+}
+
+impl Scene {
+    /// Tells what has become of each stage before the first event.
+    fn tell_start(&mut self, ledger: &mut Ledger, people: &People) -> Result<(), AllocError> {
+        for i in 0..ledger.stages() {
+            let stage = stage_of(ledger, i);
+            if let Stage::Settled(outcome) = stage {
+                self.notes.settle(i, outcome, 0);
+            }
+            if i > 0 {
+                self.start.push(',')?;
+            }
+            write_change(&mut self.start, &self.notes, people, i, stage)?;
+        }
+        Ok(())
+    }
+
+    /// Does the words, and tells each.
+    fn tell_all(
+        &mut self,
+        alloc: Global,
+        ledger: &mut Ledger,
+        words: &[u64],
+        people: &People,
+    ) -> Result<(), AllocError> {
+        for word in words {
+            let Some(event) = decode(*word) else {
+                return Ok(());
+            };
+            match ledger.apply(*word) {
+                Ok(reply) => self.tell(alloc, ledger, event, reply, people)?,
+                Err(LedgerFault::NoRoom) => {
+                    let full = Reply::Attach(Attached::StagesFull);
+                    self.tell_alone(alloc, event, full, people)?
+                }
+                Err(LedgerFault::NoMemory) => return Err(AllocError),
+                Err(_) => return Ok(()),
+            }
+        }
+        Ok(())
+    }
+
+    /// Tells an event that was done, with the stages that it changed.
+    fn tell(
+        &mut self,
+        alloc: Global,
+        ledger: &mut Ledger,
+        event: Event,
+        reply: Reply,
+        people: &People,
+    ) -> Result<(), AllocError> {
+        let news = news_of(alloc, ledger, reply)?;
+        self.begin(alloc, event, reply, people)?;
+        for (k, i) in news.iter().enumerate() {
+            if k > 0 {
+                self.events.push(',')?;
+            }
+            self.tell_change(ledger, *i, people)?;
+        }
+        self.end(event, reply, people)
+    }
+
+    /// Tells an event that changed nothing, since there was no room.
+    fn tell_alone(
+        &mut self,
+        alloc: Global,
+        event: Event,
+        reply: Reply,
+        people: &People,
+    ) -> Result<(), AllocError> {
+        self.begin(alloc, event, reply, people)?;
+        self.end(event, reply, people)
+    }
+
+    /// Tells what an event made of a stage.
+    fn tell_change(
+        &mut self,
+        ledger: &mut Ledger,
+        i: u16,
+        people: &People,
+    ) -> Result<(), AllocError> {
+        let stage = stage_of(ledger, i);
+        if let Stage::Settled(outcome) = stage {
+            self.notes.settle(i, outcome, self.calls.len());
+        }
+        write_change(&mut self.events, &self.notes, people, i, stage)
+    }
+
+    /// Notes an event, and tells what stands before its changes: who, of which stage, in words, whether it was in vain.
+    fn begin(
+        &mut self,
+        alloc: Global,
+        event: Event,
+        reply: Reply,
+        people: &People,
+    ) -> Result<(), AllocError> {
+        self.calls.push(event)?;
+        self.notes.note(alloc, self.calls.len(), event, reply)?;
+        if self.calls.len() > 1 {
+            self.events.push(',')?;
+        }
+        write!(self.events, "\n[{},", event.who())?;
+        match stage_named(event, reply) {
+            Some(i) => write!(self.events, "{i},\"")?,
+            None => write!(self.events, "null,\"")?,
+        }
+        write_event(&mut self.events, &self.notes, people, event, reply)?;
+        write!(self.events, "\",{},[", u8::from(is_vain(reply)))
+    }
+
+    /// Tells what stands behind an event's changes: its time, what the account says otherwise, whether it is a claim or a
+    /// finish.
+    fn end(&mut self, event: Event, reply: Reply, people: &People) -> Result<(), AllocError> {
+        let place = self.calls.len();
+        match people.since(people.times.len(), place.saturating_sub(1)) {
+            Some(nanoseconds) => write!(self.events, "],{},", nanoseconds / 1_000)?,
+            None => write!(self.events, "],null,")?,
+        }
+        write_difference(&mut self.events, place, reply, people)?;
+        let is_run = matches!(event, Event::Claim { .. } | Event::Finish { .. });
+        write!(self.events, ",{}]", u8::from(is_run))
+    }
+}
+
+/// Adds what the account says otherwise of the event at a place than the graph, or `null`.
+fn write_difference(
+    out: &mut String,
+    place: usize,
+    reply: Reply,
+    people: &People,
+) -> Result<(), AllocError> {
+    match people.replies.get(place.saturating_sub(1)) {
+        Some(Some(said)) if *said != reply => {
+            write!(out, "\"the account says: ")?;
+            write_reply(out, *said)?;
+            write!(out, "; the graph: ")?;
+            write_reply(out, reply)?;
+            write!(out, "\"")
+        }
+        _ => write!(out, "null"),
+    }
+}
+
+/// The stage that an event names or attaches.
+fn stage_named(event: Event, reply: Reply) -> Option<u16> {
+    match event {
+        Event::Complete { stage, .. }
+        | Event::Fail { stage, .. }
+        | Event::Cancel { stage, .. }
+        | Event::Claim { stage, .. }
+        | Event::Finish { stage, .. } => Some(stage),
+        Event::Tick { .. } => None,
+        Event::Attach { .. } => match reply {
+            Reply::Attach(Attached::At(i)) => Some(i),
+            _ => None,
+        },
+    }
+}
+
+/// Whether an event came too late or too early, so that it changed nothing.
+fn is_vain(reply: Reply) -> bool {
+    !matches!(
+        reply,
+        Reply::Flag(true)
+            | Reply::Claim(Claimed::Granted(_))
+            | Reply::Finish(Finished::Won)
+            | Reply::Tick(Ticked::Fired(_))
+            | Reply::Attach(Attached::At(_))
+    )
+}
+
+/// The stages that the last event changed, and the one that it attached.
+fn news_of(alloc: Global, ledger: &Ledger, reply: Reply) -> Result<Vec<u16>, AllocError> {
+    let mut news = Vec::new(alloc);
+    let count = ledger.len();
+    if count > 0 {
+        for i in ledger.news(count - 1) {
+            news.push(*i)?;
+        }
+    }
+    if let Reply::Attach(Attached::At(i)) = reply {
+        if !news.contains(&i) {
+            news.push(i)?;
+        }
+    }
+    Ok(news)
+}
+
+/// A stage's state by now; one that isn't there is pending.
+fn stage_of(ledger: &mut Ledger, i: u16) -> Stage {
+    if i < ledger.stages() {
+        ledger.stage(i)
+    } else {
+        Stage::Pending
+    }
+}

@@ -1,0 +1,105 @@
+//! A script as a history.
+ghost use Rattle.std.specs.Prelude.{◌≡◌, true};
+ghost use Rattle.cf_plan.specs.Plans.{has_place};
+
+use cf_event::{encode, is_event};
+use cf_ledger::{Ledger, LedgerFault};
+use cf_model::{Claimed, Event, Reply};
+use cf_plan::{Plan, StageFn};
+use cf_reading::{Func, Step};
+use cf_script::WORKER;
+use std::alloc::{AllocError, Global};
+
+/// A plan has at most so many stages, of which each is claimed once.
+const MOST: u32 = 4_096;
+
+/// The words of the events that a script's steps are: each that changes something, and the claims and finishes of its work.
+/// It fails only where there is no memory.
+pub fn words_of(
+    alloc: Global,
+    plan: &Plan,
+    room: u16,
+    functions: &[Func],
+    steps: &[Step],
+) -> Result<Vec<u64>, AllocError>
+    requires place { has_place plan.now.stages room ≡ true }
+{
+    let Ok(ledger) = Ledger::new(alloc, plan, room) else {
+        return Err(AllocError);
+    };
+    let mut ledger = ledger;
+    let mut words = Vec::new(alloc);
+    for step in steps {
+        match *step {
+            Step::Does(event) => {
+                do_one(&mut ledger, &mut words, event)?;
+            }
+            Step::Work => work(&mut ledger, &mut words, functions)?,
+            Step::Asks(_) | Step::Nudge(_) => {}
+        }
+    }
+    Ok(words)
+}
+
+/// Does an event, and writes its word.
+fn do_one(
+    ledger: &mut Ledger,
+    words: &mut Vec<u64>,
+    event: Event,
+) -> Result<Option<Reply>, AllocError> {
+    if !is_event(&event) {
+        return Ok(None);
+    }
+    let word = encode(&event);
+    match ledger.apply(word) {
+        Ok(reply) => {
+            words.push(word)?;
+            Ok(Some(reply))
+        }
+        Err(LedgerFault::NoRoom) => {
+            words.push(word)?;
+            Ok(None)
+        }
+        Err(LedgerFault::NoMemory) => Err(AllocError),
+        Err(_) => Ok(None),
+    }
+}
+
+/// Claims, calls and finishes the lowest ready stage, while there is one.
+fn work(ledger: &mut Ledger, words: &mut Vec<u64>, functions: &[Func]) -> Result<(), AllocError> {
+    for _ in 0..MOST {
+        let Some(stage) = ledger.next_ready(0) else {
+            return Ok(());
+        };
+        work_one(ledger, words, functions, stage)?;
+    }
+    Ok(())
+}
+
+/// Claims a stage, calls its function, and hands in the answer.
+fn work_one(
+    ledger: &mut Ledger,
+    words: &mut Vec<u64>,
+    functions: &[Func],
+    stage: u16,
+) -> Result<(), AllocError> {
+    let who = WORKER;
+    let claimed = do_one(ledger, words, Event::Claim { who, stage })?;
+    let Some(function) = function_of(ledger, functions, stage) else {
+        return Ok(());
+    };
+    if let Some(Reply::Claim(Claimed::Granted(args))) = claimed {
+        let answer = function.call(&args);
+        do_one(ledger, words, Event::Finish { who, stage, answer })?;
+    }
+    Ok(())
+}
+
+/// The function of a stage.
+fn function_of(ledger: &Ledger, functions: &[Func], stage: u16) -> Option<Func> {
+    if stage >= ledger.stages() {
+        return None;
+    }
+    let number = ledger.function(stage)?;
+    functions.get(number as usize).copied()
+}
