@@ -6,6 +6,8 @@
  *   per request ..    a graph that is there restarted, its source completed, and settled: the lowest ready stage asked for, claimed and
  *                     finished, a call each; by cf_next; by cf_work, which calls the function. The product does it by one call of
  *                     work. An allOf is settled by the completions of its sources. A stage
+ *   ledger ..         a ledger that is there started again, its source completed, and settled: the next ready stage asked for, claimed and
+ *                     finished by a word each; by cf_ledger_step; or its row of words done again by one call. A stage
  *   desk chain        a chain on a new desk settled by its one caller: ready, claim and finish; a stage
  *   desk 1            a desk of one caller opened of a plan that is there, its chain of 16 settled so, and closed; all of it
  *   race 1            a stage of 4,095 completed by a desk's one caller */
@@ -110,6 +112,75 @@ static void time_all_of(void) {
   cf_free(&plan);
 }
 
+/* ---- Ledgers ---- */
+
+enum { LEDGER_WAYS = 3, MOST_WORDS = 2 * STAGES };
+
+static uint64_t word_of(cf_event event) {
+  uint64_t word = 0;
+  event.who = ME;
+  MUST(cf_word_of_event(&event, &word));
+  return word;
+}
+
+static void apply(cf_handle *ledger, cf_event event, cf_reply *reply) {
+  cf_news news[4];
+  size_t n;
+  MUST(cf_ledger_apply(ledger, word_of(event), reply, news, 4, &n));
+}
+
+static void by_words(cf_handle *ledger) {
+  cf_reply reply = {0};
+  uint16_t stage = 0;
+  while (cf_ledger_ready(ledger, stage, &stage) == CF_OK) {
+    apply(ledger, (cf_event){.call = CF_CALL_CLAIM, .stage = stage}, &reply);
+    apply(ledger, (cf_event){.call = CF_CALL_FINISH, .stage = stage, .answer = answer(&reply.args)}, &reply);
+  }
+  must_be(reply.answer == CF_WON, "a finish");
+}
+
+static void by_ledger_step(cf_handle *ledger) {
+  cf_step step = {.who = ME};
+  cf_task task = {0};
+  cf_news news[4];
+  size_t n;
+  while (cf_ledger_step(ledger, &step, &task, news, 4, &n) == CF_OK) {
+    step.from = task.stage;
+    task.answer = answer(&task.args);
+  }
+  must_be(!task.held && task.finished == CF_WON, "a finish");
+}
+
+static struct times ledger_chain[LEDGER_WAYS] = {{.name = "ledger chain 512"}, {.name = "ledger chain 512, by cf_ledger_step"},
+                                                 {.name = "ledger chain 512, by cf_ledger_apply_all"}};
+
+/* The ways in turn; the last does the words that the first has written. */
+static void time_ledgers(void) {
+  static uint64_t words[MOST_WORDS];
+  cf_handle plan = plan_of(CHAIN, STAGES), ledger = {0};
+  size_t n = 0, done = 0;
+  MUST(cf_ledger_new(&plan, 0, &ledger));
+  for (int i = 0; i < LEDGER_WAYS * ROUNDS; i++) {
+    cf_reply reply;
+    cf_stage last;
+    uint64_t since = moment();
+    MUST(cf_ledger_restart(&ledger));
+    if (i % LEDGER_WAYS == 2) {
+      MUST(cf_ledger_apply_all(&ledger, words, n, &done));
+    } else {
+      apply(&ledger, (cf_event){.call = CF_CALL_COMPLETE, .value = number(1)}, &reply);
+      (i % LEDGER_WAYS == 0 ? by_words : by_ledger_step)(&ledger);
+    }
+    add(&ledger_chain[i % LEDGER_WAYS], since);
+    MUST(cf_ledger_stage(&ledger, STAGES - 1, &last));
+    must_be(last.kind == CF_IS_SETTLED && last.outcome.value.number == STAGES, "a ledger's last stage");
+    MUST(cf_ledger_words(&ledger, 0, words, MOST_WORDS, &n));
+    must_be(n == 2 * STAGES - 1, "the words of a ledger");
+  }
+  cf_free(&ledger);
+  cf_free(&plan);
+}
+
 /* ---- Desks ---- */
 
 static struct times desk_chain = {.name = "desk chain 512"}, small = {.name = "desk 1"}, race = {.name = "race 1"};
@@ -182,6 +253,7 @@ int main(void) {
   time_ways(CHAIN, chain);
   time_ways(FAN_OUT, fan_out);
   time_all_of();
+  time_ledgers();
   time_rounds(time_desk_chain, CHAIN, STAGES, ROUNDS);
   time_rounds(time_small, CHAIN, SMALL, SMALL_ROUNDS);
   time_rounds(time_race, SOURCES, RACED, ROUNDS);
@@ -190,6 +262,7 @@ int main(void) {
   show_all(chain, WAYS, STAGES);
   show_all(fan_out, WAYS, STAGES);
   show(&all_of, STAGES);
+  show_all(ledger_chain, LEDGER_WAYS, STAGES);
   show(&desk_chain, STAGES);
   show(&small, 1);
   show(&race, RACED);

@@ -1,7 +1,9 @@
-"""Random ledgers of the module in clients/python beside conformance/model.py: replies, news, words, and that these make them again."""
+"""Random ledgers of the module in clients/python beside conformance/model.py: replies, news, words, and that these make them again. Then
+ledger_steps.py does steps of the same plan."""
 import random
 
 import histories
+import ledger_steps
 import model
 from module import cf, compare, outcome_of, plain, reply_of, told_or_refused
 
@@ -94,3 +96,4 @@ def run(seed, script, sizes, plan, calls_of, refusal, seen):
     wrong = rng.choice(NO_WORDS)
     compare("a word that is none", misfit_of(plan, words[:place] + [wrong] + words[place:], room), (place, "NO_WORD"))
     ledger.close()
+    ledger_steps.run(rng, script, sizes, plan, NO_WORDS, seen, compare_all)

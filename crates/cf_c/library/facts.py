@@ -2,7 +2,7 @@
 """Writes what the library tells of itself, by cf.h.
 
     facts.py HEADER              in C: its version, the names of codes, the sizes of structs and the offsets of their fields
-    facts.py --version HEADER    the version, as 1.0.0
+    facts.py --version HEADER    the version, as 1.1.0
     facts.py --script HEADER     for the linker: what the shared library exports, each call with the version in which it came
 
 The header is the only table: a code is named by its constant, CF_NO_STAGE as NoStage, and the compiler says sizes and offsets.
