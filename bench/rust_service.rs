@@ -331,10 +331,27 @@ fn bytes() {
     }
 }
 
+/// The library's part of it: a ledger with the same words.
+fn bytes_of_ledger(plan: &mut cf_graph::Plan) {
+    let before = in_use();
+    let mut ledger = cf_graph::Ledger::new(plan, STAGES as u16).expect("a ledger");
+    let mut act = |word: u64| assert!(ledger.apply(word).is_ok());
+    act(7 << 56);
+    (1..STAGES as u64).for_each(|k| act(7 << 56 | 1 << 32 | 3 << 24 | k));
+    act(1 << 56 | 1 << 32);
+    for k in 1..STAGES as u64 {
+        act(4 << 56 | k << 36);
+        act(5 << 56 | k << 36 | 1 << 32 | k);
+    }
+    println!("bytes a stage, of the library's ledger alone: {}", (in_use() - before) / STAGES);
+}
+
 fn main() {
     let mut args = std::env::args().skip(1);
     let rounds = args.next().and_then(|it| it.parse().ok()).unwrap_or(300);
+    let mut plans: Vec<_> = (0..4).map(|_| cf_graph::PlanBuilder::new().and_then(|it| it.build()).expect("a plan")).collect();
     bytes();
+    bytes_of_ledger(&mut plans[3]);
     let pool = futures::executor::ThreadPool::builder().pool_size(THREADS).create().expect("there are threads");
     let runtime = tokio::runtime::Builder::new_multi_thread().worker_threads(THREADS).enable_all().build().expect("there are threads");
     let threads = || rayon::ThreadPoolBuilder::new().num_threads(THREADS).build().expect("there are threads");
@@ -346,7 +363,6 @@ fn main() {
         ("tokio tasks", Arc::new(cf::Tasks::new(runtime.handle().clone(), THREADS))),
     ];
     let inline: Arc<dyn Spawn> = Arc::new(Inline);
-    let mut plans: Vec<_> = (0..4).map(|_| cf_graph::PlanBuilder::new().and_then(|it| it.build()).expect("a plan")).collect();
     let mut ways = Ways { rows: Vec::new(), words: args.collect() };
     ways.add("fan-out futures", || by_futures(&pool));
     ways.add("fan-out tokio", || by_tokio(&runtime));

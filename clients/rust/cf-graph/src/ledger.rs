@@ -107,6 +107,9 @@ impl Ledger {
     /// `NO_WORD`, `NO_STAGE`, `NO_ROOM`, `NO_MEMORY`: nothing is changed then.
     #[inline]
     pub fn apply(&mut self, word: u64) -> Result<Reply, Refused> {
+        if !self.more.is_empty() {
+            self.more = Vec::new();
+        }
         let (news, room, changed) = (self.news.as_mut_ptr(), self.news.len(), &mut self.changed);
         // SAFETY: `h` and what is told to are this call's alone, and `news` points to as many elements as said.
         let reply = self.handle.tell(|h, told| unsafe { sys::cf_ledger_apply(h, word, told, news, room, changed) })?;
@@ -124,7 +127,7 @@ impl Ledger {
         let (first, room) = (stages.as_mut_ptr(), stages.len());
         // SAFETY: `h` and what is told to are this call's alone, and `first` points to as many numbers as said.
         self.handle.tell(|h, told| unsafe { sys::cf_ledger_news(h, last, first, room, told) })?;
-        self.more.clear();
+        self.more.reserve_exact(self.changed);
         for stage in stages {
             // SAFETY: `h` and what is told to are this call's alone.
             let now = self.handle.tell(|h, told| unsafe { sys::cf_ledger_stage(h, stage, told) })?;

@@ -57,8 +57,9 @@ impl Clock for SystemClock {
         });
         if let Some(at) = self.now().checked_add(wait) {
             let mut held = lock(&ALARMS.due);
-            let is_first = held.add(at, alarm);
-            let is_full = held.alarms.len() > held.sweep;
+            let due = held.get_or_insert_with(Due::new);
+            let is_first = due.add(at, alarm);
+            let is_full = due.alarms.len() > due.sweep;
             drop(held);
             if is_full {
                 sweep();
@@ -83,11 +84,11 @@ fn begun() -> Instant {
 }
 
 struct Alarms {
-    due: Mutex<Due>,
+    due: Mutex<Option<Due>>,
     came: Condvar,
 }
 
-static ALARMS: Alarms = Alarms { due: Mutex::new(Due::new()), came: Condvar::new() };
+static ALARMS: Alarms = Alarms { due: Mutex::new(None), came: Condvar::new() };
 
 /// Alarms by the moments at which they ring.
 struct Due {
@@ -98,7 +99,7 @@ struct Due {
 }
 
 impl Due {
-    const fn new() -> Due {
+    fn new() -> Due {
         Due { alarms: BTreeMap::new(), number: 0, sweep: 64 }
     }
 
@@ -128,18 +129,19 @@ fn lock<T>(held: &Mutex<T>) -> MutexGuard<'_, T> {
 
 /// Leaves out alarms that nobody wants. They are asked without the lock, since a request may end with that.
 fn sweep() {
-    let mut alarms = std::mem::take(&mut lock(&ALARMS.due).alarms);
+    let mut alarms = std::mem::take(&mut lock(&ALARMS.due).get_or_insert_with(Due::new).alarms);
     alarms.retain(|_, alarm| alarm.is_wanted());
     let mut held = lock(&ALARMS.due);
-    held.alarms.append(&mut alarms);
-    held.sweep = 64 + 2 * held.alarms.len();
+    let due = held.get_or_insert_with(Due::new);
+    due.alarms.append(&mut alarms);
+    due.sweep = 64 + 2 * due.alarms.len();
 }
 
 /// Rings each alarm at its moment, without the lock.
 fn ring() {
     let mut held = lock(&ALARMS.due);
     loop {
-        match held.take(SystemClock.now()) {
+        match held.get_or_insert_with(Due::new).take(SystemClock.now()) {
             Ok(alarm) => {
                 drop(held);
                 // A waker that panics doesn't stop the clock.

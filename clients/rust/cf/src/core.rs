@@ -20,7 +20,7 @@ use std::fmt;
 use std::mem::take;
 use std::panic::{catch_unwind, resume_unwind, AssertUnwindSafe};
 use std::sync::atomic::{AtomicBool, Ordering};
-use std::sync::{Arc, Mutex, MutexGuard, PoisonError, Weak};
+use std::sync::{Arc, Mutex, MutexGuard, PoisonError, TryLockError, Weak};
 use std::task::{Context, Poll, Wake, Waker};
 use std::time::Duration;
 
@@ -91,6 +91,9 @@ struct After {
     jobs: usize,
 }
 
+/// How often a thread looks whether the lock is free before it sleeps. A hold is some hundred nanoseconds.
+const SPINS: usize = 40;
+
 /// A timeout to come, which a [`Clock`] rings. It keeps no request alive.
 ///
 /// ```
@@ -129,7 +132,7 @@ impl Alarm {
     /// ```
     pub fn ring(self) {
         if let Some(core) = self.core.upgrade() {
-            let with = self.gives.map_or(Err(Error::TimedOut(self.wait)), Ok);
+            let with = self.gives.ok_or(Error::TimedOut(self.wait));
             drop(core.settle(CLOCK, self.stage, with));
         }
     }
@@ -173,7 +176,15 @@ impl Core {
     }
 
     /// No code of a user runs under the lock, so what a panic leaves behind it is whole.
+    #[inline]
     pub(crate) fn lock(&self) -> MutexGuard<'_, Inner> {
+        for _ in 0..SPINS {
+            match self.inner.try_lock() {
+                Ok(inner) => return inner,
+                Err(TryLockError::Poisoned(inner)) => return inner.into_inner(),
+                Err(TryLockError::WouldBlock) => std::hint::spin_loop(),
+            }
+        }
         self.inner.lock().unwrap_or_else(PoisonError::into_inner)
     }
 
@@ -326,12 +337,15 @@ impl Core {
             drop(inner);
             panicked = self.tell(&mut after).or(panicked);
             match next {
-                None => return panicked.into_iter().for_each(|payload| resume_unwind(payload)),
+                None => break,
                 Some((stage, call, given)) => {
                     left -= 1;
                     ended = self.called(who, stage, call, given).map(|gave| (stage, gave));
                 }
             }
+        }
+        if let Some(payload) = panicked {
+            resume_unwind(payload);
         }
     }
 
@@ -382,6 +396,13 @@ impl Core {
     /// told, and what it panicked with is given back.
     #[inline]
     fn tell(self: &Arc<Core>, after: &mut After) -> Option<Box<dyn Any + Send>> {
+        if after.is_empty() {
+            return None;
+        }
+        self.tell_all(after)
+    }
+
+    fn tell_all(self: &Arc<Core>, after: &mut After) -> Option<Box<dyn Any + Send>> {
         for _ in 0..take(&mut after.jobs) {
             // A job that is given back is dropped, and so refused.
             drop(self.spawn.spawn(Job::new(Turn::Work(Arc::clone(self)))));
@@ -423,6 +444,14 @@ impl Core {
         for stage in ready {
             let _ = self.settle(CLOCK, stage, Err(Refusal::Closed.into()));
         }
+    }
+}
+
+impl After {
+    #[inline]
+    fn is_empty(&self) -> bool {
+        let ends = self.tasks.is_empty() && self.feeds.is_empty() && self.links.is_empty() && self.dropped.is_empty();
+        self.jobs == 0 && self.wakers.is_empty() && ends
     }
 }
 
@@ -538,7 +567,7 @@ impl Inner {
             Err(Error::Cancelled) => (CANCEL, 0, Held::Nothing),
             Err(error) => (FAIL, number, Held::Error(Box::new(error))),
         };
-        if self.ledger.act(word::of(kind, who, stage, tail)) == Reply::Flag(true) {
+        if matches!(self.ledger.act(word::of(kind, who, stage, tail)), Reply::Flag(true)) {
             self.hold(stage, holds, after);
             self.show(core, after);
             return Ok(());
@@ -602,7 +631,14 @@ impl Inner {
     }
 
     /// Settles relays of this request as the stages are for which they stand.
+    #[inline]
     fn relay(&mut self, core: &Arc<Core>, after: &mut After) {
+        if !self.relaying.is_empty() {
+            self.relay_all(core, after);
+        }
+    }
+
+    fn relay_all(&mut self, core: &Arc<Core>, after: &mut After) {
         while let Some((relay, stage)) = self.relaying.pop() {
             let outcome = self.slot(stage).told.expect("the stage is settled");
             let (kind, tail) = match outcome {
@@ -656,11 +692,13 @@ impl Inner {
             Gave::Stage(of, target) => return self.link(core, who, stage, of, target, after),
             Gave::Later(_) => unreachable!("what comes later is no end"),
         };
-        if self.ledger.act(word::of(FINISH, who, stage, tail)) == Reply::Finished(Finished::Won) {
+        if matches!(self.ledger.act(word::of(FINISH, who, stage, tail)), Reply::Finished(Finished::Won)) {
             self.hold(stage, holds, after);
             self.show(core, after);
         } else {
-            after.dropped.push(holds);
+            if !matches!(holds, Held::Nothing) {
+                after.dropped.push(holds);
+            }
             self.show(core, after);
         }
     }

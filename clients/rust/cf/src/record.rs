@@ -24,37 +24,74 @@ pub(crate) enum Item {
 impl Record {
     /// An event that was done at this moment, in nanoseconds since the request began.
     pub(crate) fn event(&mut self, at: u64, reply: Reply) {
+        let mut item = Bytes::default();
         let (tag, numbers) = tag_of(reply);
-        self.bytes.push(tag);
-        self.number(at.saturating_sub(self.last));
+        item.push(tag);
+        item.number(at.saturating_sub(self.last));
         self.last = self.last.max(at);
-        for number in numbers.iter().flatten() {
-            self.number(u64::from(*number));
+        if let Some(first) = numbers[0] {
+            item.number(u64::from(first));
         }
+        if let Some(second) = numbers[1] {
+            item.number(u64::from(second));
+        }
+        self.write(&item);
         self.events += 1;
     }
 
     /// A stage that the last event settled.
     pub(crate) fn told(&mut self, stage: u16, outcome: Outcome) {
+        let mut item = Bytes::default();
         let (tag, number) = outcome_tag(outcome);
-        self.bytes.push(TOLD + tag);
-        self.number(u64::from(stage));
+        item.push(TOLD + tag);
+        item.number(u64::from(stage));
         if let Some(number) = number {
-            self.number(u64::from(number));
+            item.number(u64::from(number));
         }
+        self.write(&item);
     }
 
-    fn number(&mut self, mut number: u64) {
-        while number >= 128 {
-            self.bytes.push(number as u8 | 128);
-            number >>= 7;
+    /// Room grows by a quarter, since there are many records that grow no more.
+    #[inline]
+    fn write(&mut self, item: &Bytes) {
+        if self.bytes.capacity() - self.bytes.len() < item.length {
+            self.bytes.reserve_exact(64 + self.bytes.len() / 4);
         }
-        self.bytes.push(number as u8);
+        self.bytes.extend_from_slice(item.written());
     }
 
     /// All that was written.
     pub(crate) fn items(&self) -> Items<'_> {
         Items { bytes: self.bytes.iter(), at: 0 }
+    }
+}
+
+/// The bytes of one item: a tag, at most ten of a time, and five of each number.
+#[derive(Default)]
+struct Bytes {
+    bytes: [u8; 24],
+    length: usize,
+}
+
+impl Bytes {
+    #[inline]
+    fn push(&mut self, byte: u8) {
+        self.bytes[self.length] = byte;
+        self.length += 1;
+    }
+
+    #[inline]
+    fn number(&mut self, mut number: u64) {
+        while number >= 128 {
+            self.push(number as u8 | 128);
+            number >>= 7;
+        }
+        self.push(number as u8);
+    }
+
+    #[inline]
+    fn written(&self) -> &[u8] {
+        &self.bytes[..self.length]
     }
 }
 
@@ -137,6 +174,7 @@ impl Iterator for Items<'_> {
 
 type Numbers = [Option<u32>; 2];
 
+#[inline]
 fn tag_of(reply: Reply) -> (u8, Numbers) {
     let alone = |tag| (tag, [None, None]);
     match reply {
@@ -155,6 +193,7 @@ fn tag_of(reply: Reply) -> (u8, Numbers) {
     }
 }
 
+#[inline]
 fn tag_of_args(args: Args) -> (u8, Numbers) {
     match args {
         Args::None => (2, [None, None]),
@@ -167,6 +206,7 @@ fn tag_of_args(args: Args) -> (u8, Numbers) {
     }
 }
 
+#[inline]
 fn outcome_tag(outcome: Outcome) -> (u8, Option<u32>) {
     match outcome {
         Outcome::Value(value) => (some(value), number(value)),
@@ -182,10 +222,12 @@ fn outcome_tag(outcome: Outcome) -> (u8, Option<u32>) {
     }
 }
 
+#[inline]
 fn some(value: Value) -> u8 {
     u8::from(value != Value::Nil)
 }
 
+#[inline]
 fn number(value: Value) -> Option<u32> {
     match value {
         Value::Nil => None,

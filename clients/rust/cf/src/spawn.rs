@@ -113,11 +113,11 @@ pub(crate) const MOST_CALLERS: u8 = 64;
 
 thread_local! {
     /// The number of this thread as a worker, once it is one.
-    static WORKER: Cell<u8> = Cell::new(CALLER);
+    static WORKER: Cell<u8> = const { Cell::new(CALLER) };
     /// Who this thread is at present: a worker while it runs a job, and else a caller.
-    static HERE: Cell<u8> = Cell::new(CALLER);
+    static HERE: Cell<u8> = const { Cell::new(CALLER) };
     /// The requests whose functions this thread is running, the innermost last.
-    static RUNNING: RefCell<Vec<Arc<Core>>> = RefCell::new(Vec::new());
+    static RUNNING: RefCell<Vec<Arc<Core>>> = const { RefCell::new(Vec::new()) };
 }
 
 /// The number of this thread as a worker: the next of all when it runs its first job, round and round.
@@ -182,7 +182,7 @@ pub struct Inline;
 
 thread_local! {
     /// Jobs that came while one runs wait for its end, so that the stack stays flat.
-    static WAITING: RefCell<Option<VecDeque<Job>>> = RefCell::new(None);
+    static WAITING: RefCell<Option<VecDeque<Job>>> = const { RefCell::new(None) };
 }
 
 impl Spawn for Inline {
@@ -205,7 +205,9 @@ impl Spawn for Inline {
                 next
             });
         }
-        panicked.into_iter().for_each(|payload| resume_unwind(payload));
+        if let Some(payload) = panicked {
+            resume_unwind(payload);
+        }
         Ok(())
     }
 }

@@ -35,7 +35,7 @@ fn errors_are_passed_on_and_recovered() {
     assert!(error.is::<std::num::ParseIntError>(), "{error:?}");
     assert_eq!(behind.blamed(), parsed.number());
     assert_eq!(behind.clone().recover(|_| -1).wait().unwrap(), -1);
-    assert_eq!(behind.clone().handle(|it| it.is_err()).wait().unwrap(), true);
+    assert!(behind.clone().handle(|it| it.is_err()).wait().unwrap());
     let text = behind.and_then(|_| Ok::<_, &str>(1)).wait().unwrap_err().to_string();
     assert_eq!(text, "invalid digit found in string");
 }
