@@ -241,7 +241,7 @@ impl Wake for Parked {
 }
 
 impl<T: Send + Sync + 'static> Stage<T> {
-    /// What the function gives of the value. Attaching takes about 0.4 µs, and so does a function's claim and finish.
+    /// What the function gives of the value. Attaching takes about 0.6 µs, and so do the claim and the finish of a function.
     ///
     /// ```
     /// let request = cf::Request::new("order 17", cf::Inline);
