@@ -8,6 +8,9 @@ use std::sync::{Arc, Mutex};
 use std::task::{Context, Wake, Waker};
 use std::time::Duration;
 
+/// Longer than a machine at its limit takes; what never comes is ended by who runs the tests.
+const LONG: Duration = Duration::from_secs(200);
+
 struct Panics;
 
 impl Wake for Panics {
@@ -53,7 +56,7 @@ fn a_worker_lives_on_after_a_waker_that_panics() {
     assert!(!poll(&mut behind, &Waker::from(Arc::new(Panics))));
     gate.complete(1).unwrap();
     assert_eq!(behind.clone().wait().unwrap(), 2);
-    assert_eq!(request.supply(|| 3).then(|n| n + 1).wait_timeout(Duration::from_secs(20)).unwrap().unwrap(), 4);
+    assert_eq!(request.supply(|| 3).then(|n| n + 1).wait_timeout(LONG).unwrap().unwrap(), 4);
 }
 
 #[test]
@@ -169,5 +172,5 @@ fn two_requests_wait_for_each_other_on_one_thread() {
         drop(opens.supply(move || open.complete(4)));
         behind.wait().unwrap()
     });
-    assert_eq!(told.wait_timeout(Duration::from_secs(20)).expect("no thread waits for itself").unwrap(), 5);
+    assert_eq!(told.wait_timeout(LONG).expect("no thread waits for itself").unwrap(), 5);
 }
