@@ -1,0 +1,76 @@
+//! Closed desks: what came, in its one order, and what each caller was told.
+use crate::event::{reply_out, Event};
+use crate::graph::Graph;
+use crate::handle::Handle;
+use crate::refused::Refused;
+use crate::values::*;
+use cf_sys as sys;
+
+/// What a caller was told. `place` counts events of the history.
+#[derive(Clone, Copy, PartialEq, Eq, Debug)]
+pub enum Record {
+    /// A changing call, which is the event at its place, and its reply.
+    Did { place: u32, event: Event, reply: Reply },
+    /// A read or a join, which saw so many events.
+    Saw { place: u32, stage: u16, outcome: Option<Outcome> },
+    /// A read of what the stage gives at present, `absent` where it isn't settled.
+    SawNow { place: u32, stage: u16, absent: Value, now: Now },
+}
+
+/// A desk that all its callers were given back to.
+#[derive(Debug)]
+pub struct Closed {
+    handle: Handle,
+    callers: u8,
+}
+
+impl Closed {
+    pub(crate) fn of(handle: Handle, callers: u8) -> Closed {
+        Closed { handle, callers }
+    }
+
+    pub fn callers(&self) -> u8 {
+        self.callers
+    }
+
+    /// The words of all events, in the one order in which they came.
+    pub fn words(&mut self) -> Result<Vec<u64>, Refused> {
+        // SAFETY: `h` and what is told to are this call's alone.
+        let events = self.handle.tell(|h, told| unsafe { sys::cf_closed_events(h, told) })?;
+        // SAFETY: `h` and what is told to are this call's alone.
+        (0..events).map(|place| self.handle.tell(|h, told| unsafe { sys::cf_closed_word(h, place, told) })).collect()
+    }
+
+    /// The same events, read.
+    pub fn events(&mut self) -> Result<Vec<Event>, Refused> {
+        self.words()?.into_iter().map(Event::of_word).collect()
+    }
+
+    /// What the caller of a number, which is one of its callers', did and saw, in its order.
+    pub fn records(&mut self, caller: u8) -> Result<Vec<Record>, Refused> {
+        // SAFETY: `h` and what is told to are this call's alone.
+        let records = self.handle.tell(|h, told| unsafe { sys::cf_closed_records(h, caller, told) })?;
+        // SAFETY: `h` and what is told to are this call's alone.
+        (0..records).map(|at| record_out(self.handle.tell(|h, told| unsafe { sys::cf_closed_record(h, caller, at, told) })?)).collect()
+    }
+
+    /// The graph as all events leave it.
+    pub fn graph(mut self) -> Result<Graph, Refused> {
+        // SAFETY: `h` is this call's alone.
+        self.handle.call(|h| unsafe { sys::cf_closed_graph(h) })?;
+        Ok(Graph(self.handle))
+    }
+}
+
+fn record_out(record: sys::cf_record) -> Result<Record, Refused> {
+    let place = record.place;
+    if record.kind == 0 {
+        let event = Event::of_word(record.word)?;
+        return Ok(Record::Did { place, event, reply: reply_out(event.call, record.reply) });
+    }
+    let stage = record.stage;
+    Ok(match record.asked {
+        0 => Record::Saw { place, stage, outcome: outcome_out(record.outcome) },
+        _ => Record::SawNow { place, stage, absent: value_out(record.absent), now: now_out(record.now) },
+    })
+}

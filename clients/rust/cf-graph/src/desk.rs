@@ -1,0 +1,212 @@
+//! Desks: graphs that callers on several threads share without a lock.
+use crate::closed::Closed;
+use crate::handle::Handle;
+use crate::plan::{function_in, Form, Sizes};
+use crate::refused::{if_there, Refused};
+use crate::values::*;
+use cf_sys as sys;
+use std::error::Error;
+use std::fmt;
+use std::sync::Arc;
+
+/// What the callers of one desk have in common, and what closes it. It is freed with the last of them, wherever that is dropped.
+#[derive(Debug)]
+pub struct Desk(Arc<Sizes>);
+
+/// A caller of a desk: it goes to a thread, which has it alone. One that is dropped leaves the others as they are, but the desk can't
+/// be closed then. What it does and reads is recorded, until it holds as many records as it may.
+#[derive(Debug)]
+pub struct Caller {
+    handle: Handle,
+    desk: Arc<Sizes>,
+    number: u8,
+}
+
+/// The desk and the callers that were opened behind these handles.
+pub(crate) fn opened(sizes: Sizes, handles: Vec<sys::cf_handle>) -> (Desk, Vec<Caller>) {
+    let desk = Arc::new(sizes);
+    let callers = handles.into_iter().map(|handle| caller_of(Handle::of(handle), desk.clone())).collect();
+    (Desk(desk), callers)
+}
+
+fn caller_of(mut handle: Handle, desk: Arc<Sizes>) -> Caller {
+    // SAFETY: `h` and what is told to are this call's alone.
+    let number = handle.tell(|h, told| unsafe { sys::cf_desk_caller(h, told) });
+    let number = number.expect("a caller stands behind the handle");
+    Caller { handle, desk, number }
+}
+
+impl Desk {
+    /// What it was opened with.
+    pub fn sizes(&self) -> Sizes {
+        *self.0
+    }
+
+    /// Takes the desk apart, with all its callers in any order: what they did is one history. Where one is missing (`NOT_ALL`), of another
+    /// desk (`OTHER_DESK`), or memory is refused, desk and callers are given back as they were.
+    pub fn close(self, mut callers: Vec<Caller>) -> Result<Closed, NotClosed> {
+        if let Some(why) = self.cannot_close(&callers) {
+            return Err(NotClosed { why, desk: self, callers });
+        }
+        let numbers = callers.len() as u8;
+        // SAFETY: `h` is this call's alone.
+        if let Err(why) = callers[0].handle.call(|h| unsafe { sys::cf_close_begin(h) }) {
+            return Err(NotClosed { why, desk: self, callers });
+        }
+        let mut rest = callers.into_iter();
+        let mut closing = rest.next().map(|caller| caller.handle).unwrap_or_else(Handle::empty);
+        for mut caller in rest {
+            // SAFETY: two different handles, both this call's alone, and callers of one desk or seen not to be.
+            let added = closing.call(|closing| Refused::code_of(caller.handle.call(|h| unsafe { sys::cf_close_add(closing, h) })));
+            added.expect("all callers are of one desk");
+        }
+        // SAFETY: `h` is this call's alone.
+        closing.call(|h| unsafe { sys::cf_close_end(h) }).expect("all callers were given back");
+        Ok(Closed::of(closing, numbers))
+    }
+
+    fn cannot_close(&self, callers: &[Caller]) -> Option<Refused> {
+        if callers.iter().any(|caller| !Arc::ptr_eq(&caller.desk, &self.0)) {
+            return Some(Refused::OTHER_DESK);
+        }
+        (callers.len() < usize::from(self.0.callers)).then_some(Refused::NOT_ALL)
+    }
+}
+
+/// A desk that wasn't closed, and the callers that were handed in.
+pub struct NotClosed {
+    pub why: Refused,
+    pub desk: Desk,
+    pub callers: Vec<Caller>,
+}
+
+impl fmt::Debug for NotClosed {
+    fn fmt(&self, f: &mut fmt::Formatter<'_>) -> fmt::Result {
+        write!(f, "NotClosed({:?})", self.why)
+    }
+}
+
+impl fmt::Display for NotClosed {
+    fn fmt(&self, f: &mut fmt::Formatter<'_>) -> fmt::Result {
+        self.why.fmt(f)
+    }
+}
+
+impl Error for NotClosed {}
+
+impl Caller {
+    /// Settles a stage with a value, and says whether it did.
+    pub fn complete(&mut self, stage: u16, value: Value) -> Result<bool, Refused> {
+        // SAFETY: `h` and what is told to are this call's alone.
+        self.flag(|h, reply| unsafe { sys::cf_desk_complete(h, stage, value_in(value), reply) })
+    }
+
+    /// Settles a stage with a thrown code, and says whether it did.
+    pub fn fail(&mut self, stage: u16, code: u32) -> Result<bool, Refused> {
+        // SAFETY: `h` and what is told to are this call's alone.
+        self.flag(|h, reply| unsafe { sys::cf_desk_fail(h, stage, code, reply) })
+    }
+
+    /// Cancels a stage, and says whether it is cancelled then.
+    pub fn cancel(&mut self, stage: u16) -> Result<bool, Refused> {
+        // SAFETY: `h` and what is told to are this call's alone.
+        self.flag(|h, reply| unsafe { sys::cf_desk_cancel(h, stage, reply) })
+    }
+
+    /// Takes a ready stage, whose function is then to be called, and the stage to be finished.
+    pub fn claim(&mut self, stage: u16) -> Result<Claimed, Refused> {
+        // SAFETY: `h` and what is told to are this call's alone.
+        self.handle.tell(|h, reply| unsafe { sys::cf_desk_claim(h, stage, reply) }).map(claimed_out)
+    }
+
+    pub fn finish(&mut self, stage: u16, answer: Answer) -> Result<Finished, Refused> {
+        // SAFETY: `h` and what is told to are this call's alone.
+        self.handle.tell(|h, reply| unsafe { sys::cf_desk_finish_with(h, stage, &answer_in(answer), reply) }).map(finished_out)
+    }
+
+    /// Lets it be this moment, in the unit of the plan's limits.
+    pub fn tick(&mut self, now: u32) -> Result<Ticked, Refused> {
+        // SAFETY: `h` and what is told to are this call's alone.
+        self.handle.tell(|h, reply| unsafe { sys::cf_desk_tick(h, now, reply) }).map(ticked_out)
+    }
+
+    /// Attaches a stage, and tells its number, or None where no room is left.
+    pub fn attach(&mut self, form: Form, of: &[u16], function: Option<u16>) -> Result<Option<u16>, Refused> {
+        self.handle
+            // SAFETY: `h` and what is told to are this call's alone, and `of` points to as many numbers as said.
+            .tell(|h, reply| unsafe { sys::cf_desk_attach(h, form as u32, of.as_ptr(), of.len(), function_in(function), reply) })
+            .map(attached_out)
+    }
+
+    /// What a stage is settled with, if it is, after a look at all that is there.
+    pub fn read(&mut self, stage: u16) -> Result<Option<Outcome>, Refused> {
+        // SAFETY: `h` and what is told to are this call's alone.
+        self.handle.tell(|h, told| unsafe { sys::cf_desk_read(h, stage, told) }).map(outcome_out)
+    }
+
+    /// What a stage gives at present, or `absent` where it isn't settled, after a look.
+    pub fn read_now(&mut self, stage: u16, absent: Value) -> Result<Now, Refused> {
+        // SAFETY: `h` and what is told to are this call's alone.
+        self.handle.tell(|h, told| unsafe { sys::cf_desk_read_now(h, stage, value_in(absent), told) }).map(now_out)
+    }
+
+    /// Looks until the stage is settled, at most so many times, and tells what it gives then: `Absent` where it isn't. The last look is
+    /// recorded.
+    pub fn join(&mut self, stage: u16, looks: u32) -> Result<Now, Refused> {
+        // SAFETY: `h` and what is told to are this call's alone.
+        self.handle.tell(|h, told| unsafe { sys::cf_desk_join(h, stage, looks, told) }).map(now_out)
+    }
+
+    /// The lowest stage that can be claimed, after a look that isn't recorded.
+    pub fn ready(&mut self) -> Result<Option<u16>, Refused> {
+        // SAFETY: `h` and what is told to are this call's alone.
+        if_there(self.handle.tell(|h, told| unsafe { sys::cf_desk_ready(h, told) }))
+    }
+
+    /// Lets two callers of one desk see the longer of what either has seen.
+    pub fn meet(&mut self, other: &mut Caller) -> Result<(), Refused> {
+        // SAFETY: two different handles, both this call's alone, and callers of one desk or seen not to be.
+        self.handle.call(|h| Refused::code_of(other.handle.call(|o| unsafe { sys::cf_desk_meet(h, o) })))
+    }
+
+    /// How many events it has seen.
+    pub fn seen(&mut self) -> Result<u16, Refused> {
+        // SAFETY: `h` and what is told to are this call's alone.
+        self.handle.tell(|h, told| unsafe { sys::cf_desk_seen(h, told) })
+    }
+
+    /// How many records it still takes.
+    pub fn left(&mut self) -> Result<u16, Refused> {
+        // SAFETY: `h` and what is told to are this call's alone.
+        self.handle.tell(|h, told| unsafe { sys::cf_desk_left(h, told) })
+    }
+
+    /// The number of a stage's function, if it has one. The stage is one that the caller has seen.
+    pub fn function(&mut self, stage: u16) -> Result<Option<u16>, Refused> {
+        // SAFETY: `h` and what is told to are this call's alone.
+        if_there(self.handle.tell(|h, told| unsafe { sys::cf_desk_function(h, stage, told) }))
+    }
+
+    /// Its number: 0, 1, ..
+    pub fn number(&self) -> u8 {
+        self.number
+    }
+
+    /// Claims ready stages, the lowest first, calls `function` with the number of each stage's function and its arguments, and finishes
+    /// them, until none is ready: how many. Where `function` panics its stage stays claimed.
+    pub fn work(&mut self, mut function: impl FnMut(u16, Args) -> Answer) -> Result<u32, Refused> {
+        let mut calls = 0;
+        while let Some(stage) = self.ready()? {
+            let number = self.function(stage)?;
+            if let (Some(number), Claimed::Granted(args)) = (number, self.claim(stage)?) {
+                self.finish(stage, function(number, args))?;
+                calls += 1;
+            }
+        }
+        Ok(calls)
+    }
+
+    fn flag(&mut self, call: impl FnOnce(*mut sys::cf_handle, *mut sys::cf_reply) -> u32) -> Result<bool, Refused> {
+        self.handle.tell(call).map(|reply| reply.answer != 0)
+    }
+}

@@ -1,0 +1,120 @@
+//! A graph, which one owner has alone.
+use crate::event::{reply_out, Event};
+use crate::handle::Handle;
+use crate::plan::{function_in, Form};
+use crate::refused::{if_there, Refused};
+use crate::values::*;
+use cf_sys as sys;
+
+/// The graph of a plan. It may go to another thread, and one call at a time has it.
+#[derive(Debug)]
+pub struct Graph(pub(crate) Handle);
+
+impl Graph {
+    /// Settles a stage with a value, and says whether it did.
+    pub fn complete(&mut self, stage: u16, value: Value) -> Result<bool, Refused> {
+        // SAFETY: `h` and what is told to are this call's alone.
+        self.flag(|h, reply| unsafe { sys::cf_complete(h, stage, value_in(value), reply) })
+    }
+
+    /// Settles a stage with a thrown code, and says whether it did.
+    pub fn fail(&mut self, stage: u16, code: u32) -> Result<bool, Refused> {
+        // SAFETY: `h` and what is told to are this call's alone.
+        self.flag(|h, reply| unsafe { sys::cf_fail(h, stage, code, reply) })
+    }
+
+    /// Cancels a stage, and says whether it is cancelled then.
+    pub fn cancel(&mut self, stage: u16) -> Result<bool, Refused> {
+        // SAFETY: `h` and what is told to are this call's alone.
+        self.flag(|h, reply| unsafe { sys::cf_cancel(h, stage, reply) })
+    }
+
+    /// Takes a ready stage for a caller, who then calls its function and finishes the stage.
+    pub fn claim(&mut self, who: u8, stage: u16) -> Result<Claimed, Refused> {
+        // SAFETY: `h` and what is told to are this call's alone.
+        self.0.tell(|h, reply| unsafe { sys::cf_claim(h, who, stage, reply) }).map(claimed_out)
+    }
+
+    pub fn finish(&mut self, who: u8, stage: u16, answer: Answer) -> Result<Finished, Refused> {
+        // SAFETY: `h` and what is told to are this call's alone.
+        self.0.tell(|h, reply| unsafe { sys::cf_finish_with(h, who, stage, &answer_in(answer), reply) }).map(finished_out)
+    }
+
+    /// Lets it be this moment, in the unit of the plan's limits.
+    pub fn tick(&mut self, now: u32) -> Result<Ticked, Refused> {
+        // SAFETY: `h` and what is told to are this call's alone.
+        self.0.tell(|h, reply| unsafe { sys::cf_tick(h, now, reply) }).map(ticked_out)
+    }
+
+    /// Attaches a stage, and tells its number, or None where no room is left.
+    pub fn attach(&mut self, form: Form, of: &[u16], function: Option<u16>) -> Result<Option<u16>, Refused> {
+        // SAFETY: `h` and what is told to are this call's alone, and `of` points to as many numbers as said.
+        self.0.tell(|h, reply| unsafe { sys::cf_attach(h, form as u32, of.as_ptr(), of.len(), function_in(function), reply) }).map(attached_out)
+    }
+
+    /// What a stage is settled with, if it is.
+    pub fn outcome(&mut self, stage: u16) -> Result<Option<Outcome>, Refused> {
+        // SAFETY: `h` and what is told to are this call's alone.
+        self.0.tell(|h, told| unsafe { sys::cf_get(h, stage, told) }).map(outcome_out)
+    }
+
+    /// What a stage gives at present, or `absent` where it isn't settled.
+    pub fn now(&mut self, stage: u16, absent: Value) -> Result<Now, Refused> {
+        // SAFETY: `h` and what is told to are this call's alone.
+        self.0.tell(|h, told| unsafe { sys::cf_get_now(h, stage, value_in(absent), told) }).map(now_out)
+    }
+
+    pub fn lowest_ready(&mut self) -> Result<Option<u16>, Refused> {
+        // SAFETY: `h` and what is told to are this call's alone.
+        if_there(self.0.tell(|h, told| unsafe { sys::cf_lowest_ready(h, told) }))
+    }
+
+    /// The number of a stage's function, if it has one.
+    pub fn function(&mut self, stage: u16) -> Result<Option<u16>, Refused> {
+        // SAFETY: `h` and what is told to are this call's alone.
+        if_there(self.0.tell(|h, told| unsafe { sys::cf_function(h, stage, told) }))
+    }
+
+    /// How many stages there are by now.
+    pub fn stages(&mut self) -> Result<u16, Refused> {
+        // SAFETY: `h` and what is told to are this call's alone.
+        self.0.tell(|h, told| unsafe { sys::cf_stages(h, told) })
+    }
+
+    /// How many turns were taken since the graph was opened or last restarted.
+    pub fn turns(&mut self) -> Result<u64, Refused> {
+        // SAFETY: `h` and what is told to are this call's alone.
+        self.0.tell(|h, told| unsafe { sys::cf_turns(h, told) })
+    }
+
+    /// Does the event of a word, and gives its reply.
+    pub fn apply(&mut self, word: u64) -> Result<Reply, Refused> {
+        let event = Event::of_word(word)?;
+        // SAFETY: `h` and what is told to are this call's alone.
+        self.0.tell(|h, told| unsafe { sys::cf_apply(h, word, told) }).map(|reply| reply_out(event.call, reply))
+    }
+
+    /// Starts again, as the graph was opened.
+    pub fn restart(&mut self) -> Result<(), Refused> {
+        // SAFETY: `h` is this call's alone.
+        self.0.call(|h| unsafe { sys::cf_restart(h) })
+    }
+
+    /// Claims ready stages, the lowest first, calls `function` with the number of each stage's function and its arguments, and finishes
+    /// them, until none is ready: how many. Where `function` panics its stage stays claimed.
+    pub fn work(&mut self, who: u8, mut function: impl FnMut(u16, Args) -> Answer) -> Result<u32, Refused> {
+        let mut calls = 0;
+        while let Some(stage) = self.lowest_ready()? {
+            let number = self.function(stage)?;
+            if let (Some(number), Claimed::Granted(args)) = (number, self.claim(who, stage)?) {
+                self.finish(who, stage, function(number, args))?;
+                calls += 1;
+            }
+        }
+        Ok(calls)
+    }
+
+    fn flag(&mut self, call: impl FnOnce(*mut sys::cf_handle, *mut sys::cf_reply) -> u32) -> Result<bool, Refused> {
+        self.0.tell(call).map(|reply| reply.answer != 0)
+    }
+}

@@ -1,0 +1,47 @@
+//! Completable futures that are proved: Java's `CompletableFuture` over numbered stages.
+//!
+//! A [`PlanBuilder`] makes a [`Plan`], and that any number of graphs and desks. A [`Graph`] goes to any thread, and is in one call at a
+//! time, since each takes it by `&mut`. A [`Desk`] is a graph that threads share without a lock, each by a [`Caller`] of its own; closed
+//! with all of them it gives the one history of what they did. A [`Ledger`] is a graph that keeps the words of all that was done to it. What C owes by docs/C.md is met by the types: nothing copies a handle,
+//! and dropping frees it.
+//!
+//! ```compile_fail
+//! fn twice(graph: cf_graph::Graph) -> (cf_graph::Graph, cf_graph::Graph) {
+//!     (graph.clone(), graph)
+//! }
+//! ```
+//!
+//! ```compile_fail
+//! fn twice(caller: cf_graph::Caller) -> (cf_graph::Caller, cf_graph::Caller) {
+//!     (caller.clone(), caller)
+//! }
+//! ```
+//!
+//! ```compile_fail
+//! fn after_closing(desk: cf_graph::Desk, callers: Vec<cf_graph::Caller>) {
+//!     let _ = desk.close(callers);
+//!     drop(callers);
+//! }
+//! ```
+#![deny(unsafe_op_in_unsafe_fn)]
+#![warn(missing_debug_implementations, unreachable_pub, rust_2018_idioms, clippy::undocumented_unsafe_blocks)]
+mod closed;
+mod desk;
+mod event;
+mod graph;
+mod handle;
+mod ledger;
+mod plan;
+mod refused;
+mod text;
+mod values;
+
+pub use closed::{Closed, Record};
+pub use desk::{Caller, Desk, NotClosed};
+pub use event::{Call, Event, Of};
+pub use graph::Graph;
+pub use ledger::{Ledger, Misfit, News, Stage, State};
+pub use plan::{Form, Limit, Plan, PlanBuilder, Sizes};
+pub use refused::Refused;
+pub use text::{outcome_text, run_script, ScriptFault};
+pub use values::{Answer, Args, Cause, Claimed, Finished, Now, Outcome, Reply, Ticked, Value};

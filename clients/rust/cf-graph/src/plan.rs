@@ -1,0 +1,149 @@
+//! Plans, and how they are built.
+use crate::desk::{opened, Caller, Desk};
+use crate::graph::Graph;
+use crate::handle::Handle;
+use crate::refused::{checked, Refused};
+use crate::values::{value_in, Value};
+use cf_sys as sys;
+
+/// How a stage depends on its sources; the names are those of Java's `CompletionStage`.
+#[derive(Clone, Copy, PartialEq, Eq, Debug)]
+#[repr(u32)]
+pub enum Form {
+    Source,
+    Supply,
+    RunAsync,
+    Apply,
+    Accept,
+    ThenRun,
+    Combine,
+    AcceptBoth,
+    RunBoth,
+    ApplyEither,
+    AcceptEither,
+    RunEither,
+    Compose,
+    Handle,
+    WhenComplete,
+    Exceptionally,
+    AllOf,
+    AnyOf,
+    ExceptionallyCompose,
+}
+
+const FORMS: [Form; 19] = [
+    Form::Source,
+    Form::Supply,
+    Form::RunAsync,
+    Form::Apply,
+    Form::Accept,
+    Form::ThenRun,
+    Form::Combine,
+    Form::AcceptBoth,
+    Form::RunBoth,
+    Form::ApplyEither,
+    Form::AcceptEither,
+    Form::RunEither,
+    Form::Compose,
+    Form::Handle,
+    Form::WhenComplete,
+    Form::Exceptionally,
+    Form::AllOf,
+    Form::AnyOf,
+    Form::ExceptionallyCompose,
+];
+
+/// The form of a number of cf.h.
+pub(crate) fn form_out(number: u32) -> Form {
+    FORMS[number as usize]
+}
+
+/// What a limit does to a stage that isn't settled at its moment.
+#[derive(Clone, Copy, PartialEq, Eq, Debug)]
+pub enum Limit {
+    Timeout,
+    Give(Value),
+}
+
+/// Stages, each of which depends on lower ones.
+#[derive(Debug)]
+pub struct PlanBuilder(Handle);
+
+impl PlanBuilder {
+    /// An empty builder. `OTHER_LIBRARY` where the library isn't the one that this crate was written for, `NO_MEMORY`.
+    pub fn new() -> Result<PlanBuilder, Refused> {
+        checked()?;
+        let mut handle = Handle::empty();
+        // SAFETY: `h` is this call's alone.
+        handle.call(|h| unsafe { sys::cf_builder_new(h, 0, 0) })?;
+        Ok(PlanBuilder(handle))
+    }
+
+    /// Adds a stage to these sources, and tells its number. `function` is the number by which you know its function.
+    pub fn stage(&mut self, form: Form, of: &[u16], function: Option<u16>) -> Result<u16, Refused> {
+        // SAFETY: `h` and what is told to are this call's alone, and `of` points to as many numbers as said.
+        self.0.tell(|h, told| unsafe { sys::cf_builder_stage(h, form as u32, of.as_ptr(), of.len(), function_in(function), told) })
+    }
+
+    pub fn limit(&mut self, stage: u16, at: u32, limit: Limit) -> Result<(), Refused> {
+        let (kind, value) = match limit {
+            Limit::Timeout => (0, Value::Nil),
+            Limit::Give(value) => (1, value),
+        };
+        // SAFETY: `h` is this call's alone.
+        self.0.call(|h| unsafe { sys::cf_builder_limit(h, stage, at, kind, value_in(value)) })
+    }
+
+    pub fn build(mut self) -> Result<Plan, Refused> {
+        // SAFETY: `h` is this call's alone.
+        self.0.call(|h| unsafe { sys::cf_build(h) })?;
+        Ok(Plan(self.0))
+    }
+}
+
+pub(crate) fn function_in(function: Option<u16>) -> u32 {
+    function.map_or(sys::CF_NO_FUNCTION, u32::from)
+}
+
+/// What graphs are opened of. They share its memory, which stays until the last of them is dropped.
+#[derive(Debug)]
+pub struct Plan(pub(crate) Handle);
+
+impl Plan {
+    /// A graph at its start, with room for so many stages that are attached later.
+    pub fn graph(&mut self, room: u16) -> Result<Graph, Refused> {
+        let mut graph = Handle::empty();
+        // SAFETY: two different handles, both this call's alone.
+        self.0.call(|plan| Refused::code_of(graph.call(|h| unsafe { sys::cf_graph_new(plan, room, h) })))?;
+        Ok(Graph(graph))
+    }
+
+    /// A desk at its start, and its callers 0, 1, .., each for one thread.
+    pub fn desk(&mut self, sizes: Sizes) -> Result<(Desk, Vec<Caller>), Refused> {
+        let mut handles: Vec<sys::cf_handle> = (0..sizes.callers).map(|_| sys::cf_handle::EMPTY).collect();
+        let (callers, n) = (handles.as_mut_ptr(), handles.len());
+        self.0.call(|plan| match sizes.growth {
+            // SAFETY: `plan` is this call's alone, and `callers` points to n empty handles that nobody else has.
+            None => unsafe { sys::cf_desk_open(plan, callers, n, sizes.log, sizes.calls) },
+            Some((room, functions)) => {
+                let grown = sys::cf_desk_sizes { log: sizes.log, calls: sizes.calls, room, functions };
+                // SAFETY: `plan` is this call's alone, and `callers` points to n empty handles that nobody else has.
+                unsafe { sys::cf_desk_open_with(plan, callers, n, &grown) }
+            }
+        })?;
+        Ok(opened(sizes, handles))
+    }
+}
+
+/// How much a desk holds.
+#[derive(Clone, Copy, PartialEq, Eq, Debug)]
+pub struct Sizes {
+    /// 1 to 64.
+    pub callers: u8,
+    /// How many changing calls of all callers the log holds.
+    pub log: u16,
+    /// How many records of its own calls, reads too, each caller holds.
+    pub calls: u16,
+    /// Where callers attach stages: room for so many, and the number that each function's is below.
+    pub growth: Option<(u16, u32)>,
+}

@@ -1,0 +1,139 @@
+//! Why a call is refused.
+use crate::text::told;
+use cf_sys as sys;
+use std::error::Error;
+use std::fmt;
+use std::sync::atomic::{AtomicBool, Ordering};
+
+/// The code of cf.h that a call answered. A refused call changed nothing.
+#[derive(Clone, Copy, PartialEq, Eq, Debug)]
+pub struct Refused(u32);
+
+const WORDS: [&str; 30] = [
+    "the plan has 4,096 stages already",
+    "a source isn't below the new stage's number",
+    "the number of sources isn't the form's",
+    "the form has a function and none is given",
+    "the form has no function and one is given",
+    "there would be too many mentions of sources",
+    "a limit names a stage that isn't in the plan yet",
+    "memory was refused",
+    "the plan has 4,096 limits already",
+    "nothing stands behind the handle",
+    "the handle isn't empty",
+    "something of another kind stands behind the handle",
+    "no form, no call of an event and no code has this number",
+    "a stage that the call names isn't there",
+    "an attached stage doesn't fit its form",
+    "there would be too many stages or edges with the room",
+    "there is none",
+    "a desk is to have no caller, or more than 64",
+    "a desk's log is to hold nothing",
+    "a desk's callers are to hold no record",
+    "a function of the plan isn't below the number of functions",
+    "the caller holds as many records as it may",
+    "the desk's log is full",
+    "the two callers aren't of one desk",
+    "callers of the desk weren't given back",
+    "the word is no event's, or the event has no word",
+    "the script has a fault",
+    "the desk is held all the same",
+    "the caller hasn't claimed the stage",
+    "there is no room for the stage",
+];
+
+impl Refused {
+    pub const TOO_MANY_STAGES: Refused = Refused(1);
+    pub const SOURCE_NOT_LOWER: Refused = Refused(2);
+    pub const WRONG_SOURCE_COUNT: Refused = Refused(3);
+    pub const FUNCTION_MISSING: Refused = Refused(4);
+    pub const FUNCTION_UNWANTED: Refused = Refused(5);
+    pub const TOO_MANY_EDGES: Refused = Refused(6);
+    pub const NO_SUCH_STAGE: Refused = Refused(7);
+    pub const NO_MEMORY: Refused = Refused(8);
+    pub const TOO_MANY_LIMITS: Refused = Refused(9);
+    pub const NO_STAGE: Refused = Refused(14);
+    pub const BAD_ATTACH: Refused = Refused(15);
+    pub const ROOM: Refused = Refused(16);
+    pub(crate) const NOTHING: Refused = Refused(17);
+    pub const CALLERS: Refused = Refused(18);
+    pub const LOG: Refused = Refused(19);
+    pub const CALLS: Refused = Refused(20);
+    pub const FUNCTIONS: Refused = Refused(21);
+    pub const PASS_FULL: Refused = Refused(22);
+    pub const LOG_FULL: Refused = Refused(23);
+    pub const OTHER_DESK: Refused = Refused(24);
+    pub const NOT_ALL: Refused = Refused(25);
+    pub const NO_WORD: Refused = Refused(26);
+    pub const BAD_SCRIPT: Refused = Refused(27);
+    pub const STILL_SHARED: Refused = Refused(28);
+    pub const NOT_HELD: Refused = Refused(29);
+    pub const NO_ROOM: Refused = Refused(30);
+    /// No code of the library: what is linked isn't the library that this crate was written for.
+    pub const OTHER_LIBRARY: Refused = Refused(256);
+
+    pub(crate) fn code_of(made: Result<(), Refused>) -> u32 {
+        made.err().map_or(0, Refused::code)
+    }
+
+    /// The number of the code in cf.h.
+    pub fn code(self) -> u32 {
+        self.0
+    }
+
+    /// Its name, as the library has it: `NoStage`.
+    pub fn name(self) -> String {
+        // SAFETY: `text` has `room` bytes, and `length` is a local of `told`.
+        told(|text, room, length| unsafe { sys::cf_code_text(self.0, text, room, length) }).1
+    }
+}
+
+impl fmt::Display for Refused {
+    fn fmt(&self, f: &mut fmt::Formatter<'_>) -> fmt::Result {
+        match WORDS.get((self.0 as usize).wrapping_sub(1)) {
+            Some(words) => f.write_str(words),
+            None if *self == Refused::OTHER_LIBRARY => f.write_str("the library isn't the one that this crate was written for"),
+            None => write!(f, "code {}", self.0),
+        }
+    }
+}
+
+impl Error for Refused {}
+
+/// Compares the library with the declarations, at the first call. `OTHER_LIBRARY`.
+#[inline]
+pub(crate) fn checked() -> Result<(), Refused> {
+    if IS_CHECKED.load(Ordering::Relaxed) {
+        return Ok(());
+    }
+    check()
+}
+
+static IS_CHECKED: AtomicBool = AtomicBool::new(false);
+
+#[cold]
+fn check() -> Result<(), Refused> {
+    if cf_sys::mismatch().is_some() {
+        return Err(Refused::OTHER_LIBRARY);
+    }
+    IS_CHECKED.store(true, Ordering::Relaxed);
+    Ok(())
+}
+
+#[inline]
+pub(crate) fn done(code: u32) -> Result<(), Refused> {
+    if code == 0 {
+        Ok(())
+    } else {
+        Err(Refused(code))
+    }
+}
+
+/// None where there is nothing to tell.
+pub(crate) fn if_there<T>(told: Result<T, Refused>) -> Result<Option<T>, Refused> {
+    match told {
+        Ok(told) => Ok(Some(told)),
+        Err(Refused::NOTHING) => Ok(None),
+        Err(refused) => Err(refused),
+    }
+}

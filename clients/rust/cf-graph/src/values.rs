@@ -1,0 +1,210 @@
+//! What callers give and are told.
+use cf_sys as sys;
+
+/// Nothing, which is Java's null, or a number.
+#[derive(Clone, Copy, PartialEq, Eq, Debug)]
+pub enum Value {
+    Nil,
+    Int(i32),
+}
+
+/// Why a stage ended without a value.
+#[derive(Clone, Copy, PartialEq, Eq, Debug)]
+pub enum Cause {
+    Thrown(u32),
+    Cancelled,
+    TimedOut,
+    BadAnswer,
+}
+
+/// What a stage is settled with. `wrapped`: the cause stands inside a `CompletionException`.
+#[derive(Clone, Copy, PartialEq, Eq, Debug)]
+pub enum Outcome {
+    Value(Value),
+    Fault { cause: Cause, wrapped: bool },
+}
+
+/// What a stage's function is called with.
+#[derive(Clone, Copy, PartialEq, Eq, Debug)]
+pub enum Args {
+    None,
+    One(Value),
+    Two(Value, Value),
+    Got(Outcome),
+}
+
+/// What a stage's function answers. `Link`: of a composing form, the stage that it takes its outcome from.
+#[derive(Clone, Copy, PartialEq, Eq, Debug)]
+pub enum Answer {
+    Give(Value),
+    Throw(u32),
+    Link(u16),
+}
+
+/// What is told of a stage at present.
+#[derive(Clone, Copy, PartialEq, Eq, Debug)]
+pub enum Now {
+    Absent(Value),
+    Value(Value),
+    Completion(Cause),
+    Cancellation,
+}
+
+#[derive(Clone, Copy, PartialEq, Eq, Debug)]
+pub enum Claimed {
+    Granted(Args),
+    Settled,
+    Taken,
+    NotReady,
+}
+
+#[derive(Clone, Copy, PartialEq, Eq, Debug)]
+pub enum Finished {
+    Won,
+    Late,
+    NotYours,
+}
+
+/// How many limits settled their stage, or that a later moment was handed in before.
+#[derive(Clone, Copy, PartialEq, Eq, Debug)]
+pub enum Ticked {
+    Fired(u32),
+    Past,
+}
+
+/// What a changing call was answered.
+#[derive(Clone, Copy, PartialEq, Eq, Debug)]
+pub enum Reply {
+    /// Of complete, fail and cancel.
+    Flag(bool),
+    Claimed(Claimed),
+    Finished(Finished),
+    Ticked(Ticked),
+    /// The number of the new stage, or None where no room was left.
+    Attached(Option<u16>),
+}
+
+#[inline]
+pub(crate) fn value_in(value: Value) -> sys::cf_value {
+    match value {
+        Value::Nil => sys::cf_value { kind: 0, number: 0 },
+        Value::Int(number) => sys::cf_value { kind: 1, number },
+    }
+}
+
+#[inline]
+pub(crate) fn value_out(value: sys::cf_value) -> Value {
+    match value.kind {
+        0 => Value::Nil,
+        _ => Value::Int(value.number),
+    }
+}
+
+#[inline]
+pub(crate) fn answer_in(answer: Answer) -> sys::cf_answer {
+    let none = sys::cf_answer::default();
+    match answer {
+        Answer::Give(value) => sys::cf_answer { value: value_in(value), ..none },
+        Answer::Throw(code) => sys::cf_answer { kind: 1, code, ..none },
+        Answer::Link(stage) => sys::cf_answer { kind: 2, stage, ..none },
+    }
+}
+
+#[inline]
+fn cause_of(outcome: sys::cf_outcome) -> Cause {
+    match outcome.kind {
+        2 => Cause::Thrown(outcome.code),
+        3 => Cause::Cancelled,
+        4 => Cause::TimedOut,
+        _ => Cause::BadAnswer,
+    }
+}
+
+#[inline]
+pub(crate) fn outcome_out(outcome: sys::cf_outcome) -> Option<Outcome> {
+    match outcome.kind {
+        0 => None,
+        1 => Some(Outcome::Value(value_out(outcome.value))),
+        _ => Some(Outcome::Fault { cause: cause_of(outcome), wrapped: outcome.wrapped != 0 }),
+    }
+}
+
+#[inline]
+pub(crate) fn args_out(args: sys::cf_args) -> Args {
+    match args.kind {
+        0 => Args::None,
+        1 => Args::One(value_out(args.first)),
+        2 => Args::Two(value_out(args.first), value_out(args.second)),
+        // A function is called with an outcome only once there is one.
+        _ => Args::Got(outcome_out(args.outcome).unwrap_or(Outcome::Value(Value::Nil))),
+    }
+}
+
+#[inline]
+pub(crate) fn now_out(now: sys::cf_now) -> Now {
+    match now.kind {
+        0 => Now::Absent(value_out(now.outcome.value)),
+        1 => Now::Value(value_out(now.outcome.value)),
+        2 => Now::Completion(cause_of(now.outcome)),
+        _ => Now::Cancellation,
+    }
+}
+
+#[inline]
+pub(crate) fn claimed_out(reply: sys::cf_reply) -> Claimed {
+    match reply.answer {
+        0 => Claimed::Granted(args_out(reply.args)),
+        1 => Claimed::Settled,
+        2 => Claimed::Taken,
+        _ => Claimed::NotReady,
+    }
+}
+
+#[inline]
+pub(crate) fn finished_out(reply: sys::cf_reply) -> Finished {
+    match reply.answer {
+        0 => Finished::Won,
+        1 => Finished::Late,
+        _ => Finished::NotYours,
+    }
+}
+
+#[inline]
+pub(crate) fn ticked_out(reply: sys::cf_reply) -> Ticked {
+    match reply.answer {
+        0 => Ticked::Fired(reply.number),
+        _ => Ticked::Past,
+    }
+}
+
+#[inline]
+pub(crate) fn attached_out(reply: sys::cf_reply) -> Option<u16> {
+    (reply.answer == 0).then_some(reply.number as u16)
+}
+
+#[inline]
+pub(crate) fn answer_out(answer: sys::cf_answer) -> Answer {
+    match answer.kind {
+        0 => Answer::Give(value_out(answer.value)),
+        1 => Answer::Throw(answer.code),
+        _ => Answer::Link(answer.stage),
+    }
+}
+
+#[inline]
+pub(crate) fn outcome_in(outcome: Option<Outcome>) -> sys::cf_outcome {
+    let none = sys::cf_outcome::default();
+    match outcome {
+        None => none,
+        Some(Outcome::Value(value)) => sys::cf_outcome { kind: 1, value: value_in(value), ..none },
+        Some(Outcome::Fault { cause, wrapped }) => {
+            let (kind, code) = match cause {
+                Cause::Thrown(code) => (2, code),
+                Cause::Cancelled => (3, 0),
+                Cause::TimedOut => (4, 0),
+                Cause::BadAnswer => (5, 0),
+            };
+            sys::cf_outcome { kind, wrapped: u32::from(wrapped), code, ..none }
+        }
+    }
+}

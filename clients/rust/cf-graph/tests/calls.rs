@@ -1,0 +1,167 @@
+//! What each call answers, row by row.
+use cf_graph::{Answer, Args, Cause, Claimed, Finished, Form, Graph, Limit, Now, Outcome, Plan, PlanBuilder, Refused, Ticked, Value};
+use std::thread;
+
+const THROWN: Outcome = fault(Cause::Thrown(4_000_000_000), false);
+const TAKEN_OVER: Outcome = fault(Cause::Thrown(4_000_000_000), true);
+
+const fn fault(cause: Cause, wrapped: bool) -> Outcome {
+    Outcome::Fault { cause, wrapped }
+}
+
+/// 0 a source, 1 an apply of it, 2 a source with limits at 10, 3 a compose of 2, 4 a handle of 1.
+fn plan() -> Plan {
+    let mut builder = PlanBuilder::new().unwrap();
+    for (form, of, function) in [
+        (Form::Source, &[][..], None),
+        (Form::Apply, &[0], Some(65_535)),
+        (Form::Source, &[], None),
+        (Form::Compose, &[2], Some(1)),
+        (Form::Handle, &[1], Some(2)),
+    ] {
+        builder.stage(form, of, function).unwrap();
+    }
+    builder.limit(2, 10, Limit::Timeout).unwrap();
+    builder.build().unwrap()
+}
+
+fn graph(room: u16) -> Graph {
+    plan().graph(room).unwrap()
+}
+
+#[test]
+fn a_value_is_taken_over() {
+    let mut graph = graph(0);
+    assert_eq!(graph.now(0, Value::Int(-1)), Ok(Now::Absent(Value::Int(-1))));
+    assert_eq!(graph.lowest_ready(), Ok(None));
+    assert_eq!(graph.claim(7, 1), Ok(Claimed::NotReady));
+    assert_eq!(graph.complete(0, Value::Int(i32::MIN)), Ok(true));
+    assert_eq!(graph.complete(0, Value::Nil), Ok(false));
+    assert_eq!(graph.lowest_ready(), Ok(Some(1)));
+    assert_eq!(graph.function(1), Ok(Some(65_535)));
+    assert_eq!(graph.function(0), Ok(None));
+    assert_eq!(graph.claim(7, 1), Ok(Claimed::Granted(Args::One(Value::Int(i32::MIN)))));
+    assert_eq!(graph.claim(8, 1), Ok(Claimed::Taken));
+    assert_eq!(graph.finish(8, 1, Answer::Give(Value::Nil)), Ok(Finished::NotYours));
+    assert_eq!(graph.finish(7, 1, Answer::Give(Value::Nil)), Ok(Finished::Won));
+    assert_eq!(graph.claim(7, 1), Ok(Claimed::Settled));
+    assert_eq!(graph.claim(7, 4), Ok(Claimed::Granted(Args::Got(Outcome::Value(Value::Nil)))));
+    assert_eq!(graph.cancel(4), Ok(true));
+    assert_eq!(graph.finish(7, 4, Answer::Throw(1)), Ok(Finished::Late));
+    assert_eq!(graph.now(4, Value::Nil), Ok(Now::Cancellation));
+    assert_eq!(graph.now(1, Value::Int(1)), Ok(Now::Value(Value::Nil)));
+}
+
+#[test]
+fn a_fault_is_wrapped_where_it_is_taken_over() {
+    let mut graph = graph(0);
+    assert_eq!(graph.fail(0, 4_000_000_000), Ok(true));
+    assert_eq!(graph.outcome(0), Ok(Some(THROWN)));
+    assert_eq!(graph.outcome(1), Ok(Some(TAKEN_OVER)));
+    assert_eq!(graph.now(1, Value::Nil), Ok(Now::Completion(Cause::Thrown(4_000_000_000))));
+    assert_eq!(graph.claim(0, 4), Ok(Claimed::Granted(Args::Got(TAKEN_OVER))));
+    assert_eq!(graph.outcome(4), Ok(None));
+}
+
+#[test]
+fn limits_fire_and_links_settle() {
+    let mut graph = graph(0);
+    assert_eq!(graph.complete(2, Value::Int(5)), Ok(true));
+    assert_eq!(graph.claim(0, 3), Ok(Claimed::Granted(Args::One(Value::Int(5)))));
+    assert_eq!(graph.finish(0, 3, Answer::Link(0)), Ok(Finished::Won));
+    assert_eq!(graph.outcome(3), Ok(None));
+    assert_eq!(graph.complete(0, Value::Int(6)), Ok(true));
+    assert_eq!(graph.outcome(3), Ok(Some(Outcome::Value(Value::Int(6)))));
+    assert!(graph.turns().unwrap() > 0);
+    assert_eq!(graph.restart(), Ok(()));
+    assert_eq!(graph.turns(), Ok(0));
+    assert_eq!(graph.tick(10), Ok(Ticked::Fired(1)));
+    assert_eq!(graph.tick(9), Ok(Ticked::Past));
+    assert_eq!(graph.outcome(2), Ok(Some(fault(Cause::TimedOut, false))));
+    assert_eq!(graph.outcome(3), Ok(Some(fault(Cause::TimedOut, true))));
+    assert_eq!(graph.restart(), Ok(()));
+    assert_eq!(graph.complete(2, Value::Nil), Ok(true));
+    assert_eq!(graph.claim(0, 3), Ok(Claimed::Granted(Args::One(Value::Nil))));
+    assert_eq!(graph.finish(0, 3, Answer::Give(Value::Nil)), Ok(Finished::Won));
+    assert_eq!(graph.outcome(3), Ok(Some(fault(Cause::BadAnswer, true))));
+}
+
+#[test]
+fn stages_are_attached_while_there_is_room() {
+    let mut graph = graph(1);
+    assert_eq!(graph.attach(Form::AllOf, &[0, 9], None), Err(Refused::NO_STAGE));
+    assert_eq!(graph.attach(Form::AllOf, &[0, 0, 0], None), Err(Refused::WRONG_SOURCE_COUNT));
+    assert_eq!(graph.attach(Form::Apply, &[0], None), Err(Refused::BAD_ATTACH));
+    assert_eq!(graph.attach(Form::AnyOf, &[0, 1], None), Ok(Some(5)));
+    assert_eq!(graph.attach(Form::AnyOf, &[0, 1], None), Ok(None));
+    assert_eq!(graph.stages(), Ok(6));
+    assert_eq!(graph.complete(0, Value::Int(2)), Ok(true));
+    assert_eq!(graph.outcome(5), Ok(Some(Outcome::Value(Value::Int(2)))));
+    assert_eq!(graph.restart(), Ok(()));
+    assert_eq!(graph.outcome(5), Err(Refused::NO_STAGE));
+}
+
+#[test]
+fn builders_refuse() {
+    let mut builder = PlanBuilder::new().unwrap();
+    assert_eq!(builder.stage(Form::Apply, &[0], Some(0)), Err(Refused::SOURCE_NOT_LOWER));
+    assert_eq!(builder.stage(Form::Source, &[], Some(0)), Err(Refused::FUNCTION_UNWANTED));
+    assert_eq!(builder.stage(Form::Supply, &[], None), Err(Refused::FUNCTION_MISSING));
+    assert_eq!(builder.limit(0, 1, Limit::Timeout), Err(Refused::NO_SUCH_STAGE));
+    assert_eq!(builder.stage(Form::Source, &[], None), Ok(0));
+    assert_eq!(builder.stage(Form::Combine, &[0], Some(0)), Err(Refused::WRONG_SOURCE_COUNT));
+    let mut plan = builder.build().unwrap();
+    assert_eq!(plan.graph(4_096).err(), Some(Refused::ROOM));
+    assert_eq!(plan.graph(4_096).err().unwrap().code(), 16);
+}
+
+#[test]
+fn each_form_has_its_number() {
+    for (form, sources, has_function) in [
+        (Form::Source, 0, false),
+        (Form::Supply, 0, true),
+        (Form::RunAsync, 0, true),
+        (Form::Apply, 1, true),
+        (Form::Accept, 1, true),
+        (Form::ThenRun, 1, true),
+        (Form::Combine, 2, true),
+        (Form::AcceptBoth, 2, true),
+        (Form::RunBoth, 2, true),
+        (Form::ApplyEither, 2, true),
+        (Form::AcceptEither, 2, true),
+        (Form::RunEither, 2, true),
+        (Form::Compose, 1, true),
+        (Form::Handle, 1, true),
+        (Form::WhenComplete, 1, true),
+        (Form::Exceptionally, 1, true),
+        (Form::AllOf, 3, false),
+        (Form::AnyOf, 3, false),
+        (Form::ExceptionallyCompose, 1, true),
+    ] {
+        let mut builder = PlanBuilder::new().unwrap();
+        assert_eq!(builder.stage(Form::Source, &[], None), Ok(0));
+        let of = vec![0; sources];
+        assert_eq!(builder.stage(form, &of, has_function.then_some(3)), Ok(1), "{form:?}");
+    }
+}
+
+#[test]
+fn graphs_outlive_their_plan_and_go_to_threads() {
+    let mut plan = plan();
+    let graphs: Vec<Graph> = (0..8).map(|_| plan.graph(0).unwrap()).collect();
+    drop(plan);
+    let threads: Vec<_> = graphs.into_iter().zip(0..).map(|(graph, k)| thread::spawn(move || doubled(graph, k))).collect();
+    for (thread, k) in threads.into_iter().zip(0..) {
+        assert_eq!(thread.join().unwrap(), Some(Outcome::Value(Value::Int(2 * k))));
+    }
+}
+
+fn doubled(mut graph: Graph, k: i32) -> Option<Outcome> {
+    graph.complete(0, Value::Int(k)).unwrap();
+    let calls = graph.work(1, |_, args| match args {
+        Args::One(Value::Int(number)) => Answer::Give(Value::Int(2 * number)),
+        _ => Answer::Throw(0),
+    });
+    assert_eq!(calls, Ok(2));
+    graph.outcome(1).unwrap()
+}

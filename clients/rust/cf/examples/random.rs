@@ -1,0 +1,174 @@
+//! Lets eight threads race random requests, and prints what became of each: conformance/rust-requests judges it.
+//!
+//!     random FIRST COUNT
+//!
+//! Each seed makes two requests, of which the one takes stages of the other. Eight threads attach stages of all forms, complete, fail, cancel
+//! and name them, while four threads run their functions, which give values, return errors, panic, rest, wait for stages, or give futures.
+//! Three lines for each history, one of them taken in the midst of the race: the account, the script, and the report with tabs for ends of
+//! lines. At the end no stage may be ready or claimed: else the status is 1.
+use cf::{Error, HandClock, Pool, Request, Spawn, Stage, SystemClock};
+use cf_graph::{Ledger, PlanBuilder, State};
+use std::sync::Arc;
+use std::time::{Duration, Instant};
+use std::{env, panic, process, thread};
+
+#[derive(Clone)]
+struct Dice(u64);
+
+impl Dice {
+    fn of(seed: u64) -> Dice {
+        Dice((seed + 1).wrapping_mul(0x9e37_79b9_7f4a_7c15) | 1)
+    }
+
+    fn roll(&mut self, sides: usize) -> usize {
+        self.0 ^= self.0 << 13;
+        self.0 ^= self.0 >> 7;
+        self.0 ^= self.0 << 17;
+        ((self.0 >> 11) % sides as u64) as usize
+    }
+
+    fn pick<'a, T>(&mut self, of: &'a [T]) -> &'a T {
+        &of[self.roll(of.len())]
+    }
+}
+
+/// What a stage calls: it gives, returns an error, panics or rests.
+fn function(dice: &mut Dice) -> impl FnOnce(i64) -> Result<i64, Box<dyn std::error::Error + Send + Sync>> + Send + 'static {
+    let (what, rests, given) = (dice.roll(20), dice.roll(12) == 0, dice.roll(1000) as i64);
+    move |n| {
+        if rests {
+            thread::sleep(Duration::from_micros(300));
+        }
+        match what {
+            0..=2 => Err(format!("no answer {given}").into()),
+            3 => panic::panic_any(given),
+            _ => Ok(n.wrapping_add(given)),
+        }
+    }
+}
+
+fn must(told: Result<i64, Box<dyn std::error::Error + Send + Sync>>) -> i64 {
+    told.unwrap_or_else(|error| panic::panic_any(error.to_string()))
+}
+
+/// Attaches one stage, or settles one.
+fn step(dice: &mut Dice, request: &Request, stages: &[Stage<i64>], others: &[Stage<i64>]) -> Option<Stage<i64>> {
+    let a = dice.pick(stages).clone();
+    let b = if dice.roll(6) == 0 { dice.pick(others) } else { dice.pick(stages) }.clone();
+    let (f, by, rest) = (function(dice), request.clone(), function(dice));
+    let all = [a.clone(), b.clone(), dice.pick(stages).clone()];
+    Some(match dice.roll(24) {
+        0 => request.promise(),
+        1 | 2 => request.try_supply(move || f(1)),
+        3 | 4 => a.and_then(move |n| f(*n)),
+        5 => a.then(move |n| must(f(*n))),
+        6 => a.handle(move |told| told.map_or(-1, |n| *n)),
+        7 => a.recover(move |_| must(f(2))),
+        8 => a.inspect(move |_| drop(f(3))),
+        9 | 10 => a.combine(&b, move |a, b| must(f(a + b))),
+        11 => a.either(&b, move |n| must(f(*n))),
+        12 => a.compose(move |_| b),
+        13 => a.compose(move |n| by.supply(|| 5).combine(&by.try_supply(move || rest(4)), |a, b| a * b).named(format!("of {n}"))),
+        14 => a.recover_compose(move |_| b),
+        15 => request.all_of(all[..dice.roll(4)].iter().map(|it| it as &dyn cf::AnyStage)).then(|()| 0),
+        16 => request.first_of(&all),
+        17 => request.gather(&all).then(|all| all.iter().sum()),
+        18 => request.spawn(async move { a.await.map(|n| n + 1) }),
+        19 => a.then_async(move |n| async move { b.await.map(|b| b + *n) }).or_timeout(Duration::from_millis(1 + *dice.pick(&[0, 400]))),
+        20 => request.promise().or_timeout(Duration::from_micros(500)),
+        21 => request.promise().complete_on_timeout(7, Duration::from_micros(500)),
+        22 => {
+            match dice.roll(4) {
+                0 => assert!(a.complete(dice.roll(9) as i64).map_or(true, |()| true)),
+                1 => drop(a.fail("gone")),
+                2 => drop(a.cancel()),
+                _ => drop(a.named("named")),
+            }
+            return None;
+        }
+        // A worker that waits runs others; what it waits for is there, or comes by the clock.
+        _ => {
+            let waits = request.promise().complete_on_timeout(1, Duration::from_micros(200));
+            request.try_supply(move || waits.wait())
+        }
+    })
+}
+
+struct Raced {
+    midst: cf::History,
+    request: Request,
+    other: Request,
+    promises: Vec<Stage<i64>>,
+}
+
+fn race(seed: u64, spawn: &Arc<dyn Spawn>) -> Raced {
+    let mut dice = Dice::of(seed);
+    let clock = Arc::new(SystemClock);
+    let room = *dice.pick(&[1, 8, 64]);
+    let request = Request::try_new(&format!("seed {seed}"), spawn.clone(), clock, room).expect("a ledger");
+    let other = Request::with_clock("other", spawn.clone(), Arc::new(HandClock::new()));
+    let others = vec![other.promise(), other.supply(|| 9), other.try_supply(|| Err("no other"))];
+    let midst = thread::scope(|scope| {
+        for k in 0..8 {
+            let (mut dice, request, others) = (Dice::of(seed << 8 | k), &request, &others);
+            scope.spawn(move || {
+                let mut stages = vec![request.promise(), request.supply(|| 3)];
+                for _ in 0..2 + dice.roll(10) {
+                    stages.extend(step(&mut dice, request, &stages, others));
+                }
+                for stage in &stages {
+                    if dice.roll(3) == 0 {
+                        let _ = stage.complete(4);
+                    }
+                }
+            });
+        }
+        let midst = request.history();
+        let _ = others[0].complete(seed as i64);
+        midst
+    });
+    Raced { midst, request, other, promises: others }
+}
+
+/// Whether a stage has what it needs, and its function isn't finished.
+fn is_open(history: &cf::History) -> bool {
+    let mut plan = PlanBuilder::new().and_then(|plan| plan.build()).expect("a plan");
+    let mut ledger = Ledger::of_words(&mut plan, history.names().len().max(1) as u16, history.words()).expect("the words fit");
+    (0..history.names().len() as u16).any(|stage| {
+        let now = ledger.stage(stage).expect("the stage is there");
+        now.who.is_some() || now.state == State::Ready || now.state == State::Claimed
+    })
+}
+
+fn main() {
+    let mut args = env::args().skip(1).map(|word| word.parse::<u64>().expect("a number"));
+    let (first, count) = (args.next().unwrap_or(0), args.next().unwrap_or(100));
+    panic::set_hook(Box::new(|_| {}));
+    let spawn: Arc<dyn Spawn> = Arc::new(Pool::new(4));
+    for seed in first..first + count {
+        let raced = race(seed, &spawn);
+        let end = Instant::now() + Duration::from_secs(20);
+        // Futures that wait for stages that nobody completes are claimed for good: what is left is cancelled.
+        thread::sleep(Duration::from_millis(1));
+        raced.request.cancel_all();
+        let settled = |request: &Request| loop {
+            let history = request.history();
+            if !is_open(&history) {
+                return history;
+            }
+            if Instant::now() > end {
+                eprintln!("a stage waits that has what it needs:\n{history}");
+                process::exit(1);
+            }
+            thread::sleep(Duration::from_micros(200));
+        };
+        for history in [settled(&raced.request), settled(&raced.other), raced.midst] {
+            if !history.comes_again() {
+                eprintln!("it doesn't come again:\n{history}");
+                process::exit(1);
+            }
+            println!("{}\n{}\n{}", history.account().trim_end(), history.script(), history.report().replace('\n', "\t"));
+        }
+        drop(raced.promises.iter().map(Stage::peek).collect::<Vec<Option<Result<i64, Error>>>>());
+    }
+}

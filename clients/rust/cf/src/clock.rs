@@ -1,0 +1,237 @@
+//! What time it is, and who rings when it is later.
+use crate::core::Alarm;
+use std::collections::BTreeMap;
+use std::sync::{Arc, Condvar, Mutex, MutexGuard, Once, PoisonError};
+use std::thread;
+use std::time::{Duration, Instant};
+
+/// A clock: times of histories and timeouts go by it. [`SystemClock`] is a computer's, [`HandClock`] is turned by tests.
+///
+/// ```
+/// use cf::{Alarm, Clock, Inline, Request, SystemClock};
+/// use std::{sync::Arc, time::Duration};
+///
+/// /// A clock that rings ten times as soon.
+/// struct Hasty;
+///
+/// impl Clock for Hasty {
+///     fn now(&self) -> Duration {
+///         SystemClock.now() * 10
+///     }
+///     fn after(&self, wait: Duration, alarm: Alarm) {
+///         SystemClock.after(wait / 10, alarm)
+///     }
+/// }
+///
+/// let request = Request::with_clock("order 17", Arc::new(Inline), Arc::new(Hasty));
+/// assert!(request.promise::<u32>().or_timeout(Duration::from_millis(20)).wait().unwrap_err().is_timeout());
+/// ```
+pub trait Clock: Send + Sync + 'static {
+    /// How long it is since a moment of the clock's own. It never goes back.
+    fn now(&self) -> Duration;
+
+    /// Rings the alarm after a while. It must not ring it before it returns.
+    fn after(&self, wait: Duration, alarm: Alarm);
+}
+
+/// The computer's clock. Its alarms are rung by one thread, which is there from the first timeout on.
+///
+/// ```
+/// use cf::{Clock, SystemClock};
+/// let before = SystemClock.now();
+/// assert!(SystemClock.now() >= before);
+/// ```
+#[derive(Clone, Copy, Debug, Default)]
+pub struct SystemClock;
+
+impl Clock for SystemClock {
+    #[inline]
+    fn now(&self) -> Duration {
+        begun().elapsed()
+    }
+
+    fn after(&self, wait: Duration, alarm: Alarm) {
+        static RINGER: Once = Once::new();
+        RINGER.call_once(|| {
+            thread::Builder::new().name("cf clock".into()).spawn(ring).expect("a thread can be started");
+        });
+        if let Some(at) = self.now().checked_add(wait) {
+            let mut held = lock(&ALARMS.due);
+            let due = held.get_or_insert_with(Due::new);
+            let is_first = due.add(at, alarm);
+            let is_full = due.alarms.len() > due.sweep;
+            drop(held);
+            if is_full {
+                sweep();
+            }
+            if is_first || is_full {
+                ALARMS.came.notify_one();
+            }
+        }
+    }
+}
+
+/// The moment from which the system's clock counts.
+fn begun() -> Instant {
+    thread_local! {
+        static BEGUN: Instant = first();
+    }
+    fn first() -> Instant {
+        static FIRST: Mutex<Option<Instant>> = Mutex::new(None);
+        *FIRST.lock().unwrap_or_else(PoisonError::into_inner).get_or_insert_with(Instant::now)
+    }
+    BEGUN.try_with(|begun| *begun).unwrap_or_else(|_| first())
+}
+
+struct Alarms {
+    due: Mutex<Option<Due>>,
+    came: Condvar,
+}
+
+static ALARMS: Alarms = Alarms { due: Mutex::new(None), came: Condvar::new() };
+
+/// Alarms by the moments at which they ring.
+struct Due {
+    alarms: BTreeMap<(Duration, u64), Alarm>,
+    number: u64,
+    /// Above how many alarms those are left out whose stages need none any more.
+    sweep: usize,
+}
+
+impl Due {
+    fn new() -> Due {
+        Due { alarms: BTreeMap::new(), number: 0, sweep: 64 }
+    }
+
+    /// Whether the alarm is the first that rings now.
+    fn add(&mut self, at: Duration, alarm: Alarm) -> bool {
+        let is_first = self.alarms.keys().next().map_or(true, |first| at < first.0);
+        self.number += 1;
+        self.alarms.insert((at, self.number), alarm);
+        is_first
+    }
+
+    fn take(&mut self, now: Duration) -> Result<Alarm, Option<Duration>> {
+        let first = match self.alarms.keys().next() {
+            None => return Err(None),
+            Some(first) => *first,
+        };
+        if first.0 > now {
+            return Err(Some(first.0 - now));
+        }
+        self.alarms.remove(&first).ok_or(None)
+    }
+}
+
+fn lock<T>(held: &Mutex<T>) -> MutexGuard<'_, T> {
+    held.lock().unwrap_or_else(PoisonError::into_inner)
+}
+
+/// Leaves out alarms that nobody wants. They are asked without the lock, since a request may end with that.
+fn sweep() {
+    let mut alarms = std::mem::take(&mut lock(&ALARMS.due).get_or_insert_with(Due::new).alarms);
+    alarms.retain(|_, alarm| alarm.is_wanted());
+    let mut held = lock(&ALARMS.due);
+    let due = held.get_or_insert_with(Due::new);
+    due.alarms.append(&mut alarms);
+    due.sweep = 64 + 2 * due.alarms.len();
+}
+
+/// Rings each alarm at its moment, without the lock.
+fn ring() {
+    let mut held = lock(&ALARMS.due);
+    loop {
+        match held.get_or_insert_with(Due::new).take(SystemClock.now()) {
+            Ok(alarm) => {
+                drop(held);
+                // A waker that panics doesn't stop the clock.
+                let _ = std::panic::catch_unwind(std::panic::AssertUnwindSafe(|| alarm.ring()));
+                held = lock(&ALARMS.due);
+            }
+            Err(None) => held = ALARMS.came.wait(held).unwrap_or_else(PoisonError::into_inner),
+            Err(Some(wait)) => held = ALARMS.came.wait_timeout(held, wait).unwrap_or_else(PoisonError::into_inner).0,
+        }
+    }
+}
+
+/// A clock that stands until it is turned by hand. Clones are the same clock.
+///
+/// ```
+/// use cf::{HandClock, Inline, Request};
+/// use std::{sync::Arc, time::Duration};
+/// let clock = HandClock::new();
+/// let request = Request::with_clock("order 17", Arc::new(Inline), Arc::new(clock.clone()));
+/// let quote = request.promise::<u32>().or_timeout(Duration::from_secs(3600)).recover(|_| 52);
+/// clock.turn(Duration::from_secs(3599));
+/// assert!(!quote.is_settled());
+/// clock.turn(Duration::from_secs(1));
+/// assert_eq!(quote.wait().unwrap(), 52);
+/// ```
+#[derive(Clone)]
+pub struct HandClock(Arc<Mutex<(Duration, Due)>>);
+
+impl HandClock {
+    /// A clock that stands at 0.
+    ///
+    /// ```
+    /// use cf::{Clock, HandClock};
+    /// assert_eq!(HandClock::new().now(), std::time::Duration::ZERO);
+    /// ```
+    pub fn new() -> HandClock {
+        HandClock(Arc::new(Mutex::new((Duration::ZERO, Due::new()))))
+    }
+
+    /// Lets it be so much later, and rings what is due by then, one after another, on this thread.
+    ///
+    /// ```
+    /// use cf::{Clock, HandClock};
+    /// use std::time::Duration;
+    /// let clock = HandClock::new();
+    /// clock.turn(Duration::from_secs(5));
+    /// assert_eq!(clock.now(), Duration::from_secs(5));
+    /// ```
+    pub fn turn(&self, by: Duration) {
+        let end = self.now() + by;
+        loop {
+            let mut held = self.lock();
+            let (now, due) = &mut *held;
+            let first = due.alarms.keys().next().map(|first| first.0);
+            *now = first.map_or(end, |first| first.min(end)).max(*now);
+            let next = due.take(*now);
+            drop(held);
+            match next {
+                Ok(alarm) => alarm.ring(),
+                Err(_) => return,
+            }
+        }
+    }
+
+    fn lock(&self) -> MutexGuard<'_, (Duration, Due)> {
+        lock(&self.0)
+    }
+}
+
+impl Default for HandClock {
+    fn default() -> HandClock {
+        HandClock::new()
+    }
+}
+
+impl std::fmt::Debug for HandClock {
+    fn fmt(&self, f: &mut std::fmt::Formatter<'_>) -> std::fmt::Result {
+        write!(f, "HandClock({:?})", self.now())
+    }
+}
+
+impl Clock for HandClock {
+    fn now(&self) -> Duration {
+        self.lock().0
+    }
+
+    fn after(&self, wait: Duration, alarm: Alarm) {
+        let mut held = self.lock();
+        if let Some(at) = held.0.checked_add(wait) {
+            held.1.add(at, alarm);
+        }
+    }
+}

@@ -1,0 +1,225 @@
+//! How a stage ends without a value.
+use std::any::Any;
+use std::error::Error as StdError;
+use std::fmt;
+use std::panic::resume_unwind;
+use std::sync::{Arc, Mutex, PoisonError};
+use std::time::Duration;
+
+/// Any error that can go to another thread: what functions and [`Stage::fail`](crate::Stage::fail) take, `&str` and `String` too.
+///
+/// ```
+/// use cf::{BoxError, Inline, Request};
+/// let request = Request::new("order 17", Inline);
+/// let stage = request.try_supply(|| -> Result<u32, BoxError> { Ok("49".parse::<u32>()?) });
+/// assert_eq!(stage.wait().unwrap(), 49);
+/// ```
+pub type BoxError = Box<dyn StdError + Send + Sync>;
+
+/// How a stage ended without a value. A clone is one atomic count: all stages behind a failed one share its error.
+///
+/// ```
+/// use cf::{Error, Inline, Request};
+/// let request = Request::new("order 17", Inline);
+/// match request.try_supply(|| Err::<u32, _>("no stock")).wait() {
+///     Err(Error::Failed(error)) => assert_eq!(error.to_string(), "no stock"),
+///     other => panic!("{other:?}"),
+/// }
+/// ```
+#[derive(Clone, Debug)]
+#[non_exhaustive]
+pub enum Error {
+    /// A function returned this, or somebody failed the stage with it.
+    Failed(Arc<dyn StdError + Send + Sync>),
+    /// A function panicked.
+    Panicked(Panic),
+    /// The stage, or one that it hangs on, was cancelled.
+    Cancelled,
+    /// The stage, or one that it hangs on, wasn't settled so long after that was asked for.
+    TimedOut(Duration),
+    /// A composing stage waits for a stage for which it can't.
+    BadAnswer,
+    /// The stage isn't part of its request, or no longer.
+    Refused(Refusal),
+}
+
+/// Why a stage was never made, or never settles by itself.
+///
+/// ```
+/// use cf::{Inline, Refusal, Request};
+/// let request = Request::new("large", Inline);
+/// let full = (0..4096).map(|_| request.promise::<u32>()).count();
+/// assert_eq!(full, 4096);
+/// assert!(matches!(request.promise::<u32>().wait(), Err(cf::Error::Refused(Refusal::Full))));
+/// ```
+#[derive(Clone, Copy, Debug, PartialEq, Eq, Hash)]
+#[non_exhaustive]
+pub enum Refusal {
+    /// A request has at most 4,096 stages.
+    Full,
+    /// Whoever runs the functions takes no more of them.
+    Closed,
+    /// The library refused memory, or isn't the one that this crate was written for.
+    NoLedger,
+}
+
+/// What a function panicked with. Clones share the payload, which one of them can take.
+///
+/// ```
+/// use cf::{Error, Inline, Request};
+/// let request = Request::new("order 17", Inline);
+/// let stage = request.supply(|| -> u32 { std::panic::panic_any(404_u16) });
+/// let panic = match stage.wait() {
+///     Err(Error::Panicked(panic)) => panic,
+///     other => panic!("{other:?}"),
+/// };
+/// assert_eq!(*panic.take_payload().unwrap().downcast::<u16>().unwrap(), 404);
+/// assert!(panic.take_payload().is_none());
+/// ```
+#[derive(Clone)]
+pub struct Panic(Arc<Panicked>);
+
+struct Panicked {
+    message: Box<str>,
+    payload: Mutex<Option<Box<dyn Any + Send>>>,
+}
+
+impl Panic {
+    pub(crate) fn of(payload: Box<dyn Any + Send>) -> Panic {
+        let message = payload.downcast_ref::<&str>().copied().or_else(|| payload.downcast_ref::<String>().map(String::as_str));
+        let message = message.unwrap_or("something that isn't text").into();
+        Panic(Arc::new(Panicked { message, payload: Mutex::new(Some(payload)) }))
+    }
+
+    /// Its message, where the payload is a text.
+    ///
+    /// ```
+    /// # use cf::{Error, Inline, Request};
+    /// let stage = Request::new("order 17", Inline).supply(|| -> u32 { panic!("at {}", 5) });
+    /// assert!(matches!(stage.wait(), Err(Error::Panicked(panic)) if panic.message() == "at 5"));
+    /// ```
+    pub fn message(&self) -> &str {
+        &self.0.message
+    }
+
+    /// Its payload, for the first who asks.
+    pub fn take_payload(&self) -> Option<Box<dyn Any + Send>> {
+        self.0.payload.lock().unwrap_or_else(PoisonError::into_inner).take()
+    }
+
+    /// Lets this thread panic with the payload, or with the message where that was taken.
+    ///
+    /// ```should_panic
+    /// # use cf::{Error, Inline, Request};
+    /// let stage = Request::new("order 17", Inline).supply(|| -> u32 { panic!("at {}", 5) });
+    /// if let Err(Error::Panicked(panic)) = stage.wait() {
+    ///     panic.resume();
+    /// }
+    /// ```
+    pub fn resume(&self) -> ! {
+        let payload = self.take_payload();
+        resume_unwind(payload.unwrap_or_else(|| Box::new(self.message().to_owned())))
+    }
+}
+
+impl fmt::Debug for Panic {
+    fn fmt(&self, f: &mut fmt::Formatter<'_>) -> fmt::Result {
+        write!(f, "Panic({:?})", self.message())
+    }
+}
+
+impl Error {
+    /// The error of this type that a function returned, if it was one.
+    ///
+    /// ```
+    /// # use std::num::ParseIntError;
+    /// let request = cf::Request::new("parse", cf::Inline);
+    /// let error = request.try_supply(|| "x".parse::<i32>()).wait().unwrap_err();
+    /// assert_eq!(error.downcast_ref::<ParseIntError>().unwrap().to_string(), "invalid digit found in string");
+    /// ```
+    pub fn downcast_ref<E: StdError + 'static>(&self) -> Option<&E> {
+        match self {
+            Error::Failed(error) => error.downcast_ref(),
+            _ => None,
+        }
+    }
+
+    /// Whether it is an error of this type that a function returned.
+    ///
+    /// ```
+    /// let request = cf::Request::new("parse", cf::Inline);
+    /// assert!(request.try_supply(|| "x".parse::<i32>()).wait().unwrap_err().is::<std::num::ParseIntError>());
+    /// ```
+    pub fn is<E: StdError + 'static>(&self) -> bool {
+        self.downcast_ref::<E>().is_some()
+    }
+
+    /// Whether it is a cancellation.
+    ///
+    /// ```
+    /// let stage = cf::Request::new("order 17", cf::Inline).promise::<u32>();
+    /// stage.cancel();
+    /// assert!(stage.wait().unwrap_err().is_cancelled());
+    /// ```
+    pub fn is_cancelled(&self) -> bool {
+        matches!(self, Error::Cancelled)
+    }
+
+    /// Whether it is a timeout.
+    ///
+    /// ```
+    /// let stage = cf::Request::new("order 17", cf::Inline).promise::<u32>().or_timeout(std::time::Duration::from_millis(1));
+    /// assert!(stage.wait().unwrap_err().is_timeout());
+    /// ```
+    pub fn is_timeout(&self) -> bool {
+        matches!(self, Error::TimedOut(_))
+    }
+
+    /// Of what a function returned. An `Error` that it passes on by `?` stays what it is.
+    pub(crate) fn of(error: BoxError) -> Error {
+        match error.downcast::<Error>() {
+            Ok(own) => *own,
+            Err(error) => Error::Failed(error.into()),
+        }
+    }
+}
+
+impl fmt::Display for Error {
+    fn fmt(&self, f: &mut fmt::Formatter<'_>) -> fmt::Result {
+        match self {
+            Error::Failed(error) => error.fmt(f),
+            Error::Panicked(panic) => write!(f, "a function panicked: {}", panic.message()),
+            Error::Cancelled => f.write_str("cancelled"),
+            Error::TimedOut(after) => write!(f, "timed out after {after:?}"),
+            Error::BadAnswer => f.write_str("a stage can't wait for that stage"),
+            Error::Refused(why) => why.fmt(f),
+        }
+    }
+}
+
+impl StdError for Error {
+    fn source(&self) -> Option<&(dyn StdError + 'static)> {
+        match self {
+            Error::Failed(error) => error.source(),
+            _ => None,
+        }
+    }
+}
+
+impl fmt::Display for Refusal {
+    fn fmt(&self, f: &mut fmt::Formatter<'_>) -> fmt::Result {
+        f.write_str(match self {
+            Refusal::Full => "a request has at most 4,096 stages",
+            Refusal::Closed => "no more functions are run",
+            Refusal::NoLedger => "the library gave no ledger",
+        })
+    }
+}
+
+impl StdError for Refusal {}
+
+impl From<Refusal> for Error {
+    fn from(why: Refusal) -> Error {
+        Error::Refused(why)
+    }
+}

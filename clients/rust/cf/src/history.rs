@@ -1,0 +1,531 @@
+//! What happened to a request: in words, as an account that `cf_look check` judges, as a script that `cf run` does again.
+use crate::core::Core;
+use crate::error::Error;
+use crate::ledger::comes_again;
+use crate::record::{Item, Record};
+use crate::spawn::{CALLER, CLOCK, FIRST_WORKER, RELAY};
+use crate::value::Val;
+use crate::word::{self, Parts, ATTACH, CANCEL, CLAIM, COMPLETE, FAIL, FINISH, FORM_NAMES, LINKS, SOME, THROWS, TICK};
+use cf_graph::{Args, Cause, Claimed, Finished, Outcome, Reply, Ticked, Value};
+use std::fmt::{self, Write};
+use std::time::Duration;
+
+/// The events of a request until some moment, in their one order, with all that callers were told. It stays as it is while the request goes
+/// on. `Display` tells it in words.
+///
+/// ```
+/// let request = cf::Request::new("order 17", cf::Inline);
+/// let price = request.promise::<u32>().named("price");
+/// price.complete(49).unwrap();
+/// let told: Vec<String> = request.history().to_string().lines().map(|line| line[line.len().min(14)..].to_owned()).collect();
+/// assert_eq!(told[1..], ["caller attaches 0 price, source", "caller completes 0 price with 49", "0 price ends: 49"]);
+/// ```
+#[derive(Clone)]
+pub struct History {
+    name: String,
+    words: Vec<u64>,
+    record: Record,
+    names: Vec<String>,
+    /// What stages gave, by their numbers, and what they failed with.
+    values: Vec<Option<Val>>,
+    errors: Vec<Option<Error>>,
+    relays: Vec<(u16, u16)>,
+}
+
+/// An event: its word, when it was done, what it was answered, and the stages that it settled.
+struct Entry {
+    word: u64,
+    at: u64,
+    reply: Reply,
+    told: Vec<(u16, Outcome)>,
+}
+
+impl History {
+    pub(crate) fn of(core: &Core) -> History {
+        let mut inner = core.lock();
+        let words = inner.ledger.words();
+        let record = inner.ledger.record.clone();
+        let slots = inner.slots.iter();
+        let (names, values): (Vec<_>, Vec<_>) = slots.map(|slot| (slot.name.clone(), (slot.value().cloned(), slot.error().cloned()))).unzip();
+        let relays = inner.relays.clone();
+        drop(inner);
+        let names = names.iter().map(|name| name.to_string()).collect();
+        let (values, errors) = values.into_iter().unzip();
+        History { name: core.name.to_string(), words, record, names, values, errors, relays }
+    }
+
+    /// The words of all events, in their one order: docs/FORMATS.md, "Words of events".
+    ///
+    /// ```
+    /// let request = cf::Request::new("order 17", cf::Inline);
+    /// let _ = request.promise::<u32>();
+    /// assert_eq!(request.history().words(), [7 << 56]);
+    /// ```
+    pub fn words(&self) -> &[u64] {
+        &self.words
+    }
+
+    /// When each event was done, since the request began.
+    ///
+    /// ```
+    /// let request = cf::Request::new("order 17", cf::Inline);
+    /// request.supply(|| 49).wait().unwrap();
+    /// assert_eq!(request.history().times().count(), 3);
+    /// ```
+    pub fn times(&self) -> impl Iterator<Item = Duration> + '_ {
+        self.record.items().filter_map(|item| match item {
+            Item::Event(at, _) => Some(Duration::from_nanos(at)),
+            Item::Told(..) => None,
+        })
+    }
+
+    /// The names of stages, by their numbers.
+    ///
+    /// ```
+    /// let request = cf::Request::new("order 17", cf::Inline);
+    /// let _ = request.promise::<u32>().named("price");
+    /// assert_eq!(request.history().names(), ["price"]);
+    /// ```
+    pub fn names(&self) -> &[String] {
+        &self.names
+    }
+
+    /// Does all again on a ledger of its own, and says whether each reply and each outcome comes again.
+    ///
+    /// ```
+    /// let request = cf::Request::new("order 17", cf::Pool::new(4));
+    /// request.supply(|| 20).then(|n| n + 1).wait().unwrap();
+    /// assert!(request.history().comes_again());
+    /// ```
+    #[must_use]
+    pub fn comes_again(&self) -> bool {
+        comes_again(&self.words, &self.record, self.names.len() as u16).unwrap_or(false)
+    }
+
+    fn entries(&self) -> Vec<Entry> {
+        let mut entries: Vec<Entry> = Vec::with_capacity(self.words.len());
+        for item in self.record.items() {
+            match item {
+                Item::Event(at, reply) => entries.push(Entry { word: self.words[entries.len()], at, reply, told: Vec::new() }),
+                Item::Told(stage, outcome) => entries.last_mut().expect("an event settled it").told.push((stage, outcome)),
+            }
+        }
+        entries
+    }
+
+    /// What stages hold in the end.
+    fn outcomes(&self) -> Vec<String> {
+        let mut outcomes = vec![String::from("pending"); self.names.len()];
+        for item in self.record.items() {
+            if let Item::Told(stage, outcome) = item {
+                outcomes[usize::from(stage)] = outcome_text(outcome);
+            }
+        }
+        outcomes
+    }
+
+    /// What `cf run` does again, and `cf_look dot` draws: a line of JSON. A function stands there as `{"const": N}`, and is never called, since
+    /// each finish is a step.
+    ///
+    /// ```
+    /// let request = cf::Request::new("order 17", cf::Inline);
+    /// request.promise().complete(49).unwrap();
+    /// assert_eq!(request.history().script(), r#"{"cf":2,"room":1,"stages":[],"steps":[["attach",{"form":"source"}],["complete",0,0]]}"#);
+    /// ```
+    #[must_use]
+    pub fn script(&self) -> String {
+        let mut text = format!("{{\"cf\":2,\"room\":{},\"stages\":[],\"steps\":[", self.names.len());
+        list(&mut text, self.words.iter().map(|word| step(*word)));
+        text + "]}"
+    }
+
+    /// What `cf run` prints of the script, by what callers were told.
+    ///
+    /// ```
+    /// let request = cf::Request::new("order 17", cf::Inline);
+    /// request.promise().complete(49).unwrap();
+    /// assert_eq!(request.history().report(), "attached 0\ntrue\nstage 0 value 0\n");
+    /// ```
+    #[must_use]
+    pub fn report(&self) -> String {
+        let mut text = String::new();
+        for item in self.record.items() {
+            if let Item::Event(_, reply) = item {
+                text += &reply_text(reply);
+                text.push('\n');
+            }
+        }
+        for (stage, outcome) in self.outcomes().iter().enumerate() {
+            let _ = writeln!(text, "stage {stage} {outcome}");
+        }
+        text
+    }
+
+    /// What `cf_look check` judges, a line of JSON: the events, each caller's replies, what it was told of stages, and what these hold in the
+    /// end, all as it was told, and nothing done again. The members `name`, `names`, `times` (nanoseconds), `lanes`, `values`, `errors` and
+    /// `relays` are for people.
+    ///
+    /// ```
+    /// let request = cf::Request::new("order 17", cf::Inline);
+    /// request.promise().complete(49).unwrap();
+    /// assert!(request.history().account().contains(r#""outcomes":["value 0"]"#));
+    /// ```
+    #[must_use]
+    pub fn account(&self) -> String {
+        let parts = self.account_parts();
+        let room = self.names.len();
+        let mut text = format!("{{\"plan\":{{\"cf\":2,\"room\":{room},\"stages\":[]}},\"functions\":{},\"events\":[", room.max(1));
+        list(&mut text, self.words.iter().map(|word| format!("\"{word}\"")));
+        text += "],\"callers\":[";
+        list(&mut text, parts.callers.iter().map(|own| format!("[{}]", own.iter().map(Told::json).collect::<Vec<_>>().join(","))));
+        for (member, texts) in
+            [("outcomes", &parts.outcomes), ("names", &self.names), ("lanes", &parts.lanes), ("values", &parts.values), ("errors", &parts.errors)]
+        {
+            let _ = write!(text, "],\"{member}\":[");
+            list(&mut text, texts.iter().map(|text| quoted(text)));
+        }
+        let _ = write!(text, "],\"name\":{},\"times\":[", quoted(&self.name));
+        list(&mut text, self.times().map(|at| at.as_nanos().to_string()));
+        text += "],\"relays\":[";
+        list(&mut text, self.relays.iter().map(|(relay, stage)| format!("[{relay},{stage}]")));
+        text + "]}\n"
+    }
+
+    fn account_parts(&self) -> Account {
+        let entries = self.entries();
+        let lanes = 1 + entries.iter().map(|entry| word::parts(entry.word).who).max().unwrap_or(0);
+        let mut callers: Vec<Vec<Told>> = (0..lanes).map(|_| Vec::new()).collect();
+        for (k, entry) in entries.iter().enumerate() {
+            let own = &mut callers[usize::from(word::parts(entry.word).who)];
+            own.push(Told::Did(k + 1, entry.word, reply_text(entry.reply)));
+            own.extend(entry.told.iter().map(|&(stage, outcome)| Told::Outcome(k + 1, stage, outcome_text(outcome))));
+        }
+        Account {
+            callers,
+            outcomes: self.outcomes(),
+            lanes: (0..lanes).map(caller).collect(),
+            values: self.values.iter().map(|value| value.as_ref().map_or_else(String::new, shown)).collect(),
+            errors: self.errors.iter().map(|error| error.as_ref().map_or_else(String::new, Error::to_string)).collect(),
+        }
+    }
+
+    /// All in one line, for a log.
+    ///
+    /// ```
+    /// let request = cf::Request::new("order 17", cf::Inline);
+    /// request.promise().complete(49).unwrap();
+    /// assert!(request.history().line().starts_with("order 17: 2 events, 1 stages; "));
+    /// ```
+    #[must_use]
+    pub fn line(&self) -> String {
+        self.to_string().lines().map(|line| line.split_whitespace().collect::<Vec<_>>().join(" ")).collect::<Vec<_>>().join("; ")
+    }
+
+    // In words.
+
+    fn stage(&self, number: u16) -> String {
+        format!("{number} {}", self.names[usize::from(number)])
+    }
+
+    fn value(&self, value: Value) -> String {
+        match value {
+            Value::Nil => "()".into(),
+            Value::Int(number) => self.values[number as usize].as_ref().map_or_else(|| "a value".into(), shown),
+        }
+    }
+
+    fn error(&self, code: u32) -> String {
+        self.errors[code as usize].as_ref().map_or_else(|| "an error".into(), |error| short(error.to_string()))
+    }
+
+    fn outcome(&self, outcome: Outcome) -> String {
+        match outcome {
+            Outcome::Value(value) => self.value(value),
+            Outcome::Fault { cause: Cause::Thrown(code), .. } => self.error(code),
+            Outcome::Fault { cause: Cause::Cancelled, .. } => "cancelled".into(),
+            Outcome::Fault { cause: Cause::TimedOut, .. } => "timeout".into(),
+            Outcome::Fault { cause: Cause::BadAnswer, .. } => "a bad answer".into(),
+        }
+    }
+
+    fn claimed(&self, claimed: Claimed) -> String {
+        match claimed {
+            Claimed::Granted(Args::None) => "is granted".into(),
+            Claimed::Granted(Args::One(value)) => format!("is granted, with {}", self.value(value)),
+            Claimed::Granted(Args::Two(first, second)) => format!("is granted, with {} and {}", self.value(first), self.value(second)),
+            Claimed::Granted(Args::Got(outcome)) => format!("is granted, with {}", self.outcome(outcome)),
+            Claimed::Settled => "is too late, it is settled".into(),
+            Claimed::Taken => "is too late, another has it".into(),
+            Claimed::NotReady => "is too early".into(),
+        }
+    }
+
+    /// Who did what, and what it was answered. What came too late is kept by nobody, so it isn't told.
+    fn sentence(&self, entry: &Entry) -> String {
+        let parts = word::parts(entry.word);
+        let (who, stage) = (caller(parts.who), || self.stage(parts.stage));
+        match (parts.kind, entry.reply) {
+            (COMPLETE, Reply::Flag(true)) => format!("{who} completes {} with {}", stage(), self.value(value_of(parts))),
+            (COMPLETE, _) => format!("{who} completes {}, too late", stage()),
+            (FAIL, Reply::Flag(true)) => format!("{who} fails {} with {}", stage(), self.error(parts.low)),
+            (FAIL, _) => format!("{who} fails {}, too late", stage()),
+            (CANCEL, Reply::Flag(true)) => format!("{who} cancels {}", stage()),
+            (CANCEL, _) => format!("{who} cancels {}, too late", stage()),
+            (CLAIM, Reply::Claimed(claimed)) => format!("{who} claims {} and {}", stage(), self.claimed(claimed)),
+            (FINISH, Reply::Finished(Finished::Won)) => format!("{who} finishes {}, {}", stage(), self.answer(parts)),
+            (FINISH, Reply::Finished(Finished::Late)) => format!("{who} finishes {}, too late", stage()),
+            (FINISH, _) => format!("{who} finishes {}, which it had not claimed", stage()),
+            (ATTACH, Reply::Attached(Some(number))) => {
+                let (form, of, _) = parts.attached();
+                let behind: Vec<String> = of.into_iter().map(|source| self.stage(source)).collect();
+                let behind = if behind.is_empty() { String::new() } else { format!(" behind {}", behind.join(" and ")) };
+                format!("{who} attaches {}, {}{behind}", self.stage(number), FORM_NAMES[form])
+            }
+            (ATTACH, _) => format!("{who} attaches a stage for which there is no room"),
+            _ => format!("{who} lets it be {}", parts.low),
+        }
+    }
+
+    fn answer(&self, parts: Parts) -> String {
+        match parts.tag {
+            THROWS => format!("which failed with {}", self.error(parts.low)),
+            LINKS => format!("which waits for {}", self.stage(parts.low as u16)),
+            _ => format!("which gave {}", self.value(value_of(parts))),
+        }
+    }
+}
+
+impl fmt::Display for History {
+    /// A line for each event, and one for each stage that was settled by it.
+    fn fmt(&self, f: &mut fmt::Formatter<'_>) -> fmt::Result {
+        writeln!(f, "{}: {} events, {} stages", self.name, self.words.len(), self.names.len())?;
+        for entry in self.entries() {
+            writeln!(f, "{:9.3} ms  {}", entry.at as f64 / 1e6, self.sentence(&entry))?;
+            let parts = word::parts(entry.word);
+            let own = (parts.kind == FINISH && parts.tag != LINKS).then_some(parts.stage);
+            for (stage, outcome) in entry.told {
+                let is_wrapped = matches!(outcome, Outcome::Fault { wrapped: true, .. });
+                let passed_on = if is_wrapped && Some(stage) != own { ", passed on" } else { "" };
+                writeln!(f, "{:12}  {} ends: {}{passed_on}", "", self.stage(stage), self.outcome(outcome))?;
+            }
+        }
+        Ok(())
+    }
+}
+
+impl fmt::Debug for History {
+    fn fmt(&self, f: &mut fmt::Formatter<'_>) -> fmt::Result {
+        write!(f, "History({}, {} events, {} stages)", self.name, self.words.len(), self.names.len())
+    }
+}
+
+/// What an account has besides what the history has.
+struct Account {
+    callers: Vec<Vec<Told>>,
+    outcomes: Vec<String>,
+    lanes: Vec<String>,
+    values: Vec<String>,
+    errors: Vec<String>,
+}
+
+/// A record of an account.
+enum Told {
+    Did(usize, u64, String),
+    Outcome(usize, u16, String),
+}
+
+impl Told {
+    fn json(&self) -> String {
+        match self {
+            Told::Did(place, word, reply) => format!("[\"did\",{place},\"{word}\",\"{reply}\"]"),
+            Told::Outcome(place, stage, outcome) => format!("[\"outcome\",{place},{stage},\"{outcome}\"]"),
+        }
+    }
+}
+
+fn caller(who: u8) -> String {
+    match who {
+        CALLER => "caller".into(),
+        CLOCK => "clock".into(),
+        RELAY => "relay".into(),
+        _ => format!("worker {}", who - FIRST_WORKER),
+    }
+}
+
+/// A value of a common type as it is, cut to 60 letters; of another that it is one.
+fn shown(value: &Val) -> String {
+    macro_rules! common {
+        ($($of:ty),*) => { $(if let Some(value) = value.downcast_ref::<$of>() { return short(format!("{value:?}")); })* };
+    }
+    common!(i32, i64, u32, u64, usize, u16, u8, f64, bool, char, String, &'static str, ());
+    common!(Vec<i32>, Vec<i64>, Vec<u32>, Vec<u64>, Vec<f64>, Vec<String>, Option<i32>, Option<i64>, Option<u64>, Option<String>, Duration);
+    "a value".into()
+}
+
+fn short(text: String) -> String {
+    if text.chars().count() <= 60 {
+        return text;
+    }
+    text.chars().take(57).chain("...".chars()).collect()
+}
+
+fn has_function(form: usize) -> bool {
+    !matches!(form, 0 | 16 | 17)
+}
+
+fn value_of(parts: Parts) -> Value {
+    if parts.tag == SOME {
+        Value::Int(parts.low as i32)
+    } else {
+        Value::Nil
+    }
+}
+
+/// A word as a script has it.
+fn step(word: u64) -> String {
+    let parts = word::parts(word);
+    let (who, stage, low) = (parts.who, parts.stage, parts.low);
+    let given = || if parts.tag == SOME { (low as i32).to_string() } else { "null".into() };
+    match parts.kind {
+        COMPLETE => format!("[\"complete\",{stage},{}]", given()),
+        FAIL => format!("[\"fail\",{stage},{low}]"),
+        CANCEL => format!("[\"cancel\",{stage}]"),
+        CLAIM => format!("[\"claim\",{who},{stage}]"),
+        FINISH => match parts.tag {
+            THROWS => format!("[\"finish\",{who},{stage},{{\"throw\":{low}}}]"),
+            LINKS => format!("[\"finish\",{who},{stage},{{\"link\":{low}}}]"),
+            _ => format!("[\"finish\",{who},{stage},{{\"give\":{}}}]", given()),
+        },
+        TICK => format!("[\"tick\",{low}]"),
+        _ => {
+            let (form, of, function) = parts.attached();
+            let sources = if of.is_empty() { String::new() } else { format!(",\"of\":{of:?}") };
+            let call = if has_function(form) { format!(",\"fn\":{{\"const\":{function}}}") } else { String::new() };
+            format!("[\"attach\",{{\"form\":\"{}\"{sources}{call}}}]", FORM_NAMES[form])
+        }
+    }
+}
+
+fn list(text: &mut String, items: impl Iterator<Item = String>) {
+    for (k, item) in items.enumerate() {
+        if k > 0 {
+            text.push(',');
+        }
+        text.push_str(&item);
+    }
+}
+
+/// A JSON string.
+fn quoted(text: &str) -> String {
+    let mut quoted = String::from('"');
+    for letter in text.chars() {
+        match letter {
+            '"' => quoted += "\\\"",
+            '\\' => quoted += "\\\\",
+            letter if letter < ' ' => {
+                let _ = write!(quoted, "\\u{:04x}", letter as u32);
+            }
+            letter => quoted.push(letter),
+        }
+    }
+    quoted + "\""
+}
+
+fn value_text(value: Value) -> String {
+    match value {
+        Value::Nil => "nil".into(),
+        Value::Int(number) => number.to_string(),
+    }
+}
+
+/// The text of an outcome, as reports have it.
+fn outcome_text(outcome: Outcome) -> String {
+    match outcome {
+        Outcome::Value(value) => format!("value {}", value_text(value)),
+        Outcome::Fault { cause, wrapped } => {
+            let cause = match cause {
+                Cause::Thrown(code) => format!("thrown {code}"),
+                Cause::Cancelled => "cancelled".into(),
+                Cause::TimedOut => "timeout".into(),
+                Cause::BadAnswer => "badanswer".into(),
+            };
+            format!("fault {cause} {}", if wrapped { "wrapped" } else { "raw" })
+        }
+    }
+}
+
+/// The text of a reply, as reports have it.
+fn reply_text(reply: Reply) -> String {
+    match reply {
+        Reply::Flag(did) => did.to_string(),
+        Reply::Claimed(Claimed::Granted(args)) => match args {
+            Args::None => "granted none".into(),
+            Args::One(value) => format!("granted one {}", value_text(value)),
+            Args::Two(first, second) => format!("granted two {} {}", value_text(first), value_text(second)),
+            Args::Got(outcome) => format!("granted got {}", outcome_text(outcome)),
+        },
+        Reply::Claimed(Claimed::Settled) => "settled".into(),
+        Reply::Claimed(Claimed::Taken) => "taken".into(),
+        Reply::Claimed(Claimed::NotReady) => "notready".into(),
+        Reply::Finished(Finished::Won) => "won".into(),
+        Reply::Finished(Finished::Late) => "late".into(),
+        Reply::Finished(Finished::NotYours) => "notyours".into(),
+        Reply::Ticked(Ticked::Fired(limits)) => format!("fired {limits}"),
+        Reply::Ticked(Ticked::Past) => "past".into(),
+        Reply::Attached(Some(stage)) => format!("attached {stage}"),
+        Reply::Attached(None) => "stagesfull".into(),
+    }
+}
+
+/// The members of [`History::account`], words as texts.
+#[cfg(feature = "serde")]
+impl serde::Serialize for History {
+    fn serialize<S: serde::Serializer>(&self, serializer: S) -> Result<S::Ok, S::Error> {
+        use serde::ser::SerializeStruct;
+        let parts = self.account_parts();
+        let room = self.names.len();
+        let mut account = serializer.serialize_struct("History", 11)?;
+        account.serialize_field("plan", &Planned { cf: 2, room, stages: [] })?;
+        account.serialize_field("functions", &room.max(1))?;
+        account.serialize_field("events", &self.words.iter().map(u64::to_string).collect::<Vec<_>>())?;
+        account.serialize_field("callers", &parts.callers)?;
+        account.serialize_field("outcomes", &parts.outcomes)?;
+        account.serialize_field("names", &self.names)?;
+        account.serialize_field("lanes", &parts.lanes)?;
+        account.serialize_field("values", &parts.values)?;
+        account.serialize_field("errors", &parts.errors)?;
+        account.serialize_field("name", &self.name)?;
+        account.serialize_field("times", &self.times().map(|at| at.as_nanos() as u64).collect::<Vec<_>>())?;
+        account.serialize_field("relays", &self.relays)?;
+        account.end()
+    }
+}
+
+#[cfg(feature = "serde")]
+struct Planned {
+    cf: u32,
+    room: usize,
+    stages: [(); 0],
+}
+
+#[cfg(feature = "serde")]
+impl serde::Serialize for Planned {
+    fn serialize<S: serde::Serializer>(&self, serializer: S) -> Result<S::Ok, S::Error> {
+        use serde::ser::SerializeStruct;
+        let mut plan = serializer.serialize_struct("Plan", 3)?;
+        plan.serialize_field("cf", &self.cf)?;
+        plan.serialize_field("room", &self.room)?;
+        plan.serialize_field("stages", &self.stages[..])?;
+        plan.end()
+    }
+}
+
+#[cfg(feature = "serde")]
+impl serde::Serialize for Told {
+    fn serialize<S: serde::Serializer>(&self, serializer: S) -> Result<S::Ok, S::Error> {
+        match self {
+            Told::Did(place, word, reply) => ("did", place, word.to_string(), reply).serialize(serializer),
+            Told::Outcome(place, stage, outcome) => ("outcome", place, stage, outcome).serialize(serializer),
+        }
+    }
+}

@@ -1,0 +1,119 @@
+//! The library's ledger of one request, and what callers were told by it. One thread at a time has it.
+use crate::error::Refusal;
+use crate::record::Record;
+use crate::word::{self, Form};
+use cf_graph::{Ledger as Words, Outcome, Plan, PlanBuilder, Refused, Reply};
+use std::sync::{Mutex, MutexGuard, PoisonError};
+
+/// How many stages a request can have.
+pub(crate) const MOST_STAGES: u16 = 4096;
+
+pub(crate) struct Ledger {
+    words: Words,
+    room: u16,
+    pub(crate) stages: u16,
+    pub(crate) record: Record,
+    /// The moment of all that is done, in nanoseconds since the request began.
+    pub(crate) now: u64,
+}
+
+/// The plan that has no stages, of which all requests are.
+fn nothing() -> Result<MutexGuard<'static, Option<Plan>>, Refused> {
+    static NOTHING: Mutex<Option<Plan>> = Mutex::new(None);
+    let mut nothing = NOTHING.lock().unwrap_or_else(PoisonError::into_inner);
+    if nothing.is_none() {
+        *nothing = Some(PlanBuilder::new()?.build()?);
+    }
+    Ok(nothing)
+}
+
+/// The words done again on a ledger of their own, whose replies and outcomes have to be those of the record.
+pub(crate) fn comes_again(words: &[u64], record: &Record, stages: u16) -> Result<bool, Refused> {
+    let mut again = match nothing()?.as_mut() {
+        Some(plan) => Words::new(plan, stages)?,
+        None => return Ok(false),
+    };
+    let mut same = Record::default();
+    let times = record.items().filter_map(|item| match item {
+        crate::record::Item::Event(at, _) => Some(at),
+        crate::record::Item::Told(..) => None,
+    });
+    let mut told = vec![false; usize::from(stages)];
+    for (word, at) in words.iter().zip(times) {
+        same.event(at, again.apply(*word)?);
+        for news in again.news() {
+            if let (cf_graph::State::Settled(outcome), false) = (news.now.state, told[usize::from(news.stage)]) {
+                told[usize::from(news.stage)] = true;
+                same.told(news.stage, outcome);
+            }
+        }
+    }
+    Ok(same.events == words.len() && same.items().eq(record.items()))
+}
+
+impl Ledger {
+    pub(crate) fn new(room: u16) -> Result<Ledger, Refusal> {
+        let room = room.clamp(1, MOST_STAGES);
+        let words = match nothing().map_err(|_| Refusal::NoLedger)?.as_mut() {
+            Some(plan) => Words::new(plan, room).map_err(|_| Refusal::NoLedger)?,
+            None => return Err(Refusal::NoLedger),
+        };
+        Ok(Ledger { words, room, stages: 0, record: Record::default(), now: 0 })
+    }
+
+    /// Does the event of a word, and writes down what it was answered.
+    #[inline]
+    pub(crate) fn act(&mut self, word: u64) -> Reply {
+        let reply = self.words.apply(word).expect("memory for a word");
+        self.record.event(self.now, reply);
+        reply
+    }
+
+    /// How many stages the last word changed, and each by its place: its number and where it stands.
+    #[inline]
+    pub(crate) fn changed(&self) -> usize {
+        self.words.changed()
+    }
+
+    #[inline]
+    pub(crate) fn news_at(&self, at: usize) -> cf_graph::News {
+        self.words.news_at(at)
+    }
+
+    /// Writes down that a stage was settled by the last word.
+    #[inline]
+    pub(crate) fn told(&mut self, stage: u16, outcome: Outcome) {
+        self.record.told(stage, outcome);
+    }
+
+    /// Attaches a stage, whose function has the stage's own number, and gives the number.
+    pub(crate) fn attach(&mut self, who: u8, form: Form, of: &[u16], has_function: bool) -> Result<u16, Refusal> {
+        let number = self.stages;
+        if number == self.room {
+            self.grow()?;
+        }
+        self.act(word::attach(who, form, of, if has_function { number } else { 0 }));
+        self.stages = number + 1;
+        Ok(number)
+    }
+
+    /// How many stages can be attached yet.
+    pub(crate) fn left(&self) -> u16 {
+        MOST_STAGES - self.stages
+    }
+
+    pub(crate) fn words(&mut self) -> Vec<u64> {
+        self.words.words().expect("the words are there")
+    }
+
+    /// Makes room for three times as many stages more, for which the library does all words again.
+    fn grow(&mut self) -> Result<(), Refusal> {
+        if self.room == MOST_STAGES {
+            return Err(Refusal::Full);
+        }
+        let room = self.room.saturating_mul(4).min(MOST_STAGES);
+        self.words.grow(room - self.room).map_err(|_| Refusal::NoLedger)?;
+        self.room = room;
+        Ok(())
+    }
+}

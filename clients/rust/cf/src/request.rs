@@ -1,0 +1,280 @@
+//! Stages that belong together.
+use crate::clock::{Clock, SystemClock};
+use crate::core::Core;
+use crate::error::{BoxError, Error, Refusal};
+use crate::history::History;
+use crate::name::Name;
+use crate::spawn::{here, Spawn};
+use crate::stage::{sealed::Sealed, AnyStage, Stage};
+use crate::value::{Call, Gave};
+use crate::word::Form;
+use std::fmt;
+use std::future::Future;
+use std::sync::Arc;
+
+/// Stages that belong together, of which one history is kept. It is a handle: clones are the same request, and stages keep it alive.
+///
+/// A request has at most 4,096 stages. One more is never made: the call gives a stage that has failed with
+/// [`Refusal::Full`](crate::Refusal::Full), so that calls can be chained without a `?` behind each. Values, errors and the history are kept
+/// until nobody has the request or one of its stages any more.
+///
+/// ```
+/// let request = cf::Request::new("order 17", cf::Pool::new(2));
+/// let (user, price) = (request.supply(|| "Ada"), request.supply(|| 49));
+/// assert_eq!(user.combine(&price, |user, price| format!("{user} pays {price}")).wait().unwrap(), "Ada pays 49");
+/// ```
+#[derive(Clone)]
+pub struct Request(pub(crate) Arc<Core>);
+
+impl Request {
+    /// A request without stages, whose functions are run so: by a [`Pool`](crate::Pool), by [`Inline`](crate::Inline), by an `Arc` of any
+    /// [`Spawn`]. It takes about a microsecond.
+    ///
+    /// # Panics
+    ///
+    /// Where the library gives no ledger; [`try_new`](Request::try_new) doesn't.
+    ///
+    /// ```
+    /// let pool = cf::Pool::new(2);
+    /// let (one, two) = (cf::Request::new("order 17", pool.clone()), cf::Request::new("order 18", pool));
+    /// assert_eq!(one.supply(|| 1).combine(&two.supply(|| 2), |a, b| a + b).wait().unwrap(), 3);
+    /// ```
+    pub fn new(name: &str, spawn: impl Spawn) -> Request {
+        Request::with_clock(name, Arc::new(spawn), Arc::new(SystemClock))
+    }
+
+    /// The same, whose times and timeouts go by this clock.
+    ///
+    /// # Panics
+    ///
+    /// Where the library gives no ledger.
+    ///
+    /// ```
+    /// use std::{sync::Arc, time::Duration};
+    /// let clock = cf::HandClock::new();
+    /// let request = cf::Request::with_clock("order 17", Arc::new(cf::Inline), Arc::new(clock.clone()));
+    /// let late = request.promise::<u32>().or_timeout(Duration::from_secs(60));
+    /// clock.turn(Duration::from_secs(60));
+    /// assert!(late.wait().unwrap_err().is_timeout());
+    /// ```
+    pub fn with_clock(name: &str, spawn: Arc<dyn Spawn>, clock: Arc<dyn Clock>) -> Request {
+        Request::try_new(name, spawn, clock, ROOM).expect("a ledger for the request")
+    }
+
+    /// The same with room for so many stages at first, 16 otherwise. More room is made as it is wanted, by doing all again; a request of known
+    /// size is quicker without that.
+    ///
+    /// # Errors
+    ///
+    /// [`Refusal::NoLedger`], where memory is refused, or the library isn't the one that this crate was written for.
+    ///
+    /// ```
+    /// use std::sync::Arc;
+    /// let request = cf::Request::try_new("order 17", Arc::new(cf::Inline), Arc::new(cf::SystemClock), 500)?;
+    /// assert_eq!(request.supply(|| 4).wait().unwrap(), 4);
+    /// # Ok::<_, cf::Refusal>(())
+    /// ```
+    pub fn try_new(name: &str, spawn: Arc<dyn Spawn>, clock: Arc<dyn Clock>, room: u16) -> Result<Request, Refusal> {
+        Core::new(name.into(), spawn, clock, room).map(Request)
+    }
+
+    /// Its name.
+    ///
+    /// ```
+    /// assert_eq!(cf::Request::new("order 17", cf::Inline).name(), "order 17");
+    /// ```
+    pub fn name(&self) -> &str {
+        &self.0.name
+    }
+
+    /// What the function gives.
+    ///
+    /// ```
+    /// let request = cf::Request::new("order 17", cf::Inline);
+    /// assert_eq!(request.supply(|| 49).wait().unwrap(), 49);
+    /// ```
+    #[track_caller]
+    pub fn supply<U, F>(&self, f: F) -> Stage<U>
+    where
+        F: FnOnce() -> U + Send + 'static,
+        U: Send + Sync + 'static,
+    {
+        self.attach(Form::Supply, &[], Some(Box::new(move |_| Gave::value(f()))), Name::of_function::<F>())
+    }
+
+    /// What the function gives, or its error.
+    ///
+    /// ```
+    /// let request = cf::Request::new("order 17", cf::Inline);
+    /// assert_eq!(request.try_supply(|| "49".parse::<u32>()).wait().unwrap(), 49);
+    /// ```
+    #[track_caller]
+    pub fn try_supply<U, E, F>(&self, f: F) -> Stage<U>
+    where
+        F: FnOnce() -> Result<U, E> + Send + 'static,
+        U: Send + Sync + 'static,
+        E: Into<BoxError>,
+    {
+        let call: Call = Box::new(move |_| Gave::result(f().map_err(|error| Error::of(error.into()))));
+        self.attach(Form::Supply, &[], Some(call), Name::of_function::<F>())
+    }
+
+    /// What the future gives, or its error. It is polled where functions run; a stage that is cancelled or times out drops it.
+    ///
+    /// ```
+    /// let request = cf::Request::new("order 17", cf::Inline);
+    /// assert_eq!(request.spawn(async { Ok::<_, cf::Error>(49) }).wait().unwrap(), 49);
+    /// ```
+    #[track_caller]
+    pub fn spawn<U, E, F>(&self, future: F) -> Stage<U>
+    where
+        F: Future<Output = Result<U, E>> + Send + 'static,
+        U: Send + Sync + 'static,
+        E: Into<BoxError>,
+    {
+        self.attach(Form::Supply, &[], Some(Box::new(move |_| later(future))), Name::of_function::<F>())
+    }
+
+    /// What somebody completes it with, who has a clone of it.
+    ///
+    /// ```
+    /// let request = cf::Request::new("order 17", cf::Inline);
+    /// let price = request.promise();
+    /// let by = price.clone();
+    /// std::thread::spawn(move || by.complete(49));
+    /// assert_eq!(price.wait().unwrap(), 49);
+    /// ```
+    pub fn promise<T: Send + Sync + 'static>(&self) -> Stage<T> {
+        self.attach(Form::Source, &[], None, Name::of("promise"))
+    }
+
+    /// A stage of this request that ends as the given one does, whose request may be another. A stage of this request is given back itself.
+    ///
+    /// ```
+    /// let (one, two) = (cf::Request::new("order 17", cf::Inline), cf::Request::new("order 18", cf::Inline));
+    /// assert_eq!(one.adopt(&two.supply(|| 49)).wait().unwrap(), 49);
+    /// ```
+    pub fn adopt<T: Send + Sync + 'static>(&self, stage: &Stage<T>) -> Stage<T> {
+        let number = match stage.at {
+            Ok(number) if !Arc::ptr_eq(&self.0, &stage.core) => number,
+            _ => return stage.clone(),
+        };
+        let relay = self.promise::<T>().named(format!("relay of {number} of {}", stage.core.name));
+        if let Ok(here) = relay.at {
+            stage.core.feed(number, Arc::clone(&self.0), here);
+        }
+        relay
+    }
+
+    /// `()`, once all have values; else the error of the first in this order that has one, once all are settled. n stages take n - 1.
+    ///
+    /// ```
+    /// let request = cf::Request::new("order 17", cf::Inline);
+    /// let (user, price) = (request.supply(|| "Ada"), request.supply(|| 49));
+    /// request.all_of([&user as &dyn cf::AnyStage, &price]).wait().unwrap();
+    /// ```
+    pub fn all_of<'a>(&self, stages: impl IntoIterator<Item = &'a dyn AnyStage>) -> Stage<()> {
+        self.tree(Form::AllOf, stages.into_iter().map(|stage| stage.adopted(self)).collect(), "all of")
+    }
+
+    /// What the first has that is settled, be it an error. Of no stages it is never settled. n stages take n - 1.
+    ///
+    /// ```
+    /// let request = cf::Request::new("order 17", cf::Inline);
+    /// let quotes = [request.promise(), request.supply(|| 49), request.promise()];
+    /// assert_eq!(request.first_of(&quotes).wait().unwrap(), 49);
+    /// ```
+    pub fn first_of<'a, T: Send + Sync + 'static>(&self, stages: impl IntoIterator<Item = &'a Stage<T>>) -> Stage<T> {
+        self.tree(Form::AnyOf, stages.into_iter().map(|stage| stage.adopted(self)).collect(), "first of")
+    }
+
+    /// The values of all, in this order; else as [`all_of`](Request::all_of). n stages take n.
+    ///
+    /// ```
+    /// let request = cf::Request::new("order 17", cf::Inline);
+    /// let quotes = [request.supply(|| 52), request.supply(|| 49)];
+    /// assert_eq!(request.gather(&quotes).wait().unwrap(), [52, 49]);
+    /// ```
+    pub fn gather<'a, T: Clone + Send + Sync + 'static>(&self, stages: impl IntoIterator<Item = &'a Stage<T>>) -> Stage<Vec<T>> {
+        let here: Vec<Stage<T>> = stages.into_iter().map(|stage| self.adopt(stage)).collect();
+        let all = self.all_of(here.iter().map(|stage| stage as &dyn AnyStage));
+        // The request would keep itself alive by handles that its own function holds.
+        let numbers: Vec<_> = here.iter().map(|stage| stage.at).collect();
+        let core = Arc::downgrade(&self.0);
+        let values = move |_: &()| -> Result<Vec<T>, Error> {
+            let core = core.upgrade().ok_or(Error::BadAnswer)?;
+            numbers.into_iter().map(|at| Stage::<T>::new(&core, at).peek().unwrap_or(Err(Error::BadAnswer))).collect()
+        };
+        all.and_then(values).named("gather")
+    }
+
+    /// Cancels all that isn't settled, the last stage first.
+    ///
+    /// ```
+    /// let request = cf::Request::new("order 17", cf::Inline);
+    /// let price = request.promise::<u32>();
+    /// request.cancel_all();
+    /// assert!(price.wait().unwrap_err().is_cancelled());
+    /// ```
+    pub fn cancel_all(&self) {
+        self.0.cancel_all(here());
+    }
+
+    /// All that happened until now. It takes some 20 ns an event, and telling it 1 µs.
+    ///
+    /// ```
+    /// let request = cf::Request::new("order 17", cf::Inline);
+    /// request.supply(|| 49).named("price").wait().unwrap();
+    /// assert!(request.history().to_string().contains("0 price ends: 49"));
+    /// ```
+    #[must_use]
+    pub fn history(&self) -> History {
+        History::of(&self.0)
+    }
+
+    /// A stage that is attached has at most two sources; a tree of them tells what one stage of all would.
+    fn tree<T: Send + Sync + 'static>(&self, form: Form, row: Vec<Result<u16, Refusal>>, name: &'static str) -> Stage<T> {
+        let mut row = match row.into_iter().collect::<Result<Vec<u16>, Refusal>>() {
+            Ok(row) => row,
+            Err(why) => return Stage::new(&self.0, Err(why)),
+        };
+        while row.len() > 2 {
+            let pair = |pair: &[u16]| match *pair {
+                [one] => Ok(one),
+                _ => self.0.attach(here(), form, pair, None, Name::of(name)),
+            };
+            row = match row.chunks(2).map(pair).collect() {
+                Ok(row) => row,
+                Err(why) => return Stage::new(&self.0, Err(why)),
+            };
+        }
+        self.attach(form, &row, None, Name::of(name))
+    }
+
+    fn attach<U>(&self, form: Form, of: &[u16], call: Option<Call>, name: Name) -> Stage<U> {
+        Stage::new(&self.0, self.0.attach(here(), form, of, call, name))
+    }
+}
+
+/// For how many stages a request has room at first.
+const ROOM: u16 = 16;
+
+/// What a future will give.
+pub(crate) fn later<U, E, F>(future: F) -> Gave
+where
+    F: Future<Output = Result<U, E>> + Send + 'static,
+    U: Send + Sync + 'static,
+    E: Into<BoxError>,
+{
+    Gave::Later(Box::pin(async move { Gave::result(future.await.map_err(|error| Error::of(error.into()))) }))
+}
+
+impl fmt::Debug for Request {
+    fn fmt(&self, f: &mut fmt::Formatter<'_>) -> fmt::Result {
+        let inner = self.0.lock();
+        let settled = inner.slots.iter().filter(|slot| slot.told.is_some()).count();
+        let (stages, events) = (inner.slots.len(), inner.ledger.record.events);
+        drop(inner);
+        f.debug_struct("Request").field("name", &self.0.name).field("stages", &stages).field("settled", &settled).field("events", &events).finish()
+    }
+}

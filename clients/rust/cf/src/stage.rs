@@ -1,0 +1,660 @@
+//! A stage of a request: a value that will be there, and a future of it.
+use crate::core::Core;
+use crate::error::{BoxError, Error, Refusal};
+use crate::name::Name;
+use crate::request::{later, Request};
+use crate::spawn::{here, run_here, CALLER};
+use crate::value::{self, Call, Gave, Given, Val};
+use crate::word::Form;
+use std::borrow::Cow;
+use std::fmt;
+use std::future::Future;
+use std::marker::PhantomData;
+use std::pin::Pin;
+use std::sync::atomic::{AtomicBool, Ordering};
+use std::sync::Arc;
+use std::task::{Context, Poll, Wake, Waker};
+use std::thread::{self, Thread};
+use std::time::{Duration, Instant};
+
+/// A stage: a handle, whose clones are the same stage. Dropping all of them doesn't cancel it ([`cancel_on_drop`](Stage::cancel_on_drop)
+/// does), since what hangs on it may need it.
+///
+/// It is a future of `Result<T, Error>`, which any runtime may poll, by many tasks at a time, and again once it was ready. What is attached
+/// takes the handle itself, as the methods of futures do: with `&self` the extension traits of the crate `futures`, where they are in scope,
+/// would come first with their `then`, `and_then` and `inspect`, which mean something else. Clone it where it is needed again.
+///
+/// ```
+/// let request = cf::Request::new("order 17", cf::Inline);
+/// let price = request.supply(|| 49);
+/// let doubled = price.clone().then(|cents| cents * 2);
+/// assert_eq!((price.wait().unwrap(), doubled.wait().unwrap()), (49, 98));
+/// ```
+#[must_use = "a stage tells what its function gave, or that it failed"]
+pub struct Stage<T> {
+    pub(crate) core: Arc<Core>,
+    pub(crate) at: Result<u16, Refusal>,
+    /// Where the waker of this handle is kept.
+    key: Option<u32>,
+    of: PhantomData<fn() -> T>,
+}
+
+impl<T> Stage<T> {
+    pub(crate) fn new(core: &Arc<Core>, at: Result<u16, Refusal>) -> Stage<T> {
+        Stage { core: Arc::clone(core), at, key: None, of: PhantomData }
+    }
+
+    /// Its number in the request's history. A stage that was refused has none.
+    ///
+    /// ```
+    /// let request = cf::Request::new("order 17", cf::Inline);
+    /// assert_eq!(request.supply(|| 1).number(), Some(0));
+    /// ```
+    pub fn number(&self) -> Option<u16> {
+        self.at.ok()
+    }
+
+    /// Its request.
+    ///
+    /// ```
+    /// let request = cf::Request::new("order 17", cf::Inline);
+    /// assert_eq!(request.supply(|| 1).request().name(), "order 17");
+    /// ```
+    pub fn request(&self) -> Request {
+        Request(Arc::clone(&self.core))
+    }
+
+    /// Gives it a name, by which histories speak of it. The stage itself is given back.
+    ///
+    /// ```
+    /// let request = cf::Request::new("order 17", cf::Inline);
+    /// let price = request.promise::<u32>().named("price");
+    /// assert_eq!(format!("{price:?}"), "Stage(0 price, pending)");
+    /// ```
+    pub fn named(self, name: impl Into<Cow<'static, str>>) -> Stage<T> {
+        if let Ok(number) = self.at {
+            self.core.name_stage(number, Name::of(name));
+        }
+        self
+    }
+
+    /// Whether it has a value or an error.
+    ///
+    /// ```
+    /// let request = cf::Request::new("order 17", cf::Inline);
+    /// assert!(!request.promise::<u32>().is_settled());
+    /// ```
+    pub fn is_settled(&self) -> bool {
+        self.at.map_or(true, |number| self.core.lock().slot(number).told.is_some())
+    }
+
+    fn told(&self) -> Option<Result<Val, Error>> {
+        match self.at {
+            Ok(number) => self.core.peek(number),
+            Err(why) => Some(Err(why.into())),
+        }
+    }
+
+    /// Settles it with an error, unless it is settled; whether it did. An [`Error::Cancelled`] cancels it.
+    ///
+    /// ```
+    /// let request = cf::Request::new("order 17", cf::Inline);
+    /// let price = request.promise::<u32>();
+    /// assert!(price.fail("no stock") && !price.fail("again"));
+    /// assert_eq!(price.wait().unwrap_err().to_string(), "no stock");
+    /// ```
+    pub fn fail(&self, error: impl Into<BoxError>) -> bool {
+        self.at.map_or(false, |number| self.core.settle(here(), number, Err(Error::of(error.into()))).is_ok())
+    }
+
+    /// Cancels it, unless it is settled; whether it is cancelled then. A function that runs isn't stopped, its answer comes too late; a
+    /// future that is polled is dropped.
+    ///
+    /// ```
+    /// let request = cf::Request::new("order 17", cf::Inline);
+    /// let price = request.promise::<u32>();
+    /// assert!(price.cancel());
+    /// assert!(price.wait().unwrap_err().is_cancelled());
+    /// ```
+    pub fn cancel(&self) -> bool {
+        self.at.map_or(false, |number| self.core.settle(here(), number, Err(Error::Cancelled)).is_ok())
+    }
+
+    /// Cancels the stage when this is dropped. It is a future as the stage is.
+    ///
+    /// ```
+    /// let request = cf::Request::new("order 17", cf::Inline);
+    /// let price = request.promise::<u32>();
+    /// drop(price.clone().cancel_on_drop());
+    /// assert!(price.wait().unwrap_err().is_cancelled());
+    /// ```
+    pub fn cancel_on_drop(self) -> CancelOnDrop<T> {
+        CancelOnDrop(self)
+    }
+
+    /// Lets it fail with [`Error::TimedOut`], unless it is settled after this while, by the request's clock. The stage itself is given back.
+    ///
+    /// ```
+    /// use std::time::Duration;
+    /// let request = cf::Request::new("order 17", cf::Inline);
+    /// let price = request.promise::<u32>().or_timeout(Duration::from_millis(1)).recover(|_| 52);
+    /// assert_eq!(price.wait().unwrap(), 52);
+    /// ```
+    pub fn or_timeout(self, wait: Duration) -> Stage<T> {
+        if let Ok(number) = self.at {
+            self.core.after(wait, number, None);
+        }
+        self
+    }
+
+    /// From which stage its error came: the number of the one whose function gave the error, or which was failed with it. None where it has
+    /// no error, or was cancelled.
+    ///
+    /// ```
+    /// let request = cf::Request::new("order 17", cf::Inline);
+    /// let price = request.try_supply(|| Err::<u32, _>("no stock"));
+    /// let told = price.clone().then(|cents| cents + 1);
+    /// assert_eq!(told.blamed(), price.number());
+    /// ```
+    pub fn blamed(&self) -> Option<u16> {
+        let told = self.core.lock().slot(self.at.ok()?).told?;
+        match told {
+            cf_graph::Outcome::Fault { cause: cf_graph::Cause::Thrown(code), .. } => Some(code as u16),
+            _ => None,
+        }
+    }
+
+    pub(crate) fn poll_value(&mut self, cx: &mut Context<'_>) -> Poll<Result<Val, Error>> {
+        match self.at {
+            Ok(number) => self.core.poll(number, &mut self.key, cx.waker()),
+            Err(why) => Poll::Ready(Err(why.into())),
+        }
+    }
+
+    fn wait_value(&self, until: Option<Instant>) -> Option<Result<Val, Error>> {
+        if let Some(told) = self.told() {
+            return Some(told);
+        }
+        let parked = Arc::new(Parked { thread: thread::current(), is_woken: AtomicBool::new(false) });
+        let waker = Waker::from(Arc::clone(&parked));
+        let mut waiting = self.clone();
+        let mut context = Context::from_waker(&waker);
+        loop {
+            if let Poll::Ready(told) = waiting.poll_value(&mut context) {
+                return Some(told);
+            }
+            if self.helps(&waker) {
+                continue;
+            }
+            while !parked.is_woken.swap(false, Ordering::SeqCst) {
+                match until.map(|until| until.saturating_duration_since(Instant::now())) {
+                    None => thread::park(),
+                    Some(Duration::ZERO) => return self.told(),
+                    Some(left) => thread::park_timeout(left),
+                }
+            }
+        }
+    }
+
+    /// Whether a worker, which might be the one that is waited for, has run a function of this request or of its own meanwhile.
+    fn helps(&self, waker: &Waker) -> bool {
+        if here() == CALLER {
+            return false;
+        }
+        self.core.help(waker) || run_here().map_or(false, |own| !Arc::ptr_eq(&own, &self.core) && own.help(waker))
+    }
+
+    pub(crate) fn gave(self) -> Gave {
+        match self.at {
+            Ok(number) => Gave::Stage(Arc::clone(&self.core), number),
+            Err(why) => Gave::Error(why.into()),
+        }
+    }
+
+    // Attaching.
+
+    fn behind<U>(&self, form: Form, call: Call, name: Name) -> Stage<U> {
+        Stage::new(&self.core, self.at.and_then(|number| self.core.attach(here(), form, &[number], Some(call), name)))
+    }
+
+    fn behind_both<O: Send + Sync + 'static, U>(&self, form: Form, other: &Stage<O>, call: Call, name: Name) -> Stage<U> {
+        let both = self.at.and_then(|first| Ok([first, self.request().adopt(other).at?]));
+        Stage::new(&self.core, both.and_then(|of| self.core.attach(here(), form, &of, Some(call), name)))
+    }
+
+    fn composing<U>(&self, form: Form, call: Call, name: Name) -> Stage<U> {
+        Stage::new(&self.core, self.at.and_then(|number| self.core.attach_composing(here(), form, number, call, name)))
+    }
+}
+
+/// What wakes a thread that waits.
+struct Parked {
+    thread: Thread,
+    is_woken: AtomicBool,
+}
+
+impl Wake for Parked {
+    fn wake(self: Arc<Parked>) {
+        self.is_woken.store(true, Ordering::SeqCst);
+        self.thread.unpark();
+    }
+}
+
+impl<T: Send + Sync + 'static> Stage<T> {
+    /// What the function gives of the value. Attaching takes about 0.6 µs, and so do the claim and the finish of a function.
+    ///
+    /// ```
+    /// let request = cf::Request::new("order 17", cf::Inline);
+    /// assert_eq!(request.supply(|| 20).then(|n| n + 1).wait().unwrap(), 21);
+    /// ```
+    #[track_caller]
+    pub fn then<U, F>(self, f: F) -> Stage<U>
+    where
+        F: FnOnce(&T) -> U + Send + 'static,
+        U: Send + Sync + 'static,
+    {
+        self.behind(Form::Apply, Box::new(move |given| Gave::value(f(value::of(&given.one())))), Name::of_function::<F>())
+    }
+
+    /// What the function gives of the value, or its error.
+    ///
+    /// ```
+    /// let request = cf::Request::new("order 17", cf::Inline);
+    /// let number = request.supply(|| "49").and_then(|text| text.parse::<u32>());
+    /// assert_eq!(number.wait().unwrap(), 49);
+    /// ```
+    #[track_caller]
+    pub fn and_then<U, E, F>(self, f: F) -> Stage<U>
+    where
+        F: FnOnce(&T) -> Result<U, E> + Send + 'static,
+        U: Send + Sync + 'static,
+        E: Into<BoxError>,
+    {
+        let call = move |given: Given| Gave::result(f(value::of(&given.one())).map_err(|error| Error::of(error.into())));
+        self.behind(Form::Apply, Box::new(call), Name::of_function::<F>())
+    }
+
+    /// What the future gives that the function makes of the value. A stage that is cancelled or times out drops it.
+    ///
+    /// ```
+    /// let request = cf::Request::new("order 17", cf::Inline);
+    /// let stage = request.supply(|| 20).then_async(|n| async move { Ok::<_, cf::Error>(*n + 1) });
+    /// assert_eq!(stage.wait().unwrap(), 21);
+    /// ```
+    #[track_caller]
+    pub fn then_async<U, E, Fut, F>(self, f: F) -> Stage<U>
+    where
+        F: FnOnce(Arc<T>) -> Fut + Send + 'static,
+        Fut: Future<Output = Result<U, E>> + Send + 'static,
+        U: Send + Sync + 'static,
+        E: Into<BoxError>,
+    {
+        self.behind(Form::Apply, Box::new(move |given| later(f(value::arc_of(given.one())))), Name::of_function::<F>())
+    }
+
+    /// What the stage gives that the function makes of the value: a stage of this request or another. It takes two stages of the request.
+    ///
+    /// ```
+    /// let request = cf::Request::new("order 17", cf::Inline);
+    /// let by = request.clone();
+    /// let paid = request.supply(|| 49).compose(move |&cents| by.supply(move || cents * 2));
+    /// assert_eq!(paid.wait().unwrap(), 98);
+    /// ```
+    #[track_caller]
+    pub fn compose<U, F>(self, f: F) -> Stage<U>
+    where
+        F: FnOnce(&T) -> Stage<U> + Send + 'static,
+        U: Send + Sync + 'static,
+    {
+        self.composing(Form::Compose, Box::new(move |given| f(value::of(&given.one())).gave()), Name::of_function::<F>())
+    }
+
+    /// What the function gives of both values. The other stage may be another request's, for which this one takes a stage more.
+    ///
+    /// ```
+    /// let request = cf::Request::new("order 17", cf::Inline);
+    /// let (user, price) = (request.supply(|| "Ada"), request.supply(|| 49));
+    /// assert_eq!(user.combine(&price, |user, price| format!("{user} pays {price}")).wait().unwrap(), "Ada pays 49");
+    /// ```
+    #[track_caller]
+    pub fn combine<O, U, F>(self, other: &Stage<O>, f: F) -> Stage<U>
+    where
+        F: FnOnce(&T, &O) -> U + Send + 'static,
+        O: Send + Sync + 'static,
+        U: Send + Sync + 'static,
+    {
+        let call = move |given: Given| {
+            let (first, second) = given.two();
+            Gave::value(f(value::of(&first), value::of(&second)))
+        };
+        self.behind_both(Form::Combine, other, Box::new(call), Name::of_function::<F>())
+    }
+
+    /// What the function gives of the value that is there first. Where the first that is settled failed, so does this.
+    ///
+    /// ```
+    /// let request = cf::Request::new("order 17", cf::Inline);
+    /// let (near, far) = (request.supply(|| 1), request.promise());
+    /// assert_eq!(near.either(&far, |n| n * 10).wait().unwrap(), 10);
+    /// ```
+    #[track_caller]
+    pub fn either<U, F>(self, other: &Stage<T>, f: F) -> Stage<U>
+    where
+        F: FnOnce(&T) -> U + Send + 'static,
+        U: Send + Sync + 'static,
+    {
+        self.behind_both(Form::ApplyEither, other, Box::new(move |given| Gave::value(f(value::of(&given.one())))), Name::of_function::<F>())
+    }
+
+    /// What the function gives of the value or the error.
+    ///
+    /// ```
+    /// let request = cf::Request::new("order 17", cf::Inline);
+    /// let price = request.try_supply(|| "x".parse::<u32>());
+    /// assert_eq!(price.handle(|told| told.copied().unwrap_or(52)).wait().unwrap(), 52);
+    /// ```
+    #[track_caller]
+    pub fn handle<U, F>(self, f: F) -> Stage<U>
+    where
+        F: FnOnce(Result<&T, &Error>) -> U + Send + 'static,
+        U: Send + Sync + 'static,
+    {
+        self.behind(Form::Handle, Box::new(move |given| Gave::value(f(given.got().as_ref().map(value::of)))), Name::of_function::<F>())
+    }
+
+    /// The same value or error, once the function was called with it. A panic of the function counts where there was a value.
+    ///
+    /// ```
+    /// let request = cf::Request::new("order 17", cf::Inline);
+    /// let price = request.supply(|| 49).inspect(|told| assert!(told.is_ok()));
+    /// assert_eq!(price.wait().unwrap(), 49);
+    /// ```
+    #[track_caller]
+    pub fn inspect<F>(self, f: F) -> Stage<T>
+    where
+        F: FnOnce(Result<&T, &Error>) + Send + 'static,
+    {
+        let call = move |given: Given| {
+            f(given.got().as_ref().map(value::of));
+            Gave::Nil
+        };
+        self.behind(Form::WhenComplete, Box::new(call), Name::of_function::<F>())
+    }
+
+    /// The value, or what the function gives of the error.
+    ///
+    /// ```
+    /// let request = cf::Request::new("order 17", cf::Inline);
+    /// let price = request.try_supply(|| "x".parse::<u32>()).recover(|_| 52);
+    /// assert_eq!(price.wait().unwrap(), 52);
+    /// ```
+    #[track_caller]
+    pub fn recover<F>(self, f: F) -> Stage<T>
+    where
+        F: FnOnce(&Error) -> T + Send + 'static,
+    {
+        let call = move |given: Given| match given.got() {
+            Ok(value) => Gave::Value(value),
+            Err(error) => Gave::value(f(&error)),
+        };
+        self.behind(Form::Exceptionally, Box::new(call), Name::of_function::<F>())
+    }
+
+    /// The value, or what the stage gives that the function makes of the error. It takes two stages of the request.
+    ///
+    /// ```
+    /// let request = cf::Request::new("order 17", cf::Inline);
+    /// let by = request.clone();
+    /// let price = request.try_supply(|| "x".parse::<u32>()).recover_compose(move |_| by.supply(|| 52));
+    /// assert_eq!(price.wait().unwrap(), 52);
+    /// ```
+    #[track_caller]
+    pub fn recover_compose<F>(self, f: F) -> Stage<T>
+    where
+        F: FnOnce(&Error) -> Stage<T> + Send + 'static,
+    {
+        let call = move |given: Given| match given.got() {
+            Ok(value) => Gave::Value(value),
+            Err(error) => f(&error).gave(),
+        };
+        self.composing(Form::ExceptionallyCompose, Box::new(call), Name::of_function::<F>())
+    }
+
+    // Who settles it.
+
+    /// Settles it with a value, unless it is settled.
+    ///
+    /// # Errors
+    ///
+    /// Where it is settled the value is given back.
+    ///
+    /// ```
+    /// let request = cf::Request::new("order 17", cf::Inline);
+    /// let price = request.promise();
+    /// assert_eq!(price.complete(49), Ok(()));
+    /// assert_eq!(price.complete(52), Err(52));
+    /// ```
+    pub fn complete(&self, value: T) -> Result<(), T> {
+        let number = match self.at {
+            Ok(number) => number,
+            Err(_) => return Err(value),
+        };
+        match self.core.settle(here(), number, Ok(Arc::new(value))) {
+            Ok(()) => Ok(()),
+            Err(back) => {
+                let back: Arc<T> = value::arc_of(back.unwrap_or_else(|_| unreachable!("a value was handed in")));
+                Err(Arc::try_unwrap(back).unwrap_or_else(|back| unreachable!("{} others have seen it", Arc::strong_count(&back))))
+            }
+        }
+    }
+
+    /// Gives it the value, unless it is settled after this while, by the request's clock. The stage itself is given back.
+    ///
+    /// ```
+    /// use std::time::Duration;
+    /// let request = cf::Request::new("order 17", cf::Inline);
+    /// assert_eq!(request.promise().complete_on_timeout(52, Duration::from_millis(1)).wait().unwrap(), 52);
+    /// ```
+    pub fn complete_on_timeout(self, value: T, wait: Duration) -> Stage<T> {
+        if let Ok(number) = self.at {
+            self.core.after(wait, number, Some(Arc::new(value)));
+        }
+        self
+    }
+
+    // What it holds.
+
+    /// What it holds at present, behind an `Arc`, if it is settled.
+    ///
+    /// ```
+    /// let request = cf::Request::new("order 17", cf::Inline);
+    /// assert_eq!(*request.supply(|| 49).peek_arc().unwrap().unwrap(), 49);
+    /// ```
+    pub fn peek_arc(&self) -> Option<Result<Arc<T>, Error>> {
+        self.told().map(|told| told.map(value::arc_of))
+    }
+
+    /// Blocks the thread until it is settled, for values that can't be cloned. A worker runs other functions of the request meanwhile.
+    ///
+    /// # Errors
+    ///
+    /// What the stage failed with.
+    ///
+    /// ```
+    /// struct Large(u32);
+    /// let request = cf::Request::new("order 17", cf::Inline);
+    /// assert_eq!(request.supply(|| Large(49)).wait_arc().unwrap().0, 49);
+    /// ```
+    pub fn wait_arc(&self) -> Result<Arc<T>, Error> {
+        self.wait_value(None).unwrap_or(Err(Error::BadAnswer)).map(value::arc_of)
+    }
+
+    /// A future of the value behind an `Arc`, for values that can't be cloned.
+    ///
+    /// ```
+    /// struct Large(u32);
+    /// async fn number(stage: &cf::Stage<Large>) -> u32 {
+    ///     stage.arc().await.map_or(0, |large| large.0)
+    /// }
+    /// ```
+    pub fn arc(&self) -> ArcOf<T> {
+        ArcOf(self.clone())
+    }
+}
+
+impl<T: Clone + Send + Sync + 'static> Stage<T> {
+    /// What it holds at present, if it is settled.
+    ///
+    /// ```
+    /// let request = cf::Request::new("order 17", cf::Inline);
+    /// assert!(request.promise::<u32>().peek().is_none());
+    /// assert_eq!(request.supply(|| 49).peek().unwrap().unwrap(), 49);
+    /// ```
+    pub fn peek(&self) -> Option<Result<T, Error>> {
+        self.told().map(cloned)
+    }
+
+    /// Blocks the thread until it is settled. A worker, which runs a function that calls this, runs other functions of the request meanwhile,
+    /// so that a pool of one thread goes on.
+    ///
+    /// # Errors
+    ///
+    /// What the stage failed with.
+    ///
+    /// ```
+    /// let request = cf::Request::new("order 17", cf::Pool::new(1));
+    /// assert_eq!(request.supply(|| 49).wait().unwrap(), 49);
+    /// ```
+    pub fn wait(&self) -> Result<T, Error> {
+        self.wait_value(None).map_or(Err(Error::BadAnswer), cloned)
+    }
+
+    /// Blocks the thread until it is settled, but no longer than this: None where it isn't then. The stage goes on.
+    ///
+    /// ```
+    /// use std::time::Duration;
+    /// let request = cf::Request::new("order 17", cf::Inline);
+    /// assert!(request.promise::<u32>().wait_timeout(Duration::from_millis(1)).is_none());
+    /// ```
+    #[must_use = "None says that it isn't settled"]
+    pub fn wait_timeout(&self, wait: Duration) -> Option<Result<T, Error>> {
+        self.wait_value(Instant::now().checked_add(wait)).map(cloned)
+    }
+}
+
+fn cloned<T: Clone + 'static>(told: Result<Val, Error>) -> Result<T, Error> {
+    told.map(|value| value::of::<T>(&value).clone())
+}
+
+impl<T: Clone + Send + Sync + 'static> Future for Stage<T> {
+    type Output = Result<T, Error>;
+
+    fn poll(mut self: Pin<&mut Self>, cx: &mut Context<'_>) -> Poll<Self::Output> {
+        self.poll_value(cx).map(cloned)
+    }
+}
+
+/// A future of a stage's value behind an `Arc`: what [`Stage::arc`] gives.
+///
+/// ```
+/// struct Large(u32);
+/// async fn number(large: cf::ArcOf<Large>) -> Result<u32, cf::Error> {
+///     Ok(large.await?.0)
+/// }
+/// ```
+#[derive(Clone, Debug)]
+#[must_use = "futures do nothing unless polled"]
+pub struct ArcOf<T>(Stage<T>);
+
+impl<T: Send + Sync + 'static> Future for ArcOf<T> {
+    type Output = Result<Arc<T>, Error>;
+
+    fn poll(mut self: Pin<&mut Self>, cx: &mut Context<'_>) -> Poll<Self::Output> {
+        self.0.poll_value(cx).map(|told| told.map(value::arc_of))
+    }
+}
+
+/// A stage that is cancelled when this is dropped: what [`Stage::cancel_on_drop`] gives.
+///
+/// ```
+/// let request = cf::Request::new("order 17", cf::Inline);
+/// let price = request.promise::<u32>();
+/// let dropped: cf::CancelOnDrop<u32> = price.clone().cancel_on_drop();
+/// drop(dropped);
+/// assert!(price.is_settled());
+/// ```
+#[derive(Debug)]
+#[must_use = "dropped at once, it cancels the stage at once"]
+pub struct CancelOnDrop<T>(Stage<T>);
+
+impl<T: Clone + Send + Sync + 'static> Future for CancelOnDrop<T> {
+    type Output = Result<T, Error>;
+
+    fn poll(mut self: Pin<&mut Self>, cx: &mut Context<'_>) -> Poll<Self::Output> {
+        self.0.poll_value(cx).map(cloned)
+    }
+}
+
+impl<T> Drop for CancelOnDrop<T> {
+    fn drop(&mut self) {
+        self.0.cancel();
+    }
+}
+
+impl<T> Clone for Stage<T> {
+    fn clone(&self) -> Stage<T> {
+        Stage::new(&self.core, self.at)
+    }
+}
+
+impl<T> Drop for Stage<T> {
+    fn drop(&mut self) {
+        if let (Ok(number), Some(key)) = (self.at, self.key) {
+            self.core.forget(number, key);
+        }
+    }
+}
+
+impl<T> fmt::Debug for Stage<T> {
+    fn fmt(&self, f: &mut fmt::Formatter<'_>) -> fmt::Result {
+        let number = match self.at {
+            Ok(number) => number,
+            Err(why) => return write!(f, "Stage(refused: {why})"),
+        };
+        let mut inner = self.core.lock();
+        let (name, told) = (inner.slot(number).name.clone(), inner.told(number));
+        drop(inner);
+        match told {
+            None => write!(f, "Stage({number} {name}, pending)"),
+            Some(Ok(_)) => write!(f, "Stage({number} {name}, value)"),
+            Some(Err(error)) => write!(f, "Stage({number} {name}, error: {error})"),
+        }
+    }
+}
+
+pub(crate) mod sealed {
+    use super::{Refusal, Request};
+
+    pub trait Sealed {
+        /// The number of the stage of this request that ends as this one.
+        fn adopted(&self, by: &Request) -> Result<u16, Refusal>;
+    }
+}
+
+/// A stage of any type: what [`Request::all_of`] takes.
+///
+/// ```
+/// let request = cf::Request::new("order 17", cf::Inline);
+/// let (user, price) = (request.supply(|| "Ada"), request.supply(|| 49));
+/// let both: [&dyn cf::AnyStage; 2] = [&user, &price];
+/// request.all_of(both).wait().unwrap();
+/// ```
+pub trait AnyStage: sealed::Sealed {}
+
+impl<T: Send + Sync + 'static> sealed::Sealed for Stage<T> {
+    fn adopted(&self, by: &Request) -> Result<u16, Refusal> {
+        by.adopt(self).at
+    }
+}
+
+impl<T: Send + Sync + 'static> AnyStage for Stage<T> {}

@@ -1,0 +1,317 @@
+//! What stages do, by threads and without a runtime.
+use cf::{Error, Inline, Job, Pool, Refusal, Request, Spawn, Stage};
+use std::sync::atomic::{AtomicUsize, Ordering};
+use std::sync::{mpsc, Arc, Barrier};
+use std::thread;
+use std::time::Duration;
+
+fn request() -> Request {
+    Request::new("test", Pool::new(4))
+}
+
+const SHORT: Duration = Duration::from_millis(15);
+/// Longer than a machine at its limit takes; what never comes is ended by who runs the tests.
+const LONG: Duration = Duration::from_secs(200);
+
+#[test]
+fn functions_take_values() {
+    let r = request();
+    let source = r.promise::<i32>();
+    let next = source.clone().then(|n| n + 1);
+    let text = next.clone().and_then(|n| if *n > 0 { Ok(n.to_string()) } else { Err("not positive") });
+    let both = next.combine(&text, |n, text| format!("{n} {text}"));
+    assert!(!both.is_settled() && both.peek().is_none());
+    assert_eq!(source.complete(3), Ok(()));
+    assert_eq!(both.wait().unwrap(), "4 4");
+    assert_eq!(source.complete(5), Err(5));
+    assert_eq!(source.wait().unwrap(), 3);
+}
+
+#[test]
+fn errors_are_passed_on_and_recovered() {
+    let r = request();
+    let parsed = r.try_supply(|| "x".parse::<i32>());
+    let behind = parsed.clone().then(|n| n * 2).combine(&r.supply(|| 1), |a, b| a + b);
+    let error = behind.wait().unwrap_err();
+    assert!(error.is::<std::num::ParseIntError>(), "{error:?}");
+    assert_eq!(behind.blamed(), parsed.number());
+    assert_eq!(behind.clone().recover(|_| -1).wait().unwrap(), -1);
+    assert!(behind.clone().handle(|it| it.is_err()).wait().unwrap());
+    let text = behind.and_then(|_| Ok::<_, &str>(1)).wait().unwrap_err().to_string();
+    assert_eq!(text, "invalid digit found in string");
+}
+
+#[test]
+fn an_error_passed_on_by_a_question_mark_stays_what_it_is() {
+    let r = request();
+    let cancelled = r.promise::<i32>();
+    assert!(cancelled.cancel());
+    let other = cancelled.clone();
+    let asks = r.try_supply(move || -> Result<i32, Error> { Ok(other.wait()? + 1) });
+    assert!(asks.wait().unwrap_err().is_cancelled());
+}
+
+#[test]
+fn panics_become_errors() {
+    let r = request();
+    let text = r.supply(|| -> i32 { panic!("at {}", 5) }).then(|n| n + 1).wait().unwrap_err().to_string();
+    assert_eq!(text, "a function panicked: at 5");
+    let fixed = r.supply(|| -> i32 { panic!("fixed") });
+    assert!(matches!(fixed.wait(), Err(Error::Panicked(said)) if said.message() == "fixed"));
+    assert_eq!(r.supply(|| 1).wait().unwrap(), 1, "its thread goes on");
+}
+
+#[test]
+fn the_first_decides() {
+    let r = request();
+    let (a, b) = (r.promise::<i32>(), r.promise::<i32>());
+    let first = a.clone().either(&b, |n| n * 10);
+    let any = r.first_of([&a, &b, &r.promise()]);
+    b.complete(2).unwrap();
+    assert_eq!((first.wait().unwrap(), any.wait().unwrap()), (20, 2));
+    a.complete(1).unwrap();
+    assert_eq!(any.wait().unwrap(), 2);
+}
+
+#[test]
+fn all_of_waits_for_all() {
+    let r = request();
+    let numbers: Vec<Stage<i32>> = (0..9).map(|k| r.supply(move || k)).collect();
+    let text = r.supply(|| "text".to_string());
+    let all = r.all_of(numbers.iter().map(|it| it as &dyn cf::AnyStage).chain([&text as &dyn cf::AnyStage]));
+    all.wait().unwrap();
+    assert!(numbers.iter().all(Stage::is_settled) && text.is_settled());
+    assert_eq!(r.gather(&numbers).wait().unwrap(), (0..9).collect::<Vec<_>>());
+    r.all_of([]).wait().unwrap();
+    let failed = r.try_supply(|| Err::<i32, _>("no"));
+    assert_eq!(r.gather([&numbers[0], &failed]).wait().unwrap_err().to_string(), "no");
+}
+
+#[test]
+fn composing_takes_a_stage_of_this_request_or_another() {
+    let (r, other) = (request(), request());
+    let by = r.clone();
+    let own = r.supply(|| 3).compose(move |&n| by.supply(move || n * 2));
+    let before = r.promise::<i32>();
+    let lower = before.clone();
+    let links = r.supply(|| 1).compose(move |_| lower);
+    let elsewhere = r.supply(|| 5).compose(move |&n| other.supply(move || n + 1));
+    let settled = {
+        let done = r.supply(|| 9);
+        done.wait().unwrap();
+        let by = r.clone();
+        r.supply(|| 0).compose(move |_| {
+            let s = by.supply(|| 8);
+            s.wait().unwrap();
+            s
+        })
+    };
+    before.complete(4).unwrap();
+    assert_eq!((own.wait().unwrap(), links.wait().unwrap(), elsewhere.wait().unwrap(), settled.wait().unwrap()), (6, 4, 6, 8));
+    let recovered = r.try_supply(|| Err::<i32, _>("no")).recover_compose({
+        let r = r.clone();
+        move |_| r.supply(|| 7)
+    });
+    assert_eq!(recovered.wait().unwrap(), 7);
+    let cancelled = r.supply(|| 1).compose({
+        let r = r.clone();
+        move |_| {
+            let s = r.promise::<i32>();
+            s.cancel();
+            s
+        }
+    });
+    assert!(cancelled.wait().unwrap_err().is_cancelled());
+    assert!(r.history().comes_again());
+}
+
+#[test]
+fn timeouts_settle() {
+    let r = request();
+    let slow = r.promise::<i32>().or_timeout(SHORT);
+    assert!(slow.wait().unwrap_err().is_timeout());
+    assert_eq!(r.promise().complete_on_timeout(5, SHORT).wait().unwrap(), 5);
+    let kept = r.supply(|| 1).or_timeout(LONG);
+    assert_eq!(kept.wait().unwrap(), 1);
+    assert!(r.promise::<i32>().wait_timeout(SHORT).is_none());
+    assert_eq!(r.supply(|| 2).wait_timeout(LONG).unwrap().unwrap(), 2);
+}
+
+#[test]
+fn a_cancelled_stage_refuses_its_claim_and_a_late_finish_changes_nothing() {
+    let r = Request::new("one thread", Pool::new(1));
+    let (begun, waits) = (Arc::new(Barrier::new(2)), Arc::new(Barrier::new(2)));
+    let ran = Arc::new(AtomicUsize::new(0));
+    let (b, w) = (begun.clone(), waits.clone());
+    let running = r.supply(move || {
+        b.wait();
+        w.wait();
+        1
+    });
+    let counts = ran.clone();
+    let waiting = r.supply(move || counts.fetch_add(1, Ordering::SeqCst));
+    begun.wait();
+    assert!(waiting.cancel() && waiting.cancel());
+    assert!(running.cancel());
+    waits.wait();
+    assert!(running.wait().unwrap_err().is_cancelled());
+    assert_eq!(r.supply(|| 3).wait().unwrap(), 3);
+    assert_eq!(ran.load(Ordering::SeqCst), 0);
+    let text = r.history().to_string();
+    assert!(text.contains("too late"), "{text}");
+}
+
+#[test]
+fn a_worker_that_waits_runs_others() {
+    let r = Request::new("one thread", Pool::new(1));
+    let by = r.clone();
+    let deep = r.supply(move || by.supply(|| 20).then(|n| n + 1).wait().unwrap() * 2);
+    assert_eq!(deep.wait_timeout(LONG).unwrap().unwrap(), 42);
+    let (by, gate) = (r.clone(), r.promise::<i32>());
+    let (told, tells) = mpsc::channel();
+    let open = gate.clone();
+    let outer = r.supply(move || {
+        let inner = by.promise_then(open);
+        told.send(()).unwrap();
+        inner.wait().unwrap()
+    });
+    tells.recv().unwrap();
+    thread::sleep(SHORT);
+    gate.complete(4).unwrap();
+    assert_eq!(outer.wait_timeout(LONG).unwrap().unwrap(), 5);
+}
+
+trait More {
+    fn promise_then(&self, gate: Stage<i32>) -> Stage<i32>;
+}
+
+impl More for Request {
+    fn promise_then(&self, gate: Stage<i32>) -> Stage<i32> {
+        gate.then(|n| n + 1)
+    }
+}
+
+#[test]
+fn dropped_functions_and_values_are_freed() {
+    let alive = Arc::new(());
+    {
+        let r = Request::new("dropped", Inline);
+        let never = r.promise::<i32>();
+        let (held, given) = (alive.clone(), alive.clone());
+        let behind = never.then(move |_| held);
+        assert!(behind.cancel());
+        assert_eq!(Arc::strong_count(&alive), 2, "the function of a cancelled stage is dropped");
+        let value = r.promise::<Arc<()>>();
+        value.complete(given).unwrap();
+        assert_eq!(Arc::strong_count(&alive), 2);
+        drop(value.complete(alive.clone()).unwrap_err());
+        assert_eq!(Arc::strong_count(&alive), 2, "a value that came too late is given back");
+    }
+    assert_eq!(Arc::strong_count(&alive), 1);
+}
+
+#[test]
+fn a_full_request_refuses_and_goes_on() {
+    let r = Request::new("full", Inline);
+    let first = r.promise::<i32>();
+    let mut last = first.clone();
+    for _ in 1..4096 {
+        last = last.then(|n| n + 1);
+    }
+    let over = last.clone().then(|n| n + 1);
+    assert!(matches!(over.wait(), Err(Error::Refused(Refusal::Full))));
+    assert!(matches!(over.clone().recover(|_| 1).wait(), Err(Error::Refused(Refusal::Full))));
+    assert!(matches!(r.gather([&first, &over]).wait(), Err(Error::Refused(Refusal::Full))));
+    assert_eq!(over.number(), None);
+    first.complete(0).unwrap();
+    assert_eq!(last.wait().unwrap(), 4095, "the stack stays flat");
+    assert!(r.history().comes_again());
+}
+
+#[test]
+fn what_takes_no_jobs_fails_what_is_ready() {
+    struct Closed;
+    impl Spawn for Closed {
+        fn spawn(&self, job: Job) -> Result<(), Job> {
+            Err(job)
+        }
+    }
+    let r = Request::new("closed", Closed);
+    assert!(matches!(r.supply(|| 1).wait(), Err(Error::Refused(Refusal::Closed))));
+    let source = r.promise::<i32>();
+    let behind = source.clone().then(|n| n + 1);
+    source.complete(1).unwrap();
+    assert!(behind.wait().is_err());
+}
+
+#[test]
+fn inspecting_keeps_the_outcome() {
+    let r = request();
+    let (tells, told) = mpsc::channel();
+    assert_eq!(r.supply(|| 6).inspect(move |it| tells.send(it.is_ok()).unwrap()).wait().unwrap(), 6);
+    assert!(told.recv().unwrap());
+    let failed = r.promise::<i32>();
+    let seen = failed.clone().inspect(|_| panic!("left aside"));
+    assert!(failed.fail("no"));
+    assert_eq!(seen.wait().unwrap_err().to_string(), "no");
+}
+
+#[test]
+fn values_need_not_be_clone() {
+    struct Big(u64);
+    let r = request();
+    let big = r.supply(|| Big(7));
+    assert_eq!(big.clone().then(|big| big.0).wait().unwrap(), 7);
+    assert_eq!(big.wait_arc().unwrap().0, 7);
+}
+
+#[test]
+fn threads_race_and_one_wins() {
+    for _ in 0..200 {
+        let r = request();
+        let stage = r.promise::<usize>();
+        let behind: Vec<Stage<usize>> = (0..8).map(|k| stage.clone().then(move |n| n + k)).collect();
+        let won: usize = thread::scope(|s| {
+            let threads: Vec<_> = (0..4)
+                .map(|k| {
+                    let stage = stage.clone();
+                    s.spawn(move || usize::from(if k == 3 { stage.fail("lost") } else { stage.complete(k).is_ok() }))
+                })
+                .collect();
+            threads.into_iter().map(|it| it.join().unwrap()).sum()
+        });
+        assert_eq!(won, 1);
+        let all = r.gather(&behind).wait();
+        assert_eq!(all.is_ok(), stage.wait().is_ok());
+        assert!(r.history().comes_again());
+    }
+}
+
+#[test]
+fn debug_says_where_it_is() {
+    let r = Request::new("debug", Inline);
+    let stage = r.promise::<i32>().named("price");
+    assert_eq!(format!("{stage:?}"), "Stage(0 price, pending)");
+    stage.fail("no");
+    assert_eq!(format!("{stage:?}"), "Stage(0 price, error: no)");
+    assert_eq!(format!("{r:?}"), r#"Request { name: "debug", stages: 1, settled: 1, events: 2 }"#);
+    assert!(format!("{:?}", r.supply(|| 1)).contains("stages.rs:"));
+}
+
+#[test]
+fn cancelling_all_ends_all() {
+    let r = request();
+    let source = r.promise::<i32>();
+    let behind: Vec<Stage<i32>> = (0..5).map(|_| source.clone().then(|n| *n)).collect();
+    r.cancel_all();
+    assert!(source.wait().unwrap_err().is_cancelled() && behind.iter().all(|it| it.wait().unwrap_err().is_cancelled()));
+}
+
+#[test]
+fn handles_are_send_and_sync_and_unpin() {
+    fn all<T: Send + Sync + Unpin>() {}
+    all::<Stage<i32>>();
+    all::<Request>();
+    all::<cf::History>();
+    all::<Error>();
+}
