@@ -9,6 +9,7 @@ import sys
 from typing import List, Optional
 
 from .shared import Functions, StoreError, Unknown, Worker, connect
+from .shared.worker import told_to_end
 
 
 def main(words: Optional[List[str]] = None) -> int:
@@ -20,7 +21,7 @@ def main(words: Optional[List[str]] = None) -> int:
     parser.add_argument("modules", nargs="+")
     at = parser.parse_args(words)
     logging.basicConfig(level=logging.WARNING, format="%(asctime)s %(name)s %(message)s")
-    functions = Functions()
+    functions, ends = Functions(), told_to_end()
     sys.path.insert(0, "")
     try:
         for name in at.modules:
@@ -29,7 +30,7 @@ def main(words: Optional[List[str]] = None) -> int:
     except (ImportError, ValueError, StoreError, Unknown) as error:
         print(f"cf.worker: {error}", file=sys.stderr)
         return 2
-    worker.run()
+    worker.run(ends)
     return 0
 
 

@@ -376,6 +376,7 @@ class Processes(Case):
         stages = [r.supply(f.slow, 0.01) for _ in range(12)]
         pids = {stage.result(30) for stage in stages}
         self.assertTrue(pids <= {it.pid for it in worker}, pids)
+        self.until(lambda: len(service.store.beats()) == 3)
         for process in worker:
             process.send_signal(signal.SIGTERM)
             self.assertEqual(process.wait(10), 0, process.stderr.read())

@@ -17,10 +17,16 @@ class Worker(DurableService):
                  groups: bool = False) -> None:
         super().__init__(store, max_workers, functions=functions, codec=codec, lease=lease, takes_all=True, groups=groups)
 
-    def run(self) -> None:
-        """Works until the process is told to end, by SIGTERM or SIGINT; what runs is finished first. For the main thread."""
-        ends = threading.Event()
-        for number in (signal.SIGTERM, signal.SIGINT):
-            signal.signal(number, lambda *_: ends.set())
-        ends.wait()
+    def run(self, ends: Optional[threading.Event] = None) -> None:
+        """Works until the process is told to end, by SIGTERM or SIGINT; what runs is finished first. For the main thread. `ends` is what
+        `told_to_end` gave before the worker was made."""
+        (ends or told_to_end()).wait()
         self.shutdown()
+
+
+def told_to_end() -> threading.Event:
+    """Is set once the process gets SIGTERM or SIGINT."""
+    ends = threading.Event()
+    for number in (signal.SIGTERM, signal.SIGINT):
+        signal.signal(number, lambda *_: ends.set())
+    return ends
