@@ -5,6 +5,7 @@ import json
 import select
 import threading
 import time
+import weakref
 from typing import Any, Dict, List, Optional, Sequence, Tuple
 from urllib.parse import quote, unquote
 
@@ -21,6 +22,7 @@ class Etcd(Store):
     def __init__(self, addresses: str) -> None:
         self._addresses, self._local = addresses.split(","), threading.local()
         self._turn = 0
+        self._made: "weakref.WeakSet[http.client.HTTPConnection]" = weakref.WeakSet()
         self._get(b"cf/r/", keys_only=True)  # whether a majority answers
 
     # Calls.
@@ -30,6 +32,7 @@ class Etcd(Store):
         if connection is None:
             host, port = self._addresses[self._turn % len(self._addresses)].rsplit(":", 1)
             connection = self._local.http = http.client.HTTPConnection(host, int(port), timeout=SECONDS)
+            self._made.add(connection)
         try:
             connection.request("POST", path, json.dumps(body))
             answer = connection.getresponse()
@@ -147,7 +150,12 @@ class Etcd(Store):
         sock = connection.sock
         answer.readline()
         connection.sock = sock
+        self._made.add(connection)
         return connection, answer
+
+    def close(self) -> None:
+        for connection in list(self._made):
+            connection.close()
 
     # Sessions and timers.
 

@@ -47,10 +47,12 @@ class Postgres(Store):
         self._notifier: Optional[threading.Thread] = None
         self._is_closed = False
         self._lock = threading.Lock()
-        with self._connection() as cursor:
-            cursor.execute(f"select pg_advisory_lock({SET_UP})")  # (two that make a table at once are refused)
-            cursor.execute(SCHEMA)
-            cursor.execute(f"select pg_advisory_unlock({SET_UP})")
+        with self._telling():
+            db = self._connected()
+            with db.cursor() as cursor:
+                cursor.execute(f"select pg_advisory_lock({SET_UP})")  # (two that make a table at once are refused)
+                cursor.execute(SCHEMA)
+            db.close()
 
     # Connections.
 
@@ -85,7 +87,7 @@ class Postgres(Store):
             if db is None:
                 db = self._connected()
                 with db.cursor() as cursor:
-                    self._prepare(cursor)
+                    cursor.execute(PREPARED)
             try:
                 with db.cursor() as cursor:
                     yield cursor
@@ -98,14 +100,6 @@ class Postgres(Store):
                 return
             with self._lock:
                 self._free.append(db)
-
-    def _prepare(self, cursor: Any) -> None:
-        try:
-            cursor.execute("select 1 from pg_tables where tablename = 'cf_word'")
-            if cursor.fetchone():
-                cursor.execute(PREPARED)
-        except psycopg2.errors.UndefinedTable:
-            pass
 
     def _ask(self, statement: str, *values: Any) -> List[Tuple[Any, ...]]:
         with self._connection() as cursor:
