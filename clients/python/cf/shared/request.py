@@ -139,7 +139,7 @@ class Request:
         self._service, self._desk, self.name = service, desk, desk.name
         self._lock = threading.RLock()
         self._stages: Dict[int, Stage[Any]] = {}
-        self.is_queued = False
+        self.is_queued = self.is_leaving = False
 
     @property
     def seen(self) -> int:
@@ -230,6 +230,7 @@ class Request:
         assert done is not None
         if self._desk.plan.rows:
             self._service.store.reopen(self.name)
+            self._service._requests.setdefault(self.name, self)
         self._service._serve(self)
         return self._stage(done[0].reply[NUMBER])
 

@@ -211,21 +211,25 @@ class DurableService(concurrent.futures.Executor):
             for timer in self.store.due(self.store.now()):
                 if self._takes_all or timer.request in self._requests:
                     self._pool.submit(self._guarded, timer.request, self._fire, timer)
+        known = list(self._requests.values())  # (before the store is asked: what is opened meanwhile isn't in its answer)
         ends = self.store.ends()
-        for name in list(self._requests):
-            if name not in ends:
-                self._pool.submit(self._guarded, name, self._let_go, name)
+        for request in known:
+            if request.name not in ends and not request.is_leaving:
+                request.is_leaving = True
+                self._pool.submit(self._guarded, request.name, self._let_go, request)
         for name, end in ends.items():
-            request = self._taken(name) if self._takes_all else self._requests.get(name)
-            if request is not None and (end > request.seen or looks):
-                self._serve(request)
+            taken = self._taken(name) if self._takes_all else self._requests.get(name)
+            if taken is not None and (end > taken.seen or looks):
+                self._serve(taken)
 
-    def _let_go(self, name: str) -> None:
+    def _let_go(self, request: Request) -> None:
         """Forgets a request that is closed, once all is told."""
-        with self._lock:
-            request = self._requests.pop(name, None)
-        if request is not None:
+        try:
             request._catch_up()
+            with self._lock:
+                self._requests.pop(request.name, None)
+        finally:
+            request.is_leaving = False
 
     def _fire(self, timer: Timer) -> None:
         request = self._taken(timer.request)
