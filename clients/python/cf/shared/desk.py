@@ -17,6 +17,7 @@ from .plans import SharedPlan
 from .rows import COUNT_BITS, Broken, Opened, Put, Store, Unknown
 
 CALLERS = int(os.environ.get("CF_CALLERS", "64"))  # fewer, for tests of sessions that share a number
+COUNTS = 1 << COUNT_BITS
 ROOM = 8  # stages that may be attached at first
 NOT_YET = Told(PENDING, 0, 0, 0, 0)
 Wanted = Sequence[Tuple[int, Optional[bytes]]]  # words, each with its payload
@@ -75,7 +76,8 @@ class Desk:
         self.words, self._replies = array("Q"), bytearray()
         self.who, self.lost, self.unknown = -1, 0, 0
         self._numbers: Dict[int, int] = {}
-        self._landed, self._count, self._patience = False, 0, patience
+        self._landed, self._patience = False, patience
+        self._count = int.from_bytes(os.urandom(3), "big") % COUNTS  # by chance: where two have one session, their tokens differ all the same
         self._note = note or (lambda *_: None)
         self._behind: Dict[int, List[int]] = {}
         self._own: Dict[int, bytes] = {}  # the payloads that this desk put
@@ -135,7 +137,7 @@ class Desk:
 
     def put_of(self, wanted: Wanted) -> Put:
         """A put of these words behind what is seen, with new tokens."""
-        entries = [(word, self.session << COUNT_BITS | self._count + k) for k, (word, _) in enumerate(wanted)]
+        entries = [(word, self.session << COUNT_BITS | (self._count + k) % COUNTS) for k, (word, _) in enumerate(wanted)]
         self._count += len(wanted)
         return Put(self.name, self.seen, entries, {self.place + k: it for k, (_, it) in enumerate(wanted) if it is not None})
 

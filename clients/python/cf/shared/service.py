@@ -233,7 +233,8 @@ class DurableService(concurrent.futures.Executor):
 
     def _fire(self, timer: Timer) -> None:
         request = self._taken(timer.request)
-        if request is not None and timer.stage < len(request._desk.forms):
+        if request is not None:
+            request._catch_up()  # (a timer is set behind the word of its stage)
             request._fire(timer)
         self.store.drop_timer(timer.request, timer.stage)
 
