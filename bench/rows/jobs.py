@@ -55,6 +55,7 @@ class Jobs:
         """Does it: the counts, and what is wrong."""
         call, tries = MODES[self.mode]
         workers, count, ends = [self.start() for _ in range(self.many)], collections.Counter(), {}
+        begun = [time.monotonic()] * self.many
         service = DurableService(connect(self.effects), 0, functions=functions, lease=5)
         try:
             next_kill = time.monotonic() + 1
@@ -64,9 +65,10 @@ class Jobs:
                     last = flow.supply(call, name).again(tries)
                     ends[name] = service.start(flow, name=name)[last]
                 time.sleep(0.02)
-                if time.monotonic() > next_kill:
+                k = self.rng.randrange(self.many)
+                if time.monotonic() > max(next_kill, begun[k] + 1):
                     next_kill = time.monotonic() + self.rng.uniform(0.15, 0.35)
-                    k = self.rng.randrange(self.many)
+                    begun[k] = time.monotonic()
                     count["died by themselves"] += workers[k].poll() is not None
                     workers[k].kill()
                     workers[k].wait()

@@ -1,15 +1,28 @@
 """A worker of a store: python3 -m cf.worker --store ADDRESS MODULE.. [--threads N] [--lease SECONDS]
 
 It runs the functions of these modules, each of which has a member `functions`, a cf.shared.Functions, in all requests that are open in the
-store, until it is told to end by SIGTERM or SIGINT. Status 2 where the address or a module is wrong.
+store, until it is told to end by SIGTERM or SIGINT; a store that doesn't answer is waited for. Status 2 where the address or a module is
+wrong.
 """
 import argparse
 import logging
 import sys
+import threading
 from typing import List, Optional
 
-from .shared import Functions, StoreError, Unknown, Worker, connect
+from .shared import Functions, Store, StoreError, Unknown, Worker, connect
 from .shared.worker import told_to_end
+
+
+def reached(address: str, ends: threading.Event) -> Optional[Store]:
+    """The store, once it can be reached; None where the process is told to end before."""
+    while not ends.is_set():
+        try:
+            return connect(address)
+        except Unknown as error:
+            logging.warning("the store doesn't answer: %s", error)
+            ends.wait(0.5)
+    return None
 
 
 def main(words: Optional[List[str]] = None) -> int:
@@ -26,8 +39,11 @@ def main(words: Optional[List[str]] = None) -> int:
     try:
         for name in at.modules:
             functions.add(Functions.of_module(name))
-        worker = Worker(connect(at.store), functions, at.threads, lease=at.lease)
-    except (ImportError, ValueError, StoreError, Unknown) as error:
+        store = reached(at.store, ends)
+        if store is None:
+            return 0
+        worker = Worker(store, functions, at.threads, lease=at.lease)
+    except (ImportError, ValueError, StoreError) as error:
         print(f"cf.worker: {error}", file=sys.stderr)
         return 2
     worker.run(ends)
