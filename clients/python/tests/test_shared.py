@@ -365,7 +365,7 @@ class Services(Case):
 
 
 class Processes(Case):
-    lease = 0.6
+    lease = 2
 
     def test_a_request_goes_on_elsewhere(self):
         """Begun here, worked on by two processes, and resumed by a third service."""
@@ -468,9 +468,9 @@ class Processes(Case):
         bad, gone, good = service.request("bad"), service.request("gone"), service.request("good")
         waits, value = bad.promise(), gone.promise("value")
         value.complete({"a": 1})
-        db.execute("insert into cf_word values (1, 1, 77, 7, null)")
         db.execute("update cf_word set payload = null where request = 2 and at = 1")
         with self.assertLogs("cf.shared", "ERROR") as logs:
+            db.execute("insert into cf_word values (1, 1, 77, 7, null)")
             self.assertIsInstance(waits.exception(20), Broken)
         self.assertIn("'bad', place 2", "\n".join(logs.output))
         other = self.service()
