@@ -278,7 +278,9 @@ class Services(Case):
             self.assertIsInstance(behind.exception(20), CancelledError)
             self.assertIsInstance(r.promise().or_timeout(0.05).exception(20), TimeoutError)
             self.assertEqual(r.promise().complete_on_timeout({"a": 1}, 0.05).result(20), {"a": 1})
-            self.assertTrue(service.submit(f.slow, 0).result(20))
+            stage = service.submit(f.load, 4, extra=1)
+            self.assertEqual(stage.result(20), {"number": 4, "extra": 1})
+            self.until(lambda: stage.request.name not in service.store.ends())
 
     def flow(self):
         flow = Flow("order")

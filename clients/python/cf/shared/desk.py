@@ -296,7 +296,7 @@ class Desk:
 
     def open_claims(self) -> Dict[int, int]:
         """The stages whose function runs somewhere: claimed and not settled, with the session that has it."""
-        return {stage: session for stage, session in self.claims.items() if self.kinds[stage] == IS_CLAIMED}
+        return {stage: session for stage, session in list(self.claims.items()) if self.kinds[stage] == IS_CLAIMED}
 
 
 def _names(word: int) -> bool:

@@ -4,7 +4,7 @@ import concurrent.futures
 import json
 import threading
 from concurrent.futures import CancelledError, InvalidStateError
-from typing import TYPE_CHECKING, Any, Callable, Dict, Generator, Generic, List, Optional, Sequence, Tuple, TypeVar
+from typing import TYPE_CHECKING, Any, Callable, Dict, Generator, Generic, List, Optional, Sequence, Set, Tuple, TypeVar
 
 from ..service.flow import Again, Step, _alone
 from ..service.history import History, Told
@@ -12,7 +12,7 @@ from ..service.words import ANSWER, ATTACH, CANCEL, CANCELLED, COMPLETE, FAIL, G
 from ..values import BadAnswer, Form
 from .desk import Desk, Done
 from .functions import said_of
-from .rows import Broken, Put, StoreError, Timer, Transaction
+from .rows import Put, StoreError, Timer, Transaction, Unknown
 
 if TYPE_CHECKING:
     from .service import DurableService, Finish
@@ -140,6 +140,7 @@ class Request:
         self._lock = threading.RLock()
         self._stages: Dict[int, Stage[Any]] = {}
         self.is_queued = self.is_leaving = False
+        self._unshown: Set[int] = set()  # settled stages whose payload couldn't be read yet
 
     @property
     def seen(self) -> int:
@@ -317,11 +318,10 @@ class Request:
         return stage
 
     def _show(self, news: List[Done]) -> None:
-        for done in news:
-            for number in done.settled:
-                stage = self._stages.get(number)
-                if stage is not None:
-                    self._show_one(stage)
+        for number in [*self._unshown, *(number for done in news for number in done.settled)]:
+            stage = self._stages.get(number)
+            if stage is not None:
+                self._show_one(stage)
 
     def _show_one(self, stage: "Stage[Any]") -> None:
         if stage.done() or not self._desk.is_settled(stage.number):
@@ -330,8 +330,12 @@ class Request:
         is_cancelled = told.kind == CANCELLED and not told.wrapped
         try:
             value, error = (None, None) if is_cancelled else self._outcome(told)
-        except (Broken, StoreError) as broken:
+        except StoreError as broken:
             value, error = None, broken
+        except Unknown:
+            self._unshown.add(stage.number)
+            return
+        self._unshown.discard(stage.number)
         try:
             stage._show(value, error, is_cancelled)
         except InvalidStateError:  # another thread has shown it meanwhile

@@ -1,11 +1,12 @@
 """Services whose requests stand in a store: they outlive processes, and machines share them."""
 import concurrent.futures
+import contextlib
 import itertools
 import logging
 import os
 import threading
 import time
-from typing import Any, Callable, Dict, List, NamedTuple, Optional, Sequence, Tuple, TypeVar
+from typing import Any, Callable, Dict, List, NamedTuple, Optional, Sequence, Set, Tuple, TypeVar
 
 from ..service.flow import Flow
 from ..service.words import CLAIM, FAIL, GOT, MOST_STAGES, ONE, THROWS, TWO
@@ -85,7 +86,7 @@ class DurableService(concurrent.futures.Executor):
         self.broken: Dict[str, BaseException] = {}  # requests that can't be gone on with here, and why
         self._lock, self._stops, self._process = threading.Lock(), threading.Event(), os.getpid()
         self._watcher, self._next_beat, self._next_look = Watcher(self.store, lease), 0.0, 0.0
-        self._running = 0
+        self._firing: Set[Tuple[str, int, float]] = set()
         self._pump = threading.Thread(target=self._run_pump, name="cf-shared", daemon=True)
         self._pump.start()
 
@@ -120,8 +121,10 @@ class DurableService(concurrent.futures.Executor):
         return self._kept(Request(self, Desk(self.store, found, self.session, note=self._note)))
 
     def submit(self, fn: Callable[..., T], /, *args: Any, **kwargs: Any) -> "Stage[T]":
-        """Calls a registered function: a request of one stage."""
-        return self.request().supply(fn, *args, **kwargs)
+        """Calls a registered function: a request of one stage, which is closed once that is settled."""
+        flow = Flow("submit")
+        step = flow.supply(fn, *args, **kwargs)
+        return self.start(flow)[step]
 
     def resume(self) -> List[Request]:
         """Goes on with all requests that are open in the store, and gives them."""
@@ -209,18 +212,24 @@ class DurableService(concurrent.futures.Executor):
         if now >= self._next_look:
             self._next_look = now + 0.02
             for timer in self.store.due(self.store.now()):
-                if self._takes_all or timer.request in self._requests:
-                    self._pool.submit(self._guarded, timer.request, self._fire, timer)
+                if (self._takes_all or timer.request in self._requests) and timer[:3] not in self._firing:
+                    self._firing.add(timer[:3])
+                    self._submit(timer.request, self._fire, timer)
         known = list(self._requests.values())  # (before the store is asked: what is opened meanwhile isn't in its answer)
         ends = self.store.ends()
         for request in known:
             if request.name not in ends and not request.is_leaving:
                 request.is_leaving = True
-                self._pool.submit(self._guarded, request.name, self._let_go, request)
+                self._submit(request.name, self._let_go, request)
         for name, end in ends.items():
             taken = self._taken(name) if self._takes_all else self._requests.get(name)
-            if taken is not None and (end > taken.seen or looks):
+            if taken is not None and (end > taken.seen or looks and self._needs(taken)):
                 self._serve(taken)
+
+    def _needs(self, request: Request) -> bool:
+        """Whether something is to do in a request without a new word."""
+        gone = [self._watcher.is_gone(session) for session in request._desk.open_claims().values() if session != self.session]
+        return bool(request._desk.ready or request._unshown) or any(gone)
 
     def _let_go(self, request: Request) -> None:
         """Forgets a request that is closed, once all is told."""
@@ -232,21 +241,25 @@ class DurableService(concurrent.futures.Executor):
             request.is_leaving = False
 
     def _fire(self, timer: Timer) -> None:
-        request = self._taken(timer.request)
-        if request is not None:
-            request._catch_up()  # (a timer is set behind the word of its stage)
-            request._fire(timer)
-        self.store.drop_timer(timer.request, timer.stage)
+        try:
+            request = self._taken(timer.request)
+            if request is not None:
+                request._catch_up()  # (a timer is set behind the word of its stage)
+                request._fire(timer)
+            self.store.drop_timer(timer.request, timer.stage)
+        finally:
+            self._firing.discard(timer[:3])
 
     def _serve(self, request: Request) -> None:
         """Lets a thread look what is to do in a request."""
         if request.is_queued or self._stops.is_set():
             return
         request.is_queued = True
-        try:
-            self._pool.submit(self._guarded, request.name, self._work, request)
-        except RuntimeError:  # it is shut down
-            pass
+        self._submit(request.name, self._work, request)
+
+    def _submit(self, name: str, call: Callable[..., None], *given: Any) -> None:
+        with contextlib.suppress(RuntimeError):  # it is shut down, or the interpreter ends
+            self._pool.submit(self._guarded, name, call, *given)
 
     def _guarded(self, name: str, call: Callable[..., None], *given: Any) -> None:
         try:
