@@ -60,9 +60,9 @@ def etcd_insert(address):
 
 # A way is a generator that is handed the moment until which it goes on, and adds the seconds of each word to `told`.
 
-def bare(store, address, told, one, k):
+def bare(store, address, told, one, k, base):
     """The same insert in a loop: own rows, or the next place of one row, which goes on where it is taken."""
-    request, at, session, put, until = 10**9 + (0 if one else k * 10**6), 0, new_session(), insert(store, address), (yield)
+    request, at, session, put, until = base + (0 if one else k * 10**6), 0, new_session(), insert(store, address), (yield)
     while True:
         began = time.perf_counter()
         if began > until:
@@ -77,11 +77,11 @@ def bare(store, address, told, one, k):
 
 def desk(group):
     """Claims and finishes, each in a put of its own, or a finish with the next claims. It opens a request after each 200 words."""
-    def way(store, address, told, one, k):
+    def way(store, address, told, one, k, base):
         session, until, number = new_session(), (yield), 0
         while True:
             number += 1
-            name = f"one {group} {number}" if one else f"{session} {number}"
+            name = f"one {base} {group} {number}" if one else f"{session} {number}"
             it, held = Desk(store, store.open(name, PLAN), session), []
             it.catch_up()
             while True:
@@ -108,7 +108,7 @@ def step(it, held, group):
     return it.act(decide)[0], stages
 
 
-def many(store, address, told, one, k, batch=32):
+def many(store, address, told, one, k, base, batch=32):
     """One word for each of many requests in a put: what a process gains that serves many at once."""
     session, until, number, count = new_session(), (yield), 0, 0
     while True:
@@ -130,11 +130,11 @@ def many(store, address, told, one, k, batch=32):
 WAYS = {"bare": bare, "one word a put": desk(1), "finish and next claim": desk(2), "16 words a put": desk(16), "32 requests a put": many}
 
 
-def process(address, ways, one, barrier, out, k):
+def process(address, ways, one, barrier, out, k, base):
     """Takes the ways in turn, a slice each, all processes the same at a time."""
     store = connect(address)
     told = {way: [] for way in ways}
-    goes = [(way, WAYS[way](store, address, told[way], one, k)) for way in ways]
+    goes = [(way, WAYS[way](store, address, told[way], one, k, base)) for way in ways]
     for _, it in goes:
         next(it)
     took = dict.fromkeys(ways, 0.0)
@@ -149,8 +149,8 @@ def process(address, ways, one, barrier, out, k):
 
 def rates(address, ways, count, one):
     """Words a second of each way, by so many processes, and the milliseconds of a put."""
-    barrier, out = multiprocessing.Barrier(count), multiprocessing.Queue()
-    all_ = [multiprocessing.Process(target=process, args=(address, ways, one, barrier, out, k)) for k in range(count)]
+    barrier, out, base = multiprocessing.Barrier(count), multiprocessing.Queue(), random.getrandbits(18) * 10**8  # of rows of this run alone
+    all_ = [multiprocessing.Process(target=process, args=(address, ways, one, barrier, out, k, base)) for k in range(count)]
     for it in all_:
         it.start()
     got = [out.get() for _ in all_]
@@ -158,7 +158,7 @@ def rates(address, ways, count, one):
         it.join()
     rate = {way: sum(many_[way] / took[way] for many_, _, took in got) for way in ways}
     waits = {way: sorted(wait for _, told, _ in got for wait in told[way]) for way in ways}
-    return {way: {"words/s": round(rate[way]), "of bare": round(rate[way] / rate["bare"], 2), "p50 ms": round(1000 * waits[way][len(waits[way]) // 2], 2),
+    return {way: {"words/s": round(rate[way]), "of bare": round(rate[way] / (rate["bare"] or 1), 2), "p50 ms": round(1000 * waits[way][len(waits[way]) // 2], 2),
                   "p99 ms": round(1000 * waits[way][int(len(waits[way]) * .99)], 2)} for way in ways if waits[way]}
 
 
