@@ -66,7 +66,7 @@ class Jobs:
                     ends[name] = service.start(flow, name=name)[last]
                 time.sleep(0.02)
                 k = self.rng.randrange(self.many)
-                if time.monotonic() > max(next_kill, begun[k] + 1):
+                if time.monotonic() > max(next_kill, begun[k] + 2):
                     next_kill = time.monotonic() + self.rng.uniform(0.15, 0.35)
                     begun[k] = time.monotonic()
                     count["died by themselves"] += workers[k].poll() is not None
