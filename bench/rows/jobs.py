@@ -47,9 +47,9 @@ class Jobs:
 
     def start(self):
         environment = dict(os.environ, JOBS_EFFECTS=self.effects, PYTHONPATH=os.pathsep.join([str(HERE), str(HERE.parents[1] / "clients/python")]))
+        command = [sys.executable, "-m", "cf.worker", "--store", self.address, "--lease", "0.7", "--threads", "2", "jobs_functions"]
         with open(f"{self.folder}/stderr", "a") as errors:
-            return subprocess.Popen([sys.executable, "-m", "cf.worker", "--store", self.address, "--lease", "0.7", "--threads", "2", "jobs_functions"],
-                                    stderr=errors, env=environment)
+            return subprocess.Popen(command, stderr=errors, env=environment)
 
     def __call__(self):
         """Does it: the counts, and what is wrong."""

@@ -9,7 +9,6 @@ Status 0, 1 where a request isn't there or is broken, 2 where the words or the a
 """
 import argparse
 import sys
-import time
 from typing import Any, List, Optional
 
 from .service.words import CANCEL, IS_CLAIMED, IS_PENDING, IS_READY

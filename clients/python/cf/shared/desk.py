@@ -10,8 +10,7 @@ from .. import values
 from .._library import CNews
 from ..service._plain import _grow, _Ledger, _told
 from ..service.history import History, Told
-from ..service.words import (ANSWER, ATTACH, CLAIM, FINISH, IS_CLAIMED, IS_READY, IS_SETTLED, MOST_STAGES, NUMBER, PENDING, THROWN, VALUE,
-                             RequestFull)
+from ..service.words import ANSWER, ATTACH, CLAIM, FINISH, IS_CLAIMED, IS_READY, IS_SETTLED, MOST_STAGES, NUMBER, PENDING, RequestFull
 from .codec import Json
 from .plans import SharedPlan
 from .rows import COUNT_BITS, Broken, Opened, Put, Store, Unknown
@@ -332,5 +331,3 @@ class Watcher:
             return False
         return time.monotonic() - known[1] > self._seconds
 
-
-__all__ = ["THROWN", "VALUE", "Desk", "Done", "Watcher", "new_session"]

@@ -23,8 +23,9 @@ class SharedPlan:
                 raise ValueError(f"it is of version {read['cf']}")
             self.flow = str(read["flow"])
             self.said: List[Dict[str, Any]] = list(read["stages"])
-            rows = [(FORMS.index(it["form"]), tuple(it.get("of", [])), None if FORMS.index(it["form"]) in HAS_NO_FUNCTION else _nobody, str(it["name"]))
-                    for it in self.said]
+            forms = [FORMS.index(it["form"]) for it in self.said]
+            rows = [(form, tuple(it.get("of", [])), None if form in HAS_NO_FUNCTION else _nobody, str(it["name"]))
+                    for form, it in zip(forms, self.said)]
             self.core = PlanCore(rows)
         except (ValueError, KeyError, TypeError, Refused) as error:
             raise Broken(name, 0, f"its plan can't be read: {error!r}") from None

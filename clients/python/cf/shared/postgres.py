@@ -243,8 +243,8 @@ class Postgres(Store):
         return float(self._ask(f"select {NOW}")[0][0])
 
     def set_timer(self, timer: Timer) -> None:
-        self._ask("insert into cf_timer values (%s, %s, %s, %s) on conflict (request, stage) do update set due = excluded.due, payload = excluded.payload",
-                  self._id(timer.request), *timer[1:])
+        self._ask("insert into cf_timer values (%s, %s, %s, %s) on conflict (request, stage) do update "
+                  "set due = excluded.due, payload = excluded.payload", self._id(timer.request), *timer[1:])
 
     def due(self, now: float) -> List[Timer]:
         return [Timer(str(name), int(stage), float(due), bytes(payload)) for name, stage, due, payload in self._ask(

@@ -7,7 +7,7 @@ place, counted from 1: no word names what isn't there.
 import abc
 import threading
 import time
-from typing import Any, Callable, ContextManager, Dict, List, Mapping, NamedTuple, Optional, Sequence, Tuple
+from typing import Any, ContextManager, Dict, List, Mapping, NamedTuple, Optional, Sequence, Tuple
 
 Entry = Tuple[int, int]  # a word and its token
 COUNT_BITS = 23  # of a token

@@ -9,9 +9,9 @@ import time
 from typing import Any, Callable, Dict, List, NamedTuple, Optional, Sequence, Set, Tuple, TypeVar
 
 from ..service.flow import Flow
-from ..service.words import CLAIM, FAIL, GOT, MOST_STAGES, ONE, THROWS, TWO
-from ..service.words import ANSWER, ARGS, FIRST, FIRST_SOME, FINISH, GIVES, OUTCOME, SECOND, SECOND_SOME, VALUE
 from ..service.history import Told
+from ..service.words import (ANSWER, ARGS, CLAIM, FAIL, FINISH, FIRST, FIRST_SOME, GIVES, GOT, ONE, OUTCOME, SECOND, SECOND_SOME, THROWS,
+                             TWO, VALUE)
 from ..values import Form
 from .codec import Abandoned, Json
 from .desk import Desk, Done, Watcher, new_session
@@ -405,5 +405,3 @@ class DurableService(concurrent.futures.Executor):
                     return self._next(request, None)
         return self._next(request, finish)
 
-
-__all__ = ["MOST_STAGES", "DurableService"]

@@ -24,7 +24,7 @@ SCHEMA = """
 """
 PUT = "insert or ignore into cf_word values (?, ?, ?, ?, ?)"
 SMALL = 512  # bytes: a larger payload would make the words' own pages large
-LIVE = 0.001  # seconds between two looks at the file's version
+BETWEEN_LOOKS = 0.001  # seconds between two looks at the file's version
 
 
 class SQLite(Store):
@@ -200,7 +200,7 @@ class SQLite(Store):
             left = until - time.monotonic()
             if left <= 0:
                 return
-            time.sleep(min(left, LIVE))
+            time.sleep(min(left, BETWEEN_LOOKS))
 
     # Sessions and timers.
 
