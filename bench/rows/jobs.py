@@ -55,7 +55,7 @@ class Jobs:
         """Does it: the counts, and what is wrong."""
         call, tries = MODES[self.mode]
         workers, count, ends = [self.start() for _ in range(self.many)], collections.Counter(), {}
-        begun = [time.monotonic()] * self.many
+        settled = 0
         service = DurableService(connect(self.effects), 0, functions=functions, lease=5)
         try:
             next_kill = time.monotonic() + 1
@@ -66,9 +66,9 @@ class Jobs:
                     ends[name] = service.start(flow, name=name)[last]
                 time.sleep(0.02)
                 k = self.rng.randrange(self.many)
-                if time.monotonic() > max(next_kill, begun[k] + 2):
-                    next_kill = time.monotonic() + self.rng.uniform(0.15, 0.35)
-                    begun[k] = time.monotonic()
+                now_settled = sum(it.done() for it in ends.values())
+                if time.monotonic() > next_kill and now_settled > settled + 2:  # (on a slow machine workers have to come to work between two)
+                    next_kill, settled = time.monotonic() + self.rng.uniform(0.15, 0.35), now_settled
                     count["died by themselves"] += workers[k].poll() is not None
                     workers[k].kill()
                     workers[k].wait()
