@@ -32,10 +32,10 @@ class Run:
     """A run: workers, what kills them, what breaks the server, and what the judge says of all of it."""
 
     def __init__(self, engine, folder, kills, workers=8, breaks=0.0, cut=0.0, pauses=0.0, lax=False, seed=1, most_breaks=None, environment=None,
-                 address=None):
+                 address=None, seconds=None):
         self.engine, self.folder, self.kills, self.many = engine, str(folder), kills, workers
         self.breaks, self.pauses, self.lax, self.rng = breaks, pauses, lax, random.Random(seed)
-        self.most_breaks, self.environment = most_breaks, environment or {}
+        self.most_breaks, self.environment, self.seconds = most_breaks, environment or {}, seconds or float("inf")
         shutil.rmtree(self.folder, ignore_errors=True)
         os.makedirs(f"{self.folder}/done")
         os.chmod(self.folder, 0o755)
@@ -100,7 +100,7 @@ class Run:
             breaker.start()
         workers = [self.start() for _ in range(self.many)]
         try:
-            while self.done["kills"] < self.kills or self.breaks and self.most_breaks and len(self.broken) < self.most_breaks:
+            while time.monotonic() - began < self.seconds and self.done["kills"] < self.kills or self.breaks and self.most_breaks and len(self.broken) < self.most_breaks:
                 time.sleep(self.rng.uniform(0.05, 0.2))
                 for j, it in enumerate(workers):
                     if it.poll() is not None:
