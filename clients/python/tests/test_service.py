@@ -310,6 +310,7 @@ class Raising(Case):
     def test_interrupt_of_who_waits(self):
         out, err, status = program("""
             import signal
+            signal.signal(signal.SIGINT, signal.default_int_handler)  # (where this was begun in the background, it is ignored)
             with Service(2) as service:
                 promise = service.request().promise()
                 behind = promise.then(lambda x: x + 1)

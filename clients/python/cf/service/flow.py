@@ -67,6 +67,26 @@ class Step(Generic[T]):
         """The value, or what the future gives that the function gives of the exception."""
         return self.flow._composing(Form.EXCEPTIONALLY_COMPOSE, self, fn)
 
+    def again(self, times: int = 1) -> "Step[T]":
+        """So many further tries, each a step, where the process that ran it is gone: a service with a store has such. What the function did
+        before may be done twice then, unless it is transactional."""
+        step, name = self, self.name
+        for k in range(times):
+            step = self.flow._step(Form.EXCEPTIONALLY, (step,), Again(self.number), f"{name} again")
+        return step
+
+
+class Again:
+    """A further try of a step whose worker is gone. Where no process can outlive another, none is: the exception stays."""
+
+    __qualname__ = "again"
+
+    def __init__(self, of: int) -> None:
+        self.of = of
+
+    def __call__(self, error: BaseException) -> Any:
+        raise error
+
 
 class Flow:
     """A plan of stages, built once and done again for each request, any number of which go on at the same time.

@@ -3,13 +3,16 @@ import concurrent.futures
 import itertools
 import os
 import weakref
-from typing import Any, Callable, Optional, Tuple, TypeVar
+from typing import TYPE_CHECKING, Any, Callable, Optional, Tuple, TypeVar
 
 from .flow import Flow
 from .request import Request
 from .stage import Stage
 from .works import Works
 from ..values import Form
+
+if TYPE_CHECKING:
+    from ..shared import Store
 
 T = TypeVar("T")
 ROOM = 8  # stages that a request has room for at first
@@ -31,8 +34,16 @@ class Service(concurrent.futures.Executor):
 
     _services = itertools.count()
 
+    def __new__(cls, max_workers: Optional[int] = None, *given: Any, store: "Optional[Store]" = None, **more: Any) -> Any:
+        """With a `store` of `cf.shared` it is a `cf.shared.DurableService`, whose requests outlive the process."""
+        if store is None:
+            return super().__new__(cls)
+        from ..shared import DurableService
+
+        return DurableService(store, max_workers, *given, **more)
+
     def __init__(self, max_workers: Optional[int] = None, thread_name_prefix: str = "",
-                 initializer: Optional[Callable[..., object]] = None, initargs: Tuple[Any, ...] = ()) -> None:
+                 initializer: Optional[Callable[..., object]] = None, initargs: Tuple[Any, ...] = (), *, store: "Optional[Store]" = None) -> None:
         workers = min(32, (os.cpu_count() or 1) + 4) if max_workers is None else max_workers
         if workers <= 0:
             raise ValueError("max_workers must be greater than 0")

@@ -1,0 +1,171 @@
+"""Judges a run: the row of each request beside what each process wrote down: judge.py ADDRESS FOLDER.
+
+Its own check is by the plain graph of model.py, which shares no code with the library; for `cf_look check` it writes FOLDER/histories, a
+line for each request. `cf_look check` has no record of a word whose caller was gone before it was answered, nor of several sessions under
+one number: of such words the row's own reply is written in the caller's place, and counted as unanswered here."""
+import collections
+import glob
+import json
+import os
+import sys
+from pathlib import Path
+
+sys.path.insert(0, str(Path(__file__).resolve().parent))
+sys.path.insert(0, str(Path(__file__).resolve().parents[2] / "clients/python"))
+from model import Graph  # noqa: E402
+
+from cf.events import event_of  # noqa: E402
+from cf.service.history import Told, _outcome_text, _reply_text, _shape  # noqa: E402
+from cf.service.words import ATTACH, CLAIM, COMPLETE, FAIL, FINISH, FORMS, PENDING  # noqa: E402
+from cf.shared import connect  # noqa: E402
+
+CALLERS = int(os.environ.get("CF_CALLERS", "64"))
+
+
+class Judge:
+    def __init__(self, address, folder):
+        self.store, self.folder = connect(address), folder
+        self.count, self.wrong = collections.Counter(), []
+        self.said, self.runs, self.ended = collections.defaultdict(list), collections.Counter(), set()
+
+    def read_logs(self):
+        """What each process wrote down, in its own order."""
+        for path in glob.glob(f"{self.folder}/log-*"):
+            session, last = int(os.path.basename(path).split("-")[1]), {}
+            for line in open(path):
+                try:
+                    kind, name, *rest = json.loads(line)
+                except ValueError:
+                    self.count["lines cut by a kill"] += 1
+                    continue
+                self.read_line(session, last, kind, name, rest)
+            self.count["sessions"] += 1
+        self.count["sessions that ended by themselves"] = len(self.ended)
+        self.count["functions run"] = sum(self.runs.values())
+        self.count["functions run twice"] = sum(many - 1 for many in self.runs.values())
+
+    def read_line(self, session, last, kind, name, rest):
+        if kind in ("did", "saw"):
+            place = rest[0]
+            if place < last.get(name, 0) or kind == "did" and place == last.get(name, 0):
+                self.wrong.append(f"{name}: session {session} goes back to {place}")
+            last[name] = place
+            self.count["answers"] += 1
+        if kind == "run":
+            self.runs[name, rest[0]] += 1
+        if kind in ("did", "saw", "run"):
+            self.said[name].append((kind, session, *rest))
+        if kind == "end":
+            self.ended.add(session)
+        if kind == "abandoned":
+            self.count["abandoned"] += 1
+        if kind == "error":
+            self.wrong.append(f"{name}: {rest[0]}")
+
+    def judge(self):
+        """The counts, and what is wrong."""
+        self.read_logs()
+        names = {it.name for it in self.store.listing()}
+        with open(f"{self.folder}/histories", "w") as out:
+            for name in sorted(names | set(self.said)):
+                if name not in names:
+                    self.count["lost words"] += sum(it[0] == "did" for it in self.said[name])
+                    self.wrong.append(f"{name}: the request is lost")
+                    continue
+                out.write(self.request(name) + "\n")
+        self.count["lost words"] += 0
+        self.count["misfits"] = len(self.wrong)
+        return self.count, self.wrong
+
+    def request(self, name):
+        """Judges one request, and gives its account."""
+        entries, plan = self.store.read(name), json.loads(self.store.find(name).plan)
+        room = sum(word >> 56 == ATTACH for word, _ in entries)
+        stages = [_shape(FORMS.index(it["form"]), tuple(it.get("of", ())), k if it["form"] not in ("source", "allOf", "anyOf") else None)
+                  for k, it in enumerate(plan["stages"])]
+        plan = {"cf": 2, "room": room, "stages": stages}
+        graph, replies, states, granted = Graph(plan), [None], [], set()
+        states.append([graph.outcome(k) for k in range(graph.stages)])
+        payloads = self.store.payloads(name, list(range(1, len(entries) + 1)))
+        for place, (word, token) in enumerate(entries, 1):
+            reply = graph.apply(word)
+            replies.append(reply)
+            states.append([graph.outcome(k) for k in range(graph.stages)])
+            self.word(name, place, word, token, reply, payloads, granted)
+        self.count["requests"] += 1
+        self.count["words"] += len(entries)
+        self.count["stages left"] += states[-1].count("pending")
+        callers = self.callers(name, entries, replies, states, granted)
+        return json.dumps({"plan": plan, "events": [str(word) for word, _ in entries], "callers": callers, "functions": 4096,
+                           "outcomes": states[-1]})
+
+    def word(self, name, place, word, token, reply, payloads, granted):
+        kind, tag, low = word >> 56, word >> 32 & 0xF, word & 0xFFFFFFFF
+        if kind in (COMPLETE, FINISH) and tag == 1 or kind == FAIL or kind == FINISH and tag == 2:
+            if low != place:
+                self.wrong.append(f"{name}: place {place} names {low}")
+            elif place not in payloads or json.loads(payloads[place])["at"] != place:
+                self.wrong.append(f"{name}: no payload, or another's, at {place}")
+            self.count["payloads"] += 1
+        if kind == CLAIM and reply.startswith("granted"):
+            granted.add((word >> 36 & 0xFFF, token >> 23))
+            self.count["claims granted"] += 1
+        if kind == FINISH and reply == "late":
+            self.count["late finishes"] += 1
+        if reply == "notyours":
+            self.wrong.append(f"{name}: place {place} finishes what another claimed")
+
+    def callers(self, name, entries, replies, states, granted):
+        """The records of each number, as its sessions were told; and whether what they were told is what the row says."""
+        answered, records, told = set(), collections.defaultdict(list), []
+        for kind, session, *rest in self.said[name]:
+            if kind == "run" and (rest[0], session) not in granted:
+                self.wrong.append(f"{name}: stage {rest[0]} was run by {session}, which has no claim")
+            elif kind == "did":
+                place, word, reply = rest
+                if place > len(entries) or entries[place - 1][0] != word or entries[place - 1][1] >> 23 != session:
+                    self.count["lost words"] += 1
+                    continue
+                answered.add(place)
+                reply = _reply_text(event_of(word), reply)
+                if replies[place] != reply:
+                    self.wrong.append(f"{name}: place {place}: told {reply}, is {replies[place]}")
+                records[word >> 48 & 0xFF].append((place, 1, ["did", place, str(word), reply]))
+            elif kind == "saw":
+                told.append(self.saw(name, session, entries, states, *rest))
+        who_by = {token >> 23: word >> 48 & 0xFF for word, token in reversed(entries)}
+        shared = collections.Counter(who_by.values())
+        self.count["callers' numbers shared"] += sum(many - 1 for many in shared.values())
+        if len(who_by) <= CALLERS and max(shared.values(), default=0) > 1:
+            self.wrong.append(f"{name}: two sessions have one number")
+        self.count["most sessions on a request"] = max(self.count["most sessions on a request"], len(who_by))
+        for session, place, stage, outcome in filter(None, told):
+            records[who_by.get(session, 63)].append((place, 2, ["outcome", place, stage, outcome]))
+        self.fill_in(name, entries, replies, answered, records)
+        callers = [[it[2] for it in sorted(records[who], key=lambda it: it[:2])] for who in range(64)]
+        while callers and not callers[-1]:
+            callers.pop()
+        return callers
+
+    def saw(self, name, session, entries, states, place, stage, outcome):
+        if place > len(entries):
+            self.count["lost words"] += 1
+            return None
+        text = "pending" if outcome[0] == PENDING else _outcome_text(Told(*outcome))
+        if states[place][stage] != text:
+            self.wrong.append(f"{name}: stage {stage} at {place}: told {text}, is {states[place][stage]}")
+        return session, place, stage, text
+
+    def fill_in(self, name, entries, replies, answered, records):
+        for place, (word, token) in enumerate(entries, 1):
+            if place not in answered:
+                self.count["words nobody was answered for"] += 1
+                if token >> 23 in self.ended:
+                    self.wrong.append(f"{name}: place {place} isn't in the log of {token >> 23}, which wasn't killed")
+                records[word >> 48 & 0xFF].append((place, 1, ["did", place, str(word), replies[place]]))
+
+
+if __name__ == "__main__":
+    count, wrong = Judge(*sys.argv[1:3]).judge()
+    print(json.dumps(count))
+    print(*wrong[:10], sep="\n")

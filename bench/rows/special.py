@@ -1,0 +1,171 @@
+"""Days that are bad in other ways: a full disk, a large request, many sessions, a clock that jumps, one session twice, a store that is away."""
+import json
+import os
+import random
+import subprocess
+import sys
+import threading
+import time
+from pathlib import Path
+
+HERE = Path(__file__).resolve().parent
+sys.path.insert(0, str(HERE.parents[1] / "clients/python"))
+from cf.service.words import CLAIM, COMPLETE, FINISH, GIVES  # noqa: E402
+from cf.shared import Desk, DurableService, Functions, Put, Timer, Unknown, connect, new_session  # noqa: E402
+from cf.shared import sqlite as sqlite_store  # noqa: E402
+
+SUPPLIES = json.dumps({"cf": 3, "flow": "", "stages": [{"form": "supply", "name": "s", "fn": "s", "version": 1}] * 80})
+
+
+def work(address, name, sessions, granted, wrong, same=None):
+    """Sessions by threads, each with a desk of its own, claim and finish all stages of one request."""
+    def one():
+        store = connect(address)
+        desk = Desk(store, store.open(name, SUPPLIES), same or new_session())
+        desk.catch_up()
+        while True:
+            chosen = []
+
+            def decide(desk):
+                chosen[:] = random.sample(sorted(desk.ready), min(1, len(desk.ready)))
+                return [(CLAIM << 56 | desk.who << 48 | stage << 36, None) for stage in chosen]
+            done, _ = desk.act(decide)
+            if done is None:
+                return
+            if not done[0].reply[0]:
+                granted.append(chosen[0])
+                payload = json.dumps(chosen[0]).encode()
+                done, _ = desk.act(lambda desk: [(FINISH << 56 | desk.who << 48 | chosen[0] << 36 | GIVES << 32 | desk.place, payload)])
+                if done[0].reply[0]:
+                    wrong.append(f"stage {chosen[0]}: its finish was answered {done[0].reply[0]}")
+    threads = [threading.Thread(target=one) for _ in range(sessions)]
+    for thread in threads:
+        thread.start()
+    for thread in threads:
+        thread.join()
+
+
+def many_sessions(address, folder):
+    """80 sessions on one request: each stage is granted to one."""
+    granted, wrong = [], []
+    work(address, "80 sessions", 80, granted, wrong)
+    return sorted(granted) == list(range(80)) and not wrong, f"{len(granted)} of 80 stages granted, {len(set(granted))} different"
+
+
+def one_session_twice(address, folder):
+    """Two processes with one session's number, whose tokens may be the same: the store's answer tells who was first."""
+    granted, wrong = [], []
+    work(address, "one session twice", 2, granted, wrong, same=new_session())
+    twice = len(granted) - len(set(granted))
+    return twice == 0, f"{len(granted)} grants of 80 stages, {twice} twice"
+
+
+def full_disk(address, folder):
+    """A small tmpfs runs full: puts are told to be unknown, and go on once there is room; no word is lost."""
+    mounted = f"{folder}/small"
+    os.makedirs(mounted)
+    if subprocess.run(["mount", "-t", "tmpfs", "-o", "size=600k", "tmpfs", mounted], stderr=subprocess.DEVNULL).returncode:
+        return None, "no tmpfs can be mounted here"
+    try:
+        store = connect(f"sqlite:///{mounted}/db")
+        store.open("r", SUPPLIES)
+        answered, refused, at = 0, 0, 0
+        filler = Path(mounted, "filler")
+        for at in range(400):
+            if at == 100:
+                try:
+                    filler.write_bytes(b"x" * 2_000_000)
+                except OSError:
+                    pass
+            if refused == 20 and filler.exists():
+                filler.unlink()
+            put = Put("r", answered, [(COMPLETE << 56, at + 1)], {})
+            try:
+                stands = store.append(put)
+                answered += 1 if stands is None or stands[0] == put.entries[0] else 0
+            except Unknown:
+                refused += 1
+        kept = len(store.read("r"))
+        store.close()
+        return refused >= 20 and kept == answered, f"{refused} puts told unknown, {answered} answered, {kept} kept"
+    finally:
+        subprocess.run(["umount", "-l", mounted])  # (a thread's connection may still be open)
+
+
+def jumping_clock(address, folder):
+    """The wall's clock jumps by an hour each way: nobody is thought gone, and timers fire by it."""
+    real, jump = time.time, [0.0]
+    sqlite_store.time.time = lambda: real() + jump[0]
+    functions, begun = Functions(), threading.Event()
+
+    @functions.function("slow")
+    def slow():
+        begun.set()
+        time.sleep(1.5)
+        return 1
+    first = DurableService(connect(address), 1, functions=functions, lease=1)
+    second = DurableService(connect(address), 1, functions=functions, lease=1, takes_all=True)
+    try:
+        stage = first.request("jumps").supply(slow)
+        begun.wait(10)
+        timer = first.request("waits").promise().or_timeout(1800)
+        for jump[0] in (3000.0, -3600.0, 3000.0):
+            time.sleep(0.2)
+        value = stage.result(20)
+        fired = isinstance(timer.exception(20), TimeoutError)
+        return value == 1 and fired, f"the stage gave {value}, the timer of half an hour fired: {fired}"
+    finally:
+        sqlite_store.time.time = real
+        first.shutdown()
+        second.shutdown()
+
+
+def store_away(address, folder):
+    """A store that can't be reached: an error that says so, within the patience; and it goes on later."""
+    from servers import Postgres, missing
+    if missing("postgres"):
+        return None, missing("postgres")
+    server = Postgres(folder)
+    try:
+        store = connect(server.address)
+        desk = Desk(store, store.open("r", SUPPLIES), new_session(), patience=1)
+        desk.act(lambda desk: [(COMPLETE << 56 | desk.who << 48, None)])
+        server.stop()
+        try:
+            desk.act(lambda desk: [(COMPLETE << 56 | desk.who << 48, None)])
+            told = ""
+        except Unknown as error:
+            told = str(error).splitlines()[0]
+        server._do("pg_ctl", "-D", server.folder, "-w", "-l", f"{server.folder}/log", "start")
+        desk.catch_up()
+        desk.act(lambda desk: [(COMPLETE << 56 | desk.who << 48, None)])
+        return bool(told) and desk.seen == len(store.read("r")) == 2, f"told {told!r}, and {desk.seen} words at the end"
+    finally:
+        server.stop()
+
+
+def many_timers(address, folder):
+    """500 timers: those that are due are found at once."""
+    store = connect(address)
+    store.open("timers", SUPPLIES)
+    for k in range(500):
+        store.set_timer(Timer("timers", k, store.now() + (1000 if k % 50 else -1), b"N"))
+    began = time.monotonic()
+    due = store.due(store.now())
+    return len(due) == 10, f"{len(due)} due, found in {1000 * (time.monotonic() - began):.1f} ms"
+
+
+ALL = [many_sessions, one_session_twice, full_disk, jumping_clock, store_away, many_timers]
+
+
+def run(folder):
+    """Does each on SQLite, and prints what came of it: whether all is as it has to be."""
+    is_right = True
+    for day in ALL:
+        where = f"{folder}/{day.__name__}"
+        os.makedirs(where)
+        os.chmod(where, 0o755)
+        good, said = day(f"sqlite:///{where}/db", where)
+        print(f"{'left out' if good is None else 'right' if good else 'WRONG'} {day.__name__}: {said}", flush=True)
+        is_right = is_right and good is not False
+    return is_right

@@ -1,0 +1,107 @@
+"""Requests of a store, for who runs a service: python3 -m cf.requests --store ADDRESS COMMAND ..
+
+    list [--closed]             each open request: name, age, words, how many stages wait, and for what the first ones wait
+    show NAME [--account]       its words as sentences, one a line; with --account what `cf_look check` judges
+    end NAME [--cancel]         closes it, so that workers look at it no more; with --cancel its stages are cancelled first
+    drop --days N [NAME ..]     forgets those that were closed more than N days ago, or of these names; prints how many
+
+Status 0, 1 where a request isn't there or is broken, 2 where the words or the address are wrong. Nothing runs here.
+"""
+import argparse
+import sys
+from typing import Any, List, Optional
+
+from .service.words import CANCEL, IS_CLAIMED, IS_PENDING, IS_READY
+from .shared import Broken, Desk, Json, Store, StoreError, Unknown, connect, new_session
+
+MOST_NAMED = 3  # stages that a line of the list names
+
+
+def main(words: Optional[List[str]] = None) -> int:
+    """Runs a command."""
+    at = _parser().parse_args(words)
+    try:
+        store = connect(at.store)
+    except (ValueError, StoreError, Unknown) as error:
+        print(f"cf.requests: {error}", file=sys.stderr)
+        return 2
+    try:
+        lines = {"list": _list, "show": _show, "end": _end, "drop": _drop}[at.command](store, at)
+    except (KeyError, StoreError, Unknown) as error:
+        print(f"cf.requests: {error}", file=sys.stderr)
+        return 1
+    print(*lines, sep="\n")
+    return 0
+
+
+def _parser() -> argparse.ArgumentParser:
+    parser = argparse.ArgumentParser(prog="python3 -m cf.requests", description="Requests of a store.")
+    parser.add_argument("--store", required=True)
+    commands = parser.add_subparsers(dest="command", required=True)
+    commands.add_parser("list").add_argument("--closed", action="store_true")
+    show, end, drop = commands.add_parser("show"), commands.add_parser("end"), commands.add_parser("drop")
+    show.add_argument("name")
+    show.add_argument("--account", action="store_true")
+    end.add_argument("name")
+    end.add_argument("--cancel", action="store_true")
+    drop.add_argument("names", nargs="*", metavar="name")
+    drop.add_argument("--days", type=float, required=True)
+    return parser
+
+
+def _desk(store: Store, name: str) -> Desk:
+    found = store.find(name)
+    if found is None:
+        raise KeyError(f"no request {name!r}")
+    desk = Desk(store, found, new_session(), patience=5)
+    desk.catch_up()
+    return desk
+
+
+def _list(store: Store, at: argparse.Namespace) -> List[str]:
+    lines, now = [], store.now()
+    for it in store.listing():
+        if it.closed is not None and not at.closed:
+            continue
+        try:
+            state = _state(_desk(store, it.name)) if it.closed is None else "closed"
+        except Broken as error:
+            state = f"broken at place {error.place}: {error.why}"
+        lines.append(f"{it.name}  {now - it.opened:.0f} s  {it.words} words  {state}")
+    return lines
+
+
+def _state(desk: Desk) -> str:
+    """What a request waits for."""
+    kinds = {IS_READY: "ready", IS_CLAIMED: "at work", IS_PENDING: "pending"}
+    waits = [(kind, number) for kind in (IS_CLAIMED, IS_READY, IS_PENDING) for number, is_now in enumerate(desk.kinds) if is_now == kind]
+    named = [f"{number} {desk.said(number)['name']} {kinds[kind]}" for kind, number in waits[:MOST_NAMED]]
+    return f"{len(waits)} of {len(desk.kinds)} stages wait{': ' if named else ''}{', '.join(named)}"
+
+
+def _show(store: Store, at: argparse.Namespace) -> List[str]:
+    history = _desk(store, at.name).history(Json())
+    return [history.account()] if at.account else history.lines()
+
+
+def _end(store: Store, at: argparse.Namespace) -> List[str]:
+    desk, many = _desk(store, at.name), 0
+    for stage in range(len(desk.kinds)) if at.cancel else ():
+        def decide(desk: Desk, stage: int = stage) -> Any:
+            return None if desk.is_settled(stage) else [(CANCEL << 56 | desk.who << 48 | stage << 36, None)]
+        many += desk.act(decide)[0] is not None
+    store.end(at.name, desk.seen)
+    return [f"{at.name} is closed, {many} stages were cancelled"]
+
+
+def _drop(store: Store, at: argparse.Namespace) -> List[str]:
+    before, dropped = store.now() - at.days * 86400, 0
+    for it in store.listing():
+        if it.closed is not None and it.closed <= before and (not at.names or it.name in at.names):
+            store.drop(it.name)
+            dropped += 1
+    return [f"{dropped} dropped"]
+
+
+if __name__ == "__main__":
+    sys.exit(main())

@@ -1,0 +1,63 @@
+"""Values and exceptions as bytes that other processes read: JSON, and never pickle."""
+import builtins
+import json
+from concurrent.futures import CancelledError
+from typing import Any, Dict, Type
+
+
+class Abandoned(RuntimeError):
+    """A worker began a stage and is gone: its function may have run, and nobody runs it again."""
+
+
+class RemoteError(RuntimeError):
+    """An exception that was raised in another process, of a class that isn't known here. `kind` is its class's name."""
+
+    def __init__(self, kind: str, text: str) -> None:
+        super().__init__(kind, text)
+        self.kind, self.text = kind, text
+
+    def __str__(self) -> str:
+        return f"{self.kind}: {self.text}"
+
+
+class Json:
+    """Values that JSON has: tuples come back as lists, and what it hasn't raises `TypeError`. Exceptions come back as their class where it
+    is one of Python's own or was added, with their arguments where these are in JSON, and as `RemoteError` else."""
+
+    def __init__(self) -> None:
+        self._kinds: Dict[str, Type[BaseException]] = {"Abandoned": Abandoned, "TimeoutError": TimeoutError, "CancelledError": CancelledError}
+
+    def add(self, kind: Type[BaseException]) -> Type[BaseException]:
+        """Lets exceptions of a class come back as such. It can stand before the class."""
+        self._kinds[kind.__name__] = kind
+        return kind
+
+    def write(self, value: Any) -> bytes:
+        """The bytes of a value."""
+        return json.dumps(value, separators=(",", ":"), ensure_ascii=False).encode()
+
+    def read(self, given: bytes) -> Any:
+        """The value of some bytes."""
+        return json.loads(given.decode())
+
+    def write_error(self, error: BaseException) -> bytes:
+        """The bytes of an exception."""
+        if isinstance(error, RemoteError):
+            return self.write({"error": error.kind, "text": error.text})
+        said: Dict[str, Any] = {"error": type(error).__name__, "text": str(error)}
+        try:
+            return self.write({**said, "args": list(error.args)})
+        except (TypeError, ValueError):
+            return self.write(said)
+
+    def read_error(self, given: bytes) -> BaseException:
+        """The exception of some bytes."""
+        said = self.read(given)
+        kind = self._kinds.get(said["error"]) or getattr(builtins, said["error"], None)
+        if isinstance(kind, type) and issubclass(kind, BaseException):
+            try:
+                made: BaseException = kind(*said.get("args", [said["text"]]))
+                return made
+            except Exception:
+                pass
+        return RemoteError(said["error"], said["text"])

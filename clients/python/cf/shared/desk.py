@@ -1,0 +1,333 @@
+"""A session's view of one request's row: it replays the words that it lacks, decides, puts at the end that it saw, and where it loses
+replays and decides again."""
+import json
+import os
+import time
+from array import array
+from typing import Any, Callable, Dict, List, NamedTuple, Optional, Sequence, Set, Tuple
+
+from .. import values
+from .._library import CNews
+from ..service._plain import _grow, _Ledger, _told
+from ..service.history import History, Told
+from ..service.words import ANSWER, ATTACH, CLAIM, FINISH, IS_CLAIMED, IS_READY, IS_SETTLED, MOST_STAGES, NUMBER, PENDING, RequestFull
+from .codec import Json
+from .plans import SharedPlan
+from .rows import COUNT_BITS, Broken, Opened, Put, Store, Unknown
+
+CALLERS = int(os.environ.get("CF_CALLERS", "64"))  # fewer, for tests of sessions that share a number
+COUNTS = 1 << COUNT_BITS
+ROOM = 8  # stages that may be attached at first
+NOT_YET = Told(PENDING, 0, 0, 0, 0)
+Wanted = Sequence[Tuple[int, Optional[bytes]]]  # words, each with its payload
+
+
+def new_session() -> int:
+    """A number that no other session has: 39 bits by chance."""
+    return int.from_bytes(os.urandom(5), "big") >> 1
+
+
+class Done(NamedTuple):
+    """A word that was done: its place, its reply's numbers as cf.h has them, and the stages that it settled."""
+
+    place: int
+    word: int
+    token: int
+    reply: Tuple[int, ...]
+    settled: List[int]
+
+
+class RowHistory(History):
+    """A row's history: places in place of times, and sessions as callers."""
+
+    def caller(self, who: int) -> str:
+        """What a caller is called."""
+        return f"session {who}"
+
+    def lines(self) -> List[str]:
+        """A line for each word, with its place, and one for each stage that was settled by it."""
+        lines = [f"{self.name}: {len(self.words)} words, {len(self.names)} stages"]
+        for entry in self.entries():
+            lines.append(f"{entry.place:5}  {self.sentence(entry)}")
+            lines += [f"       {self.stage(stage)} ends: {text}" for stage, text in self.ends(entry)]
+        return lines
+
+
+class Desk:
+    """One session's desk of one request; one thread at a time has it.
+
+    A caller's number is taken by its first word, the lowest that no word of the row has, and is kept: only the number that claimed may
+    finish. Where all 64 are taken sessions share them, and the token tells whose an entry is. `note` is told what this desk was answered.
+    `patience` is for how many seconds an engine may be silent."""
+
+    def __init__(self, store: Store, opened: Opened, session: int, patience: float = 60, note: Optional[Callable[..., None]] = None) -> None:
+        self.store, self.name, self.session, self.opened = store, opened.name, session, opened
+        self.plan = SharedPlan(opened.plan, opened.name)
+        self._room = min(ROOM, MOST_STAGES - len(self.plan.rows))
+        self._ledger = self._made()
+        self.forms: List[Tuple[int, Tuple[int, ...]]] = [(form, of) for form, of, _, _ in self.plan.rows]
+        self.kinds = [kind for kind, _ in self.plan.core.start]
+        self.told = [Told(*told) for _, told in self.plan.core.start]
+        self.places = [0] * len(self.forms)  # where each was settled
+        self.attached: Dict[int, int] = {}  # the place of the word that attached a stage
+        self.claims: Dict[int, int] = {}  # the session whose claim of a stage is open
+        self.ready: Set[int] = {number for number, kind in enumerate(self.kinds) if kind == IS_READY}
+        self.words, self._replies = array("Q"), bytearray()
+        self.who, self.lost, self.unknown = -1, 0, 0
+        self._numbers: Dict[int, int] = {}
+        self._landed, self._patience = False, patience
+        self._count = int.from_bytes(os.urandom(3), "big") % COUNTS  # by chance: where two have one session, their tokens differ all the same
+        self._note = note or (lambda *_: None)
+        self._behind: Dict[int, List[int]] = {}
+        self._own: Dict[int, bytes] = {}  # the payloads that this desk put
+        for number, (_, of) in enumerate(self.forms):
+            self._follow(number, of)
+
+    @property
+    def seen(self) -> int:
+        """How many words were replayed."""
+        return len(self.words)
+
+    @property
+    def place(self) -> int:
+        """The place of the next word, which its payload is named by."""
+        return len(self.words) + 1
+
+    def is_settled(self, stage: int) -> bool:
+        """Whether a stage is settled, by what is seen."""
+        return self.kinds[stage] == IS_SETTLED
+
+    def is_done(self) -> bool:
+        """Whether all stages are settled, and no claim is open."""
+        return not self.claims and all(kind == IS_SETTLED for kind in self.kinds)
+
+    def behind(self, stage: int) -> List[int]:
+        """The stages that have it as a source."""
+        return self._behind.get(stage, [])
+
+    # Reading and putting.
+
+    def catch_up(self) -> List[Done]:
+        """Replays what others have put."""
+        return [self._take(*entry) for entry in self.sure(lambda: self.store.read(self.name, self.seen))]
+
+    def act(self, decide: "Callable[[Desk], Optional[Wanted]]") -> Tuple[Optional[List[Done]], List[Done]]:
+        """Puts the words that `decide` wants, or none where it gives None; it is asked again after each loss. What was done by them, and
+        what others had done before. `Unknown` where the engine is silent for too long: the words may stand or not."""
+        others: List[Done] = []
+        while True:
+            if not self._landed:
+                self.who = self._free_number()
+            wanted = decide(self)
+            if not wanted:
+                return None, others
+            put = self.put_of(wanted)
+            try:
+                stands = self.store.append(put)
+            except Unknown:
+                self.unknown += 1
+                stands = self.sure(lambda: self.store.append(put))
+            if stands is None or stands[0][1] == put.entries[0][1]:  # the second: its token stands, so it had landed
+                done = self.landed(put)
+                others += [self._take(*entry) for entry in (stands or [])[len(put.entries):]]
+                return done, others
+            self.lost += 1
+            others += [self._take(*entry) for entry in stands]
+
+    def put_of(self, wanted: Wanted) -> Put:
+        """A put of these words behind what is seen, with new tokens."""
+        entries = [(word, self.session << COUNT_BITS | (self._count + k) % COUNTS) for k, (word, _) in enumerate(wanted)]
+        self._count += len(wanted)
+        return Put(self.name, self.seen, entries, {self.place + k: it for k, (_, it) in enumerate(wanted) if it is not None})
+
+    def landed(self, put: Put) -> List[Done]:
+        """Does the words of a put that stands."""
+        self._landed = True
+        self._own.update(put.payloads)
+        done = [self._take(*entry) for entry in put.entries]
+        for it in done:
+            self._note("did", self.name, it.place, it.word, it.reply)
+        return done
+
+    def sure(self, call: Callable[[], Any]) -> Any:
+        """What a call is answered that may be made again, whatever became of it before."""
+        until, pause = time.monotonic() + self._patience, 0.01
+        while True:
+            try:
+                return call()
+            except Unknown:
+                self.unknown += 1
+                if time.monotonic() > until:
+                    raise
+                time.sleep(pause)
+                pause = min(pause * 2, 0.5)
+
+    def _free_number(self) -> int:
+        return next((who for who in range(CALLERS) if who not in self._numbers), self.session % CALLERS)
+
+    # One word.
+
+    def _take(self, word: int, token: int) -> Done:
+        kind, who, stage = word >> 56, word >> 48 & 0xFF, word >> 36 & 0xFFF
+        try:
+            if kind == ATTACH:
+                self.make_room(1)
+            self._ledger.apply(word)
+        except (values.Refused, RequestFull) as refused:
+            raise Broken(self.name, self.place, f"the word {word} can't be done: {refused}") from None
+        reply, place = tuple(self._ledger.reply), self.place
+        self.words.append(word)
+        self._replies += self._ledger.reply
+        self._numbers.setdefault(who, token >> COUNT_BITS)
+        if kind == ATTACH and not reply[ANSWER]:
+            self._add(reply[NUMBER], word, place)
+        elif kind == CLAIM and not reply[ANSWER]:
+            self.claims[stage] = token >> COUNT_BITS
+        elif kind == FINISH and reply[ANSWER] != 2:
+            self.claims.pop(stage, None)
+        return Done(place, word, token, reply, self._changed(self._ledger.news[:self._ledger.changed.value], place))
+
+    def _add(self, number: int, word: int, place: int) -> None:
+        low = word & 0xFFFFFFFF
+        of = (word >> 36 & 0xFFF, low >> 12 & 0xFFF)[:word >> 32 & 0xF]
+        self.forms.append((low >> 24, of))
+        self.kinds.append(0)
+        self.told.append(NOT_YET)
+        self.places.append(0)
+        self.attached[number] = place
+        self._follow(number, of)
+
+    def _follow(self, number: int, of: Tuple[int, ...]) -> None:
+        for source in set(of):
+            self._behind.setdefault(source, []).append(number)
+
+    def _changed(self, news: "Sequence[CNews]", place: int) -> List[int]:
+        settled = []
+        for it in news:
+            number, kind = it.stage, it.now.kind
+            self.kinds[number] = kind
+            if kind == IS_READY:
+                self.ready.add(number)
+                continue
+            self.ready.discard(number)
+            if kind == IS_SETTLED and not self.places[number]:
+                self.told[number], self.places[number] = Told(*_told(it.now)), place
+                settled.append(number)
+        return settled
+
+    # Room for stages that are attached.
+
+    def make_room(self, least: int) -> None:
+        """Room for so many stages more. `RequestFull` where there is none."""
+        many = len(self.forms)
+        if many + least <= len(self.plan.rows) + self._room:
+            return
+        more = min(3 * many + least, MOST_STAGES - len(self.plan.rows) - self._room)
+        while more >= least:
+            code = _grow(self._ledger.at, more)
+            if not code:
+                self._room += more
+                self._ledger.make_room(len(self.plan.rows) + self._room)
+                return
+            if code != values.Code.ROOM:
+                values.check(code)
+            more //= 2
+        raise RequestFull("a request has at most 4,096 stages")
+
+    def _made(self) -> _Ledger:
+        room = self._room
+        while True:
+            try:
+                ledger = _Ledger(self.plan.core, room)
+                self._room = room
+                return ledger
+            except values.Refused as refused:
+                if refused.code != values.Code.ROOM or not room:
+                    raise
+                room //= 2
+
+    # What a stage is.
+
+    def said(self, stage: int) -> Dict[str, Any]:
+        """What the plan, or the payload of the word that attached it, says of a stage: its name, and its function's name and version."""
+        if stage < len(self.plan.said):
+            return self.plan.said[stage]
+        place = self.attached[stage]
+        try:
+            read = json.loads(self.payload(place).decode())
+        except ValueError as error:
+            raise Broken(self.name, place, f"its payload can't be read: {error}") from None
+        if not isinstance(read, dict):
+            raise Broken(self.name, place, "its payload names no function")
+        return read
+
+    def payload(self, place: int) -> bytes:
+        """The payload of a word. `Broken` where there is none."""
+        found: Dict[int, bytes] = self._own if place in self._own else self.sure(lambda: self.store.payloads(self.name, [place]))
+        if place not in found:
+            raise Broken(self.name, place, "no payload is there, and a word names it")
+        return found[place]
+
+    def outcome(self, stage: int) -> Told:
+        """What a stage ended in by what is seen."""
+        told = self.told[stage]
+        self._note("saw", self.name, self.seen, stage, told)
+        return told
+
+    def history(self, codec: Json) -> History:
+        """All that is seen, as it was done."""
+        places = list(range(1, self.place))
+        found: Dict[int, bytes] = self.sure(lambda: self.store.payloads(self.name, [it for it in places if _names(self.words[it - 1])]))
+        values_: List[Any] = [None] * self.place
+        errors: List[BaseException] = [RuntimeError("no payload")] * self.place
+        for place, given in found.items():
+            is_error = self.words[place - 1] >> 56 == 2 or self.words[place - 1] >> 32 & 0xF == 2
+            if is_error:
+                errors[place] = codec.read_error(given)
+            else:
+                values_[place] = codec.read(given)
+        told = array("I")
+        for number, it in enumerate(self.told):
+            told.extend((self.places[number], number, *it[:4], it.number % 2**32))
+        facts = (self.words[:], array("q", [0] * self.seen), bytes(self._replies), told, [str(self.said(k)["name"]) for k in range(len(self.forms))],
+                 values_, errors)
+        return RowHistory(self.name, self.plan.core, facts)
+
+    def open_claims(self) -> Dict[int, int]:
+        """The stages whose function runs somewhere: claimed and not settled, with the session that has it."""
+        return {stage: session for stage, session in list(self.claims.items()) if self.kinds[stage] == IS_CLAIMED}
+
+
+def _names(word: int) -> bool:
+    """Whether a word names a payload by its own place: one that gives a value, or an exception."""
+    kind, tag = word >> 56, word >> 32 & 0xF
+    return kind == 2 or kind in (1, 5) and tag == 1 or kind == 5 and tag == 2
+
+
+class Watcher:
+    """Which sessions are gone, by this process's own clock: those whose beat stood still for some seconds in which the engine answered."""
+
+    def __init__(self, store: Store, seconds: float) -> None:
+        self._store, self._seconds = store, seconds
+        self._seen: Dict[int, Tuple[Optional[int], float]] = {}
+
+    def look(self) -> None:
+        """Reads all beats."""
+        try:
+            beats = self._store.beats()
+        except Unknown:
+            self._seen.clear()  # while the engine was away nobody could beat
+            return
+        now = time.monotonic()
+        for session, count in beats.items():
+            if self._seen.get(session, (None, 0))[0] != count:
+                self._seen[session] = (count, now)
+
+    def is_gone(self, session: int) -> bool:
+        """Whether a session's beat stood still for so long."""
+        known = self._seen.get(session)
+        if known is None:
+            self._seen[session] = (None, time.monotonic())  # one that never beat counts from now on
+            return False
+        return time.monotonic() - known[1] > self._seconds
+

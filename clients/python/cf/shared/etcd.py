@@ -1,0 +1,224 @@
+"""Rows in keys of an etcd cluster, by its JSON gateway: for few and important requests that outlive machines."""
+import base64
+import http.client
+import json
+import select
+import threading
+import time
+import weakref
+from typing import Any, Dict, List, Optional, Sequence, Tuple
+from urllib.parse import quote, unquote
+
+from .rows import Entry, Listed, Opened, Put, Store, StoreError, Timer, Unknown
+
+MOST_ENTRIES = 40  # in a put: a transaction of etcd has 128 operations at most by default
+SECONDS = 3  # for an answer
+
+
+class Etcd(Store):
+    """A cluster, by the addresses of its members. It answers what a majority has on disk, unless its members were started with
+    `--unsafe-no-fsync`, which can't be seen here. It has no clock: timers go by each process's own."""
+
+    def __init__(self, addresses: str) -> None:
+        self._addresses, self._local = addresses.split(","), threading.local()
+        self._turn = 0
+        self._made: "weakref.WeakSet[http.client.HTTPConnection]" = weakref.WeakSet()
+        self._get(b"cf/r/", keys_only=True)  # whether a majority answers
+
+    # Calls.
+
+    def _post(self, path: str, body: Any) -> Any:
+        connection: Optional[http.client.HTTPConnection] = getattr(self._local, "http", None)
+        if connection is None:
+            host, port = self._addresses[self._turn % len(self._addresses)].rsplit(":", 1)
+            connection = self._local.http = http.client.HTTPConnection(host, int(port), timeout=SECONDS)
+            self._made.add(connection)
+        try:
+            connection.request("POST", path, json.dumps(body))
+            answer = connection.getresponse()
+            told = answer.read()
+            if answer.status == 200:
+                return json.loads(told)
+            why = f"{answer.status} {told[:200]!r}"
+        except (OSError, http.client.HTTPException, ValueError) as lost:
+            why = repr(lost)
+        connection.close()
+        self._local.http, self._turn = None, self._turn + 1
+        raise Unknown(f"etcd: {why}")
+
+    def _get(self, key: bytes, end: Optional[bytes] = None, **more: Any) -> List[Tuple[bytes, bytes]]:
+        told = self._post("/v3/kv/range", _range(key, end, **more)).get("kvs", [])
+        return [(base64.b64decode(it["key"]), base64.b64decode(it.get("value", ""))) for it in told]
+
+    def _txn(self, compares: List[Any], success: List[Any], failure: Sequence[Any] = ()) -> Any:
+        return self._post("/v3/kv/txn", {"compare": compares, "success": success, "failure": list(failure)})
+
+    # Requests.
+
+    def open(self, name: str, plan: str) -> Opened:
+        key, said = _key("r", name), json.dumps({"plan": plan, "opened": time.time()}).encode()
+        self._txn([_absent(key)], [_put(key, said), _put(_key("o", name), b"0")])
+        found = self.find(name)
+        assert found is not None
+        return found
+
+    def find(self, name: str) -> Optional[Opened]:
+        found = self._get(_key("r", name))
+        if not found:
+            return None
+        said = json.loads(found[0][1])
+        return Opened(name, said["plan"], said["opened"])
+
+    def ends(self) -> Dict[str, int]:
+        return {_name(key): int(value) for key, value in self._get(b"cf/o/", b"cf/o0", serializable=True)}
+
+    def listing(self) -> List[Listed]:
+        ends = self.ends()
+        closed = {_name(key): json.loads(value) for key, value in self._get(b"cf/c/", b"cf/c0")}
+        told = []
+        for key, value in self._get(b"cf/r/", b"cf/r0"):
+            name = _name(key)
+            at, words = closed.get(name, (None, ends.get(name, 0)))
+            told.append(Listed(name, json.loads(value)["opened"], None if name in ends else at, ends.get(name, words)))
+        return sorted(told)
+
+    def end(self, name: str, at: int) -> None:
+        key = _key("o", name)
+        self._txn([{"key": _b64(key), "target": "VALUE", "value": _b64(b"%d" % at)}],
+                  [{"request_delete_range": {"key": _b64(key)}}, _put(_key("c", name), json.dumps([time.time(), at]).encode())])
+
+    def reopen(self, name: str) -> None:
+        many = len(self.read(name))
+        self._txn([_absent(_key("o", name))], [_put(_key("o", name), b"%d" % many)])
+
+    def drop(self, name: str) -> None:
+        for kind in ("w", "p", "t"):
+            key = _key(kind, name) + b"/"
+            self._post("/v3/kv/deleterange", _range(key, _after(key)))
+        for kind in ("r", "o", "c"):
+            self._post("/v3/kv/deleterange", {"key": _b64(_key(kind, name))})
+
+    # Words.
+
+    def append_groups(self, puts: Sequence[Put]) -> List[Optional[List[Entry]]]:
+        return [self._append(put) for put in puts]
+
+    def _append(self, put: Put) -> Optional[List[Entry]]:
+        if len(put.entries) > MOST_ENTRIES:
+            raise StoreError(f"etcd takes {MOST_ENTRIES} words in a put, not {len(put.entries)}")
+        key, end = _place("w", put.request, put.at), _after(_key("w", put.request) + b"/")
+        puts = [_put(_place("w", put.request, put.at + k), b"%x %x" % entry) for k, entry in enumerate(put.entries)]
+        puts += [_put(_place("p", put.request, place), payload) for place, payload in put.payloads.items()]
+        puts.append(_put(_key("o", put.request), b"%d" % (put.at + len(put.entries))))
+        told = self._txn([_absent(key)], puts, [{"request_range": _range(key, end)}])
+        if told.get("succeeded"):
+            return None
+        return [_entry(base64.b64decode(it["value"])) for it in told["responses"][0]["response_range"]["kvs"]]
+
+    def read(self, name: str, at: int = 0) -> List[Entry]:
+        # Any member's answer will do: a stale one is a shorter prefix.
+        return [_entry(value) for _, value in self._get(_place("w", name, at), _after(_key("w", name) + b"/"), serializable=True)]
+
+    def payloads(self, name: str, places: Sequence[int]) -> Dict[int, bytes]:
+        if len(places) > 8:
+            key = _key("p", name) + b"/"
+            told = {int(key[-6:]): value for key, value in self._get(key, _after(key))}
+            return {place: told[place] for place in places if place in told}
+        return {place: found[0][1] for place in places for found in [self._get(_place("p", name, place))] if found}
+
+    def changed(self, seconds: float) -> None:
+        """By a watch of this thread's own, a stream that stays open."""
+        watch = getattr(self._local, "watch", None)
+        try:
+            if watch is None:
+                self._local.watch = self._watching()
+                return
+            connection, answer = watch
+            if select.select([connection.sock], [], [], seconds)[0]:
+                while select.select([connection.sock], [], [], 0)[0]:
+                    if not answer.readline():
+                        raise OSError("the watch ended")
+        except (OSError, http.client.HTTPException, ValueError):
+            self._local.watch, self._turn = None, self._turn + 1
+            time.sleep(min(seconds, 0.05))
+
+    def _watching(self) -> Tuple[http.client.HTTPConnection, http.client.HTTPResponse]:
+        host, port = self._addresses[self._turn % len(self._addresses)].rsplit(":", 1)
+        connection = http.client.HTTPConnection(host, int(port), timeout=SECONDS)
+        connection.request("POST", "/v3/watch", json.dumps({"create_request": _range(b"cf/w/", b"cf/w0")}))
+        answer = connection.getresponse()
+        sock = connection.sock
+        answer.readline()
+        connection.sock = sock
+        self._made.add(connection)
+        return connection, answer
+
+    def close(self) -> None:
+        for connection in list(self._made):
+            connection.close()
+
+    # Sessions and timers.
+
+    def beat(self, session: int) -> None:
+        self._post("/v3/kv/put", {"key": _b64(b"cf/b/%010x" % session), "value": ""})
+
+    def beats(self) -> Dict[int, int]:
+        told = self._post("/v3/kv/range", _range(b"cf/b/", b"cf/b0", keys_only=True)).get("kvs", [])
+        return {int(base64.b64decode(it["key"])[5:], 16): int(it["version"]) for it in told}
+
+    def now(self) -> float:
+        return time.time()
+
+    def set_timer(self, timer: Timer) -> None:
+        value = json.dumps([timer.due, _b64(timer.payload)]).encode()
+        self._post("/v3/kv/put", {"key": _b64(_place("t", timer.request, timer.stage)), "value": _b64(value)})
+
+    def due(self, now: float) -> List[Timer]:
+        told = []
+        for key, value in self._get(b"cf/t/", b"cf/t0", serializable=True):
+            due, payload = json.loads(value)
+            if due <= now:
+                told.append(Timer(_name(key[:-7]), int(key[-6:]), due, base64.b64decode(payload)))
+        return sorted(told, key=lambda timer: timer.due)
+
+    def drop_timer(self, request: str, stage: int) -> None:
+        self._post("/v3/kv/deleterange", {"key": _b64(_place("t", request, stage))})
+
+
+def _b64(data: bytes) -> str:
+    return base64.b64encode(data).decode()
+
+
+def _key(kind: str, name: str) -> bytes:
+    return f"cf/{kind}/{quote(name, safe='')}".encode()
+
+
+def _name(key: bytes) -> str:
+    return unquote(key[5:].decode())
+
+
+def _place(kind: str, name: str, at: int) -> bytes:
+    """A key in fixed width, so that a range is in order."""
+    return _key(kind, name) + b"/%06d" % at
+
+
+def _after(prefix: bytes) -> bytes:
+    """The end of the range of all keys that begin so."""
+    return prefix[:-1] + bytes([prefix[-1] + 1])
+
+
+def _range(key: bytes, end: Optional[bytes] = None, **more: Any) -> Dict[str, Any]:
+    return {"key": _b64(key), **({} if end is None else {"range_end": _b64(end)}), **more}
+
+
+def _put(key: bytes, value: bytes) -> Any:
+    return {"request_put": {"key": _b64(key), "value": _b64(value)}}
+
+
+def _absent(key: bytes) -> Any:
+    return {"key": _b64(key), "target": "VERSION", "version": 0}
+
+
+def _entry(value: bytes) -> Entry:
+    word, token = value.split()
+    return int(word, 16), int(token, 16)

@@ -1,0 +1,86 @@
+"""Functions by name and version, so that a request begun in one process goes on in another."""
+import functools
+import importlib
+import operator
+from typing import Any, Callable, Dict, NamedTuple, Optional, Tuple, TypeVar
+
+from ..service.flow import Again, _alone
+from .rows import StoreError
+
+F = TypeVar("F", bound=Callable[..., Any])
+
+
+class Known(NamedTuple):
+    """A function. One that is transactional is called with the engine's connection first, and what it does with that stands exactly where
+    its finish does."""
+
+    name: str
+    version: int
+    call: Callable[..., Any]
+    is_transactional: bool
+
+
+class Functions:
+    """The functions that a process knows."""
+
+    def __init__(self) -> None:
+        self._known: Dict[Tuple[str, int], Known] = {}
+        self._names: Dict[Any, Known] = {}
+        self.function("cf.gather")(_alone)
+        self.function("cf.add")(operator.add)
+
+    def function(self, name: str = "", version: int = 1, transactional: bool = False) -> Callable[[F], F]:
+        """Names the function behind it. A changed meaning is a version more; the old one stays registered as long as requests have it.
+        `ValueError` where the name and version are another function's."""
+        def named(call: F) -> F:
+            known = Known(name or call.__name__, version, call, transactional)
+            there = self._known.setdefault((known.name, version), known)
+            if there.call is not call:
+                raise ValueError(f"{known.name}, version {version}, is another function already")
+            self._names[call] = known
+            return call
+        return named
+
+    def add(self, other: "Functions") -> None:
+        """Takes all that another has."""
+        self._known.update(other._known)
+        self._names.update(other._names)
+
+    def of(self, call: Callable[..., Any]) -> Known:
+        """What a function is registered as; `TypeError` where it isn't."""
+        found = self._names.get(call)
+        if found is None:
+            name = getattr(call, "__qualname__", repr(call))
+            raise TypeError(f"{name} isn't registered: other processes know functions by the names that @service.function(..) gives")
+        return found
+
+    def named(self, name: str, version: int) -> Optional[Known]:
+        """The function of a name and version, or None."""
+        return self._known.get((name, version))
+
+    @staticmethod
+    def of_module(name: str) -> "Functions":
+        """The functions of a module: its member `functions`."""
+        module = importlib.import_module(name)
+        found = getattr(module, "functions", None)
+        if not isinstance(found, Functions):
+            raise StoreError(f"module {name} has no `functions`, a cf.shared.Functions")
+        return found
+
+
+def said_of(functions: Functions, call: Optional[Callable[..., Any]], args: Tuple[Any, ...], kwargs: Dict[str, Any]) -> Dict[str, Any]:
+    """What a plan or an attached stage's payload says of its function."""
+    if call is None:
+        return {}
+    if isinstance(call, Again):
+        return {"again": call.of}
+    if isinstance(call, functools.partial):
+        partial: "functools.partial[Any]" = call
+        call, args, kwargs = partial.func, (*partial.args, *args), {**partial.keywords, **kwargs}
+    known = functions.of(call)
+    said: Dict[str, Any] = {"fn": known.name, "version": known.version}
+    if args:
+        said["args"] = list(args)
+    if kwargs:
+        said["kwargs"] = kwargs
+    return said

@@ -1,0 +1,59 @@
+"""Plans of requests as a store keeps them: a JSON text that each process builds the same graph of."""
+import json
+from typing import Any, Dict, List, Optional, Tuple
+
+from ..service._plain import PlanCore
+from ..service.flow import Flow
+from ..service.words import COMPOSE_FORMS, FORMS
+from ..values import Refused
+from .functions import Functions, said_of
+from .rows import Broken
+
+FORMAT = 3  # of plans in stores, beside those of scripts
+HAS_NO_FUNCTION = (0, 16, 17)
+
+
+class SharedPlan:
+    """A plan that was read: what it says of each stage, and the same for the library."""
+
+    def __init__(self, text: str, name: str) -> None:
+        try:
+            read = json.loads(text)
+            if read["cf"] != FORMAT:
+                raise ValueError(f"it is of version {read['cf']}")
+            self.flow = str(read["flow"])
+            self.said: List[Dict[str, Any]] = list(read["stages"])
+            forms = [FORMS.index(it["form"]) for it in self.said]
+            rows = [(form, tuple(it.get("of", [])), None if form in HAS_NO_FUNCTION else _nobody, str(it["name"]))
+                    for form, it in zip(forms, self.said)]
+            self.core = PlanCore(rows)
+        except (ValueError, KeyError, TypeError, Refused) as error:
+            raise Broken(name, 0, f"its plan can't be read: {error!r}") from None
+
+    @property
+    def rows(self) -> List[Tuple[int, Tuple[int, ...], Any, str]]:
+        """Form, sources, function or None, and name of each stage."""
+        return self.core.rows
+
+
+def _nobody(*_: Any) -> None:
+    """Stands for a function in a plan: what is called is found by its name."""
+
+
+def text_of(flow: Optional[Flow], functions: Functions) -> str:
+    """The text of a flow's plan, or of one without stages. `TypeError` where a function isn't registered, or a stage composes: the future
+    that its function gives would be gone with its process."""
+    stages = []
+    for form, of, call, name in [] if flow is None else flow._rows:
+        if form in COMPOSE_FORMS:
+            raise TypeError(f"{name}: a request in a store has no compose, whose future would be gone with its process")
+        stages.append({"form": FORMS[form], "of": list(of), "name": name, **said_of(functions, call, (), {})})
+    return json.dumps({"cf": FORMAT, "flow": "" if flow is None else flow.name, "stages": stages}, separators=(",", ":"))
+
+
+def tried_again(said: Dict[str, Any]) -> Optional[int]:
+    """The stage whose function a further try calls, or None."""
+    again = said.get("again")
+    return int(again) if again is not None else None
+
+

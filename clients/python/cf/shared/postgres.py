@@ -1,0 +1,299 @@
+"""Rows in tables of a PostgreSQL database, by psycopg2."""
+import contextlib
+import select
+import threading
+import time
+from typing import Any, Dict, Generator, Iterator, List, Optional, Sequence, Tuple
+
+import psycopg2  # type: ignore[import]
+
+from .rows import Entry, Listed, Opened, Put, Store, StoreError, Timer, Transaction, Unknown
+
+SCHEMA = """
+    create table if not exists cf_request (id bigserial primary key, name text not null unique, plan text not null,
+        opened double precision not null, closed double precision);
+    create index if not exists cf_request_open on cf_request (id) where closed is null;
+    create table if not exists cf_word (request bigint, at int, word bigint not null, token bigint not null, payload bytea,
+        primary key (request, at));
+    create table if not exists cf_beat (session bigint primary key, count bigint not null);
+    create table if not exists cf_timer (request bigint, stage int, due double precision not null, payload bytea not null,
+        primary key (request, stage));
+    create index if not exists cf_timer_due on cf_timer (due);
+"""
+NOW = "extract(epoch from clock_timestamp())::double precision"
+SET_UP = 6_318_042  # the number of the lock under which tables are made
+PREPARED = """
+    prepare cf_put(bigint, int, bigint, bigint, bytea) as insert into cf_word values ($1, $2, $3, $4, $5) on conflict do nothing;
+    prepare cf_read(bigint, int) as select word, token from cf_word where request = $1 and at >= $2 order by at;
+"""
+SAFE = {"fsync": ("on",), "full_page_writes": ("on",), "transaction_read_only": ("off",)}
+LEAST_BETWEEN = 0.002  # seconds between two notices
+
+
+class Postgres(Store):
+    """A database. Each connection sets `synchronous_commit` to on, where the server hasn't more; a server without `fsync` or
+    `full_page_writes`, or one that can only be read, is refused. With `is_unsafe` it answers before it has written.
+
+    Waiters are woken by NOTIFY of a connection of its own, behind the commit: within the put it takes a lock of the whole database."""
+
+    is_transactional = True
+
+    def __init__(self, address: str, is_unsafe: bool = False) -> None:
+        self._address, self._is_unsafe = address, is_unsafe
+        self._free: List[Any] = []
+        self._ids: Dict[str, int] = {}
+        self._local = threading.local()
+        self._changes = threading.Event()
+        self._notifier: Optional[threading.Thread] = None
+        self._is_closed = False
+        self._lock = threading.Lock()
+        with self._telling():
+            db = self._connected()
+            with db.cursor() as cursor:
+                cursor.execute(f"select pg_advisory_lock({SET_UP})")  # (two that make a table at once are refused)
+                cursor.execute(SCHEMA)
+            db.close()
+
+    # Connections.
+
+    def _connected(self) -> Any:
+        db = psycopg2.connect(self._address, connect_timeout=5)
+        db.autocommit = True
+        with db.cursor() as cursor:
+            for name, wanted in {} if self._is_unsafe else SAFE.items():
+                cursor.execute(f"show {name}")
+                found = cursor.fetchone()[0]
+                if found not in wanted:
+                    db.close()
+                    raise StoreError(f"{self._address}: {name} is {found}, with which words are lost or can't be put")
+            cursor.execute("show synchronous_commit")
+            if self._is_unsafe or cursor.fetchone()[0] in ("off", "local"):
+                cursor.execute(f"set synchronous_commit = {'off' if self._is_unsafe else 'on'}")
+        return db
+
+    @contextlib.contextmanager
+    def _telling(self) -> Iterator[None]:
+        try:
+            yield
+        except (psycopg2.OperationalError, psycopg2.InterfaceError) as lost:
+            raise Unknown(str(lost).strip()) from None
+
+    @contextlib.contextmanager
+    def _connection(self) -> Iterator[Any]:
+        """A connection's cursor. One that is lost is let go."""
+        with self._telling():
+            with self._lock:
+                db = self._free.pop() if self._free else None
+            if db is None:
+                db = self._connected()
+                with db.cursor() as cursor:
+                    cursor.execute(PREPARED)
+            try:
+                with db.cursor() as cursor:
+                    yield cursor
+            except (psycopg2.OperationalError, psycopg2.InterfaceError):
+                with contextlib.suppress(psycopg2.Error):
+                    db.close()
+                raise
+            if db.closed or self._is_closed:
+                db.close()
+                return
+            with self._lock:
+                self._free.append(db)
+
+    def _ask(self, statement: str, *values: Any) -> List[Tuple[Any, ...]]:
+        with self._connection() as cursor:
+            cursor.execute(statement, values)
+            rows: List[Tuple[Any, ...]] = cursor.fetchall() if cursor.description else []
+            return rows
+
+    def _id(self, name: str) -> int:
+        found = self._ids.get(name)
+        if found is None:
+            rows = self._ask("select id from cf_request where name = %s", name)
+            if not rows:
+                raise StoreError(f"{self._address} has no request {name!r}")
+            found = self._ids[name] = int(rows[0][0])
+        return found
+
+    # Requests.
+
+    def open(self, name: str, plan: str) -> Opened:
+        found = self.find(name)
+        if found is None:
+            self._ask(f"insert into cf_request (name, plan, opened) values (%s, %s, {NOW}) on conflict do nothing", name, plan)
+            found = self.find(name)
+            assert found is not None
+        return found
+
+    def find(self, name: str) -> Optional[Opened]:
+        rows = self._ask("select id, plan, opened from cf_request where name = %s", name)
+        if not rows:
+            return None
+        self._ids[name] = int(rows[0][0])
+        return Opened(name, str(rows[0][1]), float(rows[0][2]))
+
+    def ends(self) -> Dict[str, int]:
+        return {str(name): int(many or 0) for name, many in self._ask(
+            "select name, (select max(at) + 1 from cf_word where request = id) from cf_request where closed is null")}
+
+    def listing(self) -> List[Listed]:
+        return [Listed(str(name), float(opened), closed, int(many or 0)) for name, opened, closed, many in self._ask(
+            "select name, opened, closed, (select max(at) + 1 from cf_word where request = id) from cf_request order by name")]
+
+    def end(self, name: str, at: int) -> None:
+        self._ask(f"update cf_request set closed = {NOW} where name = %s and closed is null and "
+                  "(select count(*) from cf_word where request = id) = %s", name, at)
+
+    def reopen(self, name: str) -> None:
+        self._ask("update cf_request set closed = null where name = %s and closed is not null", name)
+
+    def drop(self, name: str) -> None:
+        number = self._id(name)
+        self._ask("with words as (delete from cf_word where request = %s), timers as (delete from cf_timer where request = %s) "
+                  "delete from cf_request where id = %s", number, number, number)
+        self._ids.pop(name, None)
+
+    # Words.
+
+    def append_groups(self, puts: Sequence[Put]) -> List[Optional[List[Entry]]]:
+        puts, order = sorted(puts, key=lambda put: put.request), list(puts)
+        ids = {put.request: self._id(put.request) for put in puts}
+        rows = [(ids[put.request], put.at + k, *entry, put.payloads.get(put.at + 1 + k)) for put in puts for k, entry in enumerate(put.entries)]
+        if len(rows) == 1:
+            told = [self._append_one(puts[0], rows[0])]
+        else:
+            told = self._append_all(puts, rows)
+        self._notify()
+        by_name = {put.request: it for put, it in zip(puts, told)}
+        return [by_name[put.request] for put in order]
+
+    def _append_one(self, put: Put, row: Tuple[Any, ...]) -> Optional[List[Entry]]:
+        with self._connection() as cursor:
+            cursor.execute("execute cf_put(%s, %s, %s, %s, %s)", row)
+            landed = cursor.rowcount == 1
+        return None if landed else self.read(put.request, put.at)
+
+    def _append_all(self, puts: Sequence[Put], rows: Sequence[Tuple[Any, ...]]) -> List[Optional[List[Entry]]]:
+        """All or none: where one place is taken nothing of the statement stands, and each is put by itself."""
+        try:
+            self._ask("insert into cf_word values " + ",".join(["(%s,%s,%s,%s,%s)"] * len(rows)), *[it for row in rows for it in row])
+            return [None] * len(puts)
+        except psycopg2.errors.UniqueViolation:
+            if len(puts) == 1:
+                return [self.read(puts[0].request, puts[0].at)]
+            return [self._append_all([put], [(self._id(put.request), put.at + k, *entry, put.payloads.get(put.at + 1 + k))
+                                             for k, entry in enumerate(put.entries)])[0] for put in puts]
+
+    def read(self, name: str, at: int = 0) -> List[Entry]:
+        number = self._id(name)
+        return [(int(word), int(token)) for word, token in self._ask("execute cf_read(%s, %s)", number, at)]
+
+    def payloads(self, name: str, places: Sequence[int]) -> Dict[int, bytes]:
+        rows = self._ask("select at + 1, payload from cf_word where request = %s and at = any(%s) and payload is not null", self._id(name),
+                         [place - 1 for place in places])
+        return {int(place): bytes(payload) for place, payload in rows}
+
+    # Waking.
+
+    def _notify(self) -> None:
+        self._changes.set()
+        if self._notifier is None:
+            with self._lock:
+                if self._notifier is None:
+                    self._notifier = threading.Thread(target=self._run_notifier, name="cf-notify", daemon=True)
+                    self._notifier.start()
+
+    def _run_notifier(self) -> None:
+        while True:
+            self._changes.wait()
+            if self._is_closed:
+                return
+            self._changes.clear()
+            with contextlib.suppress(Unknown):
+                self._ask("notify cf")
+            time.sleep(LEAST_BETWEEN)
+
+    def changed(self, seconds: float) -> None:
+        with self._telling():
+            db = getattr(self._local, "listens", None)
+            try:
+                if db is None or db.closed:
+                    db = self._local.listens = self._connected()
+                    with db.cursor() as cursor:
+                        cursor.execute("listen cf")
+                    return
+                if not db.notifies:
+                    select.select([db], [], [], seconds)
+                    db.poll()
+                db.notifies.clear()
+            except (psycopg2.OperationalError, psycopg2.InterfaceError):
+                self._local.listens = None
+                raise
+
+    # Sessions and timers.
+
+    def beat(self, session: int) -> None:
+        self._ask("insert into cf_beat values (%s, 1) on conflict (session) do update set count = cf_beat.count + 1", session)
+
+    def beats(self) -> Dict[int, int]:
+        return {int(session): int(count) for session, count in self._ask("select session, count from cf_beat")}
+
+    def now(self) -> float:
+        return float(self._ask(f"select {NOW}")[0][0])
+
+    def set_timer(self, timer: Timer) -> None:
+        self._ask("insert into cf_timer values (%s, %s, %s, %s) on conflict (request, stage) do update "
+                  "set due = excluded.due, payload = excluded.payload", self._id(timer.request), *timer[1:])
+
+    def due(self, now: float) -> List[Timer]:
+        return [Timer(str(name), int(stage), float(due), bytes(payload)) for name, stage, due, payload in self._ask(
+            "select name, stage, due, payload from cf_timer join cf_request on id = request where due <= %s order by due", now)]
+
+    def drop_timer(self, request: str, stage: int) -> None:
+        self._ask("delete from cf_timer where request = %s and stage = %s", self._id(request), stage)
+
+    # A function's own transaction.
+
+    @contextlib.contextmanager
+    def transaction(self) -> Generator[Transaction, None, None]:
+        with self._telling():
+            db = self._connected()
+            db.autocommit = False
+        try:
+            with db.cursor() as cursor:
+                yield _Transaction(self, db, cursor)
+        finally:
+            db.close()  # what wasn't committed is undone by that
+
+    def close(self) -> None:
+        self._is_closed = True
+        self._changes.set()
+        with self._lock:
+            for db in self._free:
+                db.close()
+            self._free.clear()
+
+
+class _Transaction(Transaction):
+    def __init__(self, store: Postgres, db: Any, cursor: Any) -> None:
+        self.connection, self._store, self._db = cursor, store, db
+
+    @property
+    def is_lost(self) -> bool:
+        return bool(self._db.closed)
+
+    def append(self, put: Put) -> bool:
+        number = self._store._id(put.request)
+        with self._store._telling():
+            for k, entry in enumerate(put.entries):
+                self.connection.execute("insert into cf_word values (%s, %s, %s, %s, %s) on conflict do nothing",
+                                        (number, put.at + k, *entry, put.payloads.get(put.at + 1 + k)))
+                if self.connection.rowcount != 1:
+                    return False
+        return True
+
+    def commit(self) -> None:
+        with self._store._telling():
+            self._db.commit()
+        self._store._notify()

@@ -1,0 +1,352 @@
+"""A request whose row stands in a store, and its stages as futures."""
+import asyncio
+import concurrent.futures
+import json
+import threading
+from concurrent.futures import CancelledError, InvalidStateError
+from typing import TYPE_CHECKING, Any, Callable, Dict, Generator, Generic, List, Optional, Sequence, Set, Tuple, TypeVar
+
+from ..service.flow import Again, Step, _alone
+from ..service.history import History, Told
+from ..service.words import ANSWER, ATTACH, CANCEL, CANCELLED, COMPLETE, FAIL, GIVES, MOST_STAGES, NUMBER, PENDING, THROWN, VALUE, RequestFull
+from ..values import BadAnswer, Form
+from .desk import Desk, Done
+from .functions import said_of
+from .rows import Put, StoreError, Timer, Transaction, Unknown
+
+if TYPE_CHECKING:
+    from .service import DurableService, Finish
+
+T = TypeVar("T")
+U = TypeVar("U")
+V = TypeVar("V")
+
+if TYPE_CHECKING:
+
+    class _Future(concurrent.futures.Future[T]):
+        _state: str
+else:
+
+    class _Future(concurrent.futures.Future, Generic[T]):
+        """Python 3.8 has futures without a parameter."""
+
+
+class Stage(_Future[T]):
+    """A stage of a request in a store: a future that can be awaited, and that shows what this process has read of the row.
+
+    Functions are registered ones. Each call that attaches or settles is one put of the engine, which has it when the call returns, and
+    raises `Unknown` where the engine is silent for a minute: it may stand or not then."""
+
+    def __init__(self, request: "Request", number: int) -> None:
+        super().__init__()
+        self.request, self.number = request, number
+
+    @property
+    def name(self) -> str:
+        """What histories call it."""
+        return str(self.request._desk.said(self.number)["name"])
+
+    def then(self, fn: Callable[[T], U]) -> "Stage[U]":
+        """What the function gives of the value."""
+        return self.request._attach(Form.APPLY, (self,), fn)
+
+    def combine(self, other: "Stage[U]", fn: Callable[[T, U], V]) -> "Stage[V]":
+        """What the function gives of both values."""
+        return self.request._attach(Form.COMBINE, (self, other), fn)
+
+    def either(self, other: "Stage[T]", fn: Callable[[T], U]) -> "Stage[U]":
+        """What the function gives of the value that is there first."""
+        return self.request._attach(Form.APPLY_EITHER, (self, other), fn)
+
+    def handle(self, fn: Callable[[Optional[T], Optional[BaseException]], U]) -> "Stage[U]":
+        """What the function gives of the value or the exception; the other is None."""
+        return self.request._attach(Form.HANDLE, (self,), fn)
+
+    def when_done(self, fn: Callable[[Optional[T], Optional[BaseException]], object]) -> "Stage[T]":
+        """The same value or exception, once the function was called with it."""
+        return self.request._attach(Form.WHEN_COMPLETE, (self,), fn)
+
+    def recover(self, fn: Callable[[BaseException], T]) -> "Stage[T]":
+        """The value, or what the function gives of the exception."""
+        return self.request._attach(Form.EXCEPTIONALLY, (self,), fn)
+
+    def again(self, times: int = 1) -> "Stage[T]":
+        """So many further tries, each a stage, where the process that ran this one's function is gone. What the function did before may be
+        done twice then, unless it is transactional."""
+        stage, name = self, f"{self.name} again"
+        for _ in range(times):
+            stage = self.request._attach(Form.EXCEPTIONALLY, (stage,), Again(self.number), name=name)
+        return stage
+
+    def complete(self, value: T) -> bool:
+        """Settles it with a value, unless it is settled; whether it did."""
+        given = self.request._service.codec.write(value) if value is not None else None
+        return self.request._settle(COMPLETE, self.number, given)
+
+    def fail(self, error: BaseException) -> bool:
+        """Settles it with an exception, unless it is settled; whether it did."""
+        return self.request._settle(FAIL, self.number, self.request._service.codec.write_error(error))
+
+    def cancel(self) -> bool:
+        """Cancels it, unless it is settled or its function runs somewhere; whether it is cancelled then."""
+        return self.request._settle(CANCEL, self.number, None, waits=True)
+
+    def abandon(self) -> bool:
+        """Cancels it also while its function runs, whose answer comes too late then; whether it is cancelled then."""
+        return self.request._settle(CANCEL, self.number, None)
+
+    def or_timeout(self, seconds: float) -> "Stage[T]":
+        """Lets it fail with a `TimeoutError`, unless it is settled by then: any process that works on the request does it. A stage has one
+        timer, and this replaces one that it had. This stage itself is given back."""
+        error = TimeoutError(f"{self.name} took longer than {seconds} s")
+        return self.request._later(self, seconds, b"E" + self.request._service.codec.write_error(error))
+
+    def complete_on_timeout(self, value: T, seconds: float) -> "Stage[T]":
+        """Gives it the value, unless it is settled by then, in the same way."""
+        return self.request._later(self, seconds, b"N" if value is None else b"V" + self.request._service.codec.write(value))
+
+    def set_result(self, result: T) -> None:
+        """As `complete`; a settled stage raises `InvalidStateError`."""
+        if not self.complete(result):
+            raise InvalidStateError(f"{self._state}: {self!r}")
+
+    def set_exception(self, exception: Optional[BaseException]) -> None:
+        """As `fail`; a settled stage raises `InvalidStateError`."""
+        if not self.fail(TypeError("no exception") if exception is None else exception):
+            raise InvalidStateError(f"{self._state}: {self!r}")
+
+    def __await__(self) -> Generator[Any, None, T]:
+        """Awaits it on the running loop."""
+        return asyncio.wrap_future(self).__await__()
+
+    def _show(self, value: Any, error: Optional[BaseException], is_cancelled: bool) -> None:
+        """Tells those who wait, once."""
+        if self.done():
+            return
+        if is_cancelled:
+            super().cancel()
+            super().set_running_or_notify_cancel()
+        elif error is not None:
+            super().set_exception(error)
+        else:
+            super().set_result(value)
+
+
+class Request:
+    """A request in a store. A service opens it. Any thread may use it, and processes share it."""
+
+    def __init__(self, service: "DurableService", desk: Desk) -> None:
+        self._service, self._desk, self.name = service, desk, desk.name
+        self._lock = threading.RLock()
+        self._stages: Dict[int, Stage[Any]] = {}
+        self.is_queued = self.is_leaving = False
+        self._unshown: Set[int] = set()  # settled stages whose payload couldn't be read yet
+
+    @property
+    def seen(self) -> int:
+        """How many words of it this process has read."""
+        return self._desk.seen
+
+    # Stages.
+
+    def supply(self, fn: Callable[..., T], /, *args: Any, **kwargs: Any) -> "Stage[T]":
+        """What the registered function gives, called with these arguments, which the codec has to take."""
+        return self._attach(Form.SUPPLY, (), fn, args, kwargs)
+
+    def promise(self, name: str = "promise") -> "Stage[Any]":
+        """What somebody completes it with."""
+        return self._attach(Form.SOURCE, (), None, name=name)
+
+    def all_of(self, *of: "Stage[Any]") -> "Stage[None]":
+        """None, once all have values; else the exception of the first in this order that has one. Of n stages it takes n - 1."""
+        return self._tree(Form.ALL_OF, of, "all of")
+
+    def first_of(self, *of: "Stage[T]") -> "Stage[T]":
+        """What the first has that is settled, be it an exception. Of n stages it takes n - 1; of none, `ValueError`."""
+        if not of:
+            raise ValueError("of no stages none is the first")
+        return self._tree(Form.ANY_OF, of, "first of")
+
+    def gather(self, *of: "Stage[T]") -> "Stage[List[T]]":
+        """The values of all, in this order. Of n stages it takes 2 n - 1; of none, `ValueError`."""
+        if not of:
+            raise ValueError("a list of nothing needs no stage")
+        add = self._service.functions.named("cf.add", 1)
+        assert add is not None
+        row: List[Stage[Any]] = [self._attach(Form.APPLY, (stage,), _alone, name="gather") for stage in of]
+        while len(row) > 1:
+            pairs = [row[k:k + 2] for k in range(0, len(row), 2)]
+            row = [self._attach(Form.COMBINE, tuple(it), add.call, name="gather") if len(it) == 2 else it[0] for it in pairs]
+        return row[0]
+
+    def __getitem__(self, which: "Step[T] | int | str") -> "Stage[T]":
+        """The stage of a flow's step, of a number, or the first of a name."""
+        self._catch_up()
+        many = len(self._desk.forms)
+        if isinstance(which, str):
+            which = next((k for k in range(many) if self._desk.said(k)["name"] == which), many)
+        number = which.number if isinstance(which, Step) else which
+        if not 0 <= number < many:
+            raise KeyError(which)
+        return self._stage(number)
+
+    def history(self) -> History:
+        """All that happened until now, as the row tells it. It takes time by the number of words."""
+        self._catch_up()
+        with self._lock:
+            return self._desk.history(self._service.codec)
+
+    def end(self) -> None:
+        """Closes it: nothing is left to do in it, and workers look at it no more. A flow's request does so by itself."""
+        self._catch_up()
+        self._service.store.end(self.name, self.seen)
+
+    # Acting on the row.
+
+    def _act(self, decide: Callable[[Desk], Any]) -> Optional[List[Done]]:
+        with self._lock:
+            done, others = self._desk.act(decide)
+        self._show(others + (done or []))
+        return done
+
+    def _catch_up(self) -> None:
+        with self._lock:
+            news = self._desk.catch_up()
+        self._show(news)
+
+    def _attach(self, form: Form, of: "Sequence[Stage[Any]]", call: Optional[Callable[..., Any]], args: Tuple[Any, ...] = (),
+                kwargs: Optional[Dict[str, Any]] = None, name: str = "") -> "Stage[Any]":
+        if any(stage.request._desk is not self._desk for stage in of):
+            raise TypeError("no stage of this request")
+        said = said_of(self._service.functions, call, args, kwargs or {})
+        payload = json.dumps({"name": name or said.get("fn", form.name.lower()), **said}).encode()
+        sources = tuple(stage.number for stage in of)
+
+        def decide(desk: Desk) -> Any:
+            desk.make_room(1)
+            number, (first, second) = len(desk.forms), (*sources, 0, 0)[:2]
+            low = form << 24 | second << 12 | (0 if call is None else number)
+            return [(ATTACH << 56 | desk.who << 48 | first << 36 | len(sources) << 32 | low, payload)]
+        done = self._act(decide)
+        assert done is not None
+        if self._desk.plan.rows:
+            self._service.store.reopen(self.name)
+            self._service._requests.setdefault(self.name, self)
+        self._service._serve(self)
+        return self._stage(done[0].reply[NUMBER])
+
+    def _tree(self, form: Form, of: "Sequence[Stage[Any]]", name: str) -> "Stage[Any]":
+        """An attached stage has at most two sources; a tree of them tells what one stage of all would."""
+        if len(self._desk.forms) + max(len(of) - 1, 1) > MOST_STAGES:
+            raise RequestFull("a request has at most 4,096 stages")
+        row = list(of)
+        while len(row) > 2:
+            row = [self._attach(form, row[k:k + 2], None, name=name) if k + 1 < len(row) else row[k] for k in range(0, len(row), 2)]
+        return self._attach(form, row, None, name=name)
+
+    def _settle(self, kind: int, stage: int, payload: Optional[bytes], waits: bool = False) -> bool:
+        """Completes, fails or cancels a stage, and says whether that did it. `waits`: not while its function runs."""
+        def decide(desk: Desk) -> Any:
+            if desk.is_settled(stage) or waits and stage in desk.claims:
+                return None
+            low = 0 if payload is None else (GIVES << 32 if kind == COMPLETE else 0) | desk.place
+            return [(kind << 56 | desk.who << 48 | stage << 36 | low, payload)]
+        done = self._act(decide)
+        self._service._serve(self)
+        if done is None:
+            return kind == CANCEL and self._desk.told[stage].kind == CANCELLED and not self._desk.told[stage].wrapped
+        return bool(done[0].reply[ANSWER])
+
+    def _complete_all(self, given: "List[Tuple[int, Optional[bytes]]]") -> None:
+        """Completes a flow's promises, but those that are settled; up to 32 in one put."""
+        if given[32:]:
+            self._complete_all(given[32:])
+
+        def decide(desk: Desk) -> Any:
+            left = [(stage, payload) for stage, payload in given[:32] if not desk.is_settled(stage)]
+            return [(COMPLETE << 56 | desk.who << 48 | stage << 36 | (0 if payload is None else GIVES << 32 | desk.place + k), payload)
+                    for k, (stage, payload) in enumerate(left)]
+        self._act(decide)
+
+    def _later(self, stage: "Stage[T]", seconds: float, payload: bytes) -> "Stage[T]":
+        if not stage.done():
+            store = self._service.store
+            self._desk.sure(lambda: store.set_timer(Timer(self.name, stage.number, store.now() + seconds, payload)))
+        return stage
+
+    def _fire(self, timer: Timer) -> None:
+        kind, payload = timer.payload[:1], timer.payload[1:]
+        self._settle(FAIL if kind == b"E" else COMPLETE, timer.stage, None if kind == b"N" else payload)
+
+    def _act_within(self, transaction: Transaction, finish: "Finish") -> bool:
+        """Puts a finish within a transaction, and says whether that stands. `Unknown` where it may."""
+        with self._lock:
+            put: Put = self._desk.put_of([finish.word(self._desk)])
+            if self._desk.is_settled(finish.stage) or not transaction.append(put):
+                return False
+            transaction.commit()
+            done = self._desk.landed(put)
+        self._show(done)
+        return True
+
+    def _stands(self, stage: int) -> bool:
+        """Whether this session's claim of a stage was finished."""
+        self._catch_up()
+        return self._desk.claims.get(stage) != self._service.session
+
+    def _end_if_done(self) -> None:
+        if self._desk.plan.rows and self._desk.is_done():
+            self._service.store.end(self.name, self.seen)
+
+    def _cancel_all(self) -> None:
+        for number, stage in list(self._stages.items()):
+            if not stage.done() and self._desk.plan.rows[number:] and number not in self._desk.claims:
+                stage.cancel()
+
+    def _fail_all(self, error: BaseException) -> None:
+        for stage in list(self._stages.values()):
+            stage._show(None, error, False)
+
+    # What the row's numbers stand for.
+
+    def _stage(self, number: int) -> "Stage[Any]":
+        with self._lock:
+            stage = self._stages.get(number)
+            if stage is None:
+                stage = self._stages[number] = Stage(self, number)
+        self._show_one(stage)
+        return stage
+
+    def _show(self, news: List[Done]) -> None:
+        for number in [*self._unshown, *(number for done in news for number in done.settled)]:
+            stage = self._stages.get(number)
+            if stage is not None:
+                self._show_one(stage)
+
+    def _show_one(self, stage: "Stage[Any]") -> None:
+        if stage.done() or not self._desk.is_settled(stage.number):
+            return
+        told = self._desk.outcome(stage.number)
+        is_cancelled = told.kind == CANCELLED and not told.wrapped
+        try:
+            value, error = (None, None) if is_cancelled else self._outcome(told)
+        except StoreError as broken:
+            value, error = None, broken
+        except Unknown:
+            self._unshown.add(stage.number)
+            return
+        self._unshown.discard(stage.number)
+        try:
+            stage._show(value, error, is_cancelled)
+        except InvalidStateError:  # another thread has shown it meanwhile
+            pass
+
+    def _outcome(self, told: Told) -> Tuple[Any, Optional[BaseException]]:
+        if told.kind == VALUE:
+            return self._value(told.some, told.number), None
+        if told.kind == THROWN:
+            return None, self._service.codec.read_error(self._desk.payload(told.code))
+        return None, CancelledError() if told.kind == CANCELLED else TimeoutError() if told.kind != PENDING + 5 else BadAnswer()
+
+    def _value(self, some: int, place: int) -> Any:
+        return self._service.codec.read(self._desk.payload(place)) if some else None

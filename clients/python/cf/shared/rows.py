@@ -1,0 +1,406 @@
+"""Rows of words in engines: put where nothing stands yet, read, wait.
+
+An entry is a word and a token. The token names who put it, 40 bits of a session and 23 that count, so an append that is made again after a
+lost reply is known by what stands at its place. A payload is bytes; it is put with its word, in one transaction, and named by the word's
+place, counted from 1: no word names what isn't there.
+"""
+import abc
+import threading
+import time
+from typing import Any, ContextManager, Dict, List, Mapping, NamedTuple, Optional, Sequence, Tuple
+
+Entry = Tuple[int, int]  # a word and its token
+COUNT_BITS = 23  # of a token
+
+
+class Unknown(ConnectionError):
+    """The engine didn't answer: what was asked may have been done. The same may be asked again."""
+
+
+class StoreError(RuntimeError):
+    """A store, or a row of it, isn't as it has to be."""
+
+
+class Broken(StoreError):
+    """A row that can't be gone on with. `request` is its name, `place` the word that is at fault, counted from 1, or 0 for its plan."""
+
+    def __init__(self, request: str, place: int, why: str) -> None:
+        super().__init__(f"request {request!r}, place {place}: {why}")
+        self.request, self.place, self.why = request, place, why
+
+
+class Put(NamedTuple):
+    """Entries for the places behind `at` words of a request, and the payloads of those that have one, by their places."""
+
+    request: str
+    at: int
+    entries: Sequence[Entry]
+    payloads: Mapping[int, bytes]
+
+
+class Opened(NamedTuple):
+    """A request as it was opened: when, in seconds of the engine's clock since 1970."""
+
+    name: str
+    plan: str
+    opened: float
+
+
+class Listed(NamedTuple):
+    """A request in a list: when it was closed, or None, and how many words it has."""
+
+    name: str
+    opened: float
+    closed: Optional[float]
+    words: int
+
+
+class Timer(NamedTuple):
+    """What is to become of a stage at a moment, unless it is settled then."""
+
+    request: str
+    stage: int
+    due: float
+    payload: bytes
+
+
+class Transaction(abc.ABC):
+    """A transaction of an engine, with a connection of its own. It ends without effect unless `commit` was called."""
+
+    connection: Any  # what the function is called with
+
+    @property
+    def is_lost(self) -> bool:
+        """Whether the connection was seen to be gone."""
+        return False
+
+    @abc.abstractmethod
+    def append(self, put: Put) -> bool:
+        """Puts within the transaction, and says whether its place was free."""
+
+    @abc.abstractmethod
+    def commit(self) -> None:
+        """Lets all of it stand. `Unknown` where it may or may not."""
+
+
+class Store(abc.ABC):
+    """Rows in an engine. Any thread may use it. Each call but `close` may raise `Unknown`."""
+
+    is_transactional = False  # whether `transaction` is there
+
+    @abc.abstractmethod
+    def open(self, name: str, plan: str) -> Opened:
+        """Opens a request, or gives it as another opened it: then the plan may be another."""
+
+    @abc.abstractmethod
+    def find(self, name: str) -> Optional[Opened]:
+        """A request as it was opened, or None."""
+
+    @abc.abstractmethod
+    def append_groups(self, puts: Sequence[Put]) -> List[Optional[List[Entry]]]:
+        """Puts a group for each of some requests, each all or none, in one commit if none is in another's way. For each None where it
+        stands now, else the entries that stand from its first place on."""
+
+    @abc.abstractmethod
+    def read(self, name: str, at: int = 0) -> List[Entry]:
+        """The entries behind `at` words. A stale answer is a shorter one."""
+
+    @abc.abstractmethod
+    def payloads(self, name: str, places: Sequence[int]) -> Dict[int, bytes]:
+        """The payloads of these places; those that aren't there are left out."""
+
+    @abc.abstractmethod
+    def ends(self) -> Dict[str, int]:
+        """How many words each open request has."""
+
+    @abc.abstractmethod
+    def changed(self, seconds: float) -> None:
+        """Waits until something may have been put since this thread's last call, or so many seconds."""
+
+    @abc.abstractmethod
+    def listing(self) -> List[Listed]:
+        """All requests, by name."""
+
+    @abc.abstractmethod
+    def end(self, name: str, at: int) -> None:
+        """Marks a request as closed, where it has just so many words: nothing is left to do in it."""
+
+    @abc.abstractmethod
+    def reopen(self, name: str) -> None:
+        """Takes that back."""
+
+    @abc.abstractmethod
+    def drop(self, name: str) -> None:
+        """Forgets a request with all its words."""
+
+    @abc.abstractmethod
+    def beat(self, session: int) -> None:
+        """Says that a session is there."""
+
+    @abc.abstractmethod
+    def beats(self) -> Dict[int, int]:
+        """How often each session has said so."""
+
+    @abc.abstractmethod
+    def now(self) -> float:
+        """The engine's clock, in seconds since 1970."""
+
+    @abc.abstractmethod
+    def set_timer(self, timer: Timer) -> None:
+        """Keeps a timer of a stage, in the place of one that it had."""
+
+    @abc.abstractmethod
+    def due(self, now: float) -> List[Timer]:
+        """The timers of moments up to this one."""
+
+    @abc.abstractmethod
+    def drop_timer(self, request: str, stage: int) -> None:
+        """Forgets a stage's timer."""
+
+    def append(self, put: Put) -> Optional[List[Entry]]:
+        """Puts a group, all or none: None where it stands now, else the entries that stand from its first place on."""
+        return self.append_groups([put])[0]
+
+    def wait(self, name: str, at: int, seconds: float) -> bool:
+        """Waits until a request has more than so many words, and says whether it has."""
+        until = time.monotonic() + seconds
+        while not self.read(name, at):
+            left = until - time.monotonic()
+            if left <= 0:
+                return False
+            self.changed(left)
+        return True
+
+    def transaction(self) -> ContextManager[Transaction]:
+        """A transaction of the engine, in which a function's effect and the word of its finish stand or fall together."""
+        raise StoreError(f"{type(self).__name__} has no transactions that a function can take part in")
+
+    def close(self) -> None:
+        """Lets the engine go."""
+
+
+class Memory(Store):
+    """Rows in this process, for threads and tests."""
+
+    def __init__(self) -> None:
+        self._change = threading.Condition()
+        self._rows: Dict[str, List[Entry]] = {}
+        self._payloads: Dict[Tuple[str, int], bytes] = {}
+        self._opened: Dict[str, Opened] = {}
+        self._closed: Dict[str, float] = {}
+        self._beats: Dict[int, int] = {}
+        self._timers: Dict[Tuple[str, int], Timer] = {}
+        self._puts = 0
+        self._seen = threading.local()
+
+    def open(self, name: str, plan: str) -> Opened:
+        with self._change:
+            return self._opened.setdefault(name, Opened(name, plan, time.time()))
+
+    def find(self, name: str) -> Optional[Opened]:
+        return self._opened.get(name)
+
+    def append_groups(self, puts: Sequence[Put]) -> List[Optional[List[Entry]]]:
+        with self._change:
+            told = [self._append(put) for put in puts]
+            self._puts += 1
+            self._change.notify_all()
+        return told
+
+    def _append(self, put: Put) -> Optional[List[Entry]]:
+        row = self._rows.setdefault(put.request, [])
+        if len(row) > put.at:
+            return row[put.at:]
+        row.extend(put.entries)
+        self._payloads.update(((put.request, place), payload) for place, payload in put.payloads.items())
+        return None
+
+    def read(self, name: str, at: int = 0) -> List[Entry]:
+        return self._rows.get(name, [])[at:]
+
+    def payloads(self, name: str, places: Sequence[int]) -> Dict[int, bytes]:
+        return {place: self._payloads[name, place] for place in places if (name, place) in self._payloads}
+
+    def ends(self) -> Dict[str, int]:
+        with self._change:
+            return {name: len(self._rows.get(name, [])) for name in self._opened if name not in self._closed}
+
+    def changed(self, seconds: float) -> None:
+        with self._change:
+            seen = getattr(self._seen, "puts", -1)
+            self._change.wait_for(lambda: self._puts != seen, seconds)
+            self._seen.puts = self._puts
+
+    def listing(self) -> List[Listed]:
+        with self._change:
+            return [Listed(name, it.opened, self._closed.get(name), len(self._rows.get(name, []))) for name, it in sorted(self._opened.items())]
+
+    def end(self, name: str, at: int) -> None:
+        with self._change:
+            if len(self._rows.get(name, [])) == at:
+                self._closed.setdefault(name, time.time())
+
+    def reopen(self, name: str) -> None:
+        with self._change:
+            self._closed.pop(name, None)
+
+    def drop(self, name: str) -> None:
+        with self._change:
+            for kept in (self._opened, self._closed, self._rows):
+                kept.pop(name, None)  # type: ignore[attr-defined]
+            self._payloads = {key: it for key, it in self._payloads.items() if key[0] != name}
+            self._timers = {key: it for key, it in self._timers.items() if key[0] != name}
+
+    def beat(self, session: int) -> None:
+        with self._change:
+            self._beats[session] = self._beats.get(session, 0) + 1
+
+    def beats(self) -> Dict[int, int]:
+        with self._change:
+            return dict(self._beats)
+
+    def now(self) -> float:
+        return time.time()
+
+    def set_timer(self, timer: Timer) -> None:
+        with self._change:
+            self._timers[timer.request, timer.stage] = timer
+
+    def due(self, now: float) -> List[Timer]:
+        with self._change:
+            return [timer for timer in self._timers.values() if timer.due <= now]
+
+    def drop_timer(self, request: str, stage: int) -> None:
+        with self._change:
+            self._timers.pop((request, stage), None)
+
+
+class Grouped(Store):
+    """A store whose puts one thread makes: what other threads put at the same time is one commit. For a process with many requests."""
+
+    def __init__(self, store: Store, most: int = 64) -> None:
+        self._store, self._most = store, most
+        self.is_transactional = store.is_transactional
+        self._waiting: List[Tuple[Put, "_Slot"]] = []
+        self._change = threading.Condition()
+        self._is_closed = False
+        self.commits = self.puts = 0
+        self._thread = threading.Thread(target=self._run, name="cf-writer", daemon=True)
+        self._thread.start()
+
+    def append_groups(self, puts: Sequence[Put]) -> List[Optional[List[Entry]]]:
+        slots = [(put, _Slot()) for put in puts]
+        with self._change:
+            if self._is_closed:
+                raise StoreError("the store is closed")
+            self._waiting += slots
+            self._change.notify_all()
+        return [slot.told() for _, slot in slots]
+
+    def _run(self) -> None:
+        while True:
+            with self._change:
+                self._change.wait_for(lambda: bool(self._waiting) or self._is_closed)
+                if not self._waiting:
+                    return
+                now, self._waiting = _one_each(self._waiting, self._most)
+            try:
+                told = self._store.append_groups([put for put, _ in now])
+            except BaseException as error:
+                for _, slot in now:
+                    slot.set(None, error)
+                continue
+            self.commits, self.puts = self.commits + 1, self.puts + len(now)
+            for (_, slot), stands in zip(now, told):
+                slot.set(stands, None)
+
+    def close(self) -> None:
+        with self._change:
+            self._is_closed = True
+            self._change.notify_all()
+        self._thread.join(10)
+        self._store.close()
+
+    def open(self, name: str, plan: str) -> Opened:
+        return self._store.open(name, plan)
+
+    def find(self, name: str) -> Optional[Opened]:
+        return self._store.find(name)
+
+    def read(self, name: str, at: int = 0) -> List[Entry]:
+        return self._store.read(name, at)
+
+    def payloads(self, name: str, places: Sequence[int]) -> Dict[int, bytes]:
+        return self._store.payloads(name, places)
+
+    def ends(self) -> Dict[str, int]:
+        return self._store.ends()
+
+    def changed(self, seconds: float) -> None:
+        self._store.changed(seconds)
+
+    def listing(self) -> List[Listed]:
+        return self._store.listing()
+
+    def end(self, name: str, at: int) -> None:
+        self._store.end(name, at)
+
+    def reopen(self, name: str) -> None:
+        self._store.reopen(name)
+
+    def drop(self, name: str) -> None:
+        self._store.drop(name)
+
+    def beat(self, session: int) -> None:
+        self._store.beat(session)
+
+    def beats(self) -> Dict[int, int]:
+        return self._store.beats()
+
+    def now(self) -> float:
+        return self._store.now()
+
+    def set_timer(self, timer: Timer) -> None:
+        self._store.set_timer(timer)
+
+    def due(self, now: float) -> List[Timer]:
+        return self._store.due(now)
+
+    def drop_timer(self, request: str, stage: int) -> None:
+        self._store.drop_timer(request, stage)
+
+    def transaction(self) -> ContextManager[Transaction]:
+        return self._store.transaction()
+
+
+class _Slot:
+    """What one put is answered."""
+
+    def __init__(self) -> None:
+        self._done = threading.Event()
+        self._told: Optional[List[Entry]] = None
+        self._error: Optional[BaseException] = None
+
+    def set(self, told: Optional[List[Entry]], error: Optional[BaseException]) -> None:
+        self._told, self._error = told, error
+        self._done.set()
+
+    def told(self) -> Optional[List[Entry]]:
+        self._done.wait()
+        if isinstance(self._error, Unknown):
+            raise Unknown(str(self._error))
+        if self._error is not None:
+            raise self._error
+        return self._told
+
+
+def _one_each(waiting: List[Tuple[Put, _Slot]], most: int) -> Tuple[List[Tuple[Put, _Slot]], List[Tuple[Put, _Slot]]]:
+    """Those that go now, one of a request since two are for one place, and the others."""
+    now: Dict[str, Tuple[Put, _Slot]] = {}
+    later = []
+    for it in waiting:
+        if len(now) < most and it[0].request not in now:
+            now[it[0].request] = it
+        else:
+            later.append(it)
+    return list(now.values()), later

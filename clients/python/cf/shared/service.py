@@ -1,0 +1,407 @@
+"""Services whose requests stand in a store: they outlive processes, and machines share them."""
+import concurrent.futures
+import contextlib
+import itertools
+import logging
+import os
+import threading
+import time
+from typing import Any, Callable, Dict, List, NamedTuple, Optional, Sequence, Set, Tuple, TypeVar
+
+from ..service.flow import Flow
+from ..service.history import Told
+from ..service.words import (ANSWER, ARGS, CLAIM, FAIL, FINISH, FIRST, FIRST_SOME, GIVES, GOT, ONE, OUTCOME, SECOND, SECOND_SOME, THROWS,
+                             TWO, VALUE)
+from ..values import Form
+from .codec import Abandoned, Json
+from .desk import Desk, Done, Watcher, new_session
+from .functions import F, Functions, Known
+from .plans import text_of, tried_again
+from .request import Request, Stage
+from .rows import Broken, Grouped, Store, StoreError, Timer, Unknown
+
+T = TypeVar("T")
+LOGGER = logging.getLogger("cf.shared")
+ONLY_FAULT = (int(Form.EXCEPTIONALLY), int(Form.EXCEPTIONALLY_COMPOSE))
+GOES_ON = {  # the forms that a finish which gives or throws makes ready, where it is their only source
+    GIVES: (int(Form.APPLY), int(Form.HANDLE), int(Form.WHEN_COMPLETE)),
+    THROWS: (int(Form.EXCEPTIONALLY), int(Form.HANDLE), int(Form.WHEN_COMPLETE))}
+
+
+class Claimed(NamedTuple):
+    """A stage that this session has, with its function and what that is called with."""
+
+    stage: int
+    known: Known
+    args: Tuple[Any, ...]
+    kwargs: Dict[str, Any]
+    error: Optional[BaseException]  # what a further try passes on instead
+
+
+class Finish(NamedTuple):
+    """What a stage's function came to."""
+
+    stage: int
+    kind: int
+    payload: Optional[bytes]
+
+    def word(self, desk: Desk) -> Tuple[int, Optional[bytes]]:
+        """Its word at the end of what is seen."""
+        tag, low = (self.kind, desk.place) if self.payload is not None else (0, 0)
+        return FINISH << 56 | desk.who << 48 | self.stage << 36 | tag << 32 | low, self.payload
+
+
+class DurableService(concurrent.futures.Executor):
+    """A service whose requests stand in a store, so that other processes go on with them: `Service(store=connect(..))` gives one.
+
+        service = DurableService(connect("sqlite:///orders.db"))
+
+        @service.function("charge", version=1)
+        def charge(order): ...
+
+        request = service.request("order 17")
+        print(request.supply(load, 17).then(charge).or_timeout(30).result())
+
+    It works on the requests that were begun or resumed here, by `max_workers` threads; with `takes_all` on all that are open, as a worker
+    does. Functions are those that `function` named here, and values what the codec takes. `lease` is after how many seconds without a
+    sign of life another process thinks that this one is gone, and the stages whose functions it runs are abandoned. Puts that come at
+    the same time are grouped into one commit where `groups` is set. A child of `fork` may not use it."""
+
+    _numbers = itertools.count()
+
+    def __init__(self, store: Store, max_workers: Optional[int] = None, *, functions: Optional[Functions] = None, codec: Optional[Json] = None,
+                 lease: float = 10, takes_all: bool = False, groups: bool = False, note: Optional[Callable[..., None]] = None) -> None:
+        workers = min(32, (os.cpu_count() or 1) + 4) if max_workers is None else max_workers
+        if workers < 0:
+            raise ValueError("max_workers must not be below 0")
+        self.store = Grouped(store) if groups else store
+        self.codec, self.session = codec or Json(), new_session()
+        self.functions = Functions()
+        if functions is not None:
+            self.functions.add(functions)
+        self._workers, self._takes_all, self._lease, self._note = workers, takes_all, lease, note
+        self._pool = concurrent.futures.ThreadPoolExecutor(max(workers, 1), f"cf-shared-{next(self._numbers)}")
+        self._requests: Dict[str, Request] = {}
+        self._unknown: Dict[str, Tuple[str, int]] = {}
+        self.broken: Dict[str, BaseException] = {}  # requests that can't be gone on with here, and why
+        self._lock, self._stops, self._process = threading.Lock(), threading.Event(), os.getpid()
+        self._watcher, self._next_beat, self._next_look = Watcher(self.store, lease), 0.0, 0.0
+        self._firing: Set[Tuple[str, int, float]] = set()
+        self._pump = threading.Thread(target=self._run_pump, name="cf-shared", daemon=True)
+        self._pump.start()
+
+    # What users call.
+
+    def function(self, name: str = "", version: int = 1, transactional: bool = False) -> Callable[[F], F]:
+        """Names the function behind it, as `Functions.function`."""
+        if transactional and not self.store.is_transactional:
+            raise StoreError(f"{type(self.store).__name__} has no transactions that a function can take part in")
+        return self.functions.function(name, version, transactional)
+
+    def request(self, name: str = "") -> Request:
+        """A request without stages, or the one of this name as it stands in the store. Without a name it gets one by chance."""
+        return self._opened(name or f"request {new_session():x}", text_of(None, self.functions), False)
+
+    def start(self, flow: Flow, *given: Any, name: str = "") -> Request:
+        """A request of a flow's stages, whose promises are completed with what is given. Where one of this name stands in the store, it is
+        gone on with, and `Broken` is raised if it was begun with another plan. `ValueError` where more is given than there are promises."""
+        if len(given) > len(flow._promises):
+            raise ValueError(f"{flow.name} has {len(flow._promises)} promises")
+        payloads = [None if it is None else self.codec.write(it) for it in given]
+        request = self._opened(name or f"{flow.name} {new_session():x}", text_of(flow, self.functions), True)
+        request._complete_all(list(zip(flow._promises, payloads)))
+        self._serve(request)
+        return request
+
+    def open(self, name: str) -> Request:
+        """A request that stands in the store. `KeyError` where there is none."""
+        found = self.store.find(name)
+        if found is None:
+            raise KeyError(name)
+        return self._kept(Request(self, Desk(self.store, found, self.session, note=self._note)))
+
+    def submit(self, fn: Callable[..., T], /, *args: Any, **kwargs: Any) -> "Stage[T]":
+        """Calls a registered function: a request of one stage, which is closed once that is settled."""
+        flow = Flow("submit")
+        step = flow.supply(fn, *args, **kwargs)
+        return self.start(flow)[step]
+
+    def resume(self) -> List[Request]:
+        """Goes on with all requests that are open in the store, and gives them."""
+        resumed = [self._taken(name) for name in self.store.ends()]
+        for request in resumed:
+            if request is not None:
+                self._serve(request)
+        return [request for request in resumed if request is not None]
+
+    def shutdown(self, wait: bool = True, *, cancel_futures: bool = False) -> None:
+        """Begins no more functions. Those that run are finished; what is open stays in the store, and others go on with it. With
+        `cancel_futures` stages of requests that were begun here and that nobody has claimed are cancelled."""
+        if cancel_futures:
+            for request in list(self._requests.values()):
+                request._cancel_all()
+        self._stops.set()
+        self._pool.shutdown(wait)
+        if wait and threading.current_thread() is not self._pump:
+            self._pump.join()
+            self.store.close()
+
+    # Requests that are worked on.
+
+    def _opened(self, name: str, plan: str, same: bool) -> Request:
+        if self._process != os.getpid():
+            raise RuntimeError("a child of fork can't use its parent's service")
+        if self._stops.is_set():
+            raise RuntimeError("cannot schedule new futures after shutdown")
+        found = self.store.open(name, plan)
+        if same and found.plan != plan:
+            raise Broken(name, 0, "it was begun with another plan")
+        return self._kept(Request(self, Desk(self.store, found, self.session, note=self._note)))
+
+    def _kept(self, request: Request) -> Request:
+        with self._lock:
+            request = self._requests.setdefault(request.name, request)
+        request._catch_up()
+        return request
+
+    def _taken(self, name: str) -> Optional[Request]:
+        """A request of the store, or None where it is broken or gone."""
+        known = self._requests.get(name)
+        if known is not None or name in self.broken:
+            return known
+        try:
+            return self.open(name)
+        except KeyError:
+            return None
+        except Broken as error:
+            self._break(name, error)
+            return None
+
+    def _break(self, name: str, error: BaseException) -> None:
+        """Leaves a request alone. Others go on."""
+        LOGGER.error("%s", error)
+        self.broken[name] = error
+        with self._lock:
+            request = self._requests.pop(name, None)
+        if request is not None:
+            request._fail_all(error)
+
+    # The pump: what is new, who is gone, what is due.
+
+    def _run_pump(self) -> None:
+        while not self._stops.is_set():
+            try:
+                self._round()
+                self.store.changed(min(0.2, self._lease / 5))
+            except Unknown as error:
+                LOGGER.warning("the store doesn't answer: %s", error)
+                self._stops.wait(0.2)
+            except Exception:
+                if self._stops.is_set():
+                    return
+                LOGGER.critical("cf.shared", exc_info=True)
+                self._stops.wait(0.2)
+
+    def _round(self) -> None:
+        now = time.monotonic()
+        looks = now >= self._next_beat
+        if looks:
+            self._next_beat = now + self._lease / 5
+            self.store.beat(self.session)
+            self._watcher.look()
+        if now >= self._next_look:
+            self._next_look = now + 0.02
+            for timer in self.store.due(self.store.now()):
+                if (self._takes_all or timer.request in self._requests) and timer[:3] not in self._firing:
+                    self._firing.add(timer[:3])
+                    self._submit(timer.request, self._fire, timer)
+        known = list(self._requests.values())  # (before the store is asked: what is opened meanwhile isn't in its answer)
+        ends = self.store.ends()
+        for request in known:
+            if request.name not in ends and not request.is_leaving:
+                request.is_leaving = True
+                self._submit(request.name, self._let_go, request)
+        for name, end in ends.items():
+            taken = self._taken(name) if self._takes_all else self._requests.get(name)
+            if taken is not None and (end > taken.seen or looks and self._needs(taken)):
+                self._serve(taken)
+
+    def _needs(self, request: Request) -> bool:
+        """Whether something is to do in a request without a new word."""
+        gone = [self._watcher.is_gone(session) for session in request._desk.open_claims().values() if session != self.session]
+        return bool(request._desk.ready or request._unshown) or any(gone)
+
+    def _let_go(self, request: Request) -> None:
+        """Forgets a request that is closed, once all is told."""
+        try:
+            request._catch_up()
+            with self._lock:
+                self._requests.pop(request.name, None)
+        finally:
+            request.is_leaving = False
+
+    def _fire(self, timer: Timer) -> None:
+        try:
+            request = self._taken(timer.request)
+            if request is not None:
+                request._catch_up()  # (a timer is set behind the word of its stage)
+                request._fire(timer)
+            self.store.drop_timer(timer.request, timer.stage)
+        finally:
+            self._firing.discard(timer[:3])
+
+    def _serve(self, request: Request) -> None:
+        """Lets a thread look what is to do in a request."""
+        if request.is_queued or self._stops.is_set():
+            return
+        request.is_queued = True
+        self._submit(request.name, self._work, request)
+
+    def _submit(self, name: str, call: Callable[..., None], *given: Any) -> None:
+        with contextlib.suppress(RuntimeError):  # it is shut down, or the interpreter ends
+            self._pool.submit(self._guarded, name, call, *given)
+
+    def _guarded(self, name: str, call: Callable[..., None], *given: Any) -> None:
+        try:
+            call(*given)
+        except Broken as error:
+            self._break(name, error)
+        except (Unknown, StoreError) as error:
+            LOGGER.warning("request %r: %s", name, error)
+        except BaseException:
+            LOGGER.critical("request %r", name, exc_info=True)
+
+    # Work.
+
+    def _work(self, request: Request) -> None:
+        request.is_queued = False
+        request._catch_up()
+        self._abandon(request)
+        claimed = self._next(request, None)
+        while claimed is not None:
+            claimed = self._run(request, claimed)
+        request._end_if_done()
+
+    def _abandon(self, request: Request) -> None:
+        """Fails the stages whose session is gone. If it isn't, the row says who was first."""
+        for stage, session in list(request._desk.open_claims().items()):
+            if session != self.session and self._watcher.is_gone(session):
+                said = f"the worker that ran {request._desk.said(stage)['name']} is gone, and it may have run"
+                payload = self.codec.write_error(Abandoned(said))
+
+                def decide(desk: Desk, stage: int = stage, session: int = session, payload: bytes = payload) -> Any:
+                    if desk.open_claims().get(stage) != session:
+                        return None
+                    return [(FAIL << 56 | desk.who << 48 | stage << 36 | desk.place, payload)]
+                request._act(decide)
+
+    def _next(self, request: Request, finish: Optional[Finish]) -> Optional[Claimed]:
+        """Puts a finish, and with it the claim of the next stage, if there is one; what was claimed."""
+        chosen: List[int] = []
+
+        def decide(desk: Desk) -> Any:
+            made = [] if finish is None else [finish.word(desk)]
+            chosen[:] = self._choice(request, desk, finish)
+            return made + [(CLAIM << 56 | desk.who << 48 | stage << 36, None) for stage in chosen[:1]]
+        done = request._act(decide)
+        if len(chosen) > 1:
+            self._serve(request)
+        if done and chosen and not done[-1].reply[ANSWER]:
+            return self._claimed(request, chosen[0], done[-1])
+        return None
+
+    def _choice(self, request: Request, desk: Desk, finish: Optional[Finish]) -> List[int]:
+        """Which stages this session could claim: those that are ready, or that the finish makes ready."""
+        if self._stops.is_set() or not self._workers:
+            return []
+        ready = sorted(desk.ready)
+        if finish is not None and not desk.is_settled(finish.stage):
+            kind = THROWS if finish.kind == THROWS else GIVES
+            ready += [it for it in desk.behind(finish.stage)
+                      if not desk.is_settled(it) and desk.forms[it][0] in GOES_ON[kind] and len(desk.forms[it][1]) == 1]
+        return [stage for stage in ready[:64] if self._known(request, stage) is not None]
+
+    def _known(self, request: Request, stage: int) -> Optional[Known]:
+        """The function of a stage, or None where it isn't registered here: others may have it."""
+        said = request._desk.said(stage)
+        again = tried_again(said)
+        if again is not None:
+            said = request._desk.said(again)
+        known = self.functions.named(str(said.get("fn")), int(said.get("version", 0)))
+        if known is None and request.name not in self._unknown:
+            self._unknown[request.name] = (str(said.get("fn")), stage)
+            LOGGER.warning("request %r, stage %d: function %s, version %s isn't known here", request.name, stage, said.get("fn"), said.get("version"))
+        return known
+
+    def _claimed(self, request: Request, stage: int, done: Done) -> Optional[Claimed]:
+        desk, known = request._desk, self._known(request, stage)
+        assert known is not None
+        said, args = desk.said(stage), self._args(request, stage, done.reply)
+        again = tried_again(said)
+        if again is not None:
+            error = args[0]
+            said, args = desk.said(again), self._args_again(request, again)
+            return Claimed(stage, known, tuple(said.get("args", ())) or args, said.get("kwargs", {}), None if isinstance(error, Abandoned) else error)
+        return Claimed(stage, known, tuple(said.get("args", ())) or args, said.get("kwargs", {}), None)
+
+    def _args(self, request: Request, stage: int, reply: Sequence[int]) -> Tuple[Any, ...]:
+        """What a claim says that the function is called with."""
+        kind = reply[ARGS]
+        if kind == GOT:
+            value, error = request._outcome(Told(*reply[OUTCOME]))
+            return (error,) if request._desk.forms[stage][0] in ONLY_FAULT else (value, error)
+        first = request._value(reply[FIRST_SOME], reply[FIRST]) if kind in (ONE, TWO) else None
+        second = request._value(reply[SECOND_SOME], reply[SECOND]) if kind == TWO else None
+        return (first, second)[:kind]
+
+    def _args_again(self, request: Request, stage: int) -> Tuple[Any, ...]:
+        """What a stage's function was called with before, by what its sources hold."""
+        form, of = request._desk.forms[stage]
+        told = [request._desk.told[source] for source in of]
+        if form in (Form.HANDLE, Form.WHEN_COMPLETE):
+            return request._outcome(told[0])
+        if form == Form.EXCEPTIONALLY:
+            return (request._outcome(told[0])[1],)
+        if form == Form.APPLY_EITHER:
+            first = min((source for source in of if request._desk.is_settled(source)), key=lambda source: request._desk.places[source])
+            told = [request._desk.told[first]]
+        return tuple(request._value(it.some, it.number) if it.kind == VALUE else None for it in told)
+
+    def _run(self, request: Request, claimed: Claimed) -> Optional[Claimed]:
+        """Calls a function and puts its finish; what was claimed with it."""
+        if claimed.error is None and claimed.known.is_transactional:
+            return self._in_transaction(request, claimed)
+        return self._next(request, self._called(claimed))
+
+    def _called(self, claimed: Claimed, *first: Any) -> Finish:
+        try:
+            if claimed.error is not None:
+                raise claimed.error
+            value = claimed.known.call(*first, *claimed.args, **claimed.kwargs)
+            return Finish(claimed.stage, GIVES, None if value is None else self.codec.write(value))
+        except BaseException as error:
+            return Finish(claimed.stage, THROWS, self.codec.write_error(error))
+
+    def _in_transaction(self, request: Request, claimed: Claimed) -> Optional[Claimed]:
+        """The function's effect and the word of its finish stand or fall together. Where the finish's place was taken meanwhile, or the
+        connection is lost, all of it is done again, unless it stands."""
+        while True:
+            request._catch_up()
+            if request._desk.is_settled(claimed.stage):
+                return self._next(request, Finish(claimed.stage, GIVES, None))  # late: it does nothing
+            try:
+                with self.store.transaction() as transaction:
+                    finish = self._called(claimed, transaction.connection)
+                    if finish.kind == THROWS and transaction.is_lost:
+                        raise Unknown("the connection was lost")
+                    if finish.kind == THROWS:
+                        break
+                    if request._act_within(transaction, finish):
+                        return self._next(request, None)
+            except Unknown as error:
+                LOGGER.warning("request %r, stage %d: %s", request.name, claimed.stage, error)
+                time.sleep(0.05)
+                if request._stands(claimed.stage):
+                    return self._next(request, None)
+        return self._next(request, finish)
+

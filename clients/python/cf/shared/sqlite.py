@@ -1,0 +1,272 @@
+"""Rows in a file that processes of one machine share, by Python's own SQLite."""
+import contextlib
+import fcntl
+import os
+import sqlite3
+import threading
+import time
+from typing import Any, Callable, Dict, Generator, Iterator, List, Optional, Sequence, Tuple, TypeVar
+
+from .rows import Entry, Listed, Opened, Put, Store, StoreError, Timer, Transaction, Unknown
+
+T = TypeVar("T")
+SCHEMA = """
+    create table if not exists cf_request (id integer primary key autoincrement, name text not null unique, plan text not null,
+        opened real not null, closed real);
+    create table if not exists cf_word (request integer, at integer, word integer not null, token integer not null, payload blob,
+        primary key (request, at)) without rowid;
+    create table if not exists cf_large (request integer, place integer, payload blob not null, primary key (request, place));
+    create table if not exists cf_beat (session integer primary key, count integer not null);
+    create table if not exists cf_timer (request integer, stage integer, due real not null, payload blob not null,
+        primary key (request, stage)) without rowid;
+    create index if not exists cf_timer_due on cf_timer (due);
+    create index if not exists cf_request_open on cf_request (id) where closed is null
+"""
+PUT = "insert or ignore into cf_word values (?, ?, ?, ?, ?)"
+SMALL = 512  # bytes: a larger payload would make the words' own pages large
+BETWEEN_LOOKS = 0.001  # seconds between two looks at the file's version
+
+
+class SQLite(Store):
+    """A file. `synchronous` is FULL and the journal a write-ahead log, so what is answered is on disk; a file that can't have that is
+    refused. With `is_unsafe` it answers before it has written, which tests of tests need.
+
+    SQLite's own wait for a lock sleeps longer and longer, and is unfair: writers stand in line at a lock of the system's on `PATH-line`,
+    which a killed process leaves."""
+
+    is_transactional = True
+
+    def __init__(self, path: str, is_unsafe: bool = False) -> None:
+        self._path, self._synchronous = path, "off" if is_unsafe else "full"
+        self._local = threading.local()
+        self._ids: Dict[str, int] = {}
+        self._turn = threading.Lock()
+        try:
+            self._line = os.open(path + "-line", os.O_RDWR | os.O_CREAT, 0o644)
+        except OSError as error:
+            raise StoreError(f"{path}: {error}") from None
+        with self._in_line():
+            db = self._db
+            for statement in SCHEMA.split(";"):
+                db.execute(statement)
+
+    @property
+    def _db(self) -> sqlite3.Connection:
+        """This thread's connection."""
+        db: Optional[sqlite3.Connection] = getattr(self._local, "db", None)
+        if db is None or getattr(self._local, "process", 0) != os.getpid():
+            db = self._local.db = self._connected()
+            self._local.process = os.getpid()
+        return db
+
+    def _connected(self) -> sqlite3.Connection:
+        try:
+            db = sqlite3.connect(self._path, timeout=60, isolation_level=None)
+            mode = db.execute("pragma journal_mode=wal").fetchone()[0]
+            db.execute(f"pragma synchronous={self._synchronous}")
+        except sqlite3.OperationalError as error:
+            raise Unknown(f"{self._path}: {error}") from None
+        except sqlite3.DatabaseError as error:
+            raise StoreError(f"{self._path}: {error}") from None
+        if mode not in ("wal", "delete", "truncate", "persist"):
+            raise StoreError(f"{self._path}: journal_mode is {mode}, with which a crash loses words")
+        return db
+
+    @contextlib.contextmanager
+    def _first_in_line(self) -> Iterator[None]:
+        with self._turn:
+            fcntl.flock(self._line, fcntl.LOCK_EX)
+            try:
+                yield
+            finally:
+                fcntl.flock(self._line, fcntl.LOCK_UN)
+
+    @contextlib.contextmanager
+    def _in_line(self) -> Iterator[None]:
+        with self._first_in_line(), self._telling():
+            yield
+
+    @contextlib.contextmanager
+    def _telling(self) -> Iterator[None]:
+        try:
+            yield
+        except sqlite3.OperationalError as error:  # the disk is full, or can't be written
+            raise Unknown(f"{self._path}: {error}") from None
+
+    def _in_turn(self, act: Callable[[sqlite3.Connection], T]) -> T:
+        """Acts in a transaction."""
+        with self._in_line():
+            db = self._db
+            db.execute("begin immediate")
+            try:
+                told = act(db)
+                db.execute("commit")
+            except BaseException:
+                if db.in_transaction:
+                    db.execute("rollback")
+                raise
+            return told
+
+    def _ask(self, statement: str, *values: Any) -> List[Tuple[Any, ...]]:
+        with self._telling():
+            return self._db.execute(statement, values).fetchall()
+
+    def _id(self, name: str) -> int:
+        found = self._ids.get(name)
+        if found is None:
+            rows = self._ask("select id from cf_request where name = ?", name)
+            if not rows:
+                raise StoreError(f"{self._path} has no request {name!r}")
+            found = self._ids[name] = int(rows[0][0])
+        return found
+
+    # Requests.
+
+    def open(self, name: str, plan: str) -> Opened:
+        found = self.find(name)
+        if found is None:
+            now = time.time()
+            self._in_turn(lambda db: db.execute("insert or ignore into cf_request (name, plan, opened) values (?, ?, ?)", (name, plan, now)))
+            found = self.find(name)
+            assert found is not None
+        return found
+
+    def find(self, name: str) -> Optional[Opened]:
+        rows = self._ask("select id, plan, opened from cf_request where name = ?", name)
+        if not rows:
+            return None
+        self._ids[name] = int(rows[0][0])
+        return Opened(name, str(rows[0][1]), float(rows[0][2]))
+
+    def ends(self) -> Dict[str, int]:
+        return {str(name): int(many or 0) for name, many in self._ask(
+            "select name, (select max(at) + 1 from cf_word where request = id) from cf_request where closed is null")}
+
+    def listing(self) -> List[Listed]:
+        return [Listed(str(name), float(opened), closed, int(many or 0)) for name, opened, closed, many in self._ask(
+            "select name, opened, closed, (select max(at) + 1 from cf_word where request = id) from cf_request order by name")]
+
+    def end(self, name: str, at: int) -> None:
+        self._in_turn(lambda db: db.execute(
+            "update cf_request set closed = ? where name = ? and closed is null and (select count(*) from cf_word where request = id) = ?",
+            (time.time(), name, at)))
+
+    def reopen(self, name: str) -> None:
+        self._in_turn(lambda db: db.execute("update cf_request set closed = null where name = ? and closed is not null", (name,)))
+
+    def drop(self, name: str) -> None:
+        number = self._id(name)
+
+        def act(db: sqlite3.Connection) -> None:
+            for table in ("cf_word", "cf_large", "cf_timer"):
+                db.execute(f"delete from {table} where request = ?", (number,))
+            db.execute("delete from cf_request where id = ?", (number,))
+        self._in_turn(act)
+        self._ids.pop(name, None)
+
+    # Words.
+
+    def append_groups(self, puts: Sequence[Put]) -> List[Optional[List[Entry]]]:
+        ids = [self._id(put.request) for put in puts]
+        if len(puts) == 1 and len(puts[0].entries) == 1 and all(len(it) <= SMALL for it in puts[0].payloads.values()):
+            put = puts[0]
+            with self._in_line():
+                landed = [self._db.execute(PUT, (ids[0], put.at, *put.entries[0], put.payloads.get(put.at + 1))).rowcount == 1]
+        else:
+            landed = self._in_turn(lambda db: [_put(db, number, put) for number, put in zip(ids, puts)])
+        return [None if it else self.read(put.request, put.at) for it, put in zip(landed, puts)]
+
+    def read(self, name: str, at: int = 0) -> List[Entry]:
+        return [(int(word), int(token)) for word, token in self._ask(
+            "select word, token from cf_word where request = ? and at >= ? order by at", self._id(name), at)]
+
+    def payloads(self, name: str, places: Sequence[int]) -> Dict[int, bytes]:
+        number, told = self._id(name), {}
+        for place in places:
+            rows = self._ask("select payload from cf_word where request = ? and at = ?", number, place - 1)
+            if rows and rows[0][0] is None:
+                rows = self._ask("select payload from cf_large where request = ? and place = ?", number, place)
+            if rows:
+                told[place] = bytes(rows[0][0])
+        return told
+
+    def changed(self, seconds: float) -> None:
+        until = time.monotonic() + seconds
+        while True:
+            version = self._ask("pragma data_version")[0][0]
+            if version != getattr(self._local, "version", None):
+                self._local.version = version
+                return
+            left = until - time.monotonic()
+            if left <= 0:
+                return
+            time.sleep(min(left, BETWEEN_LOOKS))
+
+    # Sessions and timers.
+
+    def beat(self, session: int) -> None:
+        self._in_turn(lambda db: db.execute("insert into cf_beat values (?, 1) on conflict do update set count = count + 1", (session,)))
+
+    def beats(self) -> Dict[int, int]:
+        return {int(session): int(count) for session, count in self._ask("select session, count from cf_beat")}
+
+    def now(self) -> float:
+        return time.time()
+
+    def set_timer(self, timer: Timer) -> None:
+        number = self._id(timer.request)
+        self._in_turn(lambda db: db.execute("insert or replace into cf_timer values (?, ?, ?, ?)", (number, *timer[1:])))
+
+    def due(self, now: float) -> List[Timer]:
+        return [Timer(str(name), int(stage), float(due), bytes(payload)) for name, stage, due, payload in self._ask(
+            "select name, stage, due, payload from cf_timer join cf_request on id = request where due <= ? order by due", now)]
+
+    def drop_timer(self, request: str, stage: int) -> None:
+        number = self._id(request)
+        self._in_turn(lambda db: db.execute("delete from cf_timer where request = ? and stage = ?", (number, stage)))
+
+    # A function's own transaction.
+
+    @contextlib.contextmanager
+    def transaction(self) -> Generator[Transaction, None, None]:
+        with self._first_in_line():
+            db = self._connected()
+            try:
+                with self._telling():
+                    db.execute("begin immediate")
+                yield _Transaction(self, db)
+            finally:
+                if db.in_transaction:
+                    db.execute("rollback")
+                db.close()
+
+    def close(self) -> None:
+        db = getattr(self._local, "db", None)
+        if db is not None:
+            db.close()
+            self._local.db = None
+
+
+class _Transaction(Transaction):
+    def __init__(self, store: SQLite, connection: sqlite3.Connection) -> None:
+        self.connection, self._store = connection, store
+
+    def append(self, put: Put) -> bool:
+        with self._store._telling():
+            return _put(self.connection, self._store._id(put.request), put)
+
+    def commit(self) -> None:
+        with self._store._telling():
+            self.connection.execute("commit")
+
+
+def _put(db: sqlite3.Connection, request: int, put: Put) -> bool:
+    """Puts a group in a transaction that holds the file: whether it landed."""
+    for k, entry in enumerate(put.entries):
+        payload = put.payloads.get(put.at + 1 + k)
+        large = payload is not None and len(payload) > SMALL
+        if not db.execute(PUT, (request, put.at + k, *entry, None if large else payload)).rowcount:
+            return False  # the first: a row has no holes, so none of the group was put
+        if large:
+            db.execute("insert into cf_large values (?, ?, ?)", (request, put.at + 1 + k, payload))
+    return True

@@ -1,0 +1,34 @@
+"""Stores by their addresses."""
+from urllib.parse import parse_qs, urlsplit
+
+from .rows import Memory, Store
+
+
+def connect(address: str) -> Store:
+    """The store of an address:
+
+        memory://                                   in this process, for tests
+        sqlite:///relative.db, sqlite:////at/a.db   a file
+        postgresql://user@host:5432/database        a database, by psycopg2
+        etcd://host:2379,host:2379                  a cluster, by its JSON gateway
+
+    `?unsafe=1` lets an engine answer before it has written, for tests that want losses. `ValueError` of another address, `StoreError` where
+    the engine isn't one that keeps words, `Unknown` where it doesn't answer."""
+    parts = urlsplit(address)
+    options = parse_qs(parts.query)
+    is_unsafe = options.pop("unsafe", ["0"]) == ["1"]
+    if parts.scheme == "memory":
+        return Memory()
+    if parts.scheme == "sqlite" and parts.path[1:]:
+        from .sqlite import SQLite
+
+        return SQLite(parts.path[1:], is_unsafe)
+    if parts.scheme in ("postgresql", "postgres"):
+        from .postgres import Postgres
+
+        return Postgres(address.split("?")[0] if is_unsafe else address, is_unsafe)
+    if parts.scheme == "etcd" and parts.netloc:
+        from .etcd import Etcd
+
+        return Etcd(parts.netloc)
+    raise ValueError(f"{address!r} is no address of a store: memory://, sqlite:///FILE, postgresql://.., etcd://HOST:PORT,..")

@@ -1,0 +1,75 @@
+"""The functions of tests of cf.shared, which several processes know."""
+import os
+import time
+
+from cf.shared import Functions
+
+functions = Functions()
+
+
+@functions.function("inc")
+def inc(x):
+    return x + 1
+
+
+@functions.function("add")
+def add(x, y):
+    return x + y
+
+
+@functions.function("load")
+def load(number, extra=0):
+    return {"number": number, "extra": extra}
+
+
+@functions.function("number")
+def number(order):
+    return order["number"]
+
+
+@functions.function("fails")
+def fails(*_):
+    raise PermissionError("card declined")
+
+
+@functions.function("text")
+def text(error):
+    return f"sorry, {error}"
+
+
+@functions.function("both")
+def both(value, error):
+    return [value, None if error is None else type(error).__name__]
+
+
+@functions.function("nothing")
+def nothing(*_):
+    return None
+
+
+@functions.function("odd")
+def odd():
+    return object()
+
+
+@functions.function("slow")
+def slow(seconds):
+    time.sleep(seconds)
+    return os.getpid()
+
+
+@functions.function("mark")
+def mark(path, seconds=0.0):
+    """Leaves a line in a file, and then rests."""
+    with open(path, "a") as file:
+        file.write(f"{os.getpid()}\n")
+    time.sleep(seconds)
+    return "marked"
+
+
+@functions.function("pay", transactional=True)
+def pay(connection, account, seconds=0.0):
+    """An effect in the engine itself. It works over sqlite3 and psycopg2 alike."""
+    connection.execute("insert into paid values ('%s')" % account)
+    time.sleep(seconds)
+    return account

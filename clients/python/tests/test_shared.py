@@ -1,0 +1,522 @@
+#!/usr/bin/env python3
+"""Tests of cf.shared: rows, desks, durable services, workers, what a dead worker means, bad rows, the command.
+
+    CF_LIBRARY=/path/to/libcf.so python3 clients/python/tests/test_shared.py [-v] [TEST ..]
+
+They are over SQLite in a temporary folder. With CF_STORES="postgresql://.. etcd://.." those of rows and services are over these, too, which
+have to be empty.
+"""
+import asyncio
+import json
+import os
+import signal
+import sqlite3
+import subprocess
+import sys
+import tempfile
+import threading
+import time
+import unittest
+from concurrent.futures import CancelledError
+from pathlib import Path
+
+HERE = Path(__file__).resolve().parent
+sys.path.insert(0, str(HERE))
+if not os.environ.get("CF_INSTALLED"):
+    sys.path.insert(0, str(HERE.parent))
+import shared_functions as f  # noqa: E402
+from cf import requests  # noqa: E402
+from cf.service import Flow, RequestFull, Service  # noqa: E402
+from cf.shared import (Abandoned, Broken, Desk, DurableService, Functions, Grouped, Json, Memory, Put, RemoteError, StoreError, Unknown,  # noqa: E402
+                       connect, new_session)
+from cf.shared.plans import text_of  # noqa: E402
+
+STORES = os.environ.get("CF_STORES", "").split()
+EMPTY = text_of(None, Functions())
+
+
+class Case(unittest.TestCase):
+    lease = 10
+
+    def setUp(self):
+        self.folder = tempfile.TemporaryDirectory()
+        self.address = f"sqlite:///{self.folder.name}/db"
+        self.services, self.processes = [], []
+        self.name = f"{self.id()} {new_session():x}"
+
+    def tearDown(self):
+        for process in self.processes:
+            process.kill()
+            process.wait()
+            process.stderr.close()
+        for service in self.services:
+            service.shutdown()
+        self.folder.cleanup()
+
+    def service(self, address=None, **more):
+        made = DurableService(connect(address or self.address), 2, functions=f.functions, lease=self.lease, **more)
+        self.services.append(made)
+        return made
+
+    def worker(self, address=None, lease=None):
+        head = "import sys; sys.path[:0] = %r; from cf import worker; sys.exit(worker.main(sys.argv[1:]))"
+        paths = [str(HERE)] + ([] if os.environ.get("CF_INSTALLED") else [str(HERE.parent)])
+        process = subprocess.Popen([sys.executable, "-c", head % paths, "--store", address or self.address, "--lease", str(lease or self.lease),
+                                    "shared_functions"], stderr=subprocess.PIPE)
+        self.processes.append(process)
+        return process
+
+    def until(self, ask, seconds=20):
+        end = time.monotonic() + seconds
+        while not ask():
+            self.assertLess(time.monotonic(), end, "it takes too long")
+            time.sleep(0.01)
+
+
+class Rows(Case):
+    def stores(self):
+        yield Memory()
+        yield connect(self.address)
+        yield Grouped(connect(self.address + "2"))
+        for address in STORES:
+            yield connect(address)
+
+    def test_appends(self):
+        for store in self.stores():
+            with self.subTest(type(store).__name__):
+                name, other = self.name, self.name + " / other"
+                self.assertEqual(store.open(name, "plan").plan, "plan")
+                self.assertEqual(store.open(name, "another").plan, "plan")
+                store.open(other, "plan")
+                self.assertIsNone(store.find(name + "?"))
+                self.assertIsNone(store.append(Put(name, 0, [(1, 11)], {1: b"one"})))
+                self.assertEqual(store.append(Put(name, 0, [(2, 12)], {})), [(1, 11)])
+                self.assertIsNone(store.append(Put(name, 1, [(3, 13), (4, 14)], {2: b"x" * 5000})))
+                self.assertEqual(store.append(Put(name, 1, [(5, 15), (6, 16), (7, 17)], {2: b"lost"})), [(3, 13), (4, 14)])
+                self.assertEqual((store.read(name), store.read(name, 2), store.read(name, 9)), ([(1, 11), (3, 13), (4, 14)], [(4, 14)], []))
+                self.assertEqual(store.payloads(name, [1, 2, 3, 9]), {1: b"one", 2: b"x" * 5000})
+                told = store.append_groups([Put(other, 0, [(8, 18)], {}), Put(name, 1, [(9, 19)], {}), ])
+                self.assertEqual(told, [None, [(3, 13), (4, 14)]])
+                self.assertEqual({key: value for key, value in store.ends().items() if key.startswith(name)}, {name: 3, other: 1})
+                store.end(name, 2)
+                self.assertIn(name, store.ends())
+                store.end(name, 3)
+                self.assertNotIn(name, store.ends())
+                self.assertIsNotNone([it for it in store.listing() if it.name == name][0].closed)
+                store.reopen(name)
+                self.assertEqual(store.ends()[name], 3)
+                store.drop(name)
+                self.assertIsNone(store.find(name))
+                store.close()
+
+    def test_sessions_and_timers(self):
+        from cf.shared import Timer
+        for store in self.stores():
+            with self.subTest(type(store).__name__):
+                store.open(self.name, "plan")
+                session = new_session()
+                store.beat(session), store.beat(session)
+                self.assertEqual(store.beats()[session], 2)
+                now = store.now()
+                self.assertAlmostEqual(now, time.time(), delta=5)
+                timers = [Timer(self.name, k, now + k - 1, b"%d" % k) for k in range(3)]
+                for timer in timers:
+                    store.set_timer(timer)
+                mine = [it for it in store.due(now) if it.request == self.name]
+                self.assertEqual([(it.stage, it.payload) for it in mine], [(0, b"0"), (1, b"1")])
+                store.drop_timer(self.name, 0)
+                self.assertEqual([it.stage for it in store.due(now) if it.request == self.name], [1])
+                store.drop(self.name)
+                store.close()
+
+    def test_waiting(self):
+        for store in self.stores():
+            with self.subTest(type(store).__name__):
+                store.open(self.name, "plan")
+                self.assertFalse(store.wait(self.name, 0, 0.05))
+                threading.Timer(0.1, lambda store=store: store.append(Put(self.name, 0, [(1, 1)], {}))).start()
+                begun = time.monotonic()
+                self.assertTrue(store.wait(self.name, 0, 10))
+                self.assertLess(time.monotonic() - begun, 5)
+                store.drop(self.name)
+                store.close()
+
+    def test_addresses(self):
+        for address in ("mysql://x", "sqlite://", "etcd://", "db"):
+            with self.assertRaises(ValueError):
+                connect(address)
+        with self.assertRaises(StoreError):
+            connect("sqlite:////nowhere/at/all/db")
+        Path(self.folder.name, "text").write_text("no database, but a text that is long enough to be one" * 100)
+        with self.assertRaises(StoreError):
+            connect(f"sqlite:///{self.folder.name}/text")
+
+
+class Silent(Memory):
+    """Loses the reply of an append, once it has landed or before, as it is told; another may act meanwhile."""
+
+    def __init__(self, lands, meanwhile=None):
+        super().__init__()
+        self.lands, self.meanwhile = lands, meanwhile
+
+    def append(self, put):
+        if self.lands is None:
+            return super().append(put)
+        lands, self.lands = self.lands, None
+        if lands:
+            super().append(put)
+        if self.meanwhile:
+            self.meanwhile()
+        raise Unknown("cut")
+
+
+class Desks(Case):
+    def desk(self, store, session=None):
+        return Desk(store, store.open("r", json.dumps({"cf": 3, "flow": "", "stages": [{"form": "supply", "name": "s", "fn": "inc", "version": 1}]})),
+                    session or new_session())
+
+    def claim(self, desk):
+        desk.catch_up()
+        done, _ = desk.act(lambda desk: [(4 << 56 | desk.who << 48, None)] if 0 in desk.ready else None)
+        return done is not None and not done[0].reply[0]
+
+    def test_a_lost_reply(self):
+        """What was put is known by its token, and isn't put twice."""
+        for lands in (True, False):
+            store = Silent(lands)
+            desk = self.desk(store)
+            self.assertTrue(self.claim(desk))
+            self.assertEqual((len(store.read("r")), desk.unknown), (1, 1))
+
+    def test_a_lost_reply_and_another(self):
+        """Two that would be caller 0 both claim; the first's put was lost on the way. One is granted."""
+        store, granted = Silent(False), []
+        first, second = self.desk(store), self.desk(store)
+        store.meanwhile = lambda: granted.append(self.claim(second))
+        granted.append(self.claim(first))
+        self.assertEqual(sorted(granted), [False, True])
+        self.assertEqual(len(store.read("r")), 1)
+
+    def test_numbers(self):
+        """Each session takes the lowest free number by its first word, and keeps it."""
+        store = Memory()
+        desks = [self.desk(store) for _ in range(3)]
+        for desk in desks * 2:
+            desk.act(lambda desk: [(1 << 56 | desk.who << 48, None)])
+        self.assertEqual([word >> 48 & 0xFF for word, _ in store.read("r")], [0, 1, 2, 0, 1, 2])
+
+    def test_80_sessions(self):
+        """Above 64 numbers are shared; each stage is granted to one."""
+        store = Memory()
+        plan = {"cf": 3, "flow": "", "stages": [{"form": "supply", "name": "s", "fn": "inc", "version": 1}] * 80}
+        desks = [Desk(store, store.open("r", json.dumps(plan)), new_session()) for _ in range(80)]
+
+        def work(desk):
+            for stage in range(80):
+                done, _ = desk.act(lambda desk: [(4 << 56 | desk.who << 48 | stage << 36, None)] if stage in desk.ready else None)
+                if done and not done[0].reply[0]:
+                    granted.append(stage)
+                    desk.act(lambda desk: [(5 << 56 | desk.who << 48 | stage << 36, None)])
+        granted = []
+        threads = [threading.Thread(target=work, args=[desk]) for desk in desks]
+        for thread in threads:
+            thread.start()
+        for thread in threads:
+            thread.join(60)
+        self.assertEqual(sorted(granted), list(range(80)))
+        desks[0].catch_up()
+        self.assertTrue(desks[0].is_done())
+
+    def test_hand_written_words(self):
+        store = Memory()
+        desk = self.desk(store)
+        self.claim(desk)
+        store.append(Put("r", 1, [(99 << 56, 1)], {}))
+        with self.assertRaises(Broken) as told:
+            self.desk(store).catch_up()
+        self.assertEqual((told.exception.request, told.exception.place), ("r", 2))
+        self.assertIn("'r', place 2", str(told.exception))
+
+
+class Services(Case):
+    def each(self):
+        for address in [self.address, "memory://", *STORES]:
+            with self.subTest(address):
+                yield self.service(address), self.name + address
+
+    def test_forms(self):
+        for service, name in self.each():
+            r = service.request(name)
+            order = r.supply(f.load, 17, extra=2)
+            self.assertEqual(order.result(20), {"number": 17, "extra": 2})
+            number = order.then(f.number)
+            self.assertEqual(number.then(f.inc).result(20), 18)
+            self.assertEqual(number.combine(r.supply(f.load, 3).then(f.number), f.add).result(20), 20)
+            self.assertEqual(number.either(r.promise(), f.inc).result(20), 18)
+            failed = number.then(f.fails)
+            self.assertIsInstance(failed.exception(20), PermissionError)
+            self.assertEqual(str(failed.exception()), "card declined")
+            self.assertEqual(failed.recover(f.text).result(20), "sorry, card declined")
+            self.assertEqual(failed.handle(f.both).result(20), [None, "PermissionError"])
+            self.assertIsInstance(failed.when_done(f.nothing).then(f.inc).exception(20), PermissionError)
+            self.assertIsNone(number.then(f.nothing).result(20))
+            self.assertEqual(r.gather(number, number, number.then(f.inc)).result(20), [17, 17, 18])
+            self.assertIsNone(r.all_of(number, order).result(20))
+            self.assertEqual(r.first_of(r.promise(), number).result(20), 17)
+            self.assertIsInstance(r.supply(f.odd).exception(20), TypeError)
+
+    def test_settling(self):
+        for service, name in self.each():
+            r = service.request(name)
+            promise = r.promise("answer")
+            self.assertTrue(promise.complete([1, None]))
+            self.assertFalse(promise.complete(2) or promise.fail(KeyError("x")) or promise.cancel())
+            self.assertEqual(r["answer"].result(5), [1, None])
+            stopped = r.promise()
+            behind = stopped.then(f.inc)
+            self.assertTrue(stopped.cancel() and stopped.cancelled())
+            self.assertIsInstance(behind.exception(20), CancelledError)
+            self.assertIsInstance(r.promise().or_timeout(0.05).exception(20), TimeoutError)
+            self.assertEqual(r.promise().complete_on_timeout({"a": 1}, 0.05).result(20), {"a": 1})
+            stage = service.submit(f.load, 4, extra=1)
+            self.assertEqual(stage.result(20), {"number": 4, "extra": 1})
+            self.until(lambda: stage.request.name not in service.store.ends())
+
+    def flow(self):
+        flow = Flow("order")
+        number = flow.promise("number")
+        total = number.then(f.load).then(f.number).named("total").combine(flow.supply(f.inc, 4), f.add)
+        return flow, total, flow.gather(total, total), total.then(f.fails).recover(f.text)
+
+    def test_flows(self):
+        for service, name in self.each():
+            flow, total, both, sorry = self.flow()
+            request = service.start(flow, 10, name=name)
+            self.assertEqual((request[total].result(20), request[both].result(20), request[sorry].result(20)), (15, [15, 15], "sorry, card declined"))
+            self.until(lambda: name not in service.store.ends())
+            same = service.start(flow, 99, name=name)
+            self.assertEqual(same[total].result(5), 15)
+            with self.assertRaises(Broken):
+                other = Flow("other")
+                other.promise()
+                service.start(other, name=name)
+
+    def test_rules(self):
+        service = self.service()
+        r = service.request("r")
+        with self.assertRaises(TypeError):
+            r.supply(len, [])
+        flow = Flow()
+        flow.promise().compose(f.inc)
+        with self.assertRaises(TypeError):
+            service.start(flow)
+        with self.assertRaises(TypeError):
+            r.promise().complete(object())
+        with self.assertRaises(TypeError):
+            r.supply(f.load, object())
+        with self.assertRaises(KeyError):
+            service.open("nobody")
+        with self.assertRaises(ValueError):
+            service.function("inc")(lambda x: x)
+        with self.assertRaises(StoreError):
+            self.service("memory://").function("x", transactional=True)
+        self.assertIsInstance(Service(store=connect("memory://")), DurableService)
+        service.shutdown()
+        with self.assertRaises(RuntimeError):
+            service.request("s")
+
+    def test_remote_errors(self):
+        codec = Json()
+
+        class Ours(Exception):
+            pass
+        told = codec.read_error(codec.write_error(Ours("why", object())))
+        self.assertIsInstance(told, RemoteError)
+        self.assertIn("Ours", str(told))
+        codec.add(Ours)
+        self.assertIsInstance(codec.read_error(codec.write_error(Ours("why"))), Ours)
+
+    def test_history(self):
+        service = self.service()
+        r = service.request("order 17")
+        self.assertEqual(r.supply(f.load, 17).then(f.fails).recover(f.text).result(20), "sorry, card declined")
+        history = r.history()
+        for part in ("order 17: 9 words, 3 stages", "attaches 0 load, supply", "1 fails ends: PermissionError('card declined')",
+                     "2 text ends: 'sorry, card declined'"):
+            self.assertIn(part, str(history))
+        self.assertEqual(len(json.loads(history.account())["events"]), 9)
+
+    def test_it_is_awaited(self):
+        service = self.service()
+
+        async def main():
+            return await service.request().supply(f.load, 1)
+        self.assertEqual(asyncio.run(main())["number"], 1)
+
+    def test_a_full_request(self):
+        service = DurableService(Memory(), 0, functions=f.functions)
+        self.services.append(service)
+        flow = Flow()
+        for _ in range(4094):
+            flow.promise()
+        r = service.start(flow, name="full")
+        r.promise(), r.promise()
+        with self.assertRaises(RequestFull):
+            r.promise()
+        self.assertEqual(r.seen, 2)
+
+
+class Processes(Case):
+    lease = 2
+
+    def test_a_request_goes_on_elsewhere(self):
+        """Begun here, worked on by two processes, and resumed by a third service."""
+        service = self.service()
+        service._workers = 0  # it only asks
+        worker = [self.worker() for _ in range(2)]
+        r = service.request("r")
+        stages = [r.supply(f.slow, 0.01) for _ in range(12)]
+        pids = {stage.result(30) for stage in stages}
+        self.assertTrue(pids <= {it.pid for it in worker}, pids)
+        self.until(lambda: len(service.store.beats()) == 3)
+        for process in worker:
+            process.send_signal(signal.SIGTERM)
+            self.assertEqual(process.wait(10), 0, process.stderr.read())
+
+    def test_resume(self):
+        first = self.service()
+        first._workers = 0
+        stage = first.request("r").supply(f.load, 5).then(f.number)
+        time.sleep(0.2)
+        self.assertFalse(stage.done())
+        first.shutdown()
+        second = self.service()
+        self.assertEqual([r.name for r in second.resume()], ["r"])
+        self.assertEqual(second.open("r")["number"].result(20), 5)
+
+    def test_a_timer_outlives_who_set_it(self):
+        code = ("import sys, os; sys.path[:0] = %r; import shared_functions as f; from cf.shared import *; s = DurableService(connect(%r), 0, "
+                "functions=f.functions); s.request('r').promise('p').or_timeout(0.5); os._exit(0)")
+        paths = [str(HERE)] + ([] if os.environ.get("CF_INSTALLED") else [str(HERE.parent)])
+        subprocess.run([sys.executable, "-c", code % (paths, self.address)], check=True, timeout=60)
+        service = self.service()
+        service.resume()
+        self.assertIsInstance(service.open("r")["p"].exception(20), TimeoutError)
+
+    def killed(self, stage, path):
+        """Kills the worker that runs a stage, once it has left its mark, and starts another."""
+        worker = self.worker()
+        self.until(lambda: os.path.exists(path))
+        worker.kill()
+        worker.wait()
+        self.worker()
+        return stage
+
+    def test_once(self):
+        service, path = self.service(), f"{self.folder.name}/mark"
+        service._workers = 0
+        stage = self.killed(service.request("r").supply(f.mark, path, 30), path)
+        self.assertIsInstance(stage.exception(30), Abandoned)
+        self.assertIn("may have run", str(stage.exception()))
+        self.assertEqual(len(Path(path).read_text().split()), 1)
+
+    def test_again(self):
+        service, path = self.service(), f"{self.folder.name}/mark"
+        service._workers = 0
+        flow = Flow("job")
+        last = flow.supply(f.mark, path, 1.5).again(2)
+        r = service.start(flow, name="r")
+        self.assertEqual(self.killed(r[last], path).result(30), "marked")
+        self.assertEqual(len(Path(path).read_text().split()), 2)
+        self.assertIn("mark again", str(r.history()))
+        self.assertEqual(r[0].exception().__class__, Abandoned)
+
+    def test_in_the_engines_transaction(self):
+        """A worker dies between the effect and the finish: the effect is undone, and the next try does it, once."""
+        service, path = self.service(), f"{self.folder.name}/db"
+        service._workers = 0
+        db = sqlite3.connect(path, isolation_level=None)
+        db.execute("create table paid (account text)")
+        worker = self.worker()
+        r = service.request("r")
+        stage = r.supply(f.pay, "anna", 1.0).again()
+        self.until(lambda: any(desk == worker for desk in [worker]) and r._desk.claims)
+        time.sleep(0.5)
+        worker.kill()
+        worker.wait()
+        self.worker()
+        self.assertEqual(stage.result(30), "anna")
+        self.assertEqual(db.execute("select account from paid").fetchall(), [("anna",)])
+        db.close()
+
+    def test_a_function_that_nobody_knows(self):
+        """It waits, and other stages and requests go on."""
+        more = Functions()
+        more.add(f.functions)
+        strange = more.function("strange", version=2)(lambda: 1)
+        first = DurableService(connect(self.address), 0, functions=more)
+        self.services.append(first)
+        r = first.request("r")
+        waits, runs = r.supply(strange), r.supply(f.load, 1)
+        with self.assertLogs("cf.shared", "WARNING") as logs:
+            service = self.service(takes_all=True)
+            self.assertEqual(service.open("r")[runs.number].result(20)["number"], 1)
+        self.assertIn("'r', stage 0: function strange, version 2 isn't known here", "\n".join(logs.output))
+        self.assertFalse(waits.done())
+
+    def test_bad_rows_leave_others_alone(self):
+        service = self.service()
+        db = sqlite3.connect(f"{self.folder.name}/db", isolation_level=None)
+        bad, gone, good = service.request("bad"), service.request("gone"), service.request("good")
+        waits, value = bad.promise(), gone.promise("value")
+        value.complete({"a": 1})
+        db.execute("update cf_word set payload = null where request = 2 and at = 1")
+        with self.assertLogs("cf.shared", "ERROR") as logs:
+            db.execute("insert into cf_word values (1, 1, 77, 7, null)")
+            self.assertIsInstance(waits.exception(20), Broken)
+        self.assertIn("'bad', place 2", "\n".join(logs.output))
+        other = self.service()
+        with self.assertRaises(Broken) as told:
+            other.open("gone")["value"].result(5)
+        self.assertIn("'gone', place 2: no payload", str(told.exception))
+        self.assertEqual(good.supply(f.load, 1).result(20)["number"], 1)
+        db.close()
+
+    def test_the_worker_command(self):
+        for words in (["--store", "nothing://", "shared_functions"], ["--store", self.address, "json"], ["--store", self.address, "no.such.module"]):
+            done = subprocess.run([sys.executable, "-m", "cf.worker", *words], stderr=subprocess.PIPE, timeout=60,
+                                  env=dict(os.environ, PYTHONPATH=os.pathsep.join([str(HERE), str(HERE.parent)])))
+            self.assertEqual(done.returncode, 2, done.stderr)
+            self.assertTrue(done.stderr.startswith(b"cf.worker: "), done.stderr)
+
+
+class Command(Case):
+    def run_it(self, *words):
+        import contextlib
+        import io
+        out, err = io.StringIO(), io.StringIO()
+        with contextlib.redirect_stdout(out), contextlib.redirect_stderr(err):
+            status = requests.main(["--store", self.address, *words])
+        return status, out.getvalue(), err.getvalue()
+
+    def test_requests(self):
+        service = self.service()
+        r = service.request("order 17")
+        r.supply(f.load, 17).result(20)
+        r.promise("answer")
+        service.request("order 18").promise()
+        self.assertIn("order 17  0 s  4 words  1 of 2 stages wait: 1 answer pending", self.run_it("list")[1])
+        self.assertIn("0 load ends: {'number': 17, 'extra': 0}", self.run_it("show", "order 17")[1])
+        self.assertEqual(len(json.loads(self.run_it("show", "order 17", "--account")[1])["events"]), 4)
+        self.assertEqual(self.run_it("end", "order 17", "--cancel")[:2], (0, "order 17 is closed, 1 stages were cancelled\n"))
+        self.assertNotIn("order 17", self.run_it("list")[1])
+        self.assertIn("order 17", self.run_it("list", "--closed")[1])
+        self.assertEqual(self.run_it("drop", "--days", "1")[1], "0 dropped\n")
+        self.assertEqual(self.run_it("drop", "--days", "0")[1], "1 dropped\n")
+        self.assertEqual(self.run_it("show", "order 17")[0], 1)
+        with self.assertRaises(SystemExit):
+            self.run_it("what")
+
+
+if __name__ == "__main__":
+    unittest.main()
