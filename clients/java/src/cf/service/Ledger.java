@@ -25,6 +25,10 @@ final class Ledger {
     private static final boolean TIMES = !"false".equals(System.getProperty("cf.times"));
     private static final ConcurrentLinkedQueue<Core> CORES = new ConcurrentLinkedQueue<>();
     private static final AtomicInteger FREE = new AtomicInteger();
+    /** Cores that aren't freed, and how many of them there may be until the collector is asked. */
+    private static final AtomicInteger LIVE = new AtomicInteger();
+    private static final int LEAST_LIVE = 8192;
+    private static volatile int mostLive = LEAST_LIVE;
     private static final long[] NO_WORDS = {};
     /** Whether histories also compare what callers were told with what a ledger tells in which the words are done again; for tests. */
     static final boolean WITNESSED = Boolean.getBoolean("cf.witness");
@@ -53,13 +57,40 @@ final class Ledger {
         private final Freed freed;
 
         Core() {
+            if (LIVE.incrementAndGet() > mostLive) {
+                collect();
+            }
             long made = Native.create();
             if (made == 0) {
+                LIVE.getAndDecrement();
                 throw new OutOfMemoryError("a ledger of cf");
             }
             at = made;
             memory = Native.memory(made).order(ByteOrder.nativeOrder());
-            freed = new Freed(this, () -> Native.destroy(made));
+            freed = new Freed(this, () -> {
+                LIVE.getAndDecrement();
+                Native.destroy(made);
+            });
+        }
+
+        /**
+         * The collector doesn't see what a core takes outside the heap, some KB. So where there are twice as many as it left the last time,
+         * it is asked to look which of them nobody can reach, as the JDK asks it for direct buffers.
+         */
+        private static synchronized void collect() {
+            if (LIVE.get() <= mostLive) {
+                return;
+            }
+            System.gc();
+            for (int k = 0; k < 50 && LIVE.get() > mostLive / 2; k++) {
+                try {
+                    Thread.sleep(1);
+                } catch (InterruptedException interrupted) {
+                    Thread.currentThread().interrupt();
+                    break;
+                }
+            }
+            mostLive = Math.max(LEAST_LIVE, 2 * LIVE.get());
         }
     }
 
