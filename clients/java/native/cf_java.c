@@ -67,16 +67,16 @@ static void write_args(struct shown *shown, const cf_args *args) {
   shown->args[8] = (int32_t)outcome->value.kind, shown->args[9] = outcome->value.number;
 }
 
-/* One event, and room for its stage where there is none. */
-static uint32_t apply(struct core *core, uint64_t word, cf_reply *reply, cf_news *changed, size_t *n) {
-  uint32_t code = cf_ledger_apply(&core->ledger, word, reply, changed, NEWS, n);
+/* One event with so many of its news, and room for its stage where there is none. */
+static uint32_t apply(struct core *core, uint64_t word, cf_reply *reply, cf_news *changed, size_t most, size_t *n) {
+  uint32_t code = cf_ledger_apply(&core->ledger, word, reply, changed, most, n);
   if (code == CF_NO_ROOM && core->room < MOST) {
     uint32_t place = MOST - core->stages - core->room, more = core->room < ROOM ? ROOM : core->room;
     if (more > place) more = place;
     code = more ? cf_ledger_grow(&core->ledger, (uint16_t)more) : CF_NO_ROOM;
     if (code == CF_OK) {
       core->room += more;
-      code = cf_ledger_apply(&core->ledger, word, reply, changed, NEWS, n);
+      code = cf_ledger_apply(&core->ledger, word, reply, changed, most, n);
     }
   }
   if (code == CF_OK) core->events++;
@@ -97,9 +97,8 @@ static uint32_t claim(struct core *core, uint32_t who) {
   int32_t stage = own_ready(shown);
   if (stage < 0) return CF_OK;
   cf_reply reply;
-  cf_news changed[NEWS];
-  size_t n;
-  uint32_t code = apply(core, (uint64_t)4 << 56 | (uint64_t)who << 48 | (uint64_t)stage << 36, &reply, changed, &n);
+  size_t n; /* It changes that stage alone. */
+  uint32_t code = apply(core, (uint64_t)4 << 56 | (uint64_t)who << 48 | (uint64_t)stage << 36, &reply, NULL, 0, &n);
   if (code == CF_OK) {
     shown->claimed = stage;
     write_args(shown, &reply.args);
@@ -119,7 +118,7 @@ METHOD(jint, apply)(JNIEnv *env, jclass class, jlong at, jint count, jint who) {
   cf_news changed[NEWS];
   while (shown->done < count) {
     size_t n;
-    uint32_t code = apply(core, shown->words[shown->done], &reply, changed, &n);
+    uint32_t code = apply(core, shown->words[shown->done], &reply, changed, NEWS, &n);
     if (code != CF_OK) return (jint)code;
     shown->done++;
     core->told = core->events - 1;

@@ -556,6 +556,9 @@ public final class Request implements AutoCloseable {
                     continue;
                 }
                 Stage<?> stage = number < stages.length ? stages[number] : null;
+                if (stage == null && Recorder.NOW != null && Recorder.NOW.takesStages()) {
+                    stage = at(number);
+                }
                 if (stage != null) {
                     stages[number] = null;
                     stage.function = null;
