@@ -334,7 +334,7 @@ public final class ServiceTest {
 
     /** Of completing, failing, cancelling and the clock exactly one settles a stage, whoever asks sees it alike, and the history says who. */
     private static void races() throws Exception {
-        int rounds = Integer.getInteger("test.races", 2000);
+        int rounds = Integer.getInteger("test.races", 500);
         ExecutorService pool = Executors.newFixedThreadPool(4);
         CyclicBarrier together = new CyclicBarrier(4);
         int[] won = new int[5];
@@ -530,7 +530,7 @@ public final class ServiceTest {
 
     /** Requests that nobody closed are freed, in the heap and outside. */
     private static void unreachable() throws Exception {
-        int count = Integer.getInteger("test.requests", 100_000);
+        int count = Integer.getInteger("test.requests", 30_000);
         WeakReference<Object> value = new WeakReference<>(dropped());
         for (int k = 0; k < 100 && value.get() != null; k++) {
             System.gc();
