@@ -1,0 +1,288 @@
+package cf.service;
+
+import java.util.ArrayList;
+import java.util.List;
+import java.util.Objects;
+import java.util.concurrent.CompletionStage;
+import java.util.concurrent.Executor;
+import java.util.function.BiConsumer;
+import java.util.function.BiFunction;
+import java.util.function.Consumer;
+import java.util.function.Function;
+import java.util.function.Supplier;
+
+/**
+ * A plan of stages with their functions, built once and done again for each request, any number of which go on at the same time.
+ *
+ * <pre>{@code
+ * Flow flow = new Flow("order");
+ * Flow.Step<Integer> number = flow.promise();
+ * Flow.Step<Total> total = number.thenApply(this::user).thenCombine(flow.supplyAsync(this::quote), Total::new);
+ *
+ * try (Request request = service.start(flow, 17)) {   // completes the promises in their order
+ *     request.stage(total).get(5, SECONDS);
+ * }
+ * }</pre>
+ *
+ * <p>It may be added to until its first request is begun, by one thread; a step more throws {@link IllegalStateException} then. It has at
+ * most 4,096 steps, of which a composing one takes two; else {@link RequestFullException}.
+ */
+public final class Flow {
+    /** Stands for the executor of the service. */
+    private static final Executor OF_SERVICE = act -> {
+        throw new AssertionError();
+    };
+
+    private final String name;
+    private final List<Row> rows = new ArrayList<>();
+    private final List<Integer> promises = new ArrayList<>();
+    private volatile Row[] fixed;
+    private Ledger.Plan plan;
+    private boolean startsReady;
+
+    static final class Row {
+        final Form form;
+        final int[] of;
+        final Object function;
+        Executor executor;
+        String name;
+
+        Row(Form form, int[] of, Object function, Executor executor) {
+            this.form = form;
+            this.of = of;
+            this.function = function;
+            this.executor = executor;
+        }
+    }
+
+    public Flow(String name) {
+        this.name = Objects.requireNonNull(name);
+    }
+
+    /** A stage of each request of the flow: {@link Request#stage} gives it. Its methods plan one more, as those of CompletionStage do. */
+    public final class Step<T> {
+        private final int number;
+
+        Step(int number) {
+            this.number = number;
+        }
+
+        int number() {
+            return number;
+        }
+
+        Flow flow() {
+            return Flow.this;
+        }
+
+        /** What histories call it. This step itself is given back. */
+        public Step<T> named(String name) {
+            row(number).name = name;
+            return this;
+        }
+
+        /** Has its function called by the service's executor, as Async does. This step itself is given back. */
+        public Step<T> async() {
+            return async(OF_SERVICE);
+        }
+
+        /** Has its function called by this executor. This step itself is given back. */
+        public Step<T> async(Executor executor) {
+            row(number).executor = Objects.requireNonNull(executor);
+            return this;
+        }
+
+        public <U> Step<U> thenApply(Function<? super T, ? extends U> fn) {
+            return step(Form.APPLY, fn, number);
+        }
+
+        public Step<Void> thenAccept(Consumer<? super T> action) {
+            return step(Form.ACCEPT, action, number);
+        }
+
+        public Step<Void> thenRun(Runnable action) {
+            return step(Form.THEN_RUN, action, number);
+        }
+
+        public <U> Step<U> thenCompose(Function<? super T, ? extends CompletionStage<U>> fn) {
+            return step(Form.COMPOSE, fn, number);
+        }
+
+        public <U> Step<U> handle(BiFunction<? super T, Throwable, ? extends U> fn) {
+            return step(Form.HANDLE, fn, number);
+        }
+
+        public Step<T> whenComplete(BiConsumer<? super T, ? super Throwable> action) {
+            return step(Form.WHEN_COMPLETE, action, number);
+        }
+
+        public Step<T> exceptionally(Function<Throwable, ? extends T> fn) {
+            return step(Form.EXCEPTIONALLY, fn, number);
+        }
+
+        public Step<T> exceptionallyCompose(Function<Throwable, ? extends CompletionStage<T>> fn) {
+            return step(Form.EXCEPTIONALLY_COMPOSE, fn, number);
+        }
+
+        public <U, V> Step<V> thenCombine(Step<? extends U> other, BiFunction<? super T, ? super U, ? extends V> fn) {
+            return step(Form.COMBINE, fn, number, own(other));
+        }
+
+        public <U> Step<Void> thenAcceptBoth(Step<? extends U> other, BiConsumer<? super T, ? super U> action) {
+            return step(Form.ACCEPT_BOTH, action, number, own(other));
+        }
+
+        public Step<Void> runAfterBoth(Step<?> other, Runnable action) {
+            return step(Form.RUN_BOTH, action, number, own(other));
+        }
+
+        public <U> Step<U> applyToEither(Step<? extends T> other, Function<? super T, U> fn) {
+            return step(Form.APPLY_EITHER, fn, number, own(other));
+        }
+
+        public Step<Void> acceptEither(Step<? extends T> other, Consumer<? super T> action) {
+            return step(Form.ACCEPT_EITHER, action, number, own(other));
+        }
+
+        public Step<Void> runAfterEither(Step<?> other, Runnable action) {
+            return step(Form.RUN_EITHER, action, number, own(other));
+        }
+    }
+
+    /** What {@link Service#start} gives, or who completes the request's stage. */
+    public <U> Step<U> promise() {
+        Step<U> step = add(Form.SOURCE, null, null);
+        promises.add(step.number());
+        return step;
+    }
+
+    public <U> Step<U> supplyAsync(Supplier<U> supplier) {
+        return this.<U>step(Form.SUPPLY, supplier).async();
+    }
+
+    public Step<Void> runAsync(Runnable runnable) {
+        return this.<Void>step(Form.RUN_ASYNC, runnable).async();
+    }
+
+    /** One step, of however many. */
+    public Step<Void> allOf(Step<?>... of) {
+        return add(Form.ALL_OF, null, null, own(of));
+    }
+
+    /** One step, of however many. */
+    public Step<Object> anyOf(Step<?>... of) {
+        return add(Form.ANY_OF, null, null, own(of));
+    }
+
+    public String name() {
+        return name;
+    }
+
+    private <U> Step<U> step(Form form, Object function, int... of) {
+        Objects.requireNonNull(function);
+        if (form.composes) {
+            add(Form.SOURCE, null, null);
+            row(rows.size() - 1).name = "relay";
+        }
+        return add(form, function, null, of);
+    }
+
+    private <U> Step<U> add(Form form, Object function, Executor executor, int... of) {
+        if (fixed != null) {
+            throw new IllegalStateException("a request of the flow \"" + name + "\" was begun");
+        }
+        if (rows.size() == Ledger.MOST_STAGES) {
+            throw new RequestFullException(name);
+        }
+        startsReady |= of.length == 0 && form != Form.SOURCE;
+        rows.add(new Row(form, of, function, executor));
+        return new Step<>(rows.size() - 1);
+    }
+
+    private int own(Step<?> other) {
+        if (other.flow() != this) {
+            throw new IllegalArgumentException("the step is of another flow");
+        }
+        return other.number();
+    }
+
+    private int[] own(Step<?>[] of) {
+        int[] numbers = new int[of.length];
+        for (int k = 0; k < of.length; k++) {
+            numbers[k] = own(of[k]);
+        }
+        return numbers;
+    }
+
+    private Row row(int number) {
+        return rows.get(number);
+    }
+
+    // For requests.
+
+    synchronized Ledger.Plan plan() {
+        if (plan == null) {
+            int length = 0;
+            for (Row row : rows) {
+                length += 3 + row.of.length;
+            }
+            int[] numbers = new int[length];
+            int at = 0;
+            for (int k = 0; k < rows.size(); k++) {
+                Row row = rows.get(k);
+                numbers[at++] = row.form.ordinal();
+                numbers[at++] = row.form.calls ? k : -1;
+                numbers[at++] = row.of.length;
+                for (int source : row.of) {
+                    numbers[at++] = source;
+                }
+            }
+            plan = new Ledger.Plan(numbers, rows.size());
+            fixed = rows.toArray(new Row[0]);
+        }
+        return plan;
+    }
+
+    /** Whether a stage is ready before anything was done. */
+    boolean startsReady() {
+        return startsReady;
+    }
+
+    int count() {
+        return fixed.length;
+    }
+
+    int promises() {
+        return promises.size();
+    }
+
+    int promise(int k) {
+        return promises.get(k);
+    }
+
+    Row at(int number) {
+        return fixed[number];
+    }
+
+    Form form(int number) {
+        return fixed[number].form;
+    }
+
+    Object function(int number) {
+        return fixed[number].function;
+    }
+
+    String name(int number) {
+        return fixed[number].name;
+    }
+
+    /** Whether whoever makes it ready calls its function. */
+    boolean isOwn(int number) {
+        return fixed[number].form.calls && fixed[number].executor == null;
+    }
+
+    <U> Stage<U> stage(Request request, int number) {
+        Row row = fixed[number];
+        return new Stage<>(request, number, row.form, row.function, row.executor == OF_SERVICE ? request.service.executor() : row.executor);
+    }
+}

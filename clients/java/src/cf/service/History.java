@@ -1,0 +1,457 @@
+package cf.service;
+
+import java.util.ArrayList;
+import java.util.Arrays;
+import java.util.List;
+import java.util.Locale;
+
+/**
+ * What happened to a request: told in words, as an account that {@code cf_look check} judges, and as a script for {@code cf run}. It stays
+ * as it is while the request goes on. Replies and outcomes are those of a ledger in which the words are done once more.
+ */
+public final class History {
+    // Kinds of outcomes and of arguments, answers of claims and finishes: numbers of cf.h.
+    static final int GIVES = 1, THROWN = 2, CANCELLED = 3, TIMED_OUT = 4;
+    static final int NO_ARGS = 0, ONE = 1, TWO = 2, OUTCOME = 3;
+    static final int GRANTED = 0, WON = 0;
+
+    /** Numbers of a reply: its answer, its number, and its arguments. */
+    private static final int REPLY = 12;
+    /** Numbers of what is told: behind how many events, its stage, what it is, its number. */
+    private static final int TOLD = 4;
+
+    private final String name;
+    private final Flow flow;
+    private final long[] words;
+    private final long[] times;
+    private final int stages;
+    private final String[] names;
+    private final Object[] values;
+    private final Throwable[] errors;
+    private final String[] threads;
+    private final int[][] witness;
+    private int[] replies, told, ends;
+
+    History(String name, Flow flow, Ledger ledger, String[] names, Object[] values, Throwable[] errors, String[] threads) {
+        this.name = name;
+        this.flow = flow;
+        words = ledger.words();
+        times = ledger.times(words.length);
+        stages = ledger.stages();
+        witness = ledger.witness();
+        this.names = names;
+        this.values = values;
+        this.errors = errors;
+        this.threads = threads;
+    }
+
+    /** The words of all events in their order. */
+    public long[] words() {
+        return words.clone();
+    }
+
+    public int events() {
+        return words.length;
+    }
+
+    public int stages() {
+        return stages;
+    }
+
+    private int planned() {
+        return flow == null ? 0 : flow.count();
+    }
+
+    /** Does all words once more, for their replies. */
+    private synchronized void read() {
+        if (replies != null) {
+            return;
+        }
+        Ledger ledger = new Ledger(flow == null ? null : flow.plan(), stages - planned());
+        int[] replies = new int[REPLY * words.length];
+        int[] told = new int[TOLD * stages];
+        int tolds = 0;
+        for (int k = 0; k < words.length; k++) {
+            ledger.apply(words[k], Ledger.ARGUMENTS);
+            replies[REPLY * k] = ledger.answer();
+            replies[REPLY * k + 1] = ledger.number();
+            for (int i = 0; i < 10; i++) {
+                replies[REPLY * k + 2 + i] = ledger.argument(i);
+            }
+            do {
+                for (int i = 0; i < ledger.news(); i++) {
+                    int what = (int) ledger.news(i);
+                    if ((what >>> 12 & 1) != 0) {
+                        told = tolds == told.length ? Arrays.copyOf(told, 2 * tolds) : told;
+                        told[tolds++] = k + 1;
+                        told[tolds++] = what & 0xfff;
+                        told[tolds++] = what >>> 16;
+                        told[tolds++] = (int) (ledger.news(i) >>> 32);
+                    }
+                }
+            } while (ledger.more());
+        }
+        int[] ends = new int[2 * stages];
+        for (int k = 0; k < stages; k++) {
+            ledger.ask(k);
+            if (ledger.news() > 0) {
+                ends[2 * k] = (int) ledger.news(0) >>> 16;
+                ends[2 * k + 1] = (int) (ledger.news(0) >>> 32);
+            }
+        }
+        ledger.rest();
+        this.told = Arrays.copyOf(told, tolds);
+        this.ends = ends;
+        this.replies = replies;
+        for (int k = 0; witness != null && k < witness.length; k++) {
+            compare(witness[k]);
+        }
+    }
+
+    /** Compares what was told when a word was done. */
+    private void compare(int[] seen) {
+        int place = seen[0], claimed = seen[2];
+        boolean same = seen[1] == answer(place) && (claimed < 0 || Words.kind(words[place + 1]) == Words.CLAIM
+                && Words.stage(words[place + 1]) == claimed && answer(place + 1) == GRANTED);
+        for (int k = 0; k < 10 && claimed >= 0; k++) {
+            same &= seen[3 + k] == argument(place + 1, k);
+        }
+        int settled = 0;
+        for (int k = 13; k < seen.length; k += 2) {
+            if ((seen[k] >>> 12 & 1) != 0) {
+                settled++;
+                same &= seen[k] >>> 16 == ends[2 * (seen[k] & 0xfff)] && seen[k + 1] == ends[2 * (seen[k] & 0xfff) + 1];
+            }
+        }
+        for (int k = 0; k < told.length; k += TOLD) {
+            settled -= told[k] == place + 1 ? 1 : 0;
+        }
+        if (!same || settled > 0 || settled < 0 && seen.length < 13 + 2 * 64) {
+            throw new AssertionError("event " + place + " was told otherwise: " + Arrays.toString(seen) + "\n" + toString());
+        }
+    }
+
+    private int answer(int event) {
+        return replies[REPLY * event];
+    }
+
+    private int number(int event) {
+        return replies[REPLY * event + 1];
+    }
+
+    private int argument(int event, int at) {
+        return replies[REPLY * event + 2 + at];
+    }
+
+    // In words.
+
+    /** A line for each event, and one for each stage that it settled. */
+    @Override
+    public String toString() {
+        read();
+        StringBuilder text = new StringBuilder(name + ": " + events() + " events, " + stages + " stages\n");
+        String[] forms = forms();
+        int next = 0;
+        for (int k = 0; k < events(); k++) {
+            String time = times == null ? "" : String.format(Locale.ROOT, "%9.3f ms  ", (times[k] - times[0]) / 1e6);
+            text.append(time).append(sentence(k, forms)).append('\n');
+            for (; next < told.length && told[next] == k + 1; next += TOLD) {
+                text.append("              ").append(stage(told[next + 1], forms)).append(" ends: ")
+                        .append(outcome(told[next + 2], told[next + 3])).append('\n');
+            }
+        }
+        return text.toString();
+    }
+
+    /** The same in one line, for a log: the name, how much there was, which stages failed first, and which aren't settled. */
+    public String line() {
+        read();
+        String[] forms = forms();
+        int failed = 0, open = 0;
+        String first = "", waiting = "";
+        for (int k = 0; k < told.length; k += TOLD) {
+            if ((told[k + 2] & 0xf) != GIVES && failed++ == 0) {
+                first = ": " + stage(told[k + 1], forms) + " by " + outcome(told[k + 2], told[k + 3]);
+            }
+        }
+        for (int k = 0; k < stages; k++) {
+            if (ends[2 * k] == 0 && open++ == 0) {
+                waiting = ": " + stage(k, forms);
+            }
+        }
+        String time = times == null || times.length == 0 ? ""
+                : String.format(Locale.ROOT, " in %.3f ms", (times[times.length - 1] - times[0]) / 1e6);
+        return (name + ": " + events() + " events, " + stages + " stages" + time + "; " + failed + " failed" + first + "; " + open + " open"
+                + waiting).replace('\n', ' ').replace('\r', ' ');
+    }
+
+    private String[] forms() {
+        String[] forms = new String[stages];
+        int at = 0;
+        for (; at < planned(); at++) {
+            forms[at] = flow.form(at).text;
+        }
+        for (long word : words) {
+            if (Words.kind(word) == Words.ATTACH && at < stages) {
+                forms[at++] = Form.of(Words.low(word) >>> 24).text;
+            }
+        }
+        return forms;
+    }
+
+    /** Of a stage that isn't settled: ", waits for " and its sources that aren't either. */
+    String waitsFor(int stage) {
+        read();
+        int[] of = sources(stage);
+        String[] forms = forms();
+        StringBuilder text = new StringBuilder();
+        for (int source : of) {
+            if (ends[2 * source] == 0) {
+                text.append(text.length() == 0 ? ", waits for " : " and ").append(stage(source, forms));
+            }
+        }
+        return text.toString();
+    }
+
+    private int[] sources(int stage) {
+        if (stage < planned()) {
+            return flow.at(stage).of;
+        }
+        int at = planned();
+        for (long word : words) {
+            if (Words.kind(word) == Words.ATTACH && at++ == stage) {
+                int second = Words.low(word) >>> 12 & 0xfff;
+                return Words.tag(word) == 0 ? new int[0] : Words.tag(word) == 1 ? new int[] {Words.stage(word)}
+                        : new int[] {Words.stage(word), second};
+            }
+        }
+        return new int[0];
+    }
+
+    private String sentence(int k, String[] forms) {
+        long word = words[k];
+        String who = who(Words.who(word)), on = stage(Words.stage(word), forms);
+        switch (Words.kind(word)) {
+            case Words.ATTACH:
+                int sources = Words.tag(word), form = Words.low(word) >>> 24;
+                return who + " attaches " + number(k) + " " + named(number(k)) + Form.of(form).text + (sources > 0 ? " behind " + on : "")
+                        + (sources > 1 ? " and " + stage(Words.low(word) >>> 12 & 0xfff, forms) : "");
+            case Words.CLAIM:
+                String[] said = {"is granted", "is too late, it is settled", "is too late, another has it", "is too early"};
+                return who + " claims " + on + " and " + said[answer(k)] + (answer(k) == 0 ? calledWith(k) : "");
+            case Words.FINISH:
+                String gave = Words.tag(word) == 2 ? "which threw " + brief(errors[Words.low(word)])
+                        : Words.tag(word) == 3 ? "which waits for " + stage(Words.low(word), forms)
+                        : "which gave " + value(Words.tag(word), Words.low(word));
+                return who + " finishes " + on + ", " + gave + new String[] {"", ", too late", ", which it had not claimed"}[answer(k)];
+            case Words.COMPLETE:
+                return who + " completes " + on + " with " + value(Words.tag(word), Words.low(word)) + late(k);
+            case Words.FAIL:
+                return who + " fails " + on + " with " + brief(errors[Words.low(word)]) + late(k);
+            default:
+                return who + " cancels " + on + late(k);
+        }
+    }
+
+    private String late(int k) {
+        return answer(k) == 1 ? "" : ", too late";
+    }
+
+    private String calledWith(int k) {
+        switch (argument(k, 0)) {
+            case NO_ARGS:
+                return "";
+            case OUTCOME:
+                int kind = argument(k, 5);
+                return ", with " + (kind == GIVES ? value(argument(k, 8), argument(k, 9))
+                        : kind == THROWN ? brief(errors[argument(k, 7)]) : "a cancellation");
+            case ONE:
+                return ", with " + value(argument(k, 1), argument(k, 2));
+            default:
+                return ", with " + value(argument(k, 1), argument(k, 2)) + " and " + value(argument(k, 3), argument(k, 4));
+        }
+    }
+
+    private String who(int who) {
+        return who == Request.CLOCK ? "the clock" : who == Request.RELAY ? "a relay"
+                : who == Request.OTHER_THREADS ? "some thread" : threads[who - Request.FIRST_THREAD];
+    }
+
+    private String named(int stage) {
+        return names[stage] == null ? "" : names[stage] + ", ";
+    }
+
+    private String stage(int stage, String[] forms) {
+        return stage < stages ? stage + " " + (names[stage] != null ? names[stage] : forms[stage]) : "" + stage;
+    }
+
+    private String value(int some, int number) {
+        return some == 0 ? "null" : brief(values[number]);
+    }
+
+    private String outcome(int what, int number) {
+        boolean wrapped = (what & 16) != 0;
+        return (what & 0xf) == GIVES ? value(what >>> 5 & 1, number)
+                : ((what & 0xf) == THROWN ? brief(errors[number]) : "cancelled") + (wrapped ? ", wrapped" : "");
+    }
+
+    static String brief(Object thing) {
+        String text;
+        try {
+            text = String.valueOf(thing);
+        } catch (RuntimeException unspeakable) {
+            text = "a " + thing.getClass().getSimpleName();
+        }
+        return text.length() <= 60 ? text : text.substring(0, 57) + "...";
+    }
+
+    // For the programs.
+
+    /** What {@code cf_look check} judges: the events, each caller's replies, the outcomes that were told, and what the stages hold. */
+    public String account() {
+        read();
+        List<StringBuilder> callers = new ArrayList<>();
+        StringBuilder events = new StringBuilder();
+        int next = 0;
+        for (int k = 0; k < events(); k++) {
+            while (callers.size() <= Words.who(words[k])) {
+                callers.add(new StringBuilder());
+            }
+            StringBuilder own = callers.get(Words.who(words[k]));
+            events.append(k == 0 ? "\"" : ",\"").append(words[k]).append('"');
+            own.append(own.length() == 0 ? "" : ",").append("[\"did\",").append(k + 1).append(",\"").append(words[k]).append("\",\"")
+                    .append(reply(k)).append("\"]");
+            for (; next < told.length && told[next] == k + 1; next += TOLD) {
+                own.append(",[\"outcome\",").append(k + 1).append(',').append(told[next + 1]).append(",\"")
+                        .append(text(told[next + 2], told[next + 3])).append("\"]");
+            }
+        }
+        StringBuilder records = new StringBuilder();
+        for (StringBuilder own : callers) {
+            records.append(records.length() == 0 ? "[" : ",[").append(own).append(']');
+        }
+        StringBuilder outcomes = new StringBuilder();
+        for (int k = 0; k < stages; k++) {
+            outcomes.append(k == 0 ? "\"" : ",\"").append(end(k)).append('"');
+        }
+        return "{\"plan\":{\"cf\":2,\"room\":" + (stages - planned()) + ",\"stages\":[" + plan() + "]},\"functions\":" + Math.max(stages, 1)
+                + ",\"events\":[" + events + "],\"callers\":[" + records + "],\"outcomes\":[" + outcomes + "]}";
+    }
+
+    /** How a stage ends, as reports have it: "pending", "value 3", "fault cancelled raw". */
+    String end(int stage) {
+        read();
+        return ends[2 * stage] == 0 ? "pending" : text(ends[2 * stage], ends[2 * stage + 1]);
+    }
+
+    /** What {@code cf run} prints of the script: the replies, and what the stages hold. */
+    public String report() {
+        read();
+        StringBuilder text = new StringBuilder();
+        for (int k = 0; k < events(); k++) {
+            text.append(reply(k)).append('\n');
+        }
+        for (int k = 0; k < stages; k++) {
+            text.append("stage ").append(k).append(' ').append(end(k)).append('\n');
+        }
+        return text.toString();
+    }
+
+    /** What {@code cf run} does again, and {@code cf_look} draws and makes a page of. */
+    public String script() {
+        StringBuilder steps = new StringBuilder();
+        for (int k = 0; k < events(); k++) {
+            steps.append(k == 0 ? "" : ",").append(step(words[k]));
+        }
+        return "{\"cf\":2,\"room\":" + (stages - planned()) + ",\"stages\":[" + plan() + "],\"steps\":[" + steps + "]}";
+    }
+
+    private String plan() {
+        StringBuilder text = new StringBuilder();
+        for (int k = 0; k < planned(); k++) {
+            Flow.Row row = flow.at(k);
+            text.append(k == 0 ? "" : ",").append(form(row.form, row.of, k));
+        }
+        return text.toString();
+    }
+
+    private static String form(Form form, int[] of, int function) {
+        String sources = Arrays.toString(of).replace(" ", "");
+        return "{\"form\":\"" + form.text + "\"" + (of.length == 0 ? "" : ",\"of\":" + sources)
+                + (form.calls ? ",\"fn\":{\"const\":" + function + "}" : "") + "}";
+    }
+
+    private static String step(long word) {
+        int stage = Words.stage(word), low = Words.low(word), tag = Words.tag(word);
+        String given = tag == 0 ? "null" : "" + low;
+        switch (Words.kind(word)) {
+            case Words.COMPLETE:
+                return "[\"complete\"," + stage + "," + given + "]";
+            case Words.FAIL:
+                return "[\"fail\"," + stage + "," + low + "]";
+            case Words.CANCEL:
+                return "[\"cancel\"," + stage + "]";
+            case Words.CLAIM:
+                return "[\"claim\"," + Words.who(word) + "," + stage + "]";
+            case Words.FINISH:
+                return "[\"finish\"," + Words.who(word) + "," + stage + ",{"
+                        + (tag == 2 ? "\"throw\":" + low : tag == 3 ? "\"link\":" + low : "\"give\":" + given) + "}]";
+            default:
+                int[] of = tag == 0 ? new int[0] : tag == 1 ? new int[] {stage} : new int[] {stage, low >>> 12 & 0xfff};
+                return "[\"attach\"," + form(Form.of(low >>> 24), of, low & 0xfff) + "]";
+        }
+    }
+
+    private String reply(int k) {
+        int answer = answer(k);
+        switch (Words.kind(words[k])) {
+            case Words.CLAIM:
+                return answer != 0 ? new String[] {"", "settled", "taken", "notready"}[answer] : granted(k);
+            case Words.FINISH:
+                return new String[] {"won", "late", "notyours"}[answer];
+            case Words.ATTACH:
+                return answer != 0 ? "stagesfull" : "attached " + number(k);
+            default:
+                return answer != 0 ? "true" : "false";
+        }
+    }
+
+    private String granted(int k) {
+        switch (argument(k, 0)) {
+            case NO_ARGS:
+                return "granted none";
+            case ONE:
+                return "granted one " + text(argument(k, 1) != 0, argument(k, 2));
+            case TWO:
+                return "granted two " + text(argument(k, 1) != 0, argument(k, 2)) + " " + text(argument(k, 3) != 0, argument(k, 4));
+            default:
+                int kind = argument(k, 5);
+                return "granted got " + text(kind | argument(k, 6) << 4 | (argument(k, 8) != 0 ? 32 : 0),
+                        kind == GIVES ? argument(k, 9) : argument(k, 7));
+        }
+    }
+
+    private static String text(boolean some, int number) {
+        return some ? "" + number : "nil";
+    }
+
+    private static String text(int what, int number) {
+        String cause;
+        switch (what & 0xf) {
+            case GIVES:
+                return "value " + text((what & 32) != 0, number);
+            case THROWN:
+                cause = "thrown " + Integer.toUnsignedString(number);
+                break;
+            case CANCELLED:
+                cause = "cancelled";
+                break;
+            case TIMED_OUT:
+                cause = "timeout";
+                break;
+            default:
+                cause = "badanswer";
+        }
+        return "fault " + cause + ((what & 16) != 0 ? " wrapped" : " raw");
+    }
+}

@@ -1,0 +1,93 @@
+package cf.service;
+
+import java.io.IOException;
+import java.io.InputStream;
+import java.nio.ByteBuffer;
+import java.nio.file.Files;
+import java.nio.file.Path;
+import java.nio.file.Paths;
+import java.nio.file.StandardCopyOption;
+
+/**
+ * The methods of native/cf_java.c, and how it is found: by the property {@code cf.native}, which names the file; else in the jar; else
+ * where {@link System#loadLibrary} looks for {@code cf_java}.
+ *
+ * <p>One thread at a time has a core. Answers are codes of cf.h, 0 where all went well.
+ */
+final class Native {
+    /** Codes of cf.h. */
+    static final int OK = 0, NO_MEMORY = 8;
+
+    /** Places in a core's memory, in bytes: those of struct shown. */
+    static final int DONE = 0, ANSWER = 4, NUMBER = 8, NEWS = 12, CLAIMED = 16, ARGS = 20, REST = 60, WORDS = 64, OWN = 576, CHANGED = 1088;
+
+    /** How many words a core takes at once. */
+    static final int MOST_WORDS = 64;
+
+    static {
+        load();
+    }
+
+    private Native() {}
+
+    /** Does so many of the words in the memory, and then claims for the caller {@code who}, if it isn't negative. */
+    static native int apply(long core, int count, int who);
+
+    /** The next news where not all had place. */
+    static native int more(long core);
+
+    /** One stage as news. */
+    static native int ask(long core, int stage);
+
+    /** The stages that are ready, from a number on, as news. */
+    static native int ready(long core, int from);
+
+    /** A core without a ledger, or 0. */
+    static native long create();
+
+    static native ByteBuffer memory(long core);
+
+    static native void destroy(long core);
+
+    /** Frees the ledger and keeps the core. */
+    static native void rest(long core);
+
+    /** A ledger of a plan, 0 for the one without stages, with room, in which these words are done. */
+    static native int open(long core, long plan, int room, long[] words);
+
+    static native int events(long core);
+
+    static native int words(long core, long[] into);
+
+    /** A plan, or a code negated. */
+    static native long plan(int[] rows);
+
+    static native void forget(long plan);
+
+    static native String version();
+
+    private static void load() {
+        String named = System.getProperty("cf.native");
+        if (named != null) {
+            System.load(Paths.get(named).toAbsolutePath().toString());
+            return;
+        }
+        String machine = System.getProperty("os.name").toLowerCase() + "-" + System.getProperty("os.arch");
+        String within = "native/" + ("linux-amd64".equals(machine) ? "linux-x86_64" : machine) + "/libcf_java.so";
+        try (InputStream library = Native.class.getResourceAsStream(within)) {
+            if (library == null) {
+                System.loadLibrary("cf_java");
+                return;
+            }
+            Path copy = Files.createTempFile("libcf_java", ".so");
+            try {
+                Files.copy(library, copy, StandardCopyOption.REPLACE_EXISTING);
+                System.load(copy.toString());
+            } finally {
+                Files.deleteIfExists(copy); // What is mapped stays.
+            }
+        } catch (IOException fault) {
+            throw new UnsatisfiedLinkError("cf.service: " + fault);
+        }
+    }
+}

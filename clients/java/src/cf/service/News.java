@@ -1,0 +1,76 @@
+package cf.service;
+
+/**
+ * What is to be told once the lock is free: stages that were settled; that are ready, for executors or for this thread; one claimed. They may
+ * be of several requests, so that a chain through many of them is no recursion.
+ */
+final class News {
+    private Stage<?> settled, lastSettled, handed, lastHanded, lastHere;
+    /** The first stage that this thread is to claim and call. */
+    Stage<?> here;
+
+    /** The request of the stage that was claimed, or null; the stage; what is called, and with what. */
+    Request claimedIn;
+    int claimed;
+    Form form;
+    Object function, first, second;
+
+    void settled(Stage<?> stage) {
+        if (settled == null) {
+            settled = stage;
+        } else {
+            lastSettled.nextSettled = stage;
+        }
+        lastSettled = stage;
+    }
+
+    void ready(Stage<?> stage) {
+        if (stage.executor == null) {
+            if (here == null) {
+                here = stage;
+            } else {
+                lastHere.nextReady = stage;
+            }
+            lastHere = stage;
+        } else {
+            if (handed == null) {
+                handed = stage;
+            } else {
+                lastHanded.nextReady = stage;
+            }
+            lastHanded = stage;
+        }
+    }
+
+    Stage<?> pollSettled() {
+        Stage<?> stage = settled;
+        if (stage != null) {
+            settled = stage.nextSettled;
+            stage.nextSettled = null;
+        }
+        return stage;
+    }
+
+    Stage<?> pollHanded() {
+        Stage<?> stage = handed;
+        if (stage != null) {
+            handed = stage.nextReady;
+            stage.nextReady = null;
+        }
+        return stage;
+    }
+
+    Stage<?> pollHere() {
+        Stage<?> stage = here;
+        if (stage != null) {
+            here = stage.nextReady;
+            stage.nextReady = null;
+        }
+        return stage;
+    }
+
+    /** Whether the next stage that becomes ready and is this thread's own is the one to be called next. */
+    boolean isFree() {
+        return claimedIn == null && here == null;
+    }
+}

@@ -1,0 +1,863 @@
+package cf.service;
+
+import java.util.Arrays;
+import java.util.Objects;
+import java.util.concurrent.CancellationException;
+import java.util.concurrent.CompletableFuture;
+import java.util.concurrent.CompletionException;
+import java.util.concurrent.CompletionStage;
+import java.util.concurrent.Executor;
+import java.util.function.Supplier;
+
+/**
+ * Stages that belong together, of which one history is kept. Any thread may use it.
+ *
+ * <p>Its methods are named as the static ones of {@link CompletableFuture}. Each change is one word of the request's ledger, done under the
+ * request's lock. Under the same lock the stages show what came of it, so nobody reads what is behind what he was told; whoever waits,
+ * and functions, are called once the lock is free.
+ *
+ * <p>A request has at most 4,096 stages. One more throws {@link RequestFullException} and changes nothing; of a request that
+ * {@link #goesOn() goes on} it goes to a further one, by relays.
+ */
+public final class Request implements AutoCloseable {
+    /** Callers: the clock, what settles relays, the threads in the order in which they came, and those for which there is no number. */
+    static final int CLOCK = 0, RELAY = 1, FIRST_THREAD = 2, OTHER_THREADS = 63;
+
+    private static final Stage<?>[] NO_STAGES = {};
+
+    final Service service;
+    private final String name;
+    /** It has one stage, and rests once that is settled. */
+    private final boolean single;
+    /** Of which it has the first stages, or null. */
+    private final Flow flow;
+    private final Ledger ledger;
+
+    /** Those that aren't settled; of a flow, those that were asked for. */
+    private Stage<?>[] stages;
+    private String[] names;
+    private Object[] values = new Object[8];
+    private int valueCount;
+    private Throwable[] errors;
+    private Fault[] raw, wrapped;
+    private int errorCount;
+    private Fault cancellation, wrappedCancellation;
+    private long thread = -1;
+    private long[] threads;
+    private String[] threadNames = new String[1];
+    private int threadCount;
+    private boolean goesOn;
+    private volatile Request next;
+
+    Request(Service service, String name, Flow flow, int room, boolean single) {
+        this.service = service;
+        this.name = name;
+        this.flow = flow;
+        this.single = single;
+        ledger = new Ledger(flow == null ? null : flow.plan(), room);
+        stages = flow == null && room > 0 ? new Stage<?>[room] : NO_STAGES;
+    }
+
+    /** What an exception is told by: the stage's outcome, and what its function is called with. */
+    static final class Fault {
+        final Throwable error;
+        /** Its number in this request, or -1 of a cancellation. */
+        final int code;
+
+        Fault(Throwable error, int code) {
+            this.error = error;
+            this.code = code;
+        }
+    }
+
+    /** What an executor is given. */
+    private static final class Task implements Runnable, CompletableFuture.AsynchronousCompletionTask {
+        private final Stage<?> stage;
+
+        Task(Stage<?> stage) {
+            this.stage = stage;
+        }
+
+        @Override
+        public void run() {
+            stage.request.work(stage);
+        }
+    }
+
+    // Stages.
+
+    /**
+     * What the supplier gives, called by the service's executor.
+     *
+     * @throws RequestFullException where there is no place; so do all methods that attach stages
+     */
+    public <U> Stage<U> supplyAsync(Supplier<U> supplier) {
+        return supplyAsync(supplier, service.executor());
+    }
+
+    public <U> Stage<U> supplyAsync(Supplier<U> supplier, Executor executor) {
+        return started(Form.SUPPLY, Objects.requireNonNull(supplier), Objects.requireNonNull(executor));
+    }
+
+    public Stage<Void> runAsync(Runnable runnable) {
+        return runAsync(runnable, service.executor());
+    }
+
+    public Stage<Void> runAsync(Runnable runnable, Executor executor) {
+        return started(Form.RUN_ASYNC, Objects.requireNonNull(runnable), Objects.requireNonNull(executor));
+    }
+
+    /** What somebody completes: what {@code new CompletableFuture<>()} is. */
+    public <U> Stage<U> promise() {
+        return attach(Form.SOURCE, null, null, null, null, false);
+    }
+
+    public <U> Stage<U> completedFuture(U value) {
+        return completed(this.<U>promise(), value);
+    }
+
+    public <U> Stage<U> failedFuture(Throwable error) {
+        Objects.requireNonNull(error);
+        return failed(this.<U>promise(), error);
+    }
+
+    public <U> CompletionStage<U> completedStage(U value) {
+        return completed(this.<U>minimal(), value);
+    }
+
+    public <U> CompletionStage<U> failedStage(Throwable error) {
+        Objects.requireNonNull(error);
+        return failed(this.<U>minimal(), error);
+    }
+
+    private <U> Stage<U> minimal() {
+        return attach(Form.SOURCE, null, null, null, null, true);
+    }
+
+    private static <U> Stage<U> completed(Stage<U> stage, U value) {
+        stage.request.complete(stage.number, value, -1);
+        return stage;
+    }
+
+    private static <U> Stage<U> failed(Stage<U> stage, Throwable error) {
+        stage.request.fail(stage.number, error, -1);
+        return stage;
+    }
+
+    /** As {@link CompletableFuture#allOf}; of n stages it takes n - 1. */
+    public Stage<Void> allOf(CompletionStage<?>... of) {
+        return tree(Form.ALL_OF, of);
+    }
+
+    /** As {@link CompletableFuture#anyOf}; of n stages it takes n - 1. */
+    public Stage<Object> anyOf(CompletionStage<?>... of) {
+        return tree(Form.ANY_OF, of);
+    }
+
+    /** A stage of this request that ends as that one does, by a relay. One of this request is given back itself. */
+    @SuppressWarnings("unchecked")
+    public <U> Stage<U> adopt(CompletionStage<U> of) {
+        if (Objects.requireNonNull(of) instanceof Stage<?> && ((Stage<U>) of).request == this) {
+            return (Stage<U>) of;
+        }
+        Stage<U> relay = promise();
+        relay.request.name(relay.number, "relay");
+        News news = new News();
+        handOver(of, relay, news);
+        tell(news);
+        return relay;
+    }
+
+    /** The stage of a step of the flow that this is a request of. */
+    @SuppressWarnings("unchecked")
+    public <U> Stage<U> stage(Flow.Step<U> step) {
+        if (step.flow() != flow) {
+            throw new IllegalArgumentException("the step is of another flow");
+        }
+        synchronized (ledger) {
+            Stage<U> stage = (Stage<U>) at(step.number());
+            if (stage.told == null) {
+                shown(stage);
+            }
+            return stage;
+        }
+    }
+
+    /** A stage of a flow that is asked for once it is settled. */
+    private void shown(Stage<?> stage) {
+        ledger.ask(stage.number);
+        if (ledger.news() > 0) {
+            long change = ledger.news(0);
+            if (((int) change >>> 12 & 1) != 0) {
+                stages[stage.number] = null;
+                stage.told = told((int) change, (int) (change >>> 32));
+                stage.show();
+            }
+        }
+    }
+
+    /** Lets stages for which there is no place go to a further request, {@link #next}, instead of an exception. This one is given back. */
+    public Request goesOn() {
+        goesOn = true;
+        return this;
+    }
+
+    /** The request to which stages went for which there was no place here, or null. */
+    public Request next() {
+        return next;
+    }
+
+    public String name() {
+        return name;
+    }
+
+    /** All that happened until now. It costs the doing again of all words, some microseconds, once it is read. */
+    public History history() {
+        synchronized (ledger) {
+            int count = ledger.stages();
+            String[] names = this.names == null ? new String[count] : Arrays.copyOf(this.names, count);
+            for (int k = 0; flow != null && k < flow.count(); k++) {
+                names[k] = names[k] == null ? flow.name(k) : names[k];
+            }
+            return new History(name, flow, ledger, names, Arrays.copyOf(values, valueCount),
+                    errors == null ? new Throwable[0] : Arrays.copyOf(errors, errorCount), Arrays.copyOf(threadNames, threadCount));
+        }
+    }
+
+    /** Gives the memory outside the heap back to be used again. Stages may be used on: if need be all words are done again. */
+    @Override
+    public void close() {
+        synchronized (ledger) {
+            ledger.rest();
+        }
+    }
+
+    void name(int stage, String name) {
+        synchronized (ledger) {
+            if (names == null || names.length <= stage) {
+                names = names == null ? new String[Math.max(stage + 1, 8)] : Arrays.copyOf(names, 2 * stage);
+            }
+            names[stage] = name;
+        }
+    }
+
+    /** What a stage is called: by its name, or by its form. */
+    String called(Stage<?> stage) {
+        synchronized (ledger) {
+            String given = names == null || names.length <= stage.number ? null : names[stage.number];
+            return stage.number + " " + (given != null ? given : stage.form.text);
+        }
+    }
+
+    // Attaching.
+
+    private <U> Stage<U> started(Form form, Object function, Executor executor) {
+        Stage<U> stage = attach(form, null, null, function, executor, false);
+        Throwable refused = stage.more == null ? null : stage.more.refused;
+        if (refused != null) {
+            Request.<RuntimeException>rethrow(refused);
+        }
+        return stage;
+    }
+
+    @SuppressWarnings("unchecked")
+    private static <E extends Throwable> void rethrow(Throwable error) throws E {
+        throw (E) error;
+    }
+
+    /** A stage that is attached takes at most two sources; a tree of them tells what one of all would. */
+    private <U> Stage<U> tree(Form form, CompletionStage<?>[] of) {
+        for (CompletionStage<?> each : of) {
+            Objects.requireNonNull(each);
+        }
+        CompletionStage<?>[] row = Arrays.copyOf(of, of.length, CompletionStage[].class);
+        int count = row.length;
+        while (count > 2) {
+            int half = (count + 1) / 2;
+            for (int k = 0; k < half; k++) {
+                row[k] = 2 * k + 1 < count ? attach(form, row[2 * k], row[2 * k + 1], null, null, false) : row[2 * k];
+            }
+            count = half;
+        }
+        return attach(form, count > 0 ? row[0] : null, count > 1 ? row[1] : null, null, null, false);
+    }
+
+    /** Attaches a stage behind those, which are of any request. What it takes of them, it takes at once. */
+    <U> Stage<U> attach(Form form, CompletionStage<?> first, CompletionStage<?> second, Object function, Executor executor, boolean minimal) {
+        if (next != null) {
+            return next.attach(form, first, second, function, executor, minimal);
+        }
+        int foreign = (isForeign(first) ? 1 : 0) + (isForeign(second) ? 1 : 0);
+        Stage<U> stage = null;
+        News news = null;
+        if (foreign == 0 || hasPlace(1 + foreign + (form.composes ? 1 : 0))) {
+            Stage<?> a = first == null ? null : adopt(first), b = second == null ? null : adopt(second);
+            // What went to a further request is of no use here.
+            if ((a == null || a.request == this) && (b == null || b.request == this)) {
+                synchronized (ledger) {
+                    if (ledger.hasPlace(form.composes ? 2 : 1)) {
+                        news = waits(form, a, b) ? null : new News();
+                        stage = added(form, a, b, function, executor, minimal, news);
+                    }
+                }
+            }
+        }
+        if (stage == null) {
+            return further().attach(form, first, second, function, executor, minimal);
+        }
+        if (news != null) {
+            tell(news);
+        }
+        return stage;
+    }
+
+    private boolean isForeign(CompletionStage<?> of) {
+        return of != null && !(of instanceof Stage<?> && ((Stage<?>) of).request == this);
+    }
+
+    private boolean hasPlace(int more) {
+        synchronized (ledger) {
+            return ledger.hasPlace(more);
+        }
+    }
+
+    /** Whether a stage behind those can't have anything to do yet, so that its word may wait for the next one. The lock is held. */
+    private static boolean waits(Form form, Stage<?> a, Stage<?> b) {
+        return form == Form.SOURCE || a != null && a.told == null && (b == null || b.told == null);
+    }
+
+    private Request further() {
+        synchronized (ledger) {
+            if (!goesOn) {
+                throw new RequestFullException(name);
+            }
+            if (next == null) {
+                next = new Request(service, name + ", further", null, 32, false).goesOn();
+            }
+            return next;
+        }
+    }
+
+    private <U> Stage<U> added(Form form, Stage<?> a, Stage<?> b, Object function, Executor executor, boolean minimal, News news) {
+        int who = who();
+        if (form.composes) {
+            Stage<?> relay = new Stage<>(this, reserve(who), Form.SOURCE, null, null);
+            enter(relay);
+        }
+        int number = ledger.stages();
+        Stage<U> stage = minimal ? new MinimalStage<>(this, number, form, function, executor)
+                : new Stage<>(this, number, form, function, executor);
+        if (form.calls && executor == null) {
+            ledger.own(number);
+        }
+        int sources = b != null ? 2 : a != null ? 1 : 0;
+        long word = Words.attach(who, form, sources, a == null ? 0 : a.number, b == null ? 0 : b.number, form.calls ? number : 0);
+        if (news == null) {
+            ledger.attachLater(word);
+        } else {
+            ledger.attach(word, who);
+        }
+        enter(stage);
+        record(word);
+        if (a != null) {
+            a.dependents++;
+        }
+        if (b != null && b != a) {
+            b.dependents++;
+        }
+        if (news != null) {
+            publish(news, who);
+        }
+        return stage;
+    }
+
+    private int reserve(int who) {
+        long word = Words.attach(who, Form.SOURCE, 0, 0, 0, 0);
+        record(word);
+        return ledger.attachLater(word);
+    }
+
+    private void enter(Stage<?> stage) {
+        if (stage.number >= stages.length) {
+            stages = Arrays.copyOf(stages, Math.min(Ledger.MOST_STAGES, Math.max(stage.number + 8, 2 * stages.length)));
+        }
+        stages[stage.number] = stage;
+    }
+
+    /** A source for a stage that is being made, which calls {@link #entered}: its number, or -1 where there is no place. */
+    int reserve() {
+        synchronized (ledger) {
+            return ledger.hasPlace(1) ? reserve(who()) : -1;
+        }
+    }
+
+    void entered(Stage<?> stage) {
+        synchronized (ledger) {
+            enter(stage);
+        }
+    }
+
+    Request followed() {
+        return next != null ? next : further();
+    }
+
+    /** The stage of a number, which is made now where it is a flow's. */
+    private Stage<?> at(int number) {
+        Stage<?> stage = number < stages.length ? stages[number] : null;
+        if (stage == null && flow != null && number < flow.count()) {
+            stage = flow.stage(this, number);
+            enter(stage);
+        }
+        return stage;
+    }
+
+    /** Makes a flow's request begin: its promises get values, in their order. */
+    void begin(Object[] given) {
+        News news = new News();
+        synchronized (ledger) {
+            int who = who();
+            for (int k = 0; k < flow.count(); k++) {
+                if (flow.isOwn(k)) {
+                    ledger.own(k);
+                }
+            }
+            for (int from = 0; flow.startsReady();) {
+                from = ledger.ready(from);
+                for (int k = 0; k < ledger.news(); k++) {
+                    news.ready(at((int) ledger.news(k) & 0xfff));
+                }
+                if (from == 0) {
+                    break;
+                }
+            }
+            for (int k = 0; k < given.length; k++) {
+                change(Words.complete(who, flow.promise(k), number(given[k])), who, news);
+            }
+            claimNext(news, who);
+        }
+        tell(news);
+    }
+
+    // Settling.
+
+    boolean complete(int stage, Object value, int by) {
+        News news = new News();
+        boolean did;
+        synchronized (ledger) {
+            int who = who();
+            did = change(Words.complete(by < 0 ? who : by, stage, number(value)), who, news);
+            claimNext(news, who);
+        }
+        tell(news);
+        return did;
+    }
+
+    boolean fail(int stage, Throwable error, int by) {
+        News news = new News();
+        boolean did;
+        synchronized (ledger) {
+            int who = who();
+            did = change(Words.fail(by < 0 ? who : by, stage, code(error)), who, news);
+            claimNext(news, who);
+        }
+        tell(news);
+        return did;
+    }
+
+    boolean cancel(int stage) {
+        News news = new News();
+        boolean did;
+        synchronized (ledger) {
+            int who = who();
+            did = change(Words.cancel(who, stage), who, news);
+            claimNext(news, who);
+        }
+        tell(news);
+        return did;
+    }
+
+    /** The word by which a relay is settled as a stage of this request or another one was. */
+    private long relayWord(int relay, Object told, boolean own) {
+        if (told instanceof Fault) {
+            Fault fault = (Fault) told;
+            // The stage that is linked to a relay of this request has it wrapped in any case.
+            return fault.error instanceof CancellationException ? Words.cancel(RELAY, relay)
+                    : Words.fail(RELAY, relay, own && fault.code >= 0 ? fault.code : code(fault.error));
+        }
+        return Words.complete(RELAY, relay, number(told == Stage.NIL ? null : told));
+    }
+
+    /** Sees to it that a relay is settled as that is, which is no stage of its request. */
+    private static void handOver(CompletionStage<?> of, Stage<?> relay, News news) {
+        if (!(of instanceof Stage<?>)) {
+            of.whenComplete((value, error) -> {
+                News told = new News();
+                relay.request.relayed(relay, error != null ? new Fault(error, -1) : value == null ? Stage.NIL : value, told);
+                tell(told);
+            });
+            return;
+        }
+        Stage<?> other = (Stage<?>) of;
+        if (!other.request.feeds(other, relay)) {
+            relay.request.relayed(relay, other.told, news);
+        }
+    }
+
+    private boolean feeds(Stage<?> stage, Stage<?> outside) {
+        synchronized (ledger) {
+            if (stage.told == null) {
+                stage.more().outside = and(stage.more().outside, outside);
+                return true;
+            }
+            return false;
+        }
+    }
+
+    private void relayed(Stage<?> relay, Object told, News news) {
+        synchronized (ledger) {
+            int who = who();
+            change(relayWord(relay.number, told, false), who, news);
+            claimNext(news, who);
+        }
+    }
+
+    private static Stage<?>[] and(Stage<?>[] row, Stage<?> one) {
+        Stage<?>[] longer = row == null ? new Stage<?>[1] : Arrays.copyOf(row, row.length + 1);
+        longer[longer.length - 1] = one;
+        return longer;
+    }
+
+    /** Does one word under the lock, and says whether its answer is 1, as of a stage that it settled. */
+    private boolean change(long word, int who, News news) {
+        ledger.apply(word, news.isFree() ? who : Ledger.NOBODY);
+        boolean answer = ledger.answer() == 1;
+        record(word);
+        publish(news, who);
+        return answer;
+    }
+
+    /** Shows under the lock what was settled, takes what is ready, and goes on with what hangs on it by relays. */
+    private void publish(News news, int who) {
+        int claimed = ledger.claimed();
+        if (claimed >= 0) {
+            record(Words.claim(who, claimed));
+            granted(claimed, news);
+        }
+        Stage<?> fed = null;
+        do {
+            int count = ledger.news();
+            for (int k = 0; k < count; k++) {
+                long change = ledger.news(k);
+                int what = (int) change, number = what & 0xfff;
+                if ((what >>> 12 & 1) == 0) {
+                    if (number != claimed) {
+                        news.ready(at(number));
+                    }
+                    continue;
+                }
+                Stage<?> stage = number < stages.length ? stages[number] : null;
+                if (stage == null && Recorder.NOW != null && Recorder.NOW.takesStages()) {
+                    stage = at(number);
+                }
+                if (stage != null) {
+                    stages[number] = null;
+                    stage.function = null;
+                    stage.told = told(what, (int) (change >>> 32));
+                    news.settled(stage);
+                    if (stage.more != null && stage.more.feeds != null) {
+                        stage.more.nextFed = fed;
+                        fed = stage;
+                    }
+                }
+            }
+        } while (ledger.more());
+        while (fed != null) {
+            Stage<?> stage = fed;
+            fed = stage.more.nextFed;
+            Stage<?>[] feeds = stage.more.feeds;
+            stage.more.feeds = null;
+            for (Stage<?> relay : feeds) {
+                change(relayWord(relay.number, stage.told, true), who, news);
+            }
+        }
+        if (single && stages[0] == null && ledger.stages() == 1 && news.claimedIn == null) {
+            ledger.rest();
+        }
+    }
+
+    private Object told(int what, int number) {
+        int kind = what >>> 16 & 0xf;
+        return kind != History.GIVES ? fault(kind, (what >>> 20 & 1) != 0, number) : (what >>> 21 & 1) == 0 ? Stage.NIL : values[number];
+    }
+
+    /** Claims the next stage whose function this thread is to call, if it is one of this request. */
+    private void claimNext(News news, int who) {
+        while (news.claimedIn == null && news.here != null && news.here.request == this) {
+            claim(news.pollHere(), who, news);
+        }
+    }
+
+    private void claimHere(News news) {
+        synchronized (ledger) {
+            claimNext(news, who());
+        }
+    }
+
+    private void claim(Stage<?> stage, int who, News news) {
+        long word = Words.claim(who, stage.number);
+        ledger.apply(word, Ledger.ARGUMENTS);
+        record(word);
+        if (ledger.answer() == History.GRANTED) {
+            granted(stage.number, news);
+        }
+    }
+
+    /** Takes the function of a stage that was claimed, and what it is called with, which the ledger has just told. */
+    private void granted(int number, News news) {
+        Stage<?> stage = number < stages.length ? stages[number] : null;
+        news.claimedIn = this;
+        news.claimed = number;
+        if (stage == null) {
+            news.form = flow.form(number);
+            news.function = flow.function(number);
+        } else {
+            news.form = stage.form;
+            news.function = stage.function;
+            stage.function = null;
+        }
+        switch (ledger.argument(0)) {
+            case History.NO_ARGS:
+                news.first = news.second = null;
+                break;
+            case History.OUTCOME:
+                int kind = ledger.argument(5);
+                news.first = kind == History.GIVES && ledger.argument(8) != 0 ? values[ledger.argument(9)] : null;
+                news.second = kind == History.GIVES ? null : fault(kind, ledger.argument(6) != 0, ledger.argument(7)).error;
+                break;
+            default:
+                news.first = ledger.argument(1) == 0 ? null : values[ledger.argument(2)];
+                news.second = ledger.argument(3) == 0 ? null : values[ledger.argument(4)];
+        }
+    }
+
+    /** Claims a stage for an executor's thread, calls its function, and goes on with what that thread is to call then. */
+    void work(Stage<?> stage) {
+        News news = new News();
+        synchronized (ledger) {
+            claim(stage, who(), news);
+        }
+        tell(news);
+    }
+
+    /** Tells who waits, hands stages to executors, and calls functions until there is none that this thread is to call. */
+    private static void tell(News news) {
+        for (;;) {
+            Stage<?> stage;
+            while ((stage = news.pollSettled()) != null) {
+                stage.show();
+                Stage<?>[] outside = stage.more == null ? null : stage.more.outside;
+                if (outside != null) {
+                    stage.more.outside = null;
+                    for (Stage<?> relay : outside) {
+                        relay.request.relayed(relay, stage.told, news);
+                    }
+                }
+            }
+            if ((stage = news.pollHanded()) != null) {
+                stage.request.hand(stage, news);
+            } else if (news.claimedIn != null) {
+                news.claimedIn.call(news);
+            } else if (news.here != null) {
+                news.here.request.claimHere(news);
+            } else {
+                return;
+            }
+        }
+    }
+
+    private void hand(Stage<?> stage, News news) {
+        try {
+            stage.executor.execute(new Task(stage));
+        } catch (Throwable refused) {
+            synchronized (ledger) {
+                stage.more().refused = refused;
+                int who = who();
+                ledger.apply(Words.claim(who, stage.number), Ledger.ARGUMENTS);
+                record(Words.claim(who, stage.number));
+                if (ledger.answer() == History.GRANTED) {
+                    change(Words.finishThrowing(who, stage.number, code(refused)), who, news);
+                }
+            }
+        }
+    }
+
+    private void call(News news) {
+        int number = news.claimed;
+        Form form = news.form;
+        Object given = null;
+        Throwable thrown = null;
+        try {
+            given = form.call(news.function, news.first, news.second);
+        } catch (Throwable error) {
+            thrown = error;
+            if (form == Form.WHEN_COMPLETE && news.second != null && news.second != error) {
+                ((Throwable) news.second).addSuppressed(error);
+            }
+        }
+        news.claimedIn = null;
+        news.function = news.first = news.second = null;
+        Stage<?> relay = null;
+        synchronized (ledger) {
+            int who = who();
+            if (thrown != null) {
+                change(Words.finishThrowing(who, number, code(thrown)), who, news);
+            } else if (form.composes) {
+                relay = link(number, (CompletionStage<?>) given, who, news);
+            } else {
+                change(Words.finish(who, number, number(given)), who, news);
+            }
+            claimNext(news, who);
+        }
+        if (relay != null) {
+            handOver((CompletionStage<?>) given, relay, news);
+        }
+    }
+
+    /** Links a stage to what its function gave, or to the relay below it: that relay where it is to be settled from outside. */
+    private Stage<?> link(int number, CompletionStage<?> to, int who, News news) {
+        Stage<?> own = to instanceof Stage<?> && ((Stage<?>) to).request == this ? (Stage<?>) to : null;
+        if (own != null && own.number < number) {
+            change(Words.finishLinking(who, number, own.number), who, news);
+            return null;
+        }
+        Stage<?> relay = relayOf(number);
+        name(relay.number, own == null ? "relay of what is elsewhere" : "relay of " + own.number);
+        long word = Words.finishLinking(who, number, relay.number);
+        ledger.apply(word, Ledger.NOBODY);
+        record(word);
+        boolean won = ledger.answer() == History.WON;
+        publish(news, who);
+        if (!won || own == null) {
+            return won ? relay : null;
+        }
+        if (own.told != null) {
+            change(relayWord(relay.number, own.told, true), who, news);
+        } else {
+            own.more().feeds = and(own.more().feeds, relay);
+        }
+        return null;
+    }
+
+    /** The source below a composing stage, which stands in for what its function makes. */
+    private Stage<?> relayOf(int number) {
+        if (flow != null && number < flow.count()) {
+            return at(number - 1);
+        }
+        Stage<?> relay = stages[number - 1];
+        return relay != null ? relay : new Stage<>(this, number - 1, Form.SOURCE, null, null);
+    }
+
+    /** Acts under the lock where a stage isn't settled, and says whether it did. */
+    boolean unlessSettled(Stage<?> stage, Runnable act) {
+        synchronized (ledger) {
+            if (stage.told == null) {
+                act.run();
+                return true;
+            }
+            return false;
+        }
+    }
+
+    private void record(long word) {
+        if (Recorder.NOW != null && Recorder.NOW.takesWords()) {
+            Recorder.NOW.word(name, word);
+        }
+    }
+
+    // What the ledger's numbers stand for. The lock is held.
+
+    /** The calling thread's number in words. */
+    private int who() {
+        long id = Thread.currentThread().getId();
+        if (thread == id) {
+            return FIRST_THREAD;
+        }
+        for (int k = 1; k < threadCount; k++) {
+            if (threads[k] == id) {
+                return FIRST_THREAD + k;
+            }
+        }
+        return FIRST_THREAD + threadCount >= OTHER_THREADS ? OTHER_THREADS : entered(id);
+    }
+
+    private int entered(long id) {
+        if (threadCount == 0) {
+            thread = id;
+        } else {
+            if (threads == null || threadCount == threads.length) {
+                threads = threads == null ? new long[4] : Arrays.copyOf(threads, 2 * threadCount);
+            }
+            threads[threadCount] = id;
+        }
+        if (threadCount == threadNames.length) {
+            threadNames = Arrays.copyOf(threadNames, 2 * threadCount + 2);
+        }
+        String name = Thread.currentThread().getName();
+        threadNames[threadCount] = name.isEmpty() ? "thread " + id : name;
+        return FIRST_THREAD + threadCount++;
+    }
+
+    private int number(Object value) {
+        if (value == null) {
+            return Words.NIL;
+        }
+        if (valueCount > 0 && values[valueCount - 1] == value) {
+            return valueCount - 1;
+        }
+        if (valueCount == values.length) {
+            values = Arrays.copyOf(values, 2 * valueCount);
+        }
+        values[valueCount] = value;
+        return valueCount++;
+    }
+
+    private int code(Throwable error) {
+        if (errorCount > 0 && errors[errorCount - 1] == error) {
+            return errorCount - 1;
+        }
+        if (errors == null || errorCount == errors.length) {
+            int length = Math.max(2, 2 * errorCount);
+            errors = errors == null ? new Throwable[length] : Arrays.copyOf(errors, length);
+            raw = raw == null ? new Fault[length] : Arrays.copyOf(raw, length);
+            wrapped = wrapped == null ? new Fault[length] : Arrays.copyOf(wrapped, length);
+        }
+        errors[errorCount] = error;
+        return errorCount++;
+    }
+
+    private Fault fault(int kind, boolean isWrapped, int code) {
+        if (kind == History.CANCELLED) {
+            if (cancellation == null) {
+                cancellation = new Fault(new CancellationException(), -1);
+            }
+            if (!isWrapped) {
+                return cancellation;
+            }
+            return wrappedCancellation != null ? wrappedCancellation
+                    : (wrappedCancellation = new Fault(new CompletionException(cancellation.error), -1));
+        }
+        if (kind != History.THROWN) {
+            throw new AssertionError("outcome " + kind);
+        }
+        if (isWrapped && !(errors[code] instanceof CompletionException)) {
+            return wrapped[code] != null ? wrapped[code] : (wrapped[code] = new Fault(new CompletionException(errors[code]), code));
+        }
+        return raw[code] != null ? raw[code] : (raw[code] = new Fault(errors[code], code));
+    }
+
+    /** What a stage waits for, by its word: numbers of stages, or those of a flow's. */
+    String waitsFor(Stage<?> stage) {
+        History history = history();
+        return history.waitsFor(stage.number);
+    }
+}

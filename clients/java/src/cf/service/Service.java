@@ -1,0 +1,75 @@
+package cf.service;
+
+import java.util.Objects;
+import java.util.concurrent.CompletableFuture;
+import java.util.concurrent.Executor;
+import java.util.concurrent.ForkJoinPool;
+import java.util.concurrent.TimeUnit;
+import java.util.concurrent.atomic.AtomicLong;
+import java.util.function.Supplier;
+
+/** Requests, and the executor that calls the functions of their Async stages where no other is given. Any thread may use it. */
+public final class Service {
+    /** For how many stages a request has room at first; more is made where it is needed. */
+    private static final int ROOM = Integer.getInteger("cf.room", 32);
+
+    private final Executor executor;
+    private final AtomicLong requests = new AtomicLong();
+
+    /** With the executor that {@link CompletableFuture} has where none is given. */
+    public Service() {
+        this(usual());
+    }
+
+    public Service(Executor executor) {
+        this.executor = Objects.requireNonNull(executor);
+    }
+
+    /** A request by this name, which histories tell. */
+    public Request request(String name) {
+        return new Request(this, Objects.requireNonNull(name), null, ROOM, false);
+    }
+
+    public Request request() {
+        return request("request " + requests.getAndIncrement());
+    }
+
+    /** A request of one stage, which is closed once that is settled. */
+    public <T> Stage<T> supplyAsync(Supplier<T> supplier) {
+        return new Request(this, "one call", null, 1, true).supplyAsync(supplier);
+    }
+
+    /**
+     * Does a flow once more: its promises are completed with these values, in their order.
+     *
+     * @throws IllegalArgumentException where there are more values than promises
+     */
+    public Request start(Flow flow, Object... given) {
+        if (given.length > flow.promises()) {
+            throw new IllegalArgumentException(given.length + " values for " + flow.promises() + " promises");
+        }
+        Request request = new Request(this, flow.name(), flow, 0, false);
+        request.begin(given);
+        return request;
+    }
+
+    /** An executor that hands on after a time. */
+    public static Executor delayedExecutor(long delay, TimeUnit unit, Executor executor) {
+        Objects.requireNonNull(unit);
+        Objects.requireNonNull(executor);
+        return act -> Clock.after(delay, unit, () -> executor.execute(act));
+    }
+
+    Executor executor() {
+        return executor;
+    }
+
+    /** Java's rule: the common pool, or a thread for each task where that has but one. */
+    private static Executor usual() {
+        try {
+            return (Executor) CompletableFuture.class.getMethod("defaultExecutor").invoke(new CompletableFuture<>());
+        } catch (ReflectiveOperationException eight) {
+            return ForkJoinPool.getCommonPoolParallelism() > 1 ? ForkJoinPool.commonPool() : act -> new Thread(act).start();
+        }
+    }
+}

@@ -1,0 +1,552 @@
+package cf.service;
+
+import java.util.Objects;
+import java.util.concurrent.CancellationException;
+import java.util.concurrent.CompletableFuture;
+import java.util.concurrent.CompletionException;
+import java.util.concurrent.CompletionStage;
+import java.util.concurrent.ExecutionException;
+import java.util.concurrent.Executor;
+import java.util.concurrent.Future;
+import java.util.concurrent.TimeUnit;
+import java.util.concurrent.TimeoutException;
+import java.util.function.BiConsumer;
+import java.util.function.BiFunction;
+import java.util.function.Consumer;
+import java.util.function.Function;
+import java.util.function.Supplier;
+
+/**
+ * A {@link CompletableFuture} whose state a request's ledger decides: each method that changes something is a word of its history.
+ *
+ * <p>It is a CompletableFuture, so that all that takes one takes it. The part that it inherits is told what the ledger has decided, wakes
+ * who waits, and serves what Java's own classes attach by themselves, as the static methods of CompletableFuture do; it decides nothing.
+ */
+public class Stage<T> extends CompletableFuture<T> {
+    /** What null is told as. */
+    static final Object NIL = new Object();
+
+    final Request request;
+    final int number;
+    final Form form;
+    final Executor executor;
+
+    /** What it is settled with: a Fault, NIL or a value; null before. It is written under the request's lock. */
+    volatile Object told;
+
+    // These are the request's, under its lock, or of the one thread that tells the news.
+    Object function;
+    int dependents;
+    Stage<?> nextSettled, nextReady;
+    volatile More more;
+
+    /** What few stages have. */
+    static final class More {
+        /** Relays of this request, and of others, that are settled as this stage is. */
+        Stage<?>[] feeds, outside;
+        Stage<?> nextFed;
+        Observer observers;
+        volatile Throwable refused;
+    }
+
+    private static final class Observer {
+        final Runnable act;
+        final Observer next;
+
+        Observer(Runnable act, Observer next) {
+            this.act = act;
+            this.next = next;
+        }
+    }
+
+    Stage(Request request, int number, Form form, Object function, Executor executor) {
+        this.request = request;
+        this.number = number;
+        this.form = form;
+        this.function = function;
+        this.executor = executor;
+    }
+
+    /** A stage that somebody completes, for classes of one's own. */
+    protected Stage(Request request) {
+        Request at = request;
+        int place = at.reserve();
+        while (place < 0) {
+            at = at.followed();
+            place = at.reserve();
+        }
+        this.request = at;
+        number = place;
+        form = Form.SOURCE;
+        executor = null;
+        at.entered(this);
+    }
+
+    More more() {
+        More it = more;
+        return it != null ? it : (more = new More());
+    }
+
+    public Request request() {
+        return request;
+    }
+
+    /** Its number in the request's history. */
+    public int number() {
+        return number;
+    }
+
+    /** What histories call it. This stage itself is given back. */
+    public Stage<T> named(String name) {
+        request.name(number, name);
+        return this;
+    }
+
+    // Attaching.
+
+    @Override
+    public <U> Stage<U> thenApply(Function<? super T, ? extends U> fn) {
+        return behind(Form.APPLY, fn, null);
+    }
+
+    @Override
+    public <U> Stage<U> thenApplyAsync(Function<? super T, ? extends U> fn) {
+        return behind(Form.APPLY, fn, defaultExecutor());
+    }
+
+    @Override
+    public <U> Stage<U> thenApplyAsync(Function<? super T, ? extends U> fn, Executor executor) {
+        return behind(Form.APPLY, fn, Objects.requireNonNull(executor));
+    }
+
+    @Override
+    public Stage<Void> thenAccept(Consumer<? super T> action) {
+        return behind(Form.ACCEPT, action, null);
+    }
+
+    @Override
+    public Stage<Void> thenAcceptAsync(Consumer<? super T> action) {
+        return behind(Form.ACCEPT, action, defaultExecutor());
+    }
+
+    @Override
+    public Stage<Void> thenAcceptAsync(Consumer<? super T> action, Executor executor) {
+        return behind(Form.ACCEPT, action, Objects.requireNonNull(executor));
+    }
+
+    @Override
+    public Stage<Void> thenRun(Runnable action) {
+        return behind(Form.THEN_RUN, action, null);
+    }
+
+    @Override
+    public Stage<Void> thenRunAsync(Runnable action) {
+        return behind(Form.THEN_RUN, action, defaultExecutor());
+    }
+
+    @Override
+    public Stage<Void> thenRunAsync(Runnable action, Executor executor) {
+        return behind(Form.THEN_RUN, action, Objects.requireNonNull(executor));
+    }
+
+    @Override
+    public <U> Stage<U> thenCompose(Function<? super T, ? extends CompletionStage<U>> fn) {
+        return behind(Form.COMPOSE, fn, null);
+    }
+
+    @Override
+    public <U> Stage<U> thenComposeAsync(Function<? super T, ? extends CompletionStage<U>> fn) {
+        return behind(Form.COMPOSE, fn, defaultExecutor());
+    }
+
+    @Override
+    public <U> Stage<U> thenComposeAsync(Function<? super T, ? extends CompletionStage<U>> fn, Executor executor) {
+        return behind(Form.COMPOSE, fn, Objects.requireNonNull(executor));
+    }
+
+    @Override
+    public <U> Stage<U> handle(BiFunction<? super T, Throwable, ? extends U> fn) {
+        return behind(Form.HANDLE, fn, null);
+    }
+
+    @Override
+    public <U> Stage<U> handleAsync(BiFunction<? super T, Throwable, ? extends U> fn) {
+        return behind(Form.HANDLE, fn, defaultExecutor());
+    }
+
+    @Override
+    public <U> Stage<U> handleAsync(BiFunction<? super T, Throwable, ? extends U> fn, Executor executor) {
+        return behind(Form.HANDLE, fn, Objects.requireNonNull(executor));
+    }
+
+    @Override
+    public Stage<T> whenComplete(BiConsumer<? super T, ? super Throwable> action) {
+        return behind(Form.WHEN_COMPLETE, action, null);
+    }
+
+    @Override
+    public Stage<T> whenCompleteAsync(BiConsumer<? super T, ? super Throwable> action) {
+        return behind(Form.WHEN_COMPLETE, action, defaultExecutor());
+    }
+
+    @Override
+    public Stage<T> whenCompleteAsync(BiConsumer<? super T, ? super Throwable> action, Executor executor) {
+        return behind(Form.WHEN_COMPLETE, action, Objects.requireNonNull(executor));
+    }
+
+    @Override
+    public Stage<T> exceptionally(Function<Throwable, ? extends T> fn) {
+        return behind(Form.EXCEPTIONALLY, fn, null);
+    }
+
+    @Override
+    public Stage<T> exceptionallyAsync(Function<Throwable, ? extends T> fn) {
+        return behind(Form.EXCEPTIONALLY, fn, defaultExecutor());
+    }
+
+    @Override
+    public Stage<T> exceptionallyAsync(Function<Throwable, ? extends T> fn, Executor executor) {
+        return behind(Form.EXCEPTIONALLY, fn, Objects.requireNonNull(executor));
+    }
+
+    @Override
+    public Stage<T> exceptionallyCompose(Function<Throwable, ? extends CompletionStage<T>> fn) {
+        return behind(Form.EXCEPTIONALLY_COMPOSE, fn, null);
+    }
+
+    @Override
+    public Stage<T> exceptionallyComposeAsync(Function<Throwable, ? extends CompletionStage<T>> fn) {
+        return behind(Form.EXCEPTIONALLY_COMPOSE, fn, defaultExecutor());
+    }
+
+    @Override
+    public Stage<T> exceptionallyComposeAsync(Function<Throwable, ? extends CompletionStage<T>> fn, Executor executor) {
+        return behind(Form.EXCEPTIONALLY_COMPOSE, fn, Objects.requireNonNull(executor));
+    }
+
+    @Override
+    public <U, V> Stage<V> thenCombine(CompletionStage<? extends U> other, BiFunction<? super T, ? super U, ? extends V> fn) {
+        return behind(Form.COMBINE, other, fn, null);
+    }
+
+    @Override
+    public <U, V> Stage<V> thenCombineAsync(CompletionStage<? extends U> other, BiFunction<? super T, ? super U, ? extends V> fn) {
+        return behind(Form.COMBINE, other, fn, defaultExecutor());
+    }
+
+    @Override
+    public <U, V> Stage<V> thenCombineAsync(CompletionStage<? extends U> other, BiFunction<? super T, ? super U, ? extends V> fn, Executor executor) {
+        return behind(Form.COMBINE, other, fn, Objects.requireNonNull(executor));
+    }
+
+    @Override
+    public <U> Stage<Void> thenAcceptBoth(CompletionStage<? extends U> other, BiConsumer<? super T, ? super U> action) {
+        return behind(Form.ACCEPT_BOTH, other, action, null);
+    }
+
+    @Override
+    public <U> Stage<Void> thenAcceptBothAsync(CompletionStage<? extends U> other, BiConsumer<? super T, ? super U> action) {
+        return behind(Form.ACCEPT_BOTH, other, action, defaultExecutor());
+    }
+
+    @Override
+    public <U> Stage<Void> thenAcceptBothAsync(CompletionStage<? extends U> other, BiConsumer<? super T, ? super U> action, Executor executor) {
+        return behind(Form.ACCEPT_BOTH, other, action, Objects.requireNonNull(executor));
+    }
+
+    @Override
+    public Stage<Void> runAfterBoth(CompletionStage<?> other, Runnable action) {
+        return behind(Form.RUN_BOTH, other, action, null);
+    }
+
+    @Override
+    public Stage<Void> runAfterBothAsync(CompletionStage<?> other, Runnable action) {
+        return behind(Form.RUN_BOTH, other, action, defaultExecutor());
+    }
+
+    @Override
+    public Stage<Void> runAfterBothAsync(CompletionStage<?> other, Runnable action, Executor executor) {
+        return behind(Form.RUN_BOTH, other, action, Objects.requireNonNull(executor));
+    }
+
+    @Override
+    public <U> Stage<U> applyToEither(CompletionStage<? extends T> other, Function<? super T, U> fn) {
+        return behind(Form.APPLY_EITHER, other, fn, null);
+    }
+
+    @Override
+    public <U> Stage<U> applyToEitherAsync(CompletionStage<? extends T> other, Function<? super T, U> fn) {
+        return behind(Form.APPLY_EITHER, other, fn, defaultExecutor());
+    }
+
+    @Override
+    public <U> Stage<U> applyToEitherAsync(CompletionStage<? extends T> other, Function<? super T, U> fn, Executor executor) {
+        return behind(Form.APPLY_EITHER, other, fn, Objects.requireNonNull(executor));
+    }
+
+    @Override
+    public Stage<Void> acceptEither(CompletionStage<? extends T> other, Consumer<? super T> action) {
+        return behind(Form.ACCEPT_EITHER, other, action, null);
+    }
+
+    @Override
+    public Stage<Void> acceptEitherAsync(CompletionStage<? extends T> other, Consumer<? super T> action) {
+        return behind(Form.ACCEPT_EITHER, other, action, defaultExecutor());
+    }
+
+    @Override
+    public Stage<Void> acceptEitherAsync(CompletionStage<? extends T> other, Consumer<? super T> action, Executor executor) {
+        return behind(Form.ACCEPT_EITHER, other, action, Objects.requireNonNull(executor));
+    }
+
+    @Override
+    public Stage<Void> runAfterEither(CompletionStage<?> other, Runnable action) {
+        return behind(Form.RUN_EITHER, other, action, null);
+    }
+
+    @Override
+    public Stage<Void> runAfterEitherAsync(CompletionStage<?> other, Runnable action) {
+        return behind(Form.RUN_EITHER, other, action, defaultExecutor());
+    }
+
+    @Override
+    public Stage<Void> runAfterEitherAsync(CompletionStage<?> other, Runnable action, Executor executor) {
+        return behind(Form.RUN_EITHER, other, action, Objects.requireNonNull(executor));
+    }
+
+    private <U> Stage<U> behind(Form form, Object function, Executor executor) {
+        return request.attach(form, this, null, Objects.requireNonNull(function), executor, isMinimal());
+    }
+
+    private <U> Stage<U> behind(Form form, CompletionStage<?> other, Object function, Executor executor) {
+        Objects.requireNonNull(function);
+        return request.attach(form, this, Objects.requireNonNull(other), function, executor, isMinimal());
+    }
+
+    @Override
+    public Stage<T> copy() {
+        return copy(isMinimal());
+    }
+
+    @Override
+    public CompletionStage<T> minimalCompletionStage() {
+        return copy(true);
+    }
+
+    Stage<T> copy(boolean minimal) {
+        return request.attach(Form.ANY_OF, this, null, null, null, minimal);
+    }
+
+    boolean isMinimal() {
+        return false;
+    }
+
+    @Override
+    public Stage<T> toCompletableFuture() {
+        return this;
+    }
+
+    @Override
+    public <U> CompletableFuture<U> newIncompleteFuture() {
+        return request.attach(Form.SOURCE, null, null, null, null, isMinimal());
+    }
+
+    @Override
+    public Executor defaultExecutor() {
+        return request.service.executor();
+    }
+
+    // Settling.
+
+    @Override
+    public boolean complete(T value) {
+        return request.complete(number, value, -1);
+    }
+
+    @Override
+    public boolean completeExceptionally(Throwable error) {
+        return request.fail(number, Objects.requireNonNull(error), -1);
+    }
+
+    @Override
+    public boolean cancel(boolean mayInterruptIfRunning) {
+        return request.cancel(number) || isCancelled();
+    }
+
+    @Override
+    public Stage<T> completeAsync(Supplier<? extends T> supplier) {
+        return completeAsync(supplier, defaultExecutor());
+    }
+
+    @Override
+    public Stage<T> completeAsync(Supplier<? extends T> supplier, Executor executor) {
+        Objects.requireNonNull(supplier);
+        executor.execute((Runnable & AsynchronousCompletionTask) () -> {
+            if (told == null) {
+                T value;
+                try {
+                    value = supplier.get();
+                } catch (Throwable error) {
+                    completeExceptionally(error instanceof CompletionException ? error : new CompletionException(error));
+                    return;
+                }
+                complete(value);
+            }
+        });
+        return this;
+    }
+
+    @Override
+    public Stage<T> orTimeout(long timeout, TimeUnit unit) {
+        Objects.requireNonNull(unit);
+        return at(timeout, unit, () -> request.fail(number, new TimeoutException(), Request.CLOCK));
+    }
+
+    @Override
+    public Stage<T> completeOnTimeout(T value, long timeout, TimeUnit unit) {
+        Objects.requireNonNull(unit);
+        return at(timeout, unit, () -> request.complete(number, value, Request.CLOCK));
+    }
+
+    private Stage<T> at(long timeout, TimeUnit unit, Runnable act) {
+        if (told == null) {
+            Future<?> timer = Clock.after(timeout, unit, act);
+            observe(() -> timer.cancel(false));
+        }
+        return this;
+    }
+
+    /** Refused: a settled stage keeps its outcome. */
+    @Override
+    public void obtrudeValue(T value) {
+        throw new UnsupportedOperationException("a settled stage keeps its outcome");
+    }
+
+    /** Refused: a settled stage keeps its outcome. */
+    @Override
+    public void obtrudeException(Throwable error) {
+        Objects.requireNonNull(error);
+        throw new UnsupportedOperationException("a settled stage keeps its outcome");
+    }
+
+    // Asking.
+
+    @Override
+    public boolean isDone() {
+        return told != null;
+    }
+
+    @Override
+    public boolean isCancelled() {
+        return told instanceof Request.Fault && ((Request.Fault) told).error instanceof CancellationException;
+    }
+
+    @Override
+    public boolean isCompletedExceptionally() {
+        return told instanceof Request.Fault;
+    }
+
+    @Override
+    public T join() {
+        Object told = this.told;
+        return told != null ? joined(told) : super.join();
+    }
+
+    @Override
+    public T getNow(T valueIfAbsent) {
+        Object told = this.told;
+        return told != null ? joined(told) : valueIfAbsent;
+    }
+
+    @Override
+    public T get() throws InterruptedException, ExecutionException {
+        Object told = this.told;
+        return told != null ? gotten(told) : super.get();
+    }
+
+    @Override
+    public T get(long timeout, TimeUnit unit) throws InterruptedException, ExecutionException, TimeoutException {
+        Objects.requireNonNull(unit);
+        Object told = this.told;
+        return told != null ? gotten(told) : super.get(timeout, unit);
+    }
+
+    @Override
+    public int getNumberOfDependents() {
+        return told != null ? 0 : dependents;
+    }
+
+    /** Its request, number and name, and what it ended as, or what it waits for. */
+    @Override
+    public String toString() {
+        Object told = this.told;
+        String state = told == null ? dependents == 0 ? "Not completed" : "Not completed, " + dependents + " dependents"
+                : told instanceof Request.Fault ? "Completed exceptionally: " + ((Request.Fault) told).error : "Completed normally";
+        String waits = told == null ? request.waitsFor(this) : "";
+        return getClass().getName() + "@" + Integer.toHexString(hashCode()) + "[" + request.name() + ": " + request.called(this) + ": " + state
+                + waits + "]";
+    }
+
+    @SuppressWarnings("unchecked")
+    private T joined(Object told) {
+        if (told == NIL) {
+            return null;
+        }
+        if (told instanceof Request.Fault) {
+            Throwable error = ((Request.Fault) told).error;
+            if (error instanceof CancellationException) {
+                throw (CancellationException) error;
+            }
+            throw error instanceof CompletionException ? (CompletionException) error : new CompletionException(error);
+        }
+        return (T) told;
+    }
+
+    @SuppressWarnings("unchecked")
+    private T gotten(Object told) throws ExecutionException {
+        if (told == NIL) {
+            return null;
+        }
+        if (told instanceof Request.Fault) {
+            Throwable error = ((Request.Fault) told).error;
+            if (error instanceof CancellationException) {
+                throw (CancellationException) error;
+            }
+            Throwable cause = error instanceof CompletionException ? error.getCause() : null;
+            throw new ExecutionException(cause != null ? cause : error);
+        }
+        return (T) told;
+    }
+
+    // Telling.
+
+    /** Tells the inherited part what the ledger has decided, by which it wakes who waits. */
+    @SuppressWarnings("unchecked")
+    void show() {
+        Object told = this.told;
+        if (told instanceof Request.Fault) {
+            super.completeExceptionally(((Request.Fault) told).error);
+        } else {
+            super.complete(told == NIL ? null : (T) told);
+        }
+        if (Recorder.NOW != null && Recorder.NOW.takesStages()) {
+            Recorder.NOW.stage(request.name(), number, form.text, request.called(this), told == NIL ? null
+                    : told instanceof Request.Fault ? ((Request.Fault) told).error : told);
+        }
+        More more = this.more;
+        if (more != null) {
+            // Nobody adds to them since told is there.
+            for (Observer each = more.observers; each != null; each = each.next) {
+                each.act.run();
+            }
+            more.observers = null;
+        }
+    }
+
+    /** Acts once the stage is settled: in the thread that settles it, or in this one if it is settled. */
+    void observe(Runnable act) {
+        if (!request.unlessSettled(this, () -> more().observers = new Observer(act, more().observers))) {
+            act.run();
+        }
+    }
+}

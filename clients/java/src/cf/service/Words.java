@@ -1,0 +1,84 @@
+package cf.service;
+
+/** Events as words of 64 bits: kind, who (bit 48), stage (36), tag (32), and 32 bits more (docs/FORMATS.md). */
+final class Words {
+    static final int COMPLETE = 1, FAIL = 2, CANCEL = 3, CLAIM = 4, FINISH = 5, TICK = 6, ATTACH = 7;
+
+    /** What stands for null where the number of a value is asked for. */
+    static final int NIL = -1;
+
+    private static final long NUMBER = 1L << 32, THROWS = 2L << 32, LINKS = 3L << 32;
+
+    private Words() {}
+
+    static long complete(int who, int stage, int value) {
+        return head(COMPLETE, who, stage) | given(value);
+    }
+
+    static long fail(int who, int stage, int code) {
+        return head(FAIL, who, stage) | low(code);
+    }
+
+    static long cancel(int who, int stage) {
+        return head(CANCEL, who, stage);
+    }
+
+    static long claim(int who, int stage) {
+        return head(CLAIM, who, stage);
+    }
+
+    static long finish(int who, int stage, int value) {
+        return head(FINISH, who, stage) | given(value);
+    }
+
+    static long finishThrowing(int who, int stage, int code) {
+        return head(FINISH, who, stage) | THROWS | low(code);
+    }
+
+    static long finishLinking(int who, int stage, int to) {
+        return head(FINISH, who, stage) | LINKS | to;
+    }
+
+    static long attach(int who, Form form, int sources, int first, int second, int function) {
+        return head(ATTACH, who, first) | (long) sources << 32 | (long) form.ordinal() << 24 | (long) second << 12 | function;
+    }
+
+    private static final String[] NAMES = {"", "complete", "fail", "cancel", "claim", "finish", "tick", "attach"};
+
+    /** Its call's name in scripts. */
+    static String name(long word) {
+        return NAMES[kind(word)];
+    }
+
+    static int kind(long word) {
+        return (int) (word >>> 56);
+    }
+
+    static int who(long word) {
+        return (int) (word >>> 48) & 0xff;
+    }
+
+    static int stage(long word) {
+        return (int) (word >>> 36) & 0xfff;
+    }
+
+    static int tag(long word) {
+        return (int) (word >>> 32) & 0xf;
+    }
+
+    static int low(long word) {
+        return (int) word;
+    }
+
+    private static long head(int kind, int who, int stage) {
+        return (long) kind << 56 | (long) who << 48 | (long) stage << 36;
+    }
+
+    private static long given(int value) {
+        return value == NIL ? 0 : NUMBER | low(value);
+    }
+
+    private static long low(int number) {
+        return Integer.toUnsignedLong(number);
+    }
+}

@@ -1,0 +1,580 @@
+package cf.service;
+
+import java.lang.ref.WeakReference;
+import java.nio.file.Files;
+import java.nio.file.Path;
+import java.nio.file.Paths;
+import java.util.ArrayList;
+import java.util.Collections;
+import java.util.List;
+import java.util.Objects;
+import java.util.concurrent.CancellationException;
+import java.util.concurrent.CompletableFuture;
+import java.util.concurrent.CompletionException;
+import java.util.concurrent.CountDownLatch;
+import java.util.concurrent.CyclicBarrier;
+import java.util.concurrent.ExecutionException;
+import java.util.concurrent.ExecutorService;
+import java.util.concurrent.Executors;
+import java.util.concurrent.RejectedExecutionException;
+import java.util.concurrent.TimeUnit;
+import java.util.concurrent.TimeoutException;
+import java.util.concurrent.atomic.AtomicBoolean;
+import java.util.concurrent.atomic.AtomicInteger;
+
+/** What OpenJDK's tests can't know of: requests, flows, histories, bounds, races, memory, recordings, Java's own classes beside stages. */
+public final class ServiceTest {
+    private static final Service SERVICE = new Service();
+    private static int tests;
+
+    private interface Test {
+        void run() throws Exception;
+    }
+
+    private ServiceTest() {}
+
+    public static void main(String[] args) throws Exception {
+        test("Java's own classes", ServiceTest::statics);
+        test("other requests", ServiceTest::acrossRequests);
+        test("a full request", ServiceTest::full);
+        test("a full request that goes on", ServiceTest::goesOn);
+        test("chains through requests", ServiceTest::backAndForth);
+        test("closed requests", ServiceTest::closed);
+        test("late answers", ServiceTest::late);
+        test("waiting in a pool of one", ServiceTest::waitsWhileRunning);
+        test("refused tasks", ServiceTest::refusedTasks);
+        test("one call", ServiceTest::oneCall);
+        test("histories", ServiceTest::histories);
+        test("texts of stages", ServiceTest::texts);
+        test("interrupts", ServiceTest::interrupts);
+        test("races", ServiceTest::races);
+        test("flows", ServiceTest::flows);
+        test("flows with what goes wrong", ServiceTest::flowFaults);
+        test("many news", ServiceTest::manyNews);
+        test("more than 60 threads", ServiceTest::manyThreads);
+        test("recordings", ServiceTest::recordings);
+        test("virtual threads", ServiceTest::virtualThreads);
+        test("what can't be reached", ServiceTest::unreachable);
+        System.out.println(tests + " tests passed, with " + Native.version() + " on Java " + System.getProperty("java.version"));
+        System.exit(0);
+    }
+
+    private static void test(String name, Test test) throws Exception {
+        long began = System.nanoTime();
+        try {
+            test.run();
+        } catch (Throwable thrown) {
+            throw new AssertionError(name, thrown);
+        }
+        tests++;
+        if (Boolean.getBoolean("test.times")) {
+            System.out.printf("%6d ms  %s%n", (System.nanoTime() - began) / 1_000_000, name);
+        }
+    }
+
+    private static void is(Object found, Object wanted) {
+        if (!Objects.equals(found, wanted)) {
+            throw new AssertionError(found + " and not " + wanted);
+        }
+    }
+
+    private static <X extends Throwable> X thrown(Class<X> kind, Test test) {
+        try {
+            test.run();
+        } catch (Throwable thrown) {
+            if (kind.isInstance(thrown)) {
+                return kind.cast(thrown);
+            }
+            throw new AssertionError("another exception", thrown);
+        }
+        throw new AssertionError("no " + kind.getSimpleName());
+    }
+
+    private static void statics() {
+        Request request = SERVICE.request();
+        Stage<String> a = request.promise(), b = request.promise();
+        CompletableFuture<Void> all = CompletableFuture.allOf(a, b);
+        CompletableFuture<Object> any = CompletableFuture.anyOf(a, b);
+        CompletableFuture<String> own = new CompletableFuture<>();
+        CompletableFuture<String> joined = own.thenCombine(a, (x, y) -> x + y);
+        CompletableFuture<String> composed = own.thenCompose(x -> b);
+        Stage<String> ours = a.thenCombine(own, (x, y) -> x + y);
+        Stage<String> linked = a.thenCompose(x -> own);
+        a.complete("a");
+        is(any.join(), "a");
+        is(all.isDone(), false);
+        own.complete("o");
+        is(joined.join() + ours.join() + linked.join(), "oaaoo");
+        b.complete("b");
+        is(all.isDone() && composed.join().equals("b"), true);
+        Stage<String> mine = new Stage<String>(request) {};
+        mine.complete("m");
+        is(mine.thenApply(x -> x + "!").join(), "m!");
+    }
+
+    private static void acrossRequests() {
+        Request one = SERVICE.request(), other = SERVICE.request();
+        Stage<String> a = one.promise(), b = other.promise();
+        Stage<String> c = a.applyToEither(b, x -> x);
+        is(c.request() == one, true);
+        is(one.history().toString().contains("1 relay, source"), true);
+        b.completeExceptionally(new IllegalStateException("b"));
+        is(thrown(CompletionException.class, c::join).getCause().getMessage(), "b");
+        Stage<String> d = a.handle((x, e) -> "d").thenCompose(x -> other.supplyAsync(() -> x + "e"));
+        a.complete(null);
+        is(d.join(), "de");
+        is(one.adopt(a) == a, true);
+    }
+
+    /** One stage too many throws and changes nothing; what is there goes on to its end. */
+    private static void full() {
+        Request request = SERVICE.request("full");
+        Stage<Integer> first = request.promise();
+        List<Stage<Integer>> made = new ArrayList<>();
+        made.add(first);
+        while (made.size() < 4096) {
+            made.add(made.get(made.size() - 1).thenApply(x -> x + 1));
+        }
+        Stage<Integer> last = made.get(4095);
+        int events = request.history().events();
+        is(thrown(RequestFullException.class, () -> last.thenApply(x -> x)).getMessage().contains("\"full\""), true);
+        thrown(RequestFullException.class, request::promise);
+        thrown(RequestFullException.class, () -> request.adopt(new CompletableFuture<>()));
+        thrown(RequestFullException.class, () -> last.thenCombine(new CompletableFuture<>(), (x, y) -> x));
+        is(request.history().events(), events);
+        first.complete(0);
+        is(last.join(), 4095);
+        is(request.history().stages(), 4096);
+        is(request.next(), null);
+        Request nearly = SERVICE.request();
+        for (int k = 0; k < 4095; k++) {
+            nearly.promise();
+        }
+        Stage<Integer> done = nearly.completedFuture(1);
+        thrown(RequestFullException.class, () -> done.thenCompose(x -> done));
+        is(nearly.history().stages(), 4096);
+    }
+
+    private static void goesOn() {
+        Request request = SERVICE.request().goesOn();
+        Stage<Integer> first = request.promise(), last = first;
+        for (int k = 0; k < 10_000; k++) {
+            last = last.thenApply(x -> x + 1);
+        }
+        first.complete(0);
+        is(last.join(), 10_000);
+        int count = 0;
+        for (Request each = request; each != null; each = each.next()) {
+            count++;
+        }
+        is(count, 3);
+        is(first.thenCombine(last, Integer::sum).join(), 10_000);
+    }
+
+    /** A chain through many requests is no recursion. */
+    private static void backAndForth() {
+        Request one = SERVICE.request().goesOn(), other = SERVICE.request().goesOn();
+        Stage<Integer> first = one.promise(), last = first;
+        for (int k = 0; k < 20_000; k++) {
+            Stage<Integer> next = (k % 2 == 0 ? other : one).promise();
+            last = next.applyToEither(last, x -> x + 1);
+        }
+        first.complete(0);
+        is(last.join(), 20_000);
+    }
+
+    private static void closed() {
+        Request request = SERVICE.request();
+        Stage<Integer> first = request.completedFuture(1);
+        request.close();
+        request.close();
+        is(request.history().events(), 2);
+        is(first.thenApply(x -> x + 1).join(), 2);
+        is(request.history().stages(), 2);
+        for (int k = 0; k < 100; k++) {
+            request.close();
+            Stage<Integer> waits = request.promise();
+            Stage<Integer> next = waits.thenApply(x -> x + 1);
+            request.close();
+            waits.complete(k);
+            is(next.join(), k + 1);
+        }
+    }
+
+    /** Who finishes behind a timeout is late, and what he gave is in the history alone. */
+    private static void late() throws Exception {
+        Request request = SERVICE.request();
+        CountDownLatch go = new CountDownLatch(1);
+        Stage<String> slow = request.supplyAsync(() -> {
+            try {
+                go.await();
+            } catch (InterruptedException interrupted) {
+                throw new AssertionError(interrupted);
+            }
+            return "late";
+        }, run -> new Thread(run, "slow").start()).completeOnTimeout("early", 20, TimeUnit.MILLISECONDS);
+        is(slow.join(), "early");
+        go.countDown();
+        while (!request.history().toString().contains("slow finishes 0 supply, which gave late, too late")) {
+            Thread.sleep(1);
+        }
+        is(slow.join(), "early");
+        ExecutionException told = thrown(ExecutionException.class, () -> request.promise().orTimeout(1, TimeUnit.MILLISECONDS).get());
+        is(told.getCause() instanceof TimeoutException, true);
+    }
+
+    /** A thread that waits in a pool of one doesn't hold up what it waits for where that is called here. */
+    private static void waitsWhileRunning() throws Exception {
+        ExecutorService one = Executors.newFixedThreadPool(1);
+        Request request = new Service(one).request("one");
+        Stage<String> inner = request.promise();
+        Stage<String> outer = request.supplyAsync(() -> inner.thenApply(x -> x + "!").join());
+        inner.complete("in");
+        is(outer.get(20, TimeUnit.SECONDS), "in!");
+        one.shutdown();
+    }
+
+    private static void refusedTasks() {
+        ExecutorService none = Executors.newFixedThreadPool(1);
+        none.shutdown();
+        Request request = new Service(none).request("none");
+        thrown(RejectedExecutionException.class, () -> request.supplyAsync(() -> 1));
+        Stage<Integer> promise = request.promise();
+        Stage<Integer> behind = promise.thenApplyAsync(x -> x + 1);
+        promise.complete(1);
+        is(thrown(CompletionException.class, behind::join).getCause() instanceof RejectedExecutionException, true);
+    }
+
+    private static void oneCall() {
+        Stage<Integer> stage = SERVICE.supplyAsync(() -> 1);
+        is(stage.join(), 1);
+        is(stage.thenApply(x -> x + 1).join(), 2);
+        is(stage.request().history().events(), 6);
+    }
+
+    private static void histories() {
+        Request request = SERVICE.request("told");
+        Stage<Integer> a = request.promise();
+        Stage<Integer> b = a.named("a").thenApply(x -> 10 / x).named("b");
+        a.complete(0);
+        is(a.complete(1), false);
+        is(b.isCompletedExceptionally(), true);
+        History history = request.history();
+        is(history.toString().replaceAll("(?m)^ *[0-9.]* ms  |^ +", ""), String.join("\n", "told: 6 events, 2 stages",
+                "main attaches 0 a, source", "main attaches 1 b, apply behind 0 a", "main completes 0 a with 0", "0 a ends: 0",
+                "main claims 1 b and is granted, with 0", "main finishes 1 b, which threw java.lang.ArithmeticException: / by zero",
+                "1 b ends: java.lang.ArithmeticException: / by zero, wrapped", "main completes 0 a with 1, too late", ""));
+        is(history.line().replaceAll("in [0-9.]* ms", "in T"),
+                "told: 6 events, 2 stages in T; 1 failed: 1 b by java.lang.ArithmeticException: / by zero, wrapped; 0 open");
+        is(history.report(), "attached 0\nattached 1\ntrue\ngranted one 0\nwon\nfalse\nstage 0 value 0\nstage 1 fault thrown 0 wrapped\n");
+        a.cancel(false);
+        is(history.events(), 6);
+        is(request.history().events(), 7);
+        is(Words.name(history.words()[2]), "complete");
+    }
+
+    private static void texts() {
+        Request request = SERVICE.request("order 17");
+        Stage<Integer> user = request.<Integer>promise().named("user"), price = request.<Integer>promise().named("price");
+        Stage<Integer> total = user.thenCombine(price, Integer::sum);
+        user.complete(1);
+        is(total.toString().replaceAll("@[0-9a-f]*", ""), "cf.service.Stage[order 17: 2 combine: Not completed, waits for 1 price]");
+        price.complete(2);
+        is(total.toString().replaceAll("@[0-9a-f]*", ""), "cf.service.Stage[order 17: 2 combine: Completed normally]");
+    }
+
+    /** As Future says: get is interrupted, join isn't, and a cancellation interrupts nobody. */
+    private static void interrupts() throws Exception {
+        Request request = SERVICE.request();
+        Stage<String> stage = request.promise();
+        Thread.currentThread().interrupt();
+        thrown(InterruptedException.class, stage::get);
+        is(Thread.currentThread().isInterrupted(), false);
+        Thread.currentThread().interrupt();
+        thrown(InterruptedException.class, () -> stage.get(20, TimeUnit.SECONDS));
+        thrown(TimeoutException.class, () -> stage.get(1, TimeUnit.MILLISECONDS));
+        AtomicBoolean kept = new AtomicBoolean();
+        CountDownLatch waits = new CountDownLatch(1);
+        Thread joins = new Thread(() -> {
+            Thread.currentThread().interrupt();
+            waits.countDown();
+            stage.join();
+            kept.set(Thread.interrupted());
+        });
+        joins.start();
+        waits.await();
+        joins.interrupt();
+        joins.join(20);
+        is(joins.isAlive(), true);
+        stage.complete("done");
+        joins.join();
+        is(kept.get(), true);
+        Thread.currentThread().interrupt();
+        is(stage.get(), "done");
+        is(Thread.interrupted(), true);
+        CountDownLatch runs = new CountDownLatch(1), go = new CountDownLatch(1);
+        AtomicBoolean interrupted = new AtomicBoolean(true);
+        Stage<Void> running = request.runAsync(() -> {
+            runs.countDown();
+            try {
+                interrupted.set(!go.await(20, TimeUnit.SECONDS));
+            } catch (InterruptedException told) {
+                interrupted.set(true);
+            }
+        }, run -> new Thread(run).start());
+        runs.await();
+        is(running.cancel(true), true);
+        go.countDown();
+        thrown(CancellationException.class, running::join);
+        while (!request.history().toString().contains("too late")) {
+            Thread.sleep(1);
+        }
+        is(interrupted.get(), false);
+    }
+
+    /** Of completing, failing, cancelling and the clock exactly one settles a stage, whoever asks sees it alike, and the history says who. */
+    private static void races() throws Exception {
+        int rounds = Integer.getInteger("test.races", 500);
+        ExecutorService pool = Executors.newFixedThreadPool(4);
+        CyclicBarrier together = new CyclicBarrier(4);
+        int[] won = new int[5];
+        for (int k = 0; k < rounds; k++) {
+            Request request = SERVICE.request();
+            Stage<String> stage = request.promise();
+            Stage<String> behind = stage.handle((value, error) -> error == null ? value : error.getClass().getSimpleName());
+            AtomicInteger winner = new AtomicInteger(4), winners = new AtomicInteger();
+            List<Object> seen = Collections.synchronizedList(new ArrayList<>());
+            CountDownLatch done = new CountDownLatch(4);
+            for (int t = 0; t < 4; t++) {
+                int who = t;
+                pool.execute(() -> {
+                    try {
+                        together.await();
+                        boolean did = who == 0 ? stage.complete("completed") : who == 1 ? stage.completeExceptionally(new IllegalStateException())
+                                : who == 2 ? stage.cancel(true) && stage.isCancelled() : clocked(stage);
+                        if (did) {
+                            winner.set(who);
+                            winners.incrementAndGet();
+                        }
+                        seen.add(stage.handle((value, error) -> error == null ? value : error.getClass().getSimpleName()).join());
+                    } catch (Throwable thrown) {
+                        seen.add(thrown);
+                    } finally {
+                        done.countDown();
+                    }
+                });
+            }
+            done.await();
+            String wanted = behind.get(20, TimeUnit.SECONDS);
+            for (Object each : seen) {
+                is(each, wanted);
+            }
+            String[] ends = {"completed", "IllegalStateException", "CancellationException", "", ""};
+            is(winners.get() <= 1, true);
+            is(winner.get() == 4 ? "TimeoutException" : ends[winner.get()], wanted);
+            won[winner.get()]++;
+            String said = request.history().toString();
+            is(said.split("0 source ends", -1).length, 2);
+        }
+        pool.shutdown();
+        if (Boolean.getBoolean("test.times")) {
+            System.out.println("           won by complete, fail, cancel, the clock: " + won[0] + " " + won[1] + " " + won[2] + " " + won[4]);
+        }
+    }
+
+    /** The clock settles it at once; that isn't told to this thread. */
+    private static boolean clocked(Stage<String> stage) {
+        stage.orTimeout(0, TimeUnit.NANOSECONDS);
+        return false;
+    }
+
+    private static void flows() throws Exception {
+        Flow flow = new Flow("order");
+        Flow.Step<Integer> number = flow.<Integer>promise().named("number"), discount = flow.promise();
+        Flow.Step<String> user = number.thenApply(k -> "user " + k).async().named("user");
+        Flow.Step<Integer> price = flow.supplyAsync(() -> 100);
+        Flow.Step<Integer> net = price.thenCombine(discount, (a, b) -> a - b);
+        Flow.Step<String> total = user.thenCombine(net, (a, b) -> a + " pays " + b);
+        Flow.Step<String> safe = total.thenCompose(text -> SERVICE.supplyAsync(() -> text + "!")).exceptionally(error -> "none");
+        Flow.Step<Void> all = flow.allOf(user, net, safe, flow.allOf());
+        Flow.Step<Object> any = flow.anyOf(flow.promise(), user);
+        List<Request> begun = new ArrayList<>();
+        for (int k = 0; k < 200; k++) {
+            begun.add(SERVICE.start(flow, k, k));
+        }
+        for (int k = 0; k < 200; k++) {
+            Request request = begun.get(k);
+            request.stage(all).get(20, TimeUnit.SECONDS);
+            is(request.stage(safe).join(), "user " + k + " pays " + (100 - k) + "!");
+            is(request.stage(any).join(), "user " + k);
+            is(request.stage(safe).thenApply(String::length).join(), request.stage(safe).join().length());
+            is(request.stage(total) == request.stage(total) || request.stage(total).isDone(), true);
+            request.close();
+            is(request.stage(net).join(), 100 - k);
+            is(request.history().toString().contains("0 number ends: " + k), true);
+        }
+        Request open = SERVICE.start(flow);
+        is(open.stage(total).isDone(), false);
+        open.stage(number).complete(1);
+        open.stage(discount).completeExceptionally(new IllegalStateException());
+        is(open.stage(safe).get(20, TimeUnit.SECONDS), "none");
+    }
+
+    private static void flowFaults() {
+        Flow flow = new Flow("flow"), other = new Flow("other");
+        Flow.Step<Integer> step = flow.promise(), foreign = other.promise();
+        thrown(IllegalArgumentException.class, () -> step.thenCombine(foreign, (a, b) -> a));
+        thrown(IllegalArgumentException.class, () -> SERVICE.start(flow, 1, 2));
+        Request request = SERVICE.start(flow, 1);
+        thrown(IllegalStateException.class, flow::promise);
+        thrown(IllegalArgumentException.class, () -> request.stage(foreign));
+        thrown(IllegalArgumentException.class, () -> SERVICE.request().stage(step));
+        Flow full = new Flow("full");
+        for (int k = 0; k < 4096; k++) {
+            full.promise();
+        }
+        thrown(RequestFullException.class, full::promise);
+        Request most = SERVICE.start(full, 1);
+        thrown(RequestFullException.class, most::promise);
+    }
+
+    /** Of one settled stage 1,000 others have news, which come in several parts. */
+    private static void manyNews() {
+        Request request = SERVICE.request();
+        Stage<Integer> first = request.promise();
+        List<Stage<Integer>> copies = new ArrayList<>(), called = new ArrayList<>();
+        for (int k = 0; k < 1000; k++) {
+            int each = k;
+            copies.add(first.copy());
+            called.add(first.thenApply(x -> x + each));
+        }
+        first.complete(7);
+        for (int k = 0; k < 1000; k++) {
+            is(copies.get(k).getNow(0), 7);
+            is(called.get(k).getNow(0), 7 + k);
+        }
+    }
+
+    /** From the 62nd on they are one caller. */
+    private static void manyThreads() throws Exception {
+        Request request = SERVICE.request();
+        List<Stage<Integer>> made = new ArrayList<>();
+        for (int k = 0; k < 100; k++) {
+            Thread thread = new Thread(() -> made.add(request.completedFuture(1).thenApply(x -> x + 1)));
+            thread.start();
+            thread.join();
+        }
+        for (Stage<Integer> each : made) {
+            is(each.join(), 2);
+        }
+        is(request.history().toString().contains("some thread attaches"), true);
+    }
+
+    /** A recording has an event for each word and for each stage that was settled. */
+    private static void recordings() throws Exception {
+        if (Recorder.NOW == null) {
+            System.out.println("(no recordings in this JVM)");
+            return;
+        }
+        Path file = Files.createTempFile("cf", ".jfr");
+        int words;
+        try (jdk.jfr.Recording recording = new jdk.jfr.Recording()) {
+            recording.start();
+            Request request = SERVICE.request("recorded");
+            Stage<Integer> first = request.promise();
+            Stage<Integer> last = first.thenApply(x -> x + 1).thenApply(x -> x * 2).named("twice").thenCompose(x -> first);
+            request.allOf(first, last, request.failedFuture(new IllegalStateException("no")));
+            first.complete(20);
+            words = request.history().events();
+            recording.stop();
+            recording.dump(file);
+        }
+        int recorded = 0;
+        List<String> ends = new ArrayList<>();
+        for (jdk.jfr.consumer.RecordedEvent event : jdk.jfr.consumer.RecordingFile.readAllEvents(file)) {
+            if (event.getEventType().getName().equals("cf.Word") && event.getString("request").equals("recorded")) {
+                recorded++;
+            }
+            if (event.getEventType().getName().equals("cf.Stage") && event.getString("request").equals("recorded")) {
+                ends.add(event.getString("name") + ": " + event.getString("outcome"));
+            }
+        }
+        Files.delete(file);
+        is(recorded, words);
+        is(ends.contains("2 twice: 42"), true);
+        is(ends.size(), 7);
+    }
+
+    /** Where the JVM has them: each waits in join, and one claims. */
+    private static void virtualThreads() throws Exception {
+        ExecutorService each;
+        try {
+            each = (ExecutorService) Executors.class.getMethod("newVirtualThreadPerTaskExecutor").invoke(null);
+        } catch (NoSuchMethodException older) {
+            return;
+        }
+        Service service = new Service(each);
+        Request request = service.request("virtual");
+        Stage<Integer> first = request.promise();
+        List<Stage<Integer>> waits = new ArrayList<>();
+        for (int k = 0; k < 500; k++) {
+            int own = k;
+            waits.add(request.supplyAsync(() -> first.join() + own));
+        }
+        first.complete(1);
+        for (int k = 0; k < 500; k++) {
+            is(waits.get(k).get(20, TimeUnit.SECONDS), 1 + k);
+        }
+        each.shutdown();
+    }
+
+    /** Requests that nobody closed are freed, in the heap and outside. */
+    private static void unreachable() throws Exception {
+        int count = Integer.getInteger("test.requests", 30_000);
+        WeakReference<Object> value = new WeakReference<>(dropped());
+        for (int k = 0; k < 100 && value.get() != null; k++) {
+            System.gc();
+            Thread.sleep(5);
+        }
+        is(value.get(), null);
+        requests(count / 10);
+        long before = resident();
+        requests(count);
+        System.gc();
+        Thread.sleep(50);
+        long after = resident();
+        if (Boolean.getBoolean("test.times")) {
+            System.out.println("           resident before and after " + count + " requests: " + before + " and " + after + " MB");
+        }
+        is(after - before < 100, true);
+    }
+
+    private static Object dropped() {
+        Request request = SERVICE.request();
+        Object object = new Object();
+        request.completedFuture(object).thenApply(x -> x).orTimeout(1, TimeUnit.HOURS);
+        request.<Object>promise().thenApply(x -> object);
+        return object;
+    }
+
+    private static void requests(int count) {
+        for (int k = 0; k < count; k++) {
+            Request request = SERVICE.request("dropped");
+            Stage<Integer> first = request.promise();
+            Stage<Integer> last = first.thenApply(x -> x + 1);
+            if (k % 3 != 0) {
+                first.complete(k);
+                is(last.join(), k + 1);
+            }
+            if (k % 5 == 0) {
+                request.close();
+            }
+        }
+    }
+
+    /** MB of memory that the process has. */
+    private static long resident() throws Exception {
+        Path statm = Paths.get("/proc/self/statm");
+        return Files.exists(statm) ? Long.parseLong(new String(Files.readAllBytes(statm)).split(" ")[1]) * 4096 >> 20 : 0;
+    }
+}
