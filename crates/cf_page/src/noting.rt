@@ -186,7 +186,13 @@ impl Notes {
     fn source_of(&self, stage: u16, outcome: Outcome) -> Option<u16> {
         let seen = self.stages.get(stage as usize)?;
         if let Some(j) = seen.linked {
-            return Some(j);
+            // One that it may not take from is a bad answer, which is its own.
+            let (held, _) = self.settled_at(j)?;
+            return if are_alike(held, outcome) {
+                Some(j)
+            } else {
+                None
+            };
         }
         let mut best = None;
         for j in seen.of.iter() {
