@@ -11,6 +11,7 @@ from .words import (ANSWER, ARGS, BAD_ANSWER, CANCELLED, CLIENT, CLOCK, FIRST, F
 if TYPE_CHECKING:
     from ._plain import PlanCore
 
+LONGEST_NAME = 64  # characters that accounts take of a stage's name
 CALLERS = {CLIENT: "caller", CLOCK: "clock", RELAY: "relay"}
 
 
@@ -149,7 +150,8 @@ class History:
 
     def account(self) -> str:
         """What `cf_look check` judges, a line of JSON: the events, each caller's replies, what it was told of stages, and what these hold in
-        the end. All of it as it was told, and nothing done again."""
+        the end. All of it as it was told, and nothing done again. What `cf_look page` shows besides isn't judged: names, times in nanoseconds
+        from the first event on, values and exceptions as texts."""
         entries = self.entries()
         callers: List[List[List[Any]]] = [[] for _ in range(1 + max((entry.event.who for entry in entries), default=-1))]
         last = dict(self._told.get(0, []))
@@ -161,7 +163,12 @@ class History:
         plan = {"cf": 2, "room": len(self.names) - len(self.planned), "stages": self._stages()}
         outcomes = [_outcome_text(last[stage]) if stage in last else "pending" for stage in range(len(self.names))]
         return json.dumps({"plan": plan, "functions": max(len(self.names), 1), "events": [str(word) for word in self.words],
-                           "callers": callers, "outcomes": outcomes})
+                           "callers": callers, "outcomes": outcomes, **self._for_people(len(callers))})
+
+    def _for_people(self, callers: int) -> Dict[str, Any]:
+        return {"name": _whole(self.name), "names": [_whole(name[:LONGEST_NAME]) for name in self.names],
+                "times": [moment - self._times[0] for moment in self._times], "lanes": [self.caller(who) for who in range(callers)],
+                "values": [_whole(_short(value)) for value in self.values], "errors": [_whole(_short(error)) for error in self.errors]}
 
     def script(self, most: Optional[int] = None) -> str:
         """What `cf run` does again and `cf_look dot` draws, a line of JSON: the first events, or all."""
@@ -243,6 +250,11 @@ def _reply_text(event: Event, reply: Sequence[int]) -> str:
     if isinstance(event, Tick):
         return "past" if reply[ANSWER] else f"fired {reply[NUMBER]}"
     return "true" if reply[ANSWER] else "false"
+
+
+def _whole(text: str) -> str:
+    """The text without halves of surrogate pairs, which no UTF-8 has."""
+    return text.encode("utf-8", "replace").decode()
 
 
 def _short(thing: Any) -> str:

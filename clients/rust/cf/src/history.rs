@@ -10,6 +10,9 @@ use cf_graph::{Args, Cause, Claimed, Finished, Outcome, Reply, Ticked, Value};
 use std::fmt::{self, Write};
 use std::time::Duration;
 
+/// Characters that accounts take of a stage's name.
+const LONGEST_NAME: usize = 64;
+
 /// The events of a request until some moment, in their one order, with all that callers were told. It stays as it is while the request goes
 /// on. `Display` tells it in words.
 ///
@@ -179,7 +182,7 @@ impl History {
         text += "],\"callers\":[";
         list(&mut text, parts.callers.iter().map(|own| format!("[{}]", own.iter().map(Told::json).collect::<Vec<_>>().join(","))));
         for (member, texts) in
-            [("outcomes", &parts.outcomes), ("names", &self.names), ("lanes", &parts.lanes), ("values", &parts.values), ("errors", &parts.errors)]
+            [("outcomes", &parts.outcomes), ("names", &parts.names), ("lanes", &parts.lanes), ("values", &parts.values), ("errors", &parts.errors)]
         {
             let _ = write!(text, "],\"{member}\":[");
             list(&mut text, texts.iter().map(|text| quoted(text)));
@@ -203,6 +206,7 @@ impl History {
         Account {
             callers,
             outcomes: self.outcomes(),
+            names: self.names.iter().map(|name| name.chars().take(LONGEST_NAME).collect()).collect(),
             lanes: (0..lanes).map(caller).collect(),
             values: self.values.iter().map(|value| value.as_ref().map_or_else(String::new, shown)).collect(),
             errors: self.errors.iter().map(|error| error.as_ref().map_or_else(String::new, Error::to_string)).collect(),
@@ -323,6 +327,7 @@ impl fmt::Debug for History {
 struct Account {
     callers: Vec<Vec<Told>>,
     outcomes: Vec<String>,
+    names: Vec<String>,
     lanes: Vec<String>,
     values: Vec<String>,
     errors: Vec<String>,
@@ -490,7 +495,7 @@ impl serde::Serialize for History {
         account.serialize_field("events", &self.words.iter().map(u64::to_string).collect::<Vec<_>>())?;
         account.serialize_field("callers", &parts.callers)?;
         account.serialize_field("outcomes", &parts.outcomes)?;
-        account.serialize_field("names", &self.names)?;
+        account.serialize_field("names", &parts.names)?;
         account.serialize_field("lanes", &parts.lanes)?;
         account.serialize_field("values", &parts.values)?;
         account.serialize_field("errors", &parts.errors)?;

@@ -4,6 +4,7 @@ import java.util.ArrayList;
 import java.util.Arrays;
 import java.util.List;
 import java.util.Locale;
+import java.util.function.IntFunction;
 
 /**
  * What happened to a request: told in words, as an account that {@code cf_look check} judges, and as a script for {@code cf run}. It stays
@@ -17,6 +18,8 @@ public final class History {
 
     /** Numbers of a reply: its answer, its number, and its arguments. */
     private static final int REPLY = 12;
+    /** Characters that accounts take of a stage's name. */
+    private static final int LONGEST_NAME = 64;
     /** Numbers of what is told: behind how many events, its stage, what it is, its number. */
     private static final int TOLD = 4;
 
@@ -307,7 +310,10 @@ public final class History {
 
     // For the programs.
 
-    /** What {@code cf_look check} judges: the events, each caller's replies, the outcomes that were told, and what the stages hold. */
+    /**
+     * What {@code cf_look check} judges: the events, each caller's replies, the outcomes that were told, and what the stages hold. What
+     * {@code cf_look page} shows besides isn't judged: names, times in nanoseconds from the first event on, values and exceptions as texts.
+     */
     public String account() {
         read();
         List<StringBuilder> callers = new ArrayList<>();
@@ -335,7 +341,42 @@ public final class History {
             outcomes.append(k == 0 ? "\"" : ",\"").append(end(k)).append('"');
         }
         return "{\"plan\":{\"cf\":2,\"room\":" + (stages - planned()) + ",\"stages\":[" + plan() + "]},\"functions\":" + Math.max(stages, 1)
-                + ",\"events\":[" + events + "],\"callers\":[" + records + "],\"outcomes\":[" + outcomes + "]}";
+                + ",\"events\":[" + events + "],\"callers\":[" + records + "],\"outcomes\":[" + outcomes + "]" + forPeople(callers.size()) + "}";
+    }
+
+    private String forPeople(int callers) {
+        StringBuilder moments = new StringBuilder();
+        for (int k = 0; times != null && k < times.length; k++) {
+            moments.append(k == 0 ? "" : ",").append(times[k] - times[0]);
+        }
+        return ",\"name\":" + quoted(name) + ",\"times\":[" + moments + "]"
+                + texts("names", stages, k -> names[k] == null ? "" : names[k].substring(0, Math.min(names[k].length(), LONGEST_NAME)))
+                + texts("lanes", callers, this::who) + texts("values", values.length, k -> brief(values[k]))
+                + texts("errors", errors.length, k -> brief(errors[k]));
+    }
+
+    private static String texts(String member, int count, IntFunction<String> of) {
+        StringBuilder text = new StringBuilder(",\"" + member + "\":[");
+        for (int k = 0; k < count; k++) {
+            text.append(k == 0 ? "" : ",").append(quoted(of.apply(k)));
+        }
+        return text.append(']').toString();
+    }
+
+    /** A string of JSON. Half of a surrogate pair, which no UTF-8 has, becomes the replacement character. */
+    private static String quoted(String text) {
+        StringBuilder quoted = new StringBuilder("\"");
+        for (int k = 0; k < text.length(); k++) {
+            char c = text.charAt(k);
+            if (Character.isHighSurrogate(c) && k + 1 < text.length() && Character.isLowSurrogate(text.charAt(k + 1))) {
+                quoted.append(c).append(text.charAt(++k));
+            } else if (c < ' ' || c == '"' || c == '\\') {
+                quoted.append(String.format("\\u%04x", (int) c));
+            } else {
+                quoted.append(Character.isSurrogate(c) ? '\ufffd' : c);
+            }
+        }
+        return quoted.append('"').toString();
     }
 
     /** How a stage ends, as reports have it: "pending", "value 3", "fault cancelled raw". */
