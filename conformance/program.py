@@ -38,3 +38,11 @@ def judged(program, histories):
     ran = subprocess.run([program, "check", "--lines"], input=text, capture_output=True, text=True, timeout=600)
     assert ran.returncode in (0, 1, 2), ran.stderr
     return ran.stdout.splitlines()
+
+
+def unshown(program, account):
+    """Why an account, a text of JSON, isn't shown as a page; nothing where it is."""
+    ran = subprocess.run([program, "page"], input=account.encode(), capture_output=True, timeout=600)
+    if ran.returncode == 0 and ran.stdout.startswith(b"<!doctype html>") and ran.stdout.rstrip().endswith(b"</html>"):
+        return ""
+    return f"cf_look page ended with {ran.returncode}: {ran.stderr.decode()}\n{account}"

@@ -1,5 +1,6 @@
 """What happened to a request: told in words, as an account that `cf_look check` judges, and as a script."""
 import json
+import subprocess
 from array import array
 from typing import TYPE_CHECKING, Any, Dict, List, NamedTuple, Optional, Sequence, Tuple
 
@@ -41,7 +42,7 @@ class History:
     """The events of a request in their one order, with all that callers were told. It stays as it is while the request goes on.
 
     `print(history)` tells it in words, a line for each event; `line()` is the same in one line, for a log. `account()` is what
-    `cf_look check` judges, `script()` what `cf run` does again and `cf_look dot` draws."""
+    `cf_look check` judges, `page()` what a browser shows of it, `script()` what `cf run` does again and `cf_look dot` draws."""
 
     def __init__(self, name: str, plan: "Optional[PlanCore]", facts: Tuple[Any, Any, Any, Any, List[str], List[Any], List[BaseException]]) -> None:
         words, times, replies, told, self.names, self.values, self.errors = facts
@@ -169,6 +170,12 @@ class History:
         return {"name": _whole(self.name), "names": [_whole(name[:LONGEST_NAME]) for name in self.names],
                 "times": [moment - self._times[0] for moment in self._times], "lanes": [self.caller(who) for who in range(callers)],
                 "values": [_whole(_short(value)) for value in self.values], "errors": [_whole(_short(error)) for error in self.errors]}
+
+    def page(self, program: str = "cf_look") -> str:
+        """A page for a browser, which loads nothing, as the program cf_look makes it of the account. FileNotFoundError where the program isn't
+        there, subprocess.CalledProcessError where it fails."""
+        done = subprocess.run([program, "page"], input=self.account(), stdout=subprocess.PIPE, check=True, encoding="utf-8")
+        return done.stdout
 
     def script(self, most: Optional[int] = None) -> str:
         """What `cf run` does again and `cf_look dot` draws, a line of JSON: the first events, or all."""
