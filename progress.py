@@ -11,7 +11,7 @@ import select
 import subprocess
 import time
 from pathlib import Path
-from typing import IO, Dict, Iterator, Optional, Set
+from typing import IO, Callable, Dict, Iterator, Optional, Set
 
 from crates import TOP, own
 
@@ -28,7 +28,7 @@ TESTS = {
     "cf_reading_tests": 189, "cf_bits": 88, "cf_look_tests": 424, "cf_page_tests": 200,
 }  # fmt: skip
 OF_TESTS = 9  # to prove a crate that holds tests alone
-CALLERS = 420  # seconds, for the library for C and its callers, once rt ci has ended
+CALLERS = 420  # seconds, for the library for C and its callers, where they don't run beside rt ci
 EVERY = 30  # seconds from one line to the next
 TICKS = os.sysconf("SC_CLK_TCK")
 
@@ -85,6 +85,10 @@ class Gate:
         self.passed: Set[str] = set()  # whose tests are proved
         self.begun: Set[str] = set()  # whose edits are tried
         self.kept: Set[str] = set()
+        self.is_alone = True  # no callers run beside it
+
+    def are_proved(self) -> bool:
+        return self.proved.issuperset(self.proofs)
 
     def of_edits(self, name: str, count: int) -> float:
         """One edit is a whole proof. Several are a proof once more, and then a part of it for each and for the crate as it is."""
@@ -118,14 +122,15 @@ class Gate:
         tests = len(self.passed | self.kept & self.tested)
         with_edits = [name for name, count in self.edits.items() if count]
         edits = len({*with_edits} & (self.begun | self.kept))
-        more = max(0.0, whole - spent) * elapsed / max(spent, 1.0) + CALLERS
+        more = max(0.0, whole - spent) * elapsed / max(spent, 1.0) + CALLERS * self.is_alone
         so_far = f"{len(self.proved)} of {len(self.proofs)} crates proved, tests of {tests} of {len(self.tested)}"
         share = min(99, round(100 * spent / whole))
         return f"check: {so_far}, edits of {edits} of {len(with_edits)} begun; {share}% after {elapsed / 60:.0f} min, about {more / 60:.0f} min more"
 
 
-def run_gate() -> int:
-    """Runs rt ci over the checkout, prints what it prints, and answers its status. It ends with this."""
+def run_gate(then: Optional[Callable[[], object]]) -> int:
+    """Runs rt ci over the checkout, prints what it prints, and answers its status. It ends with this. Once all crates are proved, so that
+    only tests and edits are left, it calls `then`."""
     gate, began = Gate(), time.monotonic()
     told = began
     with subprocess.Popen(["rt", "ci"], cwd=str(TOP), stdout=subprocess.PIPE) as running:
@@ -134,6 +139,9 @@ def run_gate() -> int:
                 if line is not None:
                     print(line, flush=True)
                     gate.take(line)
+                if then and gate.is_alone and gate.are_proved():
+                    gate.is_alone = False
+                    then()
                 now = time.monotonic()
                 if now - told >= EVERY:
                     told = now
