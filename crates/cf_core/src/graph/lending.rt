@@ -1,5 +1,5 @@
 //! A graph that is lent to a sweep, which stops at each function and goes on.
-ghost use Rattle.std.specs.Prelude.{◌≡◌, ℕ, ◌≤◌, ◌<◌, IfNone, IfSome, None, Some, is_some, length, option_map, position, slice_get, true, unwrap_or};
+ghost use Rattle.std.specs.Prelude.{◌≡◌, ℕ, ◌≤◌, ◌<◌, ◌↔◌, IfNone, IfSome, IsTrue, None, Some, is_some, length, option_map, position, slice_get, true, unwrap_or};
 ghost use Rattle.cf_model.specs.declared.stage.Stage.TheVariants.{Ready};
 ghost use Rattle.cf_core.specs.declared.graph.lending.Stop.{Stop};
 ghost use Rattle.cf_model.specs.States.{is_ready, lowest_ready_of};
@@ -133,17 +133,17 @@ impl Sweep {
         }
     }
 
-    /// Whether all stages are behind it, and it stands at none.
+    /// Whether all stages are behind it.
+    #[inline(always)]
     pub fn is_over(&self) -> bool
-        ensures { result ≡ true → (self.now.behind ≡ length self.now.state.plan.stages) × (self.now.stands ≡ None) }
+        ensures { IsTrue result ↔ (self.now.behind ≡ length self.now.state.plan.stages) }
     {
-        self.behind == self.plan.stages() && self.args.is_none()
+        self.behind == self.plan.stages()
     }
 
     /// Gives the graph back. No stage is ready then.
     pub fn end(self) -> Graph
         requires over { self.behind ≡ length self.state.plan.stages }
-        requires free { self.stands ≡ None }
         ensures same { result.state ≡ self.state }
         ensures none { lowest_ready_of result.state ≡ None }
         ensures counted { result.turns ≡ self.turns }
