@@ -8,6 +8,9 @@
  *                     work. An allOf is settled by the completions of its sources. A stage
  *   ledger ..         a ledger that is there started again, its source completed, and settled: the next ready stage asked for, claimed and
  *                     finished by a word each; by cf_ledger_step; or its row of words done again by one call. A stage
+ *   ledger            a ledger of a chain of 16 opened of a plan that is there, and freed; or one that is there started again; all of it
+ *   word              a word of that chain, of which all are known: by cf_ledger_apply to a new ledger, or to one that was started again; by
+ *                     cf_apply to a graph
  *   desk chain        a chain on a new desk settled by its one caller: ready, claim and finish; a stage
  *   desk 1            a desk of one caller opened of a plan that is there, its chain of 16 settled so, and closed; all of it
  *   race 1            a stage of 4,095 completed by a desk's one caller */
@@ -181,6 +184,56 @@ static void time_ledgers(void) {
   cf_free(&plan);
 }
 
+enum { SMALL_WORDS = 2 * SMALL - 1 };
+static struct times opened = {.name = "ledger, opened and freed"}, started = {.name = "ledger, started again"};
+static struct times new_word = {.name = "word, of a new ledger"}, next_word = {.name = "word, of one that was started again"},
+                    graph_word = {.name = "word, of a graph"};
+
+static void apply_all(cf_handle *ledger, const uint64_t words[SMALL_WORDS], struct times *times) {
+  cf_reply reply = {0};
+  cf_news news[4];
+  size_t n;
+  uint64_t since = moment();
+  for (int at = 0; at < SMALL_WORDS; at++) MUST(cf_ledger_apply(ledger, words[at], &reply, news, 4, &n));
+  add(times, since);
+  must_be(reply.answer == CF_WON && n == 1, "the last word");
+}
+
+static void time_small_ledgers(void) {
+  uint64_t words[SMALL_WORDS];
+  cf_handle plan = plan_of(CHAIN, SMALL), kept = {0}, graph = {0};
+  cf_reply reply = {0};
+  MUST(cf_ledger_new(&plan, 0, &kept));
+  MUST(cf_graph_new(&plan, 0, &graph));
+  words[0] = word_of((cf_event){.call = CF_CALL_COMPLETE, .value = number(1)});
+  for (uint16_t stage = 1; stage < SMALL; stage++) {
+    words[2 * stage - 1] = word_of((cf_event){.call = CF_CALL_CLAIM, .stage = stage});
+    words[2 * stage] = word_of((cf_event){.call = CF_CALL_FINISH, .stage = stage, .answer = {.kind = CF_GIVE, .value = number(stage + 1)}});
+  }
+  for (int i = 0; i < SMALL_ROUNDS; i++) {
+    cf_handle ledger = {0};
+    uint64_t since = moment();
+    MUST(cf_ledger_new(&plan, 0, &ledger));
+    cf_free(&ledger);
+    add(&opened, since);
+    MUST(cf_ledger_new(&plan, 0, &ledger));
+    apply_all(&ledger, words, &new_word);
+    cf_free(&ledger);
+    since = moment();
+    MUST(cf_ledger_restart(&kept));
+    add(&started, since);
+    apply_all(&kept, words, &next_word);
+    MUST(cf_restart(&graph));
+    since = moment();
+    for (int at = 0; at < SMALL_WORDS; at++) MUST(cf_apply(&graph, words[at], &reply));
+    add(&graph_word, since);
+    must_be(reply.answer == CF_WON, "the last word");
+  }
+  cf_free(&graph);
+  cf_free(&kept);
+  cf_free(&plan);
+}
+
 /* ---- Desks ---- */
 
 static struct times desk_chain = {.name = "desk chain 512"}, small = {.name = "desk 1"}, race = {.name = "race 1"};
@@ -254,6 +307,7 @@ int main(void) {
   time_ways(FAN_OUT, fan_out);
   time_all_of();
   time_ledgers();
+  time_small_ledgers();
   time_rounds(time_desk_chain, CHAIN, STAGES, ROUNDS);
   time_rounds(time_small, CHAIN, SMALL, SMALL_ROUNDS);
   time_rounds(time_race, SOURCES, RACED, ROUNDS);
@@ -263,6 +317,11 @@ int main(void) {
   show_all(fan_out, WAYS, STAGES);
   show(&all_of, STAGES);
   show_all(ledger_chain, LEDGER_WAYS, STAGES);
+  show(&opened, 1);
+  show(&started, 1);
+  show(&new_word, SMALL_WORDS);
+  show(&next_word, SMALL_WORDS);
+  show(&graph_word, SMALL_WORDS);
   show(&desk_chain, STAGES);
   show(&small, 1);
   show(&race, RACED);

@@ -21,8 +21,8 @@
  *
  * A function in this header stands for the call before it, which takes by pointer what the function takes by value.
  *
- * Building and opening take memory, and so do cf_ledger_apply, cf_ledger_step, cf_ledger_apply_all, cf_ledger_grow, cf_ledger_restart,
- * cf_close_begin and cf_run_script; no other call takes any. */
+ * Building and opening take memory, and so do cf_ledger_apply, cf_ledger_step, cf_ledger_apply_all, cf_ledger_grow, cf_close_begin and
+ * cf_run_script; no other call takes any. */
 #ifndef CF_H
 #define CF_H
 #include <stdbool.h>
@@ -403,7 +403,8 @@ uint32_t cf_ledger_stages(cf_handle *ledger, uint16_t *stages);
 /* Makes room for so many stages more, by doing all words again. CF_ROOM, CF_NO_MEMORY. */
 uint32_t cf_ledger_grow(cf_handle *ledger, uint16_t more);
 
-/* Starts again: no word is written then, and all of its room, also what cf_ledger_grow made, is free. CF_NO_MEMORY. */
+/* Starts again: no word is written then, and all of its room, also what cf_ledger_grow made, is free. It keeps its memory, so a ledger that
+ * is kept for the next request costs less than a new one. */
 uint32_t cf_ledger_restart(cf_handle *ledger);
 
 /* ---- Scripts and texts ---- */

@@ -204,8 +204,7 @@ DoesRow words held had r new has = (r ≡ Err WrongKind) × (new ≡ held) × (h
 
 -- nothing is written, as when it was opened, and it has the room that it had in all
 abbrev pub StartsAgain : Object → Result (Unit {0}) Code → Object → Type 0
-StartsAgain (Ledger l) (Ok done) new = new ≡ Ledger (record l { events = [] })
-StartsAgain (Ledger l) (Err fault) new = (fault ≡ NoMemory) × (new ≡ Ledger l)
+StartsAgain (Ledger l) r new = (r ≡ Ok tt) × (new ≡ Ledger (record l { events = [] }))
 StartsAgain held r new = (r ≡ Err WrongKind) × (new ≡ held)
 
 -- ---- what it writes for C

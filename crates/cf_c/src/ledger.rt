@@ -190,12 +190,12 @@ pub extern "C" fn cf_ledger_grow(alloc: Global, h: &mut CfHandle, more: u16) -> 
     ask!(alloc, h, held => asking::grow(alloc, &mut held, more))
 }
 
-/// Starts again.
+/// Starts again. It takes no memory.
 #[unsafe(no_mangle)]
 pub extern "C" fn cf_ledger_restart(alloc: Global, h: &mut CfHandle) -> u32
     ensures { Does StartsAgain h.old.inner.held h.new.inner.held result }
 {
-    ask!(alloc, h, held => asking::restart(alloc, &mut held))
+    ask!(alloc, h, held => asking::restart(&mut held))
 }
 
 /// The ledger of a plan with so much room.

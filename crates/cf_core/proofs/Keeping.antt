@@ -19,6 +19,7 @@ pub mod Lowest
 pub mod StartSound
 pub mod GraphLemmas
 pub mod Serving
+pub mod Lending
 pub mod Settled
 pub mod TurnLemmas
 pub mod Attaching

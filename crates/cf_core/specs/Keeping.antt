@@ -3,6 +3,7 @@ pub mod Treatment
 pub mod Starts
 pub mod Offers
 pub mod Sweeps
+pub mod Lending
 pub mod Writes
 pub mod Marks
 pub mod Links

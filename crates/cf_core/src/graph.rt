@@ -2,6 +2,7 @@
 mod answering;
 mod attaching;
 mod claims;
+pub(crate) mod lending;
 mod limits;
 mod restarting;
 mod settling;

@@ -69,4 +69,5 @@ pub mod propagation;
 mod stages;
 mod treat;
 
+pub use graph::lending::{Stop, Sweep};
 pub use graph::{Graph, GraphFault};

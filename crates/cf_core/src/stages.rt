@@ -293,6 +293,7 @@ impl Stages {
     }
 
     /// How far a stage has come.
+    #[inline(always)]
     pub fn rank(&self, plan: &GrowingPlan, i: u16) -> u8
         requires sound { AreSound plan.now.stages self.now }
         requires stage { i < length plan.now.stages }
@@ -333,6 +334,7 @@ impl Stages {
     }
 
     /// A stage as it is kept.
+    #[inline(always)]
     pub fn stage(&self, i: u16) -> Stage
         requires { i < length self.now.kept.items }
         ensures { result ≡ (kept_at self.now.kept.items i).stage }

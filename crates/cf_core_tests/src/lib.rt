@@ -17,4 +17,6 @@ mod restarting;
 #[cfg(test)]
 mod steps;
 #[cfg(test)]
+mod sweeping;
+#[cfg(test)]
 mod working;

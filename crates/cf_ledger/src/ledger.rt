@@ -1,6 +1,6 @@
 //! The ledger.
 ghost use Rattle.std.specs.Prelude.{◌≡◌, ◌+◌, ◌≢◌, ◌<◌, ◌≤◌, ◌↔◌, [], IfErr, IfNone, IfOk, IfSome, IsTrue, None, OnErr, OnOk, false, length, map, get_or, replicate, take, true};
-ghost use Rattle.cf_plan.specs.Plans.{function_at, has_place, with_room};
+ghost use Rattle.cf_plan.specs.Plans.{function_at, has_place, reopened, with_room};
 ghost use Rattle.cf_model.specs.Graphs.{NoneReady, stage_in};
 ghost use Rattle.cf_model.specs.States.{claim_at, is_ready, lowest_ready_of, outcome_at, start};
 ghost use Rattle.cf_event.specs.Words.{word_of};
@@ -11,6 +11,7 @@ ghost use Rattle.cf_event.specs.Decoding.{decoded};
 
 use crate::faults::{LedgerFault, Misfit, StepFault};
 use crate::news::News;
+use crate::rows::make_room;
 use crate::step::{Held, Step};
 use crate::writing::{finish, take, write};
 use cf_bits::BitSet;
@@ -83,7 +84,9 @@ impl Ledger {
     /// room, memory. A refused word leaves all as it was.
     ///
     /// It costs what the graph's call costs with all turns that it makes due, some nanoseconds for each stage that it
-    /// changes, and from time to time a growth of the two rows.
+    /// changes, and from time to time a growth of the two rows. It stands in its callers' own code, where the reply is read as it was
+    /// written, part by part.
+    #[inline(always)]
     pub fn apply(&mut self, word: u64) -> Result<Reply, LedgerFault>
         ensures done { IfOk result (λ reply. Does word self.old reply self.new) }
         ensures refused { OnErr result (self.new ≡ self.old) }
@@ -98,7 +101,7 @@ impl Ledger {
         if !has_room_for(&self.graph, &event) {
             return Err(LedgerFault::NoRoom);
         }
-        if self.words.reserve(1).is_err() {
+        if make_room(&mut self.words, 1).is_err() {
             return Err(LedgerFault::NoMemory);
         }
         if self.news.reserve(1, self.changed.bound() as usize).is_err() {
@@ -137,7 +140,7 @@ impl Ledger {
                 return Err(StepFault::NotHeld);
             }
         }
-        if self.words.reserve(2).is_err() {
+        if make_room(&mut self.words, 2).is_err() {
             return Err(StepFault::NoMemory);
         }
         let most = self.changed.bound() as usize;
@@ -303,15 +306,16 @@ impl Ledger {
         }
     }
 
-    /// Starts again: nothing is written then, and all of its room is free. It takes as much memory as a new ledger; it fails only
-    /// where there is none, and then all is as it was.
-    pub fn restart(&mut self, alloc: Global) -> Result<(), LedgerFault>
-        ensures restarted { OnOk result (self.new ≡ record self.old { events = [] }) }
-        ensures unchanged { OnErr result (self.new ≡ self.old) }
-        ensures refused { IfErr result (λ fault. fault ≡ LedgerFault.NoMemory) }
+    /// Starts again: nothing is written then, and all of its room is free. It takes no memory, and keeps what its rows have.
+    pub fn restart(&mut self)
+        ensures { self.new ≡ record self.old { events = [] } }
     {
-        *self = Ledger::new(alloc, &self.plan, self.room)?;
-        Ok(())
+        // A plan is opened with all its stages.
+        let _stages = self.plan.stages();
+        start_again(&mut self.graph);
+        self.words.clear();
+        self.changed.reset(self.graph.stages() + self.graph.room());
+        self.news.clear();
     }
 
     /// Whether its plan has place for so many stages more.
@@ -355,6 +359,17 @@ fn graph_of(alloc: Global, plan: &Plan, room: u16) -> Result<Graph, LedgerFault>
         Ok(graph) => Ok(worked_out(graph)),
         Err(_) => Err(LedgerFault::NoMemory),
     }
+}
+
+/// Has a graph start again, and takes all turns that are left.
+fn start_again(graph: &mut Graph)
+    ensures start { graph.new.state ≡ start (reopened graph.old.state.plan) }
+    ensures worked_out { graph.new.left ≡ None }
+{
+    graph.restart();
+    graph.nudge(u32::MAX);
+    // A plan has so few stages and edges that these are fewer turns.
+    let _stages = graph.stages();
 }
 
 /// The graph once all turns that are left are taken.

@@ -10,6 +10,7 @@
 mod faults;
 mod ledger;
 mod news;
+mod rows;
 mod step;
 mod writing;
 

@@ -2,6 +2,7 @@
 ghost use Rattle.std.specs.Prelude.{◌≡◌, ◌+◌, ◌<◌, ◌≤◌, ◌∷◌, ◌++◌, [], Bool, List, None, OnErr, OnOk, Some, length, position, slice_get, vec_capacity};
 ghost use Rattle.cf_ledger.specs.News.{AreEnds, Drains, EndsIn, begin_of, parts};
 
+use crate::rows::make_room;
 use cf_bits::BitSet;
 use std::alloc::{AllocError, Global};
 use std::marker::Model;
@@ -42,16 +43,26 @@ impl News {
 
     /// Finds room for so many lists more, of so many stages in all. It fails only where there is no memory, and changes no
     /// list.
+    #[inline(always)]
     pub fn reserve(&mut self, lists: usize, count: usize) -> Result<(), AllocError>
         ensures free { OnOk result (count ≤ self.new.free) }
         ensures more { OnOk result (lists ≤ self.new.more) }
         ensures same { self.new.lists ≡ self.old.lists }
     {
-        self.all.reserve(count)?;
-        self.ends.reserve(lists)
+        make_room(&mut self.all, count)?;
+        make_room(&mut self.ends, lists)
+    }
+
+    /// Takes out all lists. Their room stays.
+    pub fn clear(&mut self)
+        ensures { self.new.lists ≡ [] }
+    {
+        self.all.clear();
+        self.ends.clear();
     }
 
     /// Writes the stages whose flags are set behind the others, as a list of its own, and takes the flags down.
+    #[inline(always)]
     pub fn push(&mut self, changed: &mut BitSet)
         requires free { length changed.old ≤ self.old.free }
         requires more { 0 < self.old.more }

@@ -19,6 +19,7 @@ use cf_model::{Claimed, Event, Finished, Reply};
 use cf_plan::Plan;
 
 /// Does an event that is taken, and writes its word behind the others with the stages that it changed.
+#[inline(always)]
 pub(crate) fn write(
     plan: &Plan,
     room: u16,

@@ -73,14 +73,12 @@ pub(crate) fn grow(alloc: Global, held: &mut Object, more: u16) -> Result<(), Co
 }
 
 /// Starts a ledger again.
-pub(crate) fn restart(alloc: Global, held: &mut Object) -> Result<(), Code>
+pub(crate) fn restart(held: &mut Object) -> Result<(), Code>
     ensures { StartsAgain held.old result held.new }
 {
     let Object::Ledger(ledger) = held else {
         return Err(Code::WrongKind);
     };
-    match ledger.restart(alloc) {
-        Ok(()) => Ok(()),
-        Err(_) => Err(Code::NoMemory),
-    }
+    ledger.restart();
+    Ok(())
 }

@@ -12,6 +12,7 @@ use crate::values::{CfReply, as_reply};
 use cf_ledger::{Ledger, Stage};
 
 /// Does a word to a ledger. The stages that it changed go out as far as the buffer reaches, and how many they are.
+#[inline(always)]
 pub(crate) fn apply(
     held: &mut Object,
     word: u64,
@@ -93,6 +94,7 @@ pub(crate) fn news(
 
 /// The stages that the event at a place changed go out as far as the buffer reaches, each as it is now. It tells how many
 /// they are.
+#[inline(always)]
 pub(crate) fn give_news(ledger: &mut Ledger, place: usize, news: &mut [CfNews]) -> usize
     requires { place < length ledger.old.events }
     ensures given { HaveNews ledger.old place news.old news.new result }
@@ -105,6 +107,7 @@ pub(crate) fn give_news(ledger: &mut Ledger, place: usize, news: &mut [CfNews]) 
 }
 
 /// Writes the numbers of stages as far as the buffer reaches, and tells how many they are.
+#[inline(always)]
 fn name_all(stages: &[u16], news: &mut [CfNews]) -> usize
     ensures named { AreWritten blank_news stages.now news.old news.new }
     ensures count { result ≡ length stages.now }
@@ -116,6 +119,7 @@ fn name_all(stages: &[u16], news: &mut [CfNews]) -> usize
     stages.len()
 }
 
+#[inline(always)]
 fn blank_news(stage: u16) -> CfNews
     ensures { result ≡ blank_news stage }
 {
@@ -126,6 +130,7 @@ fn blank_news(stage: u16) -> CfNews
 }
 
 /// Writes what each of the first stages in a buffer is.
+#[inline(always)]
 fn fill_all(ledger: &mut Ledger, news: &mut [CfNews], reach: usize)
     requires { reach ≤ length news.old }
     ensures filled { AreFilled (state_of ledger.old) reach news.old news.new }
@@ -139,6 +144,7 @@ fn fill_all(ledger: &mut Ledger, news: &mut [CfNews], reach: usize)
 }
 
 /// What a stage is; one that isn't there is pending.
+#[inline(always)]
 #[tactic(auto, using(crate::proofs::News::none_there))]
 fn stage_now(ledger: &mut Ledger, stage: u16) -> CfStage
     ensures told { result ≡ stage_now (state_of ledger.old) stage }

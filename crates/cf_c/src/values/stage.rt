@@ -29,6 +29,7 @@ pub struct CfNews {
 }
 
 /// A stage for C, with the caller whose claim is open.
+#[inline(always)]
 pub(crate) fn as_stage(stage: Stage, claimant: Option<u8>) -> CfStage
     ensures { result ≡ as_stage stage claimant }
 {
@@ -41,6 +42,7 @@ pub(crate) fn as_stage(stage: Stage, claimant: Option<u8>) -> CfStage
     }
 }
 
+#[inline(always)]
 fn stage_with(kind: u32, claimant: Option<u8>, target: u16, outcome: Option<Outcome>) -> CfStage
     ensures { result ≡ stage_with kind claimant target outcome }
 {
@@ -52,6 +54,7 @@ fn stage_with(kind: u32, claimant: Option<u8>, target: u16, outcome: Option<Outc
     }
 }
 
+#[inline(always)]
 fn who_or_nobody(claimant: Option<u8>) -> u32
     ensures { result ≡ who_or_nobody claimant }
 {

@@ -37,6 +37,7 @@ impl Graph {
     }
 
     /// Whether it takes an event: the stages that it names are there, and one that it attaches fits its form.
+    #[inline(always)]
     pub fn takes(&self, e: &Event) -> bool
         ensures { IsTrue result ↔ EventFits (length self.now.state.plan.stages) e.now }
     {

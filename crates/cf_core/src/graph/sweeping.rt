@@ -99,7 +99,7 @@ fn visit<F: Functions>(
 ///
 /// Most settle with the value that it is, and are written once. The others are written as ready first.
 #[inline(always)]
-fn land_next(stages: &mut Stages, plan: &GrowingPlan, m: u16, args: Args, answer: Answer)
+pub(super) fn land_next(stages: &mut Stages, plan: &GrowingPlan, m: u16, args: Args, answer: Answer)
     requires ready { IsReadyWith plan.now.stages m args stages.old }
     requires stage { m < length plan.now.stages }
     ensures landed { settled_view_of plan.now.stages stages.new ≡ landed_stages plan.now.stages (slice_set (settled_view_of plan.now.stages stages.old) m IsClaimed) m (landing (form_at plan.now.stages m) m (option_and_then (outcome_in (settled_view_of plan.now.stages stages.old)) (slice_get (sources_at plan.now.stages m) 0)) answer) }

@@ -13,6 +13,7 @@ use cf_model::{Event, Reply, Stage, Ticked};
 
 impl Graph {
     /// A stage's state.
+    #[inline(always)]
     pub fn stage(&mut self, i: u16) -> Stage
         requires { i < length self.old.state.plan.stages }
         ensures told { result ≡ stage_in self.old.state.stages i }
@@ -26,6 +27,7 @@ impl Graph {
     }
 
     /// The caller whose claim of a stage is open, if there is one.
+    #[inline(always)]
     pub fn claimant(&self, i: u16) -> Option<u8>
         requires { i < length self.now.state.plan.stages }
         ensures { result ≡ claim_at self.now.state i }
@@ -49,7 +51,9 @@ impl Graph {
     /// Does an event as `answer` does, takes all turns that it makes due, and tells which stages differ then: their flags are
     /// set. No turn was left before, and no flag was set; there is a flag for each stage that there may ever be.
     ///
-    /// It costs what the event and its turns cost, and some nanoseconds for each stage that differs.
+    /// It costs what the event and its turns cost, and some nanoseconds for each stage that differs. As `answer` does, it stands in its
+    /// callers' own code.
+    #[inline(always)]
     pub fn answer_telling(&mut self, e: &Event, changed: &mut BitSet) -> Reply
         requires fits { EventFits (length self.old.state.plan.stages) e.now }
         requires worked_out { self.old.left ≡ None }
@@ -77,6 +81,7 @@ impl Graph {
     }
 
     /// The stage that an event moves by itself, of a tick any.
+    #[inline(always)]
     fn moved_by(&self, e: &Event) -> u16
         ensures { result ≡ moved_by (length self.now.state.plan.stages) e.now }
     {
@@ -91,6 +96,7 @@ impl Graph {
     }
 
     /// How far a stage has come, as it is kept. One that isn't there yet is pending.
+    #[inline(always)]
     fn rank(&self, i: u16) -> u8
         ensures rank { result ≡ rank (stage_in self.now.kept i) }
         ensures there { 0 < result → i < length self.now.state.plan.stages }
@@ -104,6 +110,7 @@ impl Graph {
 
     /// Sets the flag of a stage that has moved on by itself, takes all turns that are left, and sets the flags of the stages
     /// that these move.
+    #[inline(always)]
     fn note_moved(&mut self, d: u16, before: u8, changed: &mut BitSet)
         requires flags { length self.old.state.plan.stages ≤ length changed.old }
         ensures told { (old mid : List IsStage) → HaveMoved old mid changed.old → MovesAlone d mid self.old.kept → before ≡ rank (stage_in mid d) → HaveMoved old self.new.kept changed.new }
@@ -121,6 +128,7 @@ impl Graph {
     }
 
     /// Takes all turns that are left, and sets the flags of the stages that they move.
+    #[inline(always)]
     fn tell_rest(&mut self, changed: &mut BitSet)
         requires flags { length self.old.state.plan.stages ≤ length changed.old }
         ensures told { (old : List IsStage) → HaveMoved old self.old.kept changed.old → HaveMoved old self.new.kept changed.new }
