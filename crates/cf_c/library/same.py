@@ -4,7 +4,8 @@
     crates/cf_c/library/same.py
 
 Each struct has the same fields in the same order and of the same types on both sides, so the same offsets; each call the same parameters;
-each code the number of its name; each form its number. It prints a line for each difference, and ends with status 1 where there is one.
+each code the number of its name; each form its number. No call takes more than six words, nor a struct above 16 bytes but by pointer:
+bindings pay dearly for either. It prints a line for each difference, and ends with status 1 where there is one.
 """
 import re
 import sys
@@ -17,6 +18,8 @@ HERE = Path(__file__).resolve().parent
 CRATES = HERE.parents[1]
 HEADER = HERE.parent / "include/cf.h"
 NUMBERS = {"u8": "uint8_t", "u16": "uint16_t", "u32": "uint32_t", "u64": "uint64_t", "i32": "int32_t", "usize": "size_t", "bool": "bool"}
+SIZES = {"uint8_t": 1, "bool": 1, "uint16_t": 2, "uint32_t": 4, "int32_t": 4, "uint64_t": 8, "size_t": 8}
+MOST_WORDS, MOST_BYTES = 6, 16
 STRUCT = re.compile(r"#\[repr\(C\)\]\n(?:#\[[^\n]*\n)*pub struct (Cf\w+) \{\n(.*?)^\}", re.M | re.S)
 FIELD = re.compile(r"^    (?:pub(?:\(crate\))? )?(?!ghost)(\w+): ([^\n]+?),?$", re.M)
 EXPORT = re.compile(r'pub extern "C" fn (cf_\w+)\((.*?)\)(?: -> (\w+))?\s*(?:\n    (?:requires|ensures)|\{)', re.S)
@@ -60,6 +63,17 @@ def structs_of_header(text):
     return found
 
 
+def size_of(kind, structs):
+    """The bytes and the alignment of a type of C."""
+    if kind in SIZES or kind.endswith("*"):
+        return (SIZES.get(kind, 8),) * 2
+    end, most = 0, 1
+    for _, field in structs[kind]:
+        size, align = size_of(field, structs)
+        end, most = -(-end // align) * align + size, max(most, align)
+    return -(-end // most) * most, most
+
+
 def numbers_of(text, prefix):
     return {name: int(number) for name, number in re.findall(rf"\b({prefix}[A-Z_]+) = (\d+)", text)}
 
@@ -89,6 +103,11 @@ def main():
     for name in sorted(exports.keys() | declared.keys()):
         if exports.get(name) != declared.get(name):
             wrong.append(f"{name}: {exports.get(name)} in the sources, {declared.get(name)} in the header")
+
+    for name, (_, taken) in sorted(declared.items()):
+        if len(taken) > MOST_WORDS:
+            wrong.append(f"{name}: it takes {len(taken)} words")
+        wrong += [f"{name}: it takes {kind} by value" for kind in taken if size_of(kind, there)[0] > MOST_BYTES]
 
     codes = {int(number): text for number, text in re.findall(r'^        (\d+) => Some\("(\w+)"\),', sources, re.M)}
     enum = re.search(r"typedef enum \{(.*?)\} cf_code;", header, re.S)[1]

@@ -11,3 +11,4 @@ pub mod Looks
 pub mod Gathers
 pub mod Histories
 pub mod RowLemmas
+pub mod OpenClaims

@@ -4,7 +4,7 @@ use Rattle.std.specs.List.{All}
 use Rattle.cf_outcome.specs.declared.outcome.Outcome.{Outcome}
 use Rattle.cf_plan.specs.Plans.{IsBuilt, Planned}
 use Rattle.cf_plan.specs.Meanings.{Meanings}
-use Rattle.cf_model.specs.States.{State, outcome_at, start}
+use Rattle.cf_model.specs.States.{State, claim_at, outcome_at, start}
 use Rattle.cf_model.specs.declared.events.Event.{Event}
 use Rattle.cf_model.specs.Events.{state_at}
 use Rattle.cf_model.specs.Laws.{grants_of}
@@ -13,7 +13,7 @@ use Rattle.cf_expr.specs.Histories.{IsPlain, IsPlainPlan, IsQuiet, nothing_grant
 use Rattle.cf_event.specs.declared.record.Record.{Record}
 use Rattle.cf_event.specs.Events.{own}
 use Rattle.cf_event.specs.Histories.{IsOneHistory, dids}
-use Rattle.cf_desk.specs.Log.{state_from}
+use Rattle.cf_desk.specs.Log.{Catches, state_from}
 
 abbrev pub place_of : ℕ × Event → ℕ
 place_of e = e.0
@@ -44,3 +44,8 @@ abbrev pub OneHistoryShows : Type 0
 OneHistoryShows =
     (plan : Planned) (functions : ℕ) (history : List Event) (callers : List (ℕ × List Record)) (graph : State) →
     IsOneHistory plan functions history callers → graph ≡ state_from plan history → Shows plan history callers graph
+
+-- a claim that a caller has open after the events that it has seen is open after those of others that follow, too
+abbrev pub ClaimsStayOpen : Type 0
+ClaimsStayOpen =
+    (plan : Planned) (caller i : ℕ) (before now : List Event) → Catches caller before now → claim_at (state_from plan before) i ≡ Some caller → claim_at (state_from plan now) i ≡ Some caller

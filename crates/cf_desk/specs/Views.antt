@@ -1,6 +1,6 @@
 -- What contracts see of a pass and of a desk.
 use Rattle.cf_plan.specs.Plans.{Planned, plan_of}
-use Rattle.std.specs.Prelude.{◌≡◌, ◌<◌, ◌≤◌, ◌+◌, Option, None, ◌⊎◌, length, map, ℕ, List, [], ◌∷◌, ◌++◌}
+use Rattle.std.specs.Prelude.{◌≡◌, ◌<◌, ◌≤◌, ◌+◌, Option, Some, None, ◌⊎◌, length, map, ℕ, List, [], ◌∷◌, ◌++◌}
 use Rattle.atomic_table.specs.Seated.{TableId}
 use Rattle.cf_outcome.specs.declared.outcome.Outcome.{Outcome}
 use Rattle.cf_model.specs.declared.asks.Ask.{Ask}
@@ -9,7 +9,7 @@ use Rattle.cf_model.specs.declared.asks.Told.{Told}
 use Rattle.cf_model.specs.declared.asks.Told.TheVariants.{Outcome as ToldOutcome}
 use Rattle.cf_model.specs.declared.events.Event.{Event}
 use Rattle.cf_model.specs.declared.events.Reply.{Reply}
-use Rattle.cf_model.specs.States.{State, outcome_at}
+use Rattle.cf_model.specs.States.{State, claim_at, outcome_at}
 use Rattle.cf_model.specs.Events.{answered, state_at, told}
 use Rattle.cf_desk.specs.declared.calls.Call.{Call}
 use Rattle.cf_desk.specs.declared.calls.Joined.{Joined}
@@ -53,6 +53,10 @@ known_of (k ∷ ks) = k
 -- the state of what a pass has seen
 abbrev pub state_of : Known → State
 state_of k = state_from k.setting.plan k.seen
+
+-- the stage is there in what the pass has seen, and the claim of it that is open there is its caller's
+abbrev pub HoldsClaim : Pass → ℕ → Type 0
+HoldsClaim p i = (i < length (state_of p.known).plan.stages) × (claim_at (state_of p.known) i ≡ Some p.known.caller)
 
 -- the next word was that of another caller's event
 pub record AddedByOther (p q : Pass) : Type 0 where

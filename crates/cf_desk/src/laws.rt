@@ -1,7 +1,7 @@
 //! What a closed desk shows, and what the rule of its row says. Each function does nothing, and its contract is the
 //! statement.
 ghost use Rattle.cf_desk.specs.Keepings.{IsFit};
-ghost use Rattle.cf_desk.specs.Laws.{OneHistoryShows};
+ghost use Rattle.cf_desk.specs.Laws.{ClaimsStayOpen, OneHistoryShows};
 ghost use Rattle.cf_desk.specs.Rows.{RowsHold};
 
 use crate::pass::Pass;
@@ -23,4 +23,9 @@ pub fn passes_fit_what_they_saw(p: &Pass)
 /// What the rule of the row says of its words and seats between any two steps.
 pub fn rows_hold()
     ensures { RowsHold }
+{}
+
+/// A claim that a caller has open stays open, whatever events of other callers come: only its own finish closes it.
+pub fn claims_stay_open()
+    ensures { ClaimsStayOpen }
 {}

@@ -7,7 +7,7 @@ ghost use Rattle.cf_desk.specs.Calls.{event_by};
 ghost use Rattle.cf_desk.specs.Faults.{AsksStage, IsFitting, IsOnStage};
 ghost use Rattle.cf_event.specs.Events.{IsFunctionBelow};
 ghost use Rattle.cf_desk.specs.Log.{IsDeskEvent};
-ghost use Rattle.cf_desk.specs.Views.{Joins, Reads, state_of};
+ghost use Rattle.cf_desk.specs.Views.{HoldsClaim, Joins, Reads, state_of};
 
 use crate::calls::{Call, Joined, Rec, joined_as};
 use crate::row::View;
@@ -83,6 +83,14 @@ impl Pass {
         ensures { result ≡ function_at (state_of self.now.known).plan.stages i }
     {
         self.copy.function(i)
+    }
+
+    /// Whether its caller has an open claim of a stage, in what the pass has seen: it was granted, and isn't finished yet.
+    /// Whatever other callers do, it stays open (`laws::claims_stay_open`).
+    pub fn holds(&self, i: u16) -> bool
+        ensures { IsTrue result ↔ HoldsClaim self.now i }
+    {
+        i < self.stages() && self.copy.claimant(i) == Some(self.caller)
     }
 
     /// Whether the stages that a call names are there, in what the pass has seen.

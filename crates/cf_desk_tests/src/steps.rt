@@ -27,6 +27,8 @@ pub(crate) enum Step<'a> {
     Knows(u16, bool),
     /// It knows a stage with this function, or with none.
     KnowsFunction(u16, Option<u16>),
+    /// It has an open claim of a stage, or hasn't.
+    Holds(u16, bool),
     /// It is this caller.
     Is(u8),
 }
@@ -68,6 +70,7 @@ fn is_answered(desk: &Desk, p: &mut Pass, step: Step<'_>) -> bool
         Step::Has(seen, left) => p.seen() == seen && p.left() == left,
         Step::Knows(stage, known) => p.has(stage) == known,
         Step::KnowsFunction(stage, function) => p.has(stage) && p.function(stage) == function,
+        Step::Holds(stage, held) => p.holds(stage) == held,
         Step::Is(caller) => p.caller() == caller,
     }
 }

@@ -145,3 +145,24 @@ fn a_desk_and_its_passes_tell_what_they_are(rt: HostRuntime) -> Result<(), Fail>
     ];
     play(&rt, rt.alloc(), small(4, 7), &turns, &[])
 }
+
+#[test]
+fn a_claim_is_held_by_its_caller_until_it_finishes(rt: HostRuntime) -> Result<(), Fail> {
+    let granted = Reply::Claim(Claimed::Granted(Args::None));
+    let finish = Call::Finish(1, Answer::Give(Value::Int(4)));
+    let turns = [
+        Turn::First(Step::Holds(1, false)),
+        Turn::First(Step::Acts(Call::Claim(1), Ok(granted))),
+        Turn::First(Step::Holds(1, true)),
+        Turn::First(Step::Holds(0, false)),
+        Turn::First(Step::Holds(2, false)),
+        Turn::First(Step::Holds(65535, false)),
+        Turn::Second(Step::Acts(Call::Cancel(1), Ok(Reply::Flag(true)))),
+        Turn::Second(Step::Holds(1, false)),
+        Turn::Meet,
+        Turn::First(Step::Holds(1, true)),
+        Turn::First(Step::Acts(finish, Ok(Reply::Finish(Finished::Late)))),
+        Turn::First(Step::Holds(1, false)),
+    ];
+    play(&rt, rt.alloc(), small(4, 4), &turns, &[End::Events(3)])
+}

@@ -1,0 +1,454 @@
+/* What each call of the header is answered where its handle is null, empty or of another kind, where another pointer is null, and where a
+ * number is out of range or a buffer too short; and that what stands behind the handles is as it was then. */
+#include "cf.h"
+#include <stdio.h>
+#include <string.h>
+
+enum { SOURCE = 0, TWICE = 1, STAGES = 2, NOT_THERE = STAGES, CALLERS = 2, LOG = 64, CALLS = 64, TEXT = 64 };
+static const uint16_t NEVER = UINT16_MAX;
+
+static int rows, wrong;
+
+static void row(const char *what, uint32_t code, uint32_t wanted) {
+  rows++;
+  if (code == wanted) return;
+  wrong++;
+  printf("%s: code %u, not %u\n", what, (unsigned)code, (unsigned)wanted);
+}
+#define ROW(call, wanted) row(#call, (call), (wanted))
+#define HOLDS(fact) row(#fact, (fact), true)
+
+/* What calls write. Each is filled with one byte before, and has to be so afterwards. */
+static struct {
+  cf_reply reply; cf_task task; cf_outcome outcome; cf_now now; cf_record record; cf_event event; cf_stage stage; cf_step step;
+  cf_news news[2]; uint64_t words[2]; uint16_t stages[2]; uint8_t text[TEXT]; uint16_t number; uint8_t small; uint32_t calls; uint64_t word;
+  size_t n;
+} out;
+
+static void fill(void) { memset(&out, 0xa5, sizeof out); }
+
+static bool is_filled(void) {
+  const unsigned char *bytes = (const unsigned char *)&out;
+  for (size_t at = 0; at < sizeof out; at++)
+    if (bytes[at] != 0xa5) return false;
+  return true;
+}
+
+static const cf_value value = {CF_INT, 5};
+static const cf_answer given = {.kind = CF_GIVE, .value = {CF_INT, 6}};
+static const cf_desk_sizes sizes = {.log = LOG, .calls = CALLS, .room = 1, .functions = 1};
+static const cf_given first = {.stage = SOURCE, .value = {CF_INT, 5}};
+static const uint16_t of = SOURCE;
+
+/* ---- Each call, by the kind of handle that it is for ---- */
+
+static void builder_calls(cf_handle *h, uint32_t wanted) {
+  ROW(cf_builder_stage(h, CF_APPLY, &of, 1, 0, &out.number), wanted);
+  ROW(cf_builder_limit(h, SOURCE, 1, CF_TIMEOUT, value), wanted);
+  ROW(cf_build(h), wanted);
+}
+
+static void plan_calls(cf_handle *h, uint32_t wanted) {
+  cf_handle empty = {0}, callers[CALLERS] = {{0}};
+  ROW(cf_graph_new(h, 0, &empty), wanted);
+  ROW(cf_ledger_new(h, 0, &empty), wanted);
+  ROW(cf_ledger_of(h, 0, NULL, 0, &empty, &out.n), wanted);
+  ROW(cf_desk_open(h, callers, CALLERS, LOG, CALLS), wanted);
+  ROW(cf_desk_open_with(h, callers, CALLERS, &sizes), wanted);
+  HOLDS(!empty.full && !callers[0].full && !callers[1].full);
+}
+
+static void graph_calls(cf_handle *h, uint32_t wanted) {
+  cf_handle empty = {0};
+  ROW(cf_complete(h, SOURCE, value, &out.reply), wanted);
+  ROW(cf_fail(h, SOURCE, 1, &out.reply), wanted);
+  ROW(cf_cancel(h, SOURCE, &out.reply), wanted);
+  ROW(cf_claim(h, 0, TWICE, &out.reply), wanted);
+  ROW(cf_finish_with(h, 0, TWICE, &given, &out.reply), wanted);
+  ROW(cf_next(h, 0, &out.task), wanted);
+  ROW(cf_work(h, 0, NULL, 0, NULL, &out.calls), wanted);
+  ROW(cf_tick(h, 1, &out.reply), wanted);
+  ROW(cf_attach(h, CF_APPLY, &of, 1, 0, &out.reply), wanted);
+  ROW(cf_get(h, SOURCE, &out.outcome), wanted);
+  ROW(cf_get_now(h, SOURCE, value, &out.now), wanted);
+  ROW(cf_lowest_ready(h, &out.number), wanted);
+  ROW(cf_function(h, TWICE, &out.number), wanted);
+  ROW(cf_stages(h, &out.number), wanted);
+  ROW(cf_turns(h, &out.word), wanted);
+  ROW(cf_restart(h), wanted);
+  ROW(cf_restart_with(h, &first, 1), wanted);
+  ROW(cf_plan_of(h, &empty), wanted);
+  ROW(cf_apply(h, 1, &out.reply), wanted == CF_EMPTY || wanted == CF_NULL ? wanted : CF_WRONG_KIND);
+  HOLDS(!empty.full);
+}
+
+static void ledger_calls(cf_handle *h, uint32_t wanted) {
+  ROW(cf_ledger_apply(h, 1, &out.reply, out.news, 2, &out.n), wanted);
+  ROW(cf_ledger_step(h, &out.step, &out.task, out.news, 2, &out.n), wanted);
+  ROW(cf_ledger_apply_all(h, NULL, 0, &out.n), wanted);
+  ROW(cf_ledger_words(h, 0, out.words, 2, &out.n), wanted);
+  ROW(cf_ledger_news(h, 0, out.stages, 2, &out.n), wanted);
+  ROW(cf_ledger_ready(h, 0, &out.number), wanted);
+  ROW(cf_ledger_stage(h, SOURCE, &out.stage), wanted);
+  ROW(cf_ledger_function(h, TWICE, &out.number), wanted);
+  ROW(cf_ledger_stages(h, &out.number), wanted);
+  ROW(cf_ledger_grow(h, 1), wanted);
+  ROW(cf_ledger_restart(h), wanted);
+}
+
+static void caller_calls(cf_handle *h, uint32_t wanted) {
+  cf_handle empty = {0};
+  ROW(cf_desk_complete(h, SOURCE, value, &out.reply), wanted);
+  ROW(cf_desk_fail(h, SOURCE, 1, &out.reply), wanted);
+  ROW(cf_desk_cancel(h, SOURCE, &out.reply), wanted);
+  ROW(cf_desk_claim(h, TWICE, &out.reply), wanted);
+  ROW(cf_desk_finish_with(h, TWICE, &given, &out.reply), wanted);
+  ROW(cf_desk_tick(h, 1, &out.reply), wanted);
+  ROW(cf_desk_attach(h, CF_APPLY, &of, 1, 0, &out.reply), wanted);
+  ROW(cf_desk_read(h, SOURCE, &out.outcome), wanted);
+  ROW(cf_desk_read_now(h, SOURCE, value, &out.now), wanted);
+  ROW(cf_desk_join(h, SOURCE, 1, &out.now), wanted);
+  ROW(cf_desk_ready(h, &out.number), wanted);
+  ROW(cf_desk_seen(h, &out.number), wanted);
+  ROW(cf_desk_left(h, &out.number), wanted);
+  ROW(cf_desk_function(h, TWICE, &out.number), wanted);
+  ROW(cf_desk_caller(h, &out.small), wanted);
+  ROW(cf_close_begin(h), wanted);
+  ROW(cf_desk_meet(h, &empty), wanted == CF_WRONG_KIND ? CF_EMPTY : wanted);
+}
+
+static void closing_calls(cf_handle *h, uint32_t wanted) {
+  ROW(cf_close_end(h), wanted);
+}
+
+static void closed_calls(cf_handle *h, uint32_t wanted) {
+  ROW(cf_closed_events(h, &out.number), wanted);
+  ROW(cf_closed_word(h, 0, &out.word), wanted);
+  ROW(cf_closed_records(h, 0, &out.number), wanted);
+  ROW(cf_closed_record(h, 0, 0, &out.record), wanted);
+  ROW(cf_closed_graph(h), wanted);
+}
+
+/* ---- One handle of each kind ---- */
+
+enum kind { BUILDER, PLAN, GRAPH, LEDGER, CALLER, CLOSING, CLOSED, KINDS };
+static void (*const calls_of[KINDS])(cf_handle *h, uint32_t wanted) = {builder_calls, plan_calls, graph_calls, ledger_calls,
+                                                                       caller_calls, closing_calls, closed_calls};
+static cf_handle held[KINDS], other_caller;
+
+static void build(cf_handle *builder) {
+  ROW(cf_builder_new(builder, 0, 0), CF_OK);
+  ROW(cf_builder_stage(builder, CF_SOURCE, NULL, 0, CF_NO_FUNCTION, &out.number), CF_OK);
+  ROW(cf_builder_stage(builder, CF_APPLY, &of, 1, 0, &out.number), CF_OK);
+}
+
+static void make_all(void) {
+  cf_handle callers[CALLERS] = {{0}};
+  build(&held[BUILDER]);
+  build(&held[PLAN]);
+  ROW(cf_build(&held[PLAN]), CF_OK);
+  ROW(cf_graph_new(&held[PLAN], 1, &held[GRAPH]), CF_OK);
+  ROW(cf_ledger_new(&held[PLAN], 1, &held[LEDGER]), CF_OK);
+  ROW(cf_desk_open_with(&held[PLAN], callers, CALLERS, &sizes), CF_OK);
+  held[CALLER] = callers[0], other_caller = callers[1];
+  memset(callers, 0, sizeof callers);
+  ROW(cf_desk_open(&held[PLAN], callers, 2, LOG, CALLS), CF_OK);
+  ROW(cf_close_begin(&callers[0]), CF_OK);
+  held[CLOSING] = callers[0];
+  cf_free(&callers[1]);
+  memset(callers, 0, sizeof callers);
+  ROW(cf_desk_open(&held[PLAN], callers, 1, LOG, CALLS), CF_OK);
+  ROW(cf_close_begin(&callers[0]), CF_OK);
+  ROW(cf_close_end(&callers[0]), CF_OK);
+  held[CLOSED] = callers[0];
+}
+
+/* Nothing was settled, attached, claimed or recorded by what was refused. */
+static void are_as_before(void) {
+  cf_outcome outcome;
+  cf_stage stage;
+  uint16_t number;
+  size_t n;
+  ROW(cf_get(&held[GRAPH], SOURCE, &outcome), CF_OK);
+  HOLDS(outcome.kind == CF_PENDING);
+  HOLDS(cf_stages(&held[GRAPH], &number) == CF_OK && number == STAGES);
+  ROW(cf_ledger_stage(&held[LEDGER], SOURCE, &stage), CF_OK);
+  HOLDS(stage.kind == CF_IS_PENDING && stage.who == CF_NOBODY);
+  HOLDS(cf_ledger_words(&held[LEDGER], 0, NULL, 0, &n) == CF_OK && n == 0);
+  HOLDS(cf_desk_left(&held[CALLER], &number) == CF_OK && number == CALLS);
+  HOLDS(cf_desk_seen(&held[CALLER], &number) == CF_OK && number == 0);
+  HOLDS(cf_close_end(&held[CLOSING]) == CF_NOT_ALL);
+  HOLDS(cf_closed_events(&held[CLOSED], &number) == CF_OK && number == 0);
+}
+
+static void by_handles(void) {
+  cf_handle empty = {0};
+  fill();
+  for (int of_kind = 0; of_kind < KINDS; of_kind++) {
+    calls_of[of_kind](NULL, CF_NULL);
+    calls_of[of_kind](&empty, CF_EMPTY);
+    for (int kind = 0; kind < KINDS; kind++)
+      if (kind != of_kind) calls_of[of_kind](&held[kind], CF_WRONG_KIND);
+  }
+  HOLDS(is_filled() && !empty.full);
+  ROW(cf_close_add(&held[CALLER], &other_caller), CF_WRONG_KIND);
+  ROW(cf_close_add(&held[CLOSING], &held[GRAPH]), CF_WRONG_KIND);
+  ROW(cf_close_add(&held[CLOSING], &empty), CF_EMPTY);
+  ROW(cf_close_add(&held[CLOSING], NULL), CF_NULL);
+  ROW(cf_close_add(NULL, &other_caller), CF_NULL);
+  ROW(cf_desk_meet(&held[CALLER], &held[GRAPH]), CF_WRONG_KIND);
+  ROW(cf_desk_meet(&held[CALLER], NULL), CF_NULL);
+  cf_free(NULL);
+  cf_free(&empty);
+  HOLDS(other_caller.full && held[CALLER].full && held[CLOSING].full);
+}
+
+/* ---- Other pointers that are null ---- */
+
+static void by_pointers(void) {
+  cf_handle *builder = &held[BUILDER], *plan = &held[PLAN], *graph = &held[GRAPH], *ledger = &held[LEDGER], *caller = &held[CALLER];
+  cf_handle empty = {0};
+  fill();
+  ROW(cf_builder_new(NULL, 0, 0), CF_NULL);
+  ROW(cf_builder_stage(builder, CF_APPLY, NULL, 1, 0, &out.number), CF_NULL);
+  ROW(cf_builder_stage(builder, CF_APPLY, &of, 1, 0, NULL), CF_NULL);
+  ROW(cf_graph_new(plan, 0, NULL), CF_NULL);
+  ROW(cf_ledger_new(plan, 0, NULL), CF_NULL);
+  ROW(cf_ledger_of(plan, 0, NULL, 1, &empty, &out.n), CF_NULL);
+  ROW(cf_ledger_of(plan, 0, NULL, 0, NULL, &out.n), CF_NULL);
+  ROW(cf_ledger_of(plan, 0, NULL, 0, &empty, NULL), CF_NULL);
+  ROW(cf_desk_open(plan, NULL, 1, LOG, CALLS), CF_NULL);
+  ROW(cf_desk_open_with(plan, NULL, 1, &sizes), CF_NULL);
+  ROW(cf_desk_open_with(plan, &empty, 1, NULL), CF_NULL);
+  ROW(cf_complete(graph, SOURCE, value, NULL), CF_NULL);
+  ROW(cf_fail(graph, SOURCE, 1, NULL), CF_NULL);
+  ROW(cf_cancel(graph, SOURCE, NULL), CF_NULL);
+  ROW(cf_claim(graph, 0, TWICE, NULL), CF_NULL);
+  ROW(cf_finish_with(graph, 0, TWICE, NULL, &out.reply), CF_NULL);
+  ROW(cf_finish_with(graph, 0, TWICE, &given, NULL), CF_NULL);
+  ROW(cf_next(graph, 0, NULL), CF_NULL);
+  ROW(cf_work(graph, 0, NULL, 1, NULL, &out.calls), CF_NULL);
+  ROW(cf_work(graph, 0, NULL, 0, NULL, NULL), CF_NULL);
+  ROW(cf_tick(graph, 1, NULL), CF_NULL);
+  ROW(cf_attach(graph, CF_APPLY, NULL, 1, 0, &out.reply), CF_NULL);
+  ROW(cf_attach(graph, CF_APPLY, &of, 1, 0, NULL), CF_NULL);
+  ROW(cf_get(graph, SOURCE, NULL), CF_NULL);
+  ROW(cf_get_now(graph, SOURCE, value, NULL), CF_NULL);
+  ROW(cf_lowest_ready(graph, NULL), CF_NULL);
+  ROW(cf_function(graph, TWICE, NULL), CF_NULL);
+  ROW(cf_stages(graph, NULL), CF_NULL);
+  ROW(cf_turns(graph, NULL), CF_NULL);
+  ROW(cf_restart_with(graph, NULL, 1), CF_NULL);
+  ROW(cf_plan_of(graph, NULL), CF_NULL);
+  ROW(cf_apply(graph, 1, NULL), CF_NULL);
+  ROW(cf_ledger_apply(ledger, 1, NULL, out.news, 2, &out.n), CF_NULL);
+  ROW(cf_ledger_apply(ledger, 1, &out.reply, NULL, 2, &out.n), CF_NULL);
+  ROW(cf_ledger_apply(ledger, 1, &out.reply, out.news, 2, NULL), CF_NULL);
+  ROW(cf_ledger_step(ledger, NULL, &out.task, out.news, 2, &out.n), CF_NULL);
+  ROW(cf_ledger_step(ledger, &out.step, NULL, out.news, 2, &out.n), CF_NULL);
+  ROW(cf_ledger_step(ledger, &out.step, &out.task, NULL, 2, &out.n), CF_NULL);
+  ROW(cf_ledger_step(ledger, &out.step, &out.task, out.news, 2, NULL), CF_NULL);
+  ROW(cf_ledger_apply_all(ledger, NULL, 1, &out.n), CF_NULL);
+  ROW(cf_ledger_apply_all(ledger, NULL, 0, NULL), CF_NULL);
+  ROW(cf_ledger_words(ledger, 0, NULL, 1, &out.n), CF_NULL);
+  ROW(cf_ledger_words(ledger, 0, out.words, 2, NULL), CF_NULL);
+  ROW(cf_ledger_news(ledger, 0, NULL, 1, &out.n), CF_NULL);
+  ROW(cf_ledger_news(ledger, 0, out.stages, 2, NULL), CF_NULL);
+  ROW(cf_ledger_ready(ledger, 0, NULL), CF_NULL);
+  ROW(cf_ledger_stage(ledger, SOURCE, NULL), CF_NULL);
+  ROW(cf_ledger_function(ledger, TWICE, NULL), CF_NULL);
+  ROW(cf_ledger_stages(ledger, NULL), CF_NULL);
+  ROW(cf_desk_complete(caller, SOURCE, value, NULL), CF_NULL);
+  ROW(cf_desk_fail(caller, SOURCE, 1, NULL), CF_NULL);
+  ROW(cf_desk_cancel(caller, SOURCE, NULL), CF_NULL);
+  ROW(cf_desk_claim(caller, TWICE, NULL), CF_NULL);
+  ROW(cf_desk_finish_with(caller, TWICE, NULL, &out.reply), CF_NULL);
+  ROW(cf_desk_finish_with(caller, TWICE, &given, NULL), CF_NULL);
+  ROW(cf_desk_tick(caller, 1, NULL), CF_NULL);
+  ROW(cf_desk_attach(caller, CF_APPLY, NULL, 1, 0, &out.reply), CF_NULL);
+  ROW(cf_desk_attach(caller, CF_APPLY, &of, 1, 0, NULL), CF_NULL);
+  ROW(cf_desk_read(caller, SOURCE, NULL), CF_NULL);
+  ROW(cf_desk_read_now(caller, SOURCE, value, NULL), CF_NULL);
+  ROW(cf_desk_join(caller, SOURCE, 1, NULL), CF_NULL);
+  ROW(cf_desk_ready(caller, NULL), CF_NULL);
+  ROW(cf_desk_seen(caller, NULL), CF_NULL);
+  ROW(cf_desk_left(caller, NULL), CF_NULL);
+  ROW(cf_desk_function(caller, TWICE, NULL), CF_NULL);
+  ROW(cf_desk_caller(caller, NULL), CF_NULL);
+  ROW(cf_closed_events(&held[CLOSED], NULL), CF_NULL);
+  ROW(cf_closed_word(&held[CLOSED], 0, NULL), CF_NULL);
+  ROW(cf_closed_records(&held[CLOSED], 0, NULL), CF_NULL);
+  ROW(cf_closed_record(&held[CLOSED], 0, 0, NULL), CF_NULL);
+  ROW(cf_word_of_event(NULL, &out.word), CF_NULL);
+  ROW(cf_word_of_event(&out.event, NULL), CF_NULL);
+  ROW(cf_event_of(1, NULL), CF_NULL);
+  ROW(cf_run_script(NULL, 1, out.text, TEXT, &out.n), CF_NULL);
+  ROW(cf_run_script(out.text, 1, NULL, 1, &out.n), CF_NULL);
+  ROW(cf_run_script(out.text, 1, out.text, TEXT, NULL), CF_NULL);
+  ROW(cf_text_of_outcome(NULL, out.text, TEXT, &out.n), CF_NULL);
+  ROW(cf_text_of_outcome(&out.outcome, NULL, 1, &out.n), CF_NULL);
+  ROW(cf_text_of_outcome(&out.outcome, out.text, TEXT, NULL), CF_NULL);
+  ROW(cf_code_text(0, NULL, 1, &out.n), CF_NULL);
+  ROW(cf_code_text(0, out.text, TEXT, NULL), CF_NULL);
+  HOLDS(!cf_code_name(CF_NULL - 1) && cf_layout(NULL) == SIZE_MAX);
+  HOLDS(is_filled() && !empty.full);
+}
+
+/* ---- Numbers out of range ---- */
+
+static void by_numbers(uint16_t stage) {
+  cf_handle *builder = &held[BUILDER], *graph = &held[GRAPH], *ledger = &held[LEDGER], *caller = &held[CALLER];
+  const cf_given late[] = {first, {.stage = stage}};
+  cf_task task = {.held = 1, .stage = stage};
+  cf_step step = {0};
+  cf_event event = {.call = CF_CALL_CANCEL, .stage = stage};
+  fill();
+  ROW(cf_builder_stage(builder, CF_APPLY, &stage, 1, 0, &out.number), CF_SOURCE_NOT_LOWER);
+  ROW(cf_builder_limit(builder, stage, 1, CF_TIMEOUT, value), CF_NO_SUCH_STAGE);
+  ROW(cf_complete(graph, stage, value, &out.reply), CF_NO_STAGE);
+  ROW(cf_fail(graph, stage, 1, &out.reply), CF_NO_STAGE);
+  ROW(cf_cancel(graph, stage, &out.reply), CF_NO_STAGE);
+  ROW(cf_claim(graph, 0, stage, &out.reply), CF_NO_STAGE);
+  ROW(cf_finish_with(graph, 0, stage, &given, &out.reply), CF_NO_STAGE);
+  ROW(cf_next(graph, 0, &task), CF_NO_STAGE);
+  ROW(cf_attach(graph, CF_APPLY, &stage, 1, 0, &out.reply), CF_NO_STAGE);
+  ROW(cf_get(graph, stage, &out.outcome), CF_NO_STAGE);
+  ROW(cf_get_now(graph, stage, value, &out.now), CF_NO_STAGE);
+  ROW(cf_function(graph, stage, &out.number), CF_NO_STAGE);
+  ROW(cf_restart_with(graph, late, 2), CF_NO_STAGE);
+  ROW(cf_ledger_stage(ledger, stage, &out.stage), CF_NO_STAGE);
+  ROW(cf_ledger_function(ledger, stage, &out.number), CF_NO_STAGE);
+  ROW(cf_ledger_ready(ledger, stage, &out.number), CF_NOTHING);
+  ROW(cf_ledger_step(ledger, &step, &task, out.news, 2, &out.n), CF_NO_STAGE);
+  ROW(cf_desk_complete(caller, stage, value, &out.reply), CF_NO_STAGE);
+  ROW(cf_desk_fail(caller, stage, 1, &out.reply), CF_NO_STAGE);
+  ROW(cf_desk_cancel(caller, stage, &out.reply), CF_NO_STAGE);
+  ROW(cf_desk_claim(caller, stage, &out.reply), CF_NO_STAGE);
+  ROW(cf_desk_finish_with(caller, stage, &given, &out.reply), CF_NO_STAGE);
+  ROW(cf_desk_attach(caller, CF_APPLY, &stage, 1, 0, &out.reply), CF_NO_STAGE);
+  ROW(cf_desk_read(caller, stage, &out.outcome), CF_NO_STAGE);
+  ROW(cf_desk_read_now(caller, stage, value, &out.now), CF_NO_STAGE);
+  ROW(cf_desk_join(caller, stage, 1, &out.now), CF_NO_STAGE);
+  ROW(cf_desk_function(caller, stage, &out.number), CF_NO_STAGE);
+  ROW(cf_closed_word(&held[CLOSED], stage, &out.word), CF_NOTHING);
+  ROW(cf_closed_record(&held[CLOSED], 0, stage, &out.record), CF_NOTHING);
+  ROW(cf_closed_record(&held[CLOSED], 1, 0, &out.record), CF_NOTHING);
+  ROW(cf_ledger_news(ledger, stage, out.stages, 2, &out.n), CF_NOTHING);
+  if (stage > 4095) ROW(cf_word_of_event(&event, &out.word), CF_NO_WORD);
+  HOLDS(is_filled());
+  HOLDS(task.held == 1 && task.stage == stage && step.place == 0);
+}
+
+static void by_other_numbers(void) {
+  cf_handle *builder = &held[BUILDER], *plan = &held[PLAN], *graph = &held[GRAPH], *ledger = &held[LEDGER], *caller = &held[CALLER];
+  const uint16_t three[3] = {SOURCE, SOURCE, SOURCE};
+  cf_handle empty = {0}, many[65] = {{0}};
+  cf_event event = {.call = 7};
+  cf_task task = {.held = 1, .stage = TWICE};
+  cf_step step = {.who = 64};
+  fill();
+  ROW(cf_builder_new(&held[GRAPH], 0, 0), CF_FULL);
+  ROW(cf_builder_stage(builder, 19, &of, 1, 0, &out.number), CF_NO_SUCH_NUMBER);
+  ROW(cf_builder_stage(builder, UINT32_MAX, &of, 1, 0, &out.number), CF_NO_SUCH_NUMBER);
+  ROW(cf_builder_stage(builder, CF_APPLY, NULL, 0, 0, &out.number), CF_WRONG_SOURCE_COUNT);
+  ROW(cf_builder_stage(builder, CF_APPLY, &of, 1, CF_NO_FUNCTION, &out.number), CF_FUNCTION_MISSING);
+  ROW(cf_builder_stage(builder, CF_SOURCE, NULL, 0, 0, &out.number), CF_FUNCTION_UNWANTED);
+  ROW(cf_graph_new(plan, 4095, &empty), CF_ROOM);
+  ROW(cf_graph_new(plan, 0, &held[GRAPH]), CF_FULL);
+  ROW(cf_ledger_new(plan, NEVER, &empty), CF_ROOM);
+  ROW(cf_ledger_new(plan, 0, &held[GRAPH]), CF_FULL);
+  ROW(cf_plan_of(graph, &held[LEDGER]), CF_FULL);
+  ROW(cf_desk_open(plan, many, 0, LOG, CALLS), CF_CALLERS);
+  ROW(cf_desk_open(plan, many, 65, LOG, CALLS), CF_CALLERS);
+  ROW(cf_desk_open(plan, many, 1, 0, CALLS), CF_LOG);
+  ROW(cf_desk_open(plan, many, 1, LOG, 0), CF_CALLS);
+  ROW(cf_desk_open(plan, &held[GRAPH], 1, LOG, CALLS), CF_FULL);
+  ROW(cf_desk_open_with(plan, many, 1, &(cf_desk_sizes){.log = LOG, .calls = CALLS, .room = 4095, .functions = 1}), CF_ROOM);
+  ROW(cf_desk_open_with(plan, many, 1, &(cf_desk_sizes){.log = LOG, .calls = CALLS}), CF_FUNCTIONS);
+  ROW(cf_attach(graph, 19, &of, 1, 0, &out.reply), CF_NO_SUCH_NUMBER);
+  ROW(cf_attach(graph, CF_ALL_OF, three, 3, CF_NO_FUNCTION, &out.reply), CF_WRONG_SOURCE_COUNT);
+  ROW(cf_attach(graph, CF_COMBINE, &of, 1, 0, &out.reply), CF_BAD_ATTACH);
+  ROW(cf_desk_attach(caller, 19, &of, 1, 0, &out.reply), CF_NO_SUCH_NUMBER);
+  ROW(cf_desk_attach(caller, CF_ALL_OF, three, 3, CF_NO_FUNCTION, &out.reply), CF_WRONG_SOURCE_COUNT);
+  ROW(cf_desk_attach(caller, CF_COMBINE, &of, 1, 0, &out.reply), CF_BAD_ATTACH);
+  ROW(cf_desk_attach(caller, CF_APPLY, &of, 1, 1, &out.reply), CF_BAD_ATTACH);
+  ROW(cf_next(graph, 0, &task), CF_NOT_HELD);
+  ROW(cf_ledger_step(ledger, &step, &task, out.news, 2, &out.n), CF_NO_WORD);
+  step.who = 0;
+  ROW(cf_ledger_step(ledger, &step, &task, out.news, 2, &out.n), CF_NOT_HELD);
+  ROW(cf_ledger_grow(ledger, NEVER), CF_ROOM);
+  ROW(cf_ledger_apply(ledger, 0, &out.reply, out.news, 2, &out.n), CF_NO_WORD);
+  ROW(cf_apply(graph, UINT64_MAX, &out.reply), CF_NO_WORD);
+  ROW(cf_event_of(0, &out.event), CF_NO_WORD);
+  ROW(cf_word_of_event(&event, &out.word), CF_NO_SUCH_NUMBER);
+  event.call = CF_CALL_ATTACH, event.form = 19;
+  ROW(cf_word_of_event(&event, &out.word), CF_NO_SUCH_NUMBER);
+  event.form = CF_APPLY, event.sources = 3;
+  ROW(cf_word_of_event(&event, &out.word), CF_WRONG_SOURCE_COUNT);
+  ROW(cf_code_text(99, out.text, TEXT, &out.n), CF_NO_SUCH_NUMBER);
+  HOLDS(is_filled() && !empty.full && !many[0].full && task.held == 1 && task.stage == TWICE);
+}
+
+/* ---- Buffers that are too short: what is told is whole, and nothing behind the buffer's end is written ---- */
+
+static void by_buffers(void) {
+  static const char script[] = "{\"cf\": 1, \"stages\": [{\"form\": \"source\"}], \"steps\": [[\"complete\", 0, 3]]}";
+  static const char report[] = "true\nstage 0 value 3\n";
+  cf_handle *ledger = &held[LEDGER];
+  const cf_outcome thrown = {.kind = CF_THROWN, .code = 7};
+  const cf_event event = {.call = CF_CALL_COMPLETE, .stage = SOURCE, .value = {CF_INT, 5}};
+  uint64_t words[2] = {0, 77}, word;
+  cf_news news[2];
+  uint16_t stages[2] = {88, 99};
+  cf_reply reply;
+  uint8_t text[TEXT];
+  size_t n;
+  memset(text, '#', TEXT);
+  ROW(cf_code_text(CF_NO_STAGE, text, 3, &n), CF_OK);
+  HOLDS(n == 7 && !memcmp(text, "NoS#", 4));
+  ROW(cf_code_text(CF_NO_STAGE, NULL, 0, &n), CF_OK);
+  HOLDS(n == 7);
+  memset(text, '#', TEXT);
+  ROW(cf_text_of_outcome(&thrown, text, 5, &n), CF_OK);
+  HOLDS(n == 18 && !memcmp(text, "fault#", 6));
+  memset(text, '#', TEXT);
+  ROW(cf_run_script((const uint8_t *)script, strlen(script), text, 5, &n), CF_OK);
+  HOLDS(n == strlen(report) && !memcmp(text, "true\n#", 6));
+  ROW(cf_run_script((const uint8_t *)script, strlen(script), text, n, &n), CF_OK);
+  HOLDS(!memcmp(text, report, n));
+  ROW(cf_run_script(NULL, 0, text, 1, &n), CF_BAD_SCRIPT);
+  HOLDS(n > 1 && text[0] == 'f');
+
+  ROW(cf_word_of_event(&event, &word), CF_OK);
+  memset(news, 0xa5, sizeof news);
+  ROW(cf_ledger_apply(ledger, word, &reply, news, 1, &n), CF_OK);
+  HOLDS(n == 2 && news[0].stage == SOURCE && news[0].now.kind == CF_IS_SETTLED && news[1].stage == 0xa5a5);
+  ROW(cf_ledger_apply(ledger, word, &reply, NULL, 0, &n), CF_OK);
+  HOLDS(n == 0 && reply.answer == 0);
+  ROW(cf_ledger_words(ledger, 0, words, 1, &n), CF_OK);
+  HOLDS(n == 2 && words[0] == word && words[1] == 77);
+  ROW(cf_ledger_words(ledger, SIZE_MAX, words, 2, &n), CF_OK);
+  HOLDS(n == 0 && words[0] == word && words[1] == 77);
+  ROW(cf_ledger_news(ledger, 0, stages, 1, &n), CF_OK);
+  HOLDS(n == 2 && stages[0] == SOURCE && stages[1] == 99);
+  ROW(cf_ledger_restart(ledger), CF_OK);
+}
+
+int main(void) {
+  make_all();
+  by_handles();
+  are_as_before();
+  by_pointers();
+  are_as_before();
+  by_numbers(NOT_THERE);
+  by_numbers(4096);
+  by_numbers(NEVER);
+  by_other_numbers();
+  are_as_before();
+  by_buffers();
+  are_as_before();
+  for (int kind = 0; kind < KINDS; kind++) cf_free(&held[kind]);
+  cf_free(&other_caller);
+  printf("%d rows, %d wrong\n", rows, wrong);
+  return wrong != 0;
+}
