@@ -15,9 +15,21 @@ from judge import Judge
 
 HERE = Path(__file__).resolve().parent
 sys.path.insert(0, str(HERE.parents[1] / "clients/python"))
-from cf.shared import connect  # noqa: E402
+from cf.shared import Unknown, connect  # noqa: E402
 
 WRITES = {"18": "pwrite64", "75": "fdatasync", "74": "fsync"}  # of x86-64
+
+
+def sure(call, seconds=120):
+    """What an engine answers that may be away for a while."""
+    until = time.monotonic() + seconds
+    while True:
+        try:
+            return call()
+        except Unknown:
+            if time.monotonic() > until:
+                raise
+            time.sleep(0.2)
 
 
 def in_write(pid):
@@ -43,14 +55,14 @@ class Run:
         self.address = self.judged = address or (self.server.address if self.server else f"sqlite:///{self.folder}/db")
         if lax:
             self.address += "?unsafe=1"
-        connect(self.judged).close()
+        sure(lambda: connect(self.judged)).close()
         if cut:
             self.proxies, self.address = self.server.proxied(cut)
         self.broken, self.stops, self.done = [], threading.Event(), collections.Counter()
 
     def start(self):
         where = self.address
-        if self.engine == "etcd":  # each starts at another node
+        if self.address.startswith("etcd"):  # each starts at another node
             nodes = where[7:].split(",")
             k = self.rng.randrange(len(nodes))
             where = "etcd://" + ",".join(nodes[k:] + nodes[:k])
@@ -115,7 +127,7 @@ class Run:
             self.let_end(workers)
             self.done["replies cut"] = sum(it.stop() for it in self.proxies)
             self.proxies = []
-            count, wrong = Judge(self.judged, self.folder).judge()
+            count, wrong = sure(lambda: Judge(self.judged, self.folder).judge())
             broken = {f"server: {what}": many for what, many in collections.Counter(self.broken).items()}
             return {"seconds": round(time.monotonic() - began), **self.done, **broken, **count}, wrong
         finally:
@@ -123,7 +135,7 @@ class Run:
 
     def let_end(self, workers):
         """Lets the workers end what is begun."""
-        last = max((int(it.name) for it in connect(self.judged).listing() if it.name.isdigit()), default=0) + self.many + 1
+        last = max((int(it.name) for it in sure(lambda: connect(self.judged).listing()) if it.name.isdigit()), default=0) + self.many + 1
         Path(self.folder, "stop-").write_text(str(last))
         os.rename(f"{self.folder}/stop-", f"{self.folder}/stop")
         until = time.monotonic() + 400

@@ -1,8 +1,8 @@
 """Judges a run: the row of each request beside what each process wrote down: judge.py ADDRESS FOLDER.
 
 Its own check is by the plain graph of model.py, which shares no code with the library; for `cf_look check` it writes FOLDER/histories, a
-line for each request. `cf_look check` has no record of a word whose caller was gone before it was answered, nor of several sessions under
-one number: of such words the row's own reply is written in the caller's place, and counted as unanswered here."""
+line for each request: each session's records in the order in which it wrote them down, and `unknown` in the place of a reply that nobody
+was there for."""
 import collections
 import glob
 import json
@@ -116,8 +116,8 @@ class Judge:
             self.wrong.append(f"{name}: place {place} finishes what another claimed")
 
     def callers(self, name, entries, replies, states, granted):
-        """The records of each number, as its sessions were told; and whether what they were told is what the row says."""
-        answered, records, told = set(), collections.defaultdict(list), []
+        """The records of each number, by its sessions, as these were told; and whether what they were told is what the row says."""
+        answered, records = set(), collections.defaultdict(list)
         for kind, session, *rest in self.said[name]:
             if kind == "run" and (rest[0], session) not in granted:
                 self.wrong.append(f"{name}: stage {rest[0]} was run by {session}, which has no claim")
@@ -130,39 +130,39 @@ class Judge:
                 reply = _reply_text(event_of(word), reply)
                 if replies[place] != reply:
                     self.wrong.append(f"{name}: place {place}: told {reply}, is {replies[place]}")
-                records[word >> 48 & 0xFF].append((place, 1, ["did", place, str(word), reply]))
+                records[session].append(["did", place, str(word), reply])
             elif kind == "saw":
-                told.append(self.saw(name, session, entries, states, *rest))
+                self.saw(name, records[session], entries, states, *rest)
         who_by = {token >> 23: word >> 48 & 0xFF for word, token in reversed(entries)}
         shared = collections.Counter(who_by.values())
         self.count["callers' numbers shared"] += sum(many - 1 for many in shared.values())
         if len(who_by) <= CALLERS and max(shared.values(), default=0) > 1:
             self.wrong.append(f"{name}: two sessions have one number")
         self.count["most sessions on a request"] = max(self.count["most sessions on a request"], len(who_by))
-        for session, place, stage, outcome in filter(None, told):
-            records[who_by.get(session, 63)].append((place, 2, ["outcome", place, stage, outcome]))
-        self.fill_in(name, entries, replies, answered, records)
-        callers = [[it[2] for it in sorted(records[who], key=lambda it: it[:2])] for who in range(64)]
-        while callers and not callers[-1]:
-            callers.pop()
+        self.fill_in(name, entries, answered, records)
+        callers = [{"sessions": []} for _ in range(max(who_by.values(), default=0) + 1)]
+        for session, own in records.items():  # one that only looked has no number, and any will do
+            callers[who_by.get(session, 0)]["sessions"].append(own)
         return callers
 
-    def saw(self, name, session, entries, states, place, stage, outcome):
+    def saw(self, name, own, entries, states, place, stage, outcome):
         if place > len(entries):
             self.count["lost words"] += 1
-            return None
+            return
         text = "pending" if outcome[0] == PENDING else _outcome_text(Told(*outcome))
         if states[place][stage] != text:
             self.wrong.append(f"{name}: stage {stage} at {place}: told {text}, is {states[place][stage]}")
-        return session, place, stage, text
+        own.append(["outcome", place, stage, text])
 
-    def fill_in(self, name, entries, replies, answered, records):
+    def fill_in(self, name, entries, answered, records):
         for place, (word, token) in enumerate(entries, 1):
             if place not in answered:
                 self.count["words nobody was answered for"] += 1
                 if token >> 23 in self.ended:
                     self.wrong.append(f"{name}: place {place} isn't in the log of {token >> 23}, which wasn't killed")
-                records[word >> 48 & 0xFF].append((place, 1, ["did", place, str(word), replies[place]]))
+                own = records[token >> 23]
+                behind = next((k for k, record in enumerate(own) if record[1] >= place), len(own))
+                own.insert(behind, ["did", place, str(word), "unknown"])
 
 
 if __name__ == "__main__":

@@ -1,4 +1,4 @@
-"""Days that are bad in other ways: a full disk, a large request, many sessions, a clock that jumps, one session twice, a store that is away."""
+"""Days that are bad in other ways: a full disk, many sessions, a clock that jumps, one session twice, a store that is away, loss of power."""
 import json
 import os
 import random
@@ -11,7 +11,7 @@ from pathlib import Path
 HERE = Path(__file__).resolve().parent
 sys.path.insert(0, str(HERE.parents[1] / "clients/python"))
 from cf.service.words import CLAIM, COMPLETE, FINISH, GIVES  # noqa: E402
-from cf.shared import Desk, DurableService, Functions, Put, Timer, Unknown, connect, new_session  # noqa: E402
+from cf.shared import Desk, DurableService, Functions, Put, StoreError, Timer, Unknown, connect, new_session  # noqa: E402
 from cf.shared import sqlite as sqlite_store  # noqa: E402
 
 SUPPLIES = json.dumps({"cf": 3, "flow": "", "stages": [{"form": "supply", "name": "s", "fn": "s", "version": 1}] * 80})
@@ -155,7 +155,48 @@ def many_timers(address, folder):
     return len(due) == 10, f"{len(due)} due, found in {1000 * (time.monotonic() - began):.1f} ms"
 
 
-ALL = [many_sessions, one_session_twice, full_disk, jumping_clock, store_away, many_timers]
+def unsafe_servers(address, folder):
+    """PostgreSQL with a setting that loses words is refused, with the setting's name."""
+    from servers import Postgres, missing
+    if missing("postgres"):
+        return None, missing("postgres")
+    told = []
+    for setting in ("fsync", "full_page_writes"):
+        server = Postgres(folder, f"{setting}=off")
+        try:
+            connect(server.address)
+            told.append("not refused")
+        except StoreError as error:
+            told.append(str(error).split(": ", 1)[1])
+        finally:
+            server.stop()
+    good = all(setting in it for setting, it in zip(("fsync is off", "full_page_writes is off"), told))
+    return good, "; ".join(told)
+
+
+def loss_of_power(address, folder):
+    """What was answered is on the disk, in each engine; without syncs it isn't, which the control has to find."""
+    from power import run as cut_power
+    return cut_power(folder)
+
+
+def many_open(address, folder):
+    """A worker's look at 3,000 open requests: all of them, and those that changed."""
+    store = connect(address)
+    for k in range(3000):
+        store.open(str(k), SUPPLIES)
+    began = time.monotonic()
+    ends, mark = store.news(None)
+    whole = time.monotonic() - began
+    store.append(Put("7", 0, [(COMPLETE << 56, 1)], {}))
+    store.open("another", SUPPLIES)
+    began = time.monotonic()
+    told, _ = store.news(mark)
+    few = time.monotonic() - began
+    return len(ends) == 3000 and told == {"7": 1, "another": 0}, f"all in {1000 * whole:.1f} ms, what changed in {1000 * few:.2f} ms"
+
+
+ALL = [many_sessions, one_session_twice, full_disk, jumping_clock, store_away, many_timers, many_open, unsafe_servers, loss_of_power]
 
 
 def run(folder):

@@ -28,7 +28,7 @@ def insert(store, address):
     kind = type(store).__name__
     if kind == "SQLite":
         db = store._db
-        return lambda *it: db.execute("insert or ignore into cf_word values (?, ?, ?, ?, ?)", it).rowcount
+        return lambda *it: db.execute("insert or ignore into cf_word (request, at, word, token, payload) values (?, ?, ?, ?, ?)", it).rowcount
     if kind == "Postgres":
         import psycopg2
 

@@ -2,12 +2,14 @@
 
     list [--closed]             each open request: name, age, words, how many stages wait, and for what the first ones wait
     show NAME [--account]       its words as sentences, one a line; with --account what `cf_look check` judges
+    show NAME --page [CF_LOOK]  a page for a browser, which the program `cf_look` writes
     end NAME [--cancel]         closes it, so that workers look at it no more; with --cancel its stages are cancelled first
     drop --days N [NAME ..]     forgets those that were closed more than N days ago, or of these names; prints how many
 
 Status 0, 1 where a request isn't there or is broken, 2 where the words or the address are wrong. Nothing runs here.
 """
 import argparse
+import subprocess
 import sys
 from typing import Any, List, Optional
 
@@ -27,7 +29,7 @@ def main(words: Optional[List[str]] = None) -> int:
         return 2
     try:
         lines = {"list": _list, "show": _show, "end": _end, "drop": _drop}[at.command](store, at)
-    except (KeyError, StoreError, Unknown) as error:
+    except (KeyError, StoreError, Unknown, OSError, subprocess.CalledProcessError) as error:
         print(f"cf.requests: {error}", file=sys.stderr)
         return 1
     print(*lines, sep="\n")
@@ -42,6 +44,7 @@ def _parser() -> argparse.ArgumentParser:
     show, end, drop = commands.add_parser("show"), commands.add_parser("end"), commands.add_parser("drop")
     show.add_argument("name")
     show.add_argument("--account", action="store_true")
+    show.add_argument("--page", nargs="?", const="cf_look", metavar="CF_LOOK")
     end.add_argument("name")
     end.add_argument("--cancel", action="store_true")
     drop.add_argument("names", nargs="*", metavar="name")
@@ -81,6 +84,8 @@ def _state(desk: Desk) -> str:
 
 def _show(store: Store, at: argparse.Namespace) -> List[str]:
     history = _desk(store, at.name).history(Json())
+    if at.page:
+        return [history.page(at.page)]
     return [history.account()] if at.account else history.lines()
 
 

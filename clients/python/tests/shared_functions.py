@@ -73,3 +73,24 @@ def pay(connection, account, seconds=0.0):
     connection.execute("insert into paid values ('%s')" % account)
     time.sleep(seconds)
     return account
+
+
+@functions.function("loading")
+def loading(request, number):
+    """For a stage that composes: what it gives comes later."""
+    return request.supply(load, number)
+
+
+@functions.function("failing")
+def failing(request, number):
+    return request.supply(fails)
+
+
+@functions.function("waiting")
+def waiting(request, number):
+    return request.promise("late")
+
+
+@functions.function("marking")
+def marking(request, path):
+    return request.supply(mark, path, 30).recover(text)

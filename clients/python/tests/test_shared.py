@@ -98,6 +98,7 @@ class Rows(Case):
                 told = store.append_groups([Put(other, 0, [(8, 18)], {}), Put(name, 1, [(9, 19)], {}), ])
                 self.assertEqual(told, [None, [(3, 13), (4, 14)]])
                 self.assertEqual({key: value for key, value in store.ends().items() if key.startswith(name)}, {name: 3, other: 1})
+                self.assertEqual({key: value for key, value in store.news(None)[0].items() if key.startswith(name)}, {name: 3, other: 1})
                 store.end(name, 2)
                 self.assertIn(name, store.ends())
                 store.end(name, 3)
@@ -107,6 +108,55 @@ class Rows(Case):
                 self.assertEqual(store.ends()[name], 3)
                 store.drop(name)
                 self.assertIsNone(store.find(name))
+                store.close()
+
+    def test_news(self):
+        """What was put or opened since a mark is told, and nothing that was closed."""
+        for store in self.stores():
+            with self.subTest(type(store).__name__):
+                names = [f"{self.name} {k}" for k in range(4)]
+                for name in names[:3]:
+                    store.open(name, "plan")
+                store.append(Put(names[0], 0, [(1, 1)], {}))
+                mine = lambda told: {name: many for name, many in told.items() if name.startswith(self.name)}  # noqa: E731
+                told, mark = store.news(None)
+                self.assertEqual(mine(told), {names[0]: 1, names[1]: 0, names[2]: 0})
+                told, mark = store.news(mark)
+                if not isinstance(store, Grouped):
+                    self.until(lambda: not mine(store.news(mark)[0]))
+                told, mark = store.news(mark)
+                store.append(Put(names[1], 0, [(2, 2), (3, 3)], {}))
+                store.open(names[3], "plan")
+                store.append(Put(names[2], 0, [(4, 4)], {}))
+                store.end(names[2], 1)
+                told, mark = store.news(mark)
+                self.assertEqual(mine(told), {names[1]: 2, names[3]: 0})
+                store.append(Put(names[1], 2, [(5, 5)], {}))
+                self.assertEqual(mine(store.news(mark)[0]).get(names[1]), 3)
+                for name in names:
+                    store.drop(name)
+                store.close()
+
+    def test_forgotten_beats(self):
+        """A session that ends drops its beat, and one that is long gone is forgotten by others; one that comes back beats anew."""
+        from cf.shared import Watcher
+        for store in self.stores():
+            with self.subTest(type(store).__name__):
+                gone, there = new_session(), new_session()
+                store.beat(gone), store.beat(there)
+                watcher = Watcher(store, 0.001)
+                watcher.look()
+                self.assertIn(gone, store.beats())
+                time.sleep(0.2)
+                store.beat(there)
+                watcher.look()
+                watcher.forget()
+                self.assertNotIn(gone, store.beats())
+                self.assertIn(there, store.beats())
+                store.beat(gone)
+                self.assertEqual(store.beats()[gone], 1)
+                store.drop_beat(gone), store.drop_beat(there)
+                self.assertFalse({gone, there} & set(store.beats()))
                 store.close()
 
     def test_sessions_and_timers(self):
@@ -238,6 +288,54 @@ class Desks(Case):
         self.assertIn("'r', place 2", str(told.exception))
 
 
+    def test_a_word_that_doesnt_fit(self):
+        """An event of a stage that isn't there, and a plan of another version: the errors name request and place."""
+        store = Memory()
+        desk = self.desk(store)
+        self.claim(desk)
+        store.append(Put("r", 1, [(4 << 56 | 7 << 36, 1)], {}))
+        with self.assertRaises(Broken) as told:
+            desk.catch_up()
+        self.assertIn("'r', place 2: the word", str(told.exception))
+        with self.assertRaises(Broken) as told:
+            Desk(store, store.open("old", json.dumps({"cf": 2, "flow": "", "stages": []})), new_session())
+        self.assertIn("'old', place 0: its plan can't be read", str(told.exception))
+        self.assertIn("version 2", str(told.exception))
+
+    def test_a_store_that_is_away(self):
+        class Away(Memory):
+            def append(self, put):
+                raise Unknown("no connection")
+        store = Away()
+        desk = Desk(store, store.open("r", EMPTY), new_session(), patience=0.1)
+        with self.assertRaises(Unknown) as told:
+            desk.act(lambda desk: [(1 << 56, None)])
+        self.assertIn("'r', place 1: the store doesn't answer: no connection", str(told.exception))
+
+    def test_an_account_by_sessions(self):
+        """Above 64 sessions a number is two sessions', each of which has its own records."""
+        store = Memory()
+        plan = {"cf": 3, "flow": "", "stages": [{"form": "supply", "name": "s", "fn": "inc", "version": 1}] * 70}
+        desks = [Desk(store, store.open("r", json.dumps(plan)), new_session()) for _ in range(70)]
+        for stage, desk in enumerate(desks):
+            desk.catch_up()
+            desk.act(lambda desk, stage=stage: [(4 << 56 | desk.who << 48 | stage << 36, None)])
+        desks[0].catch_up()
+        account = json.loads(desks[0].history(Json()).account())
+        shared = [own["sessions"] for own in account["callers"] if isinstance(own, dict)]
+        self.assertTrue(shared)
+        self.assertEqual(sum(len(own) - 1 for own in shared), 6)
+        records = [record for own in account["callers"] for it in (own["sessions"] if isinstance(own, dict) else [own]) for record in it]
+        self.assertEqual(sorted(record[1] for record in records if record[0] == "did"), list(range(1, 71)))
+        self.look(json.dumps(account))
+
+    def look(self, account):
+        """By `cf_look check`, where CF_LOOK names it."""
+        if os.environ.get("CF_LOOK"):
+            done = subprocess.run([os.environ["CF_LOOK"], "check"], input=account, stdout=subprocess.PIPE, universal_newlines=True)
+            self.assertEqual(done.stdout, "fits\n")
+
+
 class Services(Case):
     def each(self):
         for address in [self.address, "memory://", *STORES]:
@@ -282,6 +380,28 @@ class Services(Case):
             self.assertEqual(stage.result(20), {"number": 4, "extra": 1})
             self.until(lambda: stage.request.name not in service.store.ends())
 
+    def test_compose(self):
+        """What a function gives is a stage of the request, which may be settled later, by anybody."""
+        for service, name in self.each():
+            r = service.request(name)
+            number = r.supply(f.load, 17).then(f.number)
+            self.assertEqual(number.compose(f.loading).then(f.number).result(20), 17)
+            self.assertIsInstance(number.compose(f.failing).exception(20), PermissionError)
+            self.assertIsInstance(number.compose(f.both).exception(20), TypeError)
+            self.assertIsInstance(r.supply(f.fails).compose(f.loading).exception(20), PermissionError)
+            late = number.compose(f.waiting)
+            self.until(lambda r=r: any(it["name"] == "late" for it in map(r._desk.said, range(len(r._desk.forms)))))
+            self.assertFalse(late.done())
+            r["late"].complete(None)
+            self.assertIsNone(late.result(20))
+            again = number.compose(f.waiting)
+            self.until(lambda r=r: [it["name"] for it in map(r._desk.said, range(len(r._desk.forms)))].count("late") == 2)
+            names = [it["name"] for it in map(r._desk.said, range(len(r._desk.forms)))]
+            self.assertTrue(r[len(names) - 1 - names[::-1].index("late")].cancel())
+            self.assertIsInstance(again.exception(20) if not again.cancelled() else CancelledError(), CancelledError)
+            with self.assertRaises(TypeError):
+                late.again()
+
     def flow(self):
         flow = Flow("order")
         number = flow.promise("number")
@@ -324,6 +444,40 @@ class Services(Case):
         service.shutdown()
         with self.assertRaises(RuntimeError):
             service.request("s")
+
+    def test_versions(self):
+        """A request goes on with the version of a function that it was begun with, beside a newer one."""
+        old, new = Functions(), Functions()
+        price = old.function("price", version=1)(lambda order: 100)
+        new.function("price", version=1)(lambda order: 101)
+        newer = new.function("price", version=2)(lambda order: 200)
+        first = DurableService(connect(self.address), 0, functions=old)
+        self.services.append(first)
+        r = first.request("r")
+        stage = r.promise("order").then(price)
+        second = DurableService(connect(self.address), 1, functions=new)
+        self.services.append(second)
+        second.resume()
+        r["order"].complete(1)
+        self.assertEqual(stage.result(20), 101)
+        self.assertEqual(second.open("r")["order"].then(newer).result(20), 200)
+
+    def test_a_codec(self):
+        """A codec of one's own is what writes values and exceptions."""
+        class Sets(Json):
+            def write(self, value):
+                return super().write({"set": sorted(value)} if isinstance(value, set) else value)
+
+            def read(self, given):
+                read = super().read(given)
+                return set(read["set"]) if isinstance(read, dict) and "set" in read else read
+        functions = Functions()
+        more = functions.function("more")(lambda them: them | {3})
+        service = DurableService(connect(self.address), 1, functions=functions, codec=Sets())
+        self.services.append(service)
+        promise = service.request("r").promise()
+        promise.complete({1, 2})
+        self.assertEqual(promise.then(more).result(20), {1, 2, 3})
 
     def test_remote_errors(self):
         codec = Json()
@@ -403,10 +557,10 @@ class Processes(Case):
         service.resume()
         self.assertIsInstance(service.open("r")["p"].exception(20), TimeoutError)
 
-    def killed(self, stage, path):
+    def killed(self, stage, path, ready=lambda: True):
         """Kills the worker that runs a stage, once it has left its mark, and starts another."""
         worker = self.worker()
-        self.until(lambda: os.path.exists(path))
+        self.until(lambda: os.path.exists(path) and ready())
         worker.kill()
         worker.wait()
         self.worker()
@@ -419,6 +573,16 @@ class Processes(Case):
         self.assertIsInstance(stage.exception(30), Abandoned)
         self.assertIn("may have run", str(stage.exception()))
         self.assertEqual(len(Path(path).read_text().split()), 1)
+
+    def test_what_was_composed_goes_on_elsewhere(self):
+        """The process is killed that composed and ran what came of it: another one sees the end of it."""
+        service, path = self.service(), f"{self.folder.name}/mark"
+        service._workers = 0
+        r = service.request("r")
+        order = r.promise()
+        stage = order.compose(f.marking)
+        order.complete(path)
+        self.assertIn("sorry, the worker that ran mark is gone", self.killed(stage, path, lambda: r._desk.links).result(30))
 
     def test_again(self):
         service, path = self.service(), f"{self.folder.name}/mark"
@@ -449,6 +613,31 @@ class Processes(Case):
         self.assertEqual(db.execute("select account from paid").fetchall(), [("anna",)])
         db.close()
 
+    def test_a_commit_whose_reply_is_lost(self):
+        """The connection drops around the commit: the effect stands exactly once, whether it had landed or not."""
+        from cf.shared import sqlite as store_of
+        path, real = f"{self.folder.name}/db", store_of._Transaction.commit
+        db = sqlite3.connect(path, isolation_level=None)
+        db.execute("create table paid (account text)")
+        try:
+            for lands in (True, False):
+                left = [2]
+
+                def commit(transaction, lands=lands, left=left):
+                    left[0] -= 1
+                    if left[0] < 0 or lands:
+                        real(transaction)
+                    if left[0] >= 0:
+                        raise Unknown("cut")
+                store_of._Transaction.commit = commit
+                name = f"lands {lands}"
+                with self.assertLogs("cf.shared", "WARNING"):
+                    self.assertEqual(self.service().request(name).supply(f.pay, name).result(30), name)
+        finally:
+            store_of._Transaction.commit = real
+        self.assertEqual(sorted(db.execute("select account from paid").fetchall()), [("lands False",), ("lands True",)])
+        db.close()
+
     def test_a_function_that_nobody_knows(self):
         """It waits, and other stages and requests go on."""
         more = Functions()
@@ -472,7 +661,7 @@ class Processes(Case):
         value.complete({"a": 1})
         db.execute("update cf_word set payload = null where request = 2 and at = 1")
         with self.assertLogs("cf.shared", "ERROR") as logs:
-            db.execute("insert into cf_word values (1, 1, 77, 7, null)")
+            db.execute("insert into cf_word (request, at, word, token) values (1, 1, 77, 7)")
             self.assertIsInstance(waits.exception(20), Broken)
         self.assertIn("'bad', place 2", "\n".join(logs.output))
         other = self.service()
@@ -505,9 +694,13 @@ class Command(Case):
         r.supply(f.load, 17).result(20)
         r.promise("answer")
         service.request("order 18").promise()
-        self.assertIn("order 17  0 s  4 words  1 of 2 stages wait: 1 answer pending", self.run_it("list")[1])
+        self.assertRegex(self.run_it("list")[1], r"order 17  \d+ s  4 words  1 of 2 stages wait: 1 answer pending\n")
         self.assertIn("0 load ends: {'number': 17, 'extra': 0}", self.run_it("show", "order 17")[1])
         self.assertEqual(len(json.loads(self.run_it("show", "order 17", "--account")[1])["events"]), 4)
+        (program := Path(self.folder.name, "cf_look")).write_text("#!/bin/sh\ntest $1 = page && cat\n")
+        program.chmod(0o755)
+        self.assertEqual(len(json.loads(self.run_it("show", "order 17", "--page", str(program))[1])["events"]), 4)
+        self.assertEqual(self.run_it("show", "order 17", "--page", str(program) + "?")[0], 1)
         self.assertEqual(self.run_it("end", "order 17", "--cancel")[:2], (0, "order 17 is closed, 1 stages were cancelled\n"))
         self.assertNotIn("order 17", self.run_it("list")[1])
         self.assertIn("order 17", self.run_it("list", "--closed")[1])

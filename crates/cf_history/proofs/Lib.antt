@@ -6,3 +6,6 @@ pub mod Alike
 pub mod Accounts
 pub mod Whole
 pub mod Single
+pub mod Merges
+pub mod Fillings
+pub mod Replies

@@ -3,3 +3,4 @@ pub mod Histories
 pub mod Verdicts
 pub mod Callers
 pub mod Laws
+pub mod Shared

@@ -104,7 +104,7 @@ fn judge_words(
 }
 
 /// A graph of the plan, at its start.
-fn graph_of(alloc: Global, plan: &Plan, room: u16) -> Result<Graph, AllocError>
+pub(crate) fn graph_of(alloc: Global, plan: &Plan, room: u16) -> Result<Graph, AllocError>
     requires place { has_place plan.now.stages room ≡ true }
     ensures { IfOk result (λ graph. graph.state ≡ start (with_room plan.now room)) }
 {

@@ -12,8 +12,12 @@
 //! fit, `check` names the first event, or else the first record of the first caller, or else the first outcome that
 //! doesn't, and says what the sequential graph answers there.
 //!
+//! Where several sessions had one caller's number, or a caller was gone before it was answered, `fill_in` makes a history of
+//! what the sessions tell: their records together, by their places, and the graph's own reply where none is known. It fits
+//! exactly where it fits with any replies, so `check_shared` judges it.
+//!
 //! When records fit is `IsOneHistory` of `cf_event`, which is also what a closed desk promises; `specs/Histories` says what
-//! a history holds beside its records; `specs/Records` says the same of the records one after another, as `check` reads
+//! a history holds beside its records, `specs/Shared` the same of sessions; `specs/Records` says the same of the records one after another, as `check` reads
 //! them; `specs/Verdicts` says what each verdict tells, and a law that there is one. `check` gives the one verdict `Fits`
 //! exactly where all fits.
 #![tactic(auto)]
@@ -21,12 +25,17 @@
 mod caller;
 mod checking;
 mod events;
+mod filling;
 mod history;
 pub mod laws;
+mod merging;
 mod outcomes;
+mod shared;
 mod verdict;
 
 pub use cf_event::Record;
 pub use checking::check;
+pub use filling::{check_shared, fill_in};
 pub use history::{Caller, History};
+pub use shared::{Entry, Session, SharedCaller, SharedHistory};
 pub use verdict::{Misfit, Unfit, Verdict};

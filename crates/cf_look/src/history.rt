@@ -1,16 +1,20 @@
 //! A history as JSON.
-use crate::texts::{now, reply, settled};
+use crate::texts::{is_unknown, now, reply, settled};
 use anyhow::{Result, anyhow};
 use cf_event::decode;
-use cf_history::{Caller, History, Record, Verdict, check};
-use cf_model::{Ask, Told};
+use cf_history::{
+    Entry, History, Record, Session, SharedCaller, SharedHistory, Verdict, check, check_shared,
+    fill_in,
+};
+use cf_model::{Ask, Event, Told};
 use cf_outcome::{Outcome, Value};
 use cf_plan::Plan;
 use cf_reading::script_of;
 use serde_json::Value as Json;
 use std::alloc::Global;
 
-/// A history that was read, with the plan that it begins with and for how many stages more there is room.
+/// A history that was read, with the plan that it begins with and for how many stages more there is room. Replies that it
+/// doesn't say are the graph's.
 #[derive(Drop)]
 pub(crate) struct Account {
     pub(crate) plan: Plan,
@@ -21,23 +25,20 @@ pub(crate) struct Account {
 /// The verdict on a history that is written in JSON.
 pub(crate) fn judge(alloc: Global, bytes: &[u8]) -> Result<Verdict> {
     let json = Json::from_slice(alloc, bytes).map_err(|_| anyhow!("no JSON"))?;
-    let account = account_of(alloc, &json)?;
-    verdict_on(alloc, &account)
+    let (plan, room, shared) = shared_of(alloc, &json)?;
+    if !plan.has_place(room) {
+        return Err(anyhow!("plan: room"));
+    }
+    Ok(check_shared(alloc, &plan, room, shared)?)
 }
 
 /// The history that a JSON value says.
 pub(crate) fn account_of(alloc: Global, json: &Json) -> Result<Account> {
-    let (plan, room, count) = plan_of(alloc, json)?;
-    let functions = match json.get("functions") {
-        None => count,
-        Some(said) => number(said).ok_or_else(|| anyhow!("functions"))?,
-    };
-    let history = History {
-        functions,
-        words: words_of(alloc, json)?,
-        callers: callers_of(alloc, json)?,
-        outcomes: outcomes_of(alloc, json)?,
-    };
+    let (plan, room, shared) = shared_of(alloc, json)?;
+    if !plan.has_place(room) {
+        return Err(anyhow!("plan: room"));
+    }
+    let history = fill_in(alloc, &plan, room, shared)?;
     Ok(Account {
         plan,
         room,
@@ -51,6 +52,22 @@ pub(crate) fn verdict_on(alloc: Global, account: &Account) -> Result<Verdict> {
         return Err(anyhow!("plan: room"));
     }
     Ok(check(alloc, &account.plan, account.room, &account.history)?)
+}
+
+/// What sessions say, with the plan and the room for it.
+fn shared_of(alloc: Global, json: &Json) -> Result<(Plan, u16, SharedHistory)> {
+    let (plan, room, count) = plan_of(alloc, json)?;
+    let functions = match json.get("functions") {
+        None => count,
+        Some(said) => number(said).ok_or_else(|| anyhow!("functions"))?,
+    };
+    let shared = SharedHistory {
+        functions,
+        words: words_of(alloc, json)?,
+        callers: callers_of(alloc, json)?,
+        outcomes: outcomes_of(alloc, json)?,
+    };
+    Ok((plan, room, shared))
 }
 
 /// The plan, for how many stages it has room, and how many functions it brings.
@@ -83,28 +100,61 @@ pub(crate) fn word(json: &Json) -> Option<u64> {
     }
 }
 
-fn callers_of(alloc: Global, json: &Json) -> Result<Vec<Caller>> {
+fn callers_of(alloc: Global, json: &Json) -> Result<Vec<SharedCaller>> {
     let list = json.get("callers").and_then(Json::as_array);
     let list = list.ok_or_else(|| anyhow!("callers"))?;
     let mut callers = Vec::new(alloc);
     for (c, said) in list.iter().enumerate() {
-        let own = said.as_array().ok_or_else(|| anyhow!("callers[{c}]"))?;
-        callers.push(caller_of(alloc, c, own.as_slice())?)?;
+        callers.push(caller_of(alloc, c, said)?)?;
     }
     Ok(callers)
 }
 
-fn caller_of(alloc: Global, c: usize, list: &[Json]) -> Result<Caller> {
-    let mut records = Vec::new(alloc);
-    for (k, said) in list.iter().enumerate() {
-        let told = record(alloc, said)?;
-        records.push(told.ok_or_else(|| anyhow!("callers[{c}][{k}]"))?)?;
+/// An array of records, or an object with such an array for each session.
+fn caller_of(alloc: Global, c: usize, said: &Json) -> Result<SharedCaller> {
+    let mut sessions = Vec::new(alloc);
+    match said.get("sessions") {
+        None => {
+            let own = said.as_array().ok_or_else(|| anyhow!("callers[{c}]"))?;
+            let session = session_of(alloc, own.as_slice())?;
+            sessions.push(session.map_err(|k| anyhow!("callers[{c}][{k}]"))?)?;
+        }
+        Some(said) => {
+            let list = said
+                .as_array()
+                .ok_or_else(|| anyhow!("callers[{c}].sessions"))?;
+            add_sessions(alloc, c, list.as_slice(), &mut sessions)?;
+        }
     }
-    Ok(Caller { records })
+    Ok(SharedCaller { sessions })
 }
 
-/// `["did",place,word,reply]`, `["now",place,stage,absent,told]` or `["outcome",place,stage,told]`.
-fn record(alloc: Global, json: &Json) -> Result<Option<Record>> {
+fn add_sessions(alloc: Global, c: usize, list: &[Json], sessions: &mut Vec<Session>) -> Result<()> {
+    for (n, said) in list.iter().enumerate() {
+        let own = said
+            .as_array()
+            .ok_or_else(|| anyhow!("callers[{c}].sessions[{n}]"))?;
+        let session = session_of(alloc, own.as_slice())?;
+        sessions.push(session.map_err(|k| anyhow!("callers[{c}].sessions[{n}][{k}]"))?)?;
+    }
+    Ok(())
+}
+
+/// The session of these records, or which of them is none.
+fn session_of(alloc: Global, list: &[Json]) -> Result<Result<Session, usize>> {
+    let mut entries = Vec::new(alloc);
+    for (k, said) in list.iter().enumerate() {
+        match entry(alloc, said)? {
+            Some(told) => entries.push(told)?,
+            None => return Ok(Err(k)),
+        }
+    }
+    Ok(Ok(Session { entries }))
+}
+
+/// `["did",place,word,reply]`, where the reply may be `unknown`, `["now",place,stage,absent,told]` or
+/// `["outcome",place,stage,told]`.
+fn entry(alloc: Global, json: &Json) -> Result<Option<Entry>> {
     let Some(list) = json.as_array() else {
         return Ok(None);
     };
@@ -112,32 +162,40 @@ fn record(alloc: Global, json: &Json) -> Result<Option<Record>> {
         return Ok(None);
     };
     let words: Vec<&str> = text.split_whitespace().collect(alloc)?;
-    Ok(record_with(json, list.len(), words.as_slice()))
+    Ok(entry_with(json, list.len(), words.as_slice()))
 }
 
-/// The record with so many elements, of which the last has these words.
-fn record_with(json: &Json, count: usize, words: &[&str]) -> Option<Record> {
+/// The entry with so many elements, of which the last has these words.
+fn entry_with(json: &Json, count: usize, words: &[&str]) -> Option<Entry> {
     let kind = json.get(0usize)?.as_str()?;
     let place = usize::try_from(json.get(1usize)?.as_u64()?).ok()?;
     let third = json.get(2usize)?;
     match kind {
-        "did" if count == 4 => Some(Record::Did {
-            place,
-            event: decode(word(third)?)?,
-            reply: reply(words)?,
-        }),
-        "now" if count == 5 => Some(Record::Saw {
+        "did" if count == 4 => did(place, decode(word(third)?)?, words),
+        "now" if count == 5 => Some(Entry::Known(Record::Saw {
             place,
             ask: Ask::Now(small(third)?, value(json.get(3usize)?)?),
             told: Told::Now(now(words)?),
-        }),
-        "outcome" if count == 4 => Some(Record::Saw {
+        })),
+        "outcome" if count == 4 => Some(Entry::Known(Record::Saw {
             place,
             ask: Ask::Outcome(small(third)?),
             told: Told::Outcome(settled(words)?),
-        }),
+        })),
         _ => None,
     }
+}
+
+/// An event's entry with the reply of these words.
+fn did(place: usize, event: Event, words: &[&str]) -> Option<Entry> {
+    if is_unknown(words) {
+        return Some(Entry::Unanswered { place, event });
+    }
+    Some(Entry::Known(Record::Did {
+        place,
+        event,
+        reply: reply(words)?,
+    }))
 }
 
 fn outcomes_of(alloc: Global, json: &Json) -> Result<Option<Vec<Option<Outcome>>>> {

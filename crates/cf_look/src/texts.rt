@@ -99,6 +99,11 @@ pub(crate) fn now(words: &[&str]) -> Option<Now> {
     }
 }
 
+/// Whether these words say that nobody knows the reply.
+pub(crate) fn is_unknown(words: &[&str]) -> bool {
+    words.len() == 1 && word(words, 0) == "unknown"
+}
+
 /// The reply of these words.
 pub(crate) fn reply(words: &[&str]) -> Option<Reply> {
     if words.len() == 1 {

@@ -8,9 +8,9 @@ from typing import Any, Callable, Dict, List, NamedTuple, Optional, Sequence, Se
 
 from .. import values
 from .._library import CNews
-from ..service._plain import _grow, _Ledger, _told
+from ..service._plain import PlanCore, _grow, _Ledger, _told
 from ..service.history import History, Told
-from ..service.words import ANSWER, ATTACH, CLAIM, FINISH, IS_CLAIMED, IS_READY, IS_SETTLED, MOST_STAGES, NUMBER, PENDING, RequestFull
+from ..service.words import ANSWER, ATTACH, CLAIM, FINISH, IS_CLAIMED, IS_READY, IS_SETTLED, LINKS, MOST_STAGES, NUMBER, PENDING, RequestFull
 from .codec import Json
 from .plans import SharedPlan
 from .rows import COUNT_BITS, Broken, Opened, Put, Store, Unknown
@@ -18,6 +18,7 @@ from .rows import COUNT_BITS, Broken, Opened, Put, Store, Unknown
 CALLERS = int(os.environ.get("CF_CALLERS", "64"))  # fewer, for tests of sessions that share a number
 COUNTS = 1 << COUNT_BITS
 ROOM = 8  # stages that may be attached at first
+LONG_GONE = 100  # leases
 NOT_YET = Told(PENDING, 0, 0, 0, 0)
 Wanted = Sequence[Tuple[int, Optional[bytes]]]  # words, each with its payload
 
@@ -38,11 +39,31 @@ class Done(NamedTuple):
 
 
 class RowHistory(History):
-    """A row's history: places in place of times, and sessions as callers."""
+    """A row's history: places in place of times, and numbers that sessions had as callers. `sessions` are those of its words."""
+
+    def __init__(self, name: str, core: PlanCore, facts: Any, sessions: Sequence[int]) -> None:
+        super().__init__(name, core, facts)
+        self._sessions = sessions
 
     def caller(self, who: int) -> str:
         """What a caller is called."""
         return f"session {who}"
+
+    def account(self) -> str:
+        """What `cf_look check` judges, with the replies as this process has read them off the row. Where several sessions had one number,
+        each of them has its own records there."""
+        account = json.loads(super().account())
+        account["callers"] = [self._by_session(records) for records in account["callers"]]
+        return json.dumps(account)
+
+    def _by_session(self, records: List[List[Any]]) -> Any:
+        sessions: Dict[int, List[List[Any]]] = {}
+        own: List[List[Any]] = []
+        for record in records:
+            if record[0] == "did":
+                own = sessions.setdefault(self._sessions[record[1] - 1], [])
+            own.append(record)
+        return {"sessions": list(sessions.values())} if len(sessions) > 1 else records
 
     def lines(self) -> List[str]:
         """A line for each word, with its place, and one for each stage that was settled by it."""
@@ -70,9 +91,10 @@ class Desk:
         self.told = [Told(*told) for _, told in self.plan.core.start]
         self.places = [0] * len(self.forms)  # where each was settled
         self.attached: Dict[int, int] = {}  # the place of the word that attached a stage
+        self.links: Dict[int, int] = {}  # the promises that composing stages were linked to, with the places of those words
         self.claims: Dict[int, int] = {}  # the session whose claim of a stage is open
         self.ready: Set[int] = {number for number, kind in enumerate(self.kinds) if kind == IS_READY}
-        self.words, self._replies = array("Q"), bytearray()
+        self.words, self._replies, self._sessions = array("Q"), bytearray(), array("Q")
         self.who, self.lost, self.unknown = -1, 0, 0
         self._numbers: Dict[int, int] = {}
         self._landed, self._patience = False, patience
@@ -155,10 +177,10 @@ class Desk:
         while True:
             try:
                 return call()
-            except Unknown:
+            except Unknown as error:
                 self.unknown += 1
                 if time.monotonic() > until:
-                    raise
+                    raise Unknown(f"request {self.name!r}, place {self.place}: the store doesn't answer: {error}") from error
                 time.sleep(pause)
                 pause = min(pause * 2, 0.5)
 
@@ -178,6 +200,7 @@ class Desk:
         reply, place = tuple(self._ledger.reply), self.place
         self.words.append(word)
         self._replies += self._ledger.reply
+        self._sessions.append(token >> COUNT_BITS)
         self._numbers.setdefault(who, token >> COUNT_BITS)
         if kind == ATTACH and not reply[ANSWER]:
             self._add(reply[NUMBER], word, place)
@@ -185,6 +208,8 @@ class Desk:
             self.claims[stage] = token >> COUNT_BITS
         elif kind == FINISH and reply[ANSWER] != 2:
             self.claims.pop(stage, None)
+            if word >> 32 & 0xF == LINKS and not reply[ANSWER]:
+                self.links[word & 0xFFF] = place
         return Done(place, word, token, reply, self._changed(self._ledger.news[:self._ledger.changed.value], place))
 
     def _add(self, number: int, word: int, place: int) -> None:
@@ -291,7 +316,7 @@ class Desk:
             told.extend((self.places[number], number, *it[:4], it.number % 2**32))
         facts = (self.words[:], array("q", [0] * self.seen), bytes(self._replies), told, [str(self.said(k)["name"]) for k in range(len(self.forms))],
                  values_, errors)
-        return RowHistory(self.name, self.plan.core, facts)
+        return RowHistory(self.name, self.plan.core, facts, self._sessions[:])
 
     def open_claims(self) -> Dict[int, int]:
         """The stages whose function runs somewhere: claimed and not settled, with the session that has it."""
@@ -322,6 +347,14 @@ class Watcher:
         for session, count in beats.items():
             if self._seen.get(session, (None, 0))[0] != count:
                 self._seen[session] = (count, now)
+
+    def forget(self) -> None:
+        """Drops the beats of sessions that are long gone: nobody needs them, and one that comes back beats anew."""
+        until = time.monotonic() - LONG_GONE * self._seconds
+        for session, (count, since) in list(self._seen.items()):
+            if count is not None and since < until:
+                self._store.drop_beat(session)
+                del self._seen[session]
 
     def is_gone(self, session: int) -> bool:
         """Whether a session's beat stood still for so long."""

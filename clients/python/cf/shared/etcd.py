@@ -72,6 +72,12 @@ class Etcd(Store):
     def ends(self) -> Dict[str, int]:
         return {_name(key): int(value) for key, value in self._get(b"cf/o/", b"cf/o0", serializable=True)}
 
+    def news(self, mark: Any) -> Tuple[Dict[str, int], Any]:
+        more = {} if mark is None else {"min_mod_revision": str(mark + 1)}
+        told = self._post("/v3/kv/range", _range(b"cf/o/", b"cf/o0", serializable=True, **more))
+        ends = {_name(base64.b64decode(it["key"])): int(base64.b64decode(it["value"])) for it in told.get("kvs", [])}
+        return ends, max(mark or 0, int(told["header"]["revision"]))  # (a member that lags behind has a lower one)
+
     def listing(self) -> List[Listed]:
         ends = self.ends()
         closed = {_name(key): json.loads(value) for key, value in self._get(b"cf/c/", b"cf/c0")}
@@ -165,6 +171,9 @@ class Etcd(Store):
     def beats(self) -> Dict[int, int]:
         told = self._post("/v3/kv/range", _range(b"cf/b/", b"cf/b0", keys_only=True)).get("kvs", [])
         return {int(base64.b64decode(it["key"])[5:], 16): int(it["version"]) for it in told}
+
+    def drop_beat(self, session: int) -> None:
+        self._post("/v3/kv/deleterange", {"key": _b64(b"cf/b/%010x" % session)})
 
     def now(self) -> float:
         return time.time()

@@ -41,12 +41,12 @@ def _nobody(*_: Any) -> None:
 
 
 def text_of(flow: Optional[Flow], functions: Functions) -> str:
-    """The text of a flow's plan, or of one without stages. `TypeError` where a function isn't registered, or a stage composes: the future
-    that its function gives would be gone with its process."""
+    """The text of a flow's plan, or of one without stages. `TypeError` where a function isn't registered, or a stage composes: the promise
+    for what its function gives would be a stage more."""
     stages = []
     for form, of, call, name in [] if flow is None else flow._rows:
         if form in COMPOSE_FORMS:
-            raise TypeError(f"{name}: a request in a store has no compose, whose future would be gone with its process")
+            raise TypeError(f"{name}: a flow in a store has no compose; a stage of a request has")
         stages.append({"form": FORMS[form], "of": list(of), "name": name, **said_of(functions, call, (), {})})
     return json.dumps({"cf": FORMAT, "flow": "" if flow is None else flow.name, "stages": stages}, separators=(",", ":"))
 

@@ -11,23 +11,25 @@ from .rows import Entry, Listed, Opened, Put, Store, StoreError, Timer, Transact
 
 SCHEMA = """
     create table if not exists cf_request (id bigserial primary key, name text not null unique, plan text not null,
-        opened double precision not null, closed double precision);
-    create index if not exists cf_request_open on cf_request (id) where closed is null;
+        opened double precision not null, closed double precision, made_by xid8 not null default pg_current_xact_id());
+    create index if not exists cf_request_open on cf_request (made_by) where closed is null;
     create table if not exists cf_word (request bigint, at int, word bigint not null, token bigint not null, payload bytea,
-        primary key (request, at));
+        made_by xid8 not null default pg_current_xact_id(), primary key (request, at));
+    create index if not exists cf_word_made_by on cf_word (made_by);
     create table if not exists cf_beat (session bigint primary key, count bigint not null);
     create table if not exists cf_timer (request bigint, stage int, due double precision not null, payload bytea not null,
         primary key (request, stage));
     create index if not exists cf_timer_due on cf_timer (due);
 """
 NOW = "extract(epoch from clock_timestamp())::double precision"
+MARK = "select pg_snapshot_xmin(pg_current_snapshot())::text::bigint"
 SET_UP = 6_318_042  # the number of the lock under which tables are made
 PREPARED = """
     prepare cf_put(bigint, int, bigint, bigint, bytea) as insert into cf_word values ($1, $2, $3, $4, $5) on conflict do nothing;
     prepare cf_read(bigint, int) as select word, token from cf_word where request = $1 and at >= $2 order by at;
 """
 SAFE = {"fsync": ("on",), "full_page_writes": ("on",), "transaction_read_only": ("off",)}
-LEAST_BETWEEN = 0.002  # seconds between two notices
+LEAST_BETWEEN = 0.01  # seconds between two notices: the first goes at once
 
 
 class Postgres(Store):
@@ -137,6 +139,23 @@ class Postgres(Store):
         return {str(name): int(many or 0) for name, many in self._ask(
             "select name, (select max(at) + 1 from cf_word where request = id) from cf_request where closed is null")}
 
+    def news(self, mark: Any) -> Tuple[Dict[str, int], Any]:
+        # All transactions below the mark had ended when it was read, so what they did was told.
+        if mark is None:
+            (at,), = self._ask(MARK)
+            return self.ends(), at
+        rows = self._ask(f"select null, ({MARK}) union all "
+                         "select name, 0 from cf_request where closed is null and made_by >= %s::text::xid8 union all "
+                         "select name, max(at) + 1 from cf_word w join cf_request on id = request "
+                         "where closed is null and w.made_by >= %s::text::xid8 group by name", str(mark), str(mark))
+        told: Dict[str, int] = {}
+        for name, many in rows:
+            if name is None:
+                mark = int(many)
+            else:
+                told[str(name)] = max(int(many), told.get(str(name), 0))
+        return told, mark
+
     def listing(self) -> List[Listed]:
         return [Listed(str(name), float(opened), closed, int(many or 0)) for name, opened, closed, many in self._ask(
             "select name, opened, closed, (select max(at) + 1 from cf_word where request = id) from cf_request order by name")]
@@ -146,7 +165,7 @@ class Postgres(Store):
                   "(select count(*) from cf_word where request = id) = %s", name, at)
 
     def reopen(self, name: str) -> None:
-        self._ask("update cf_request set closed = null where name = %s and closed is not null", name)
+        self._ask("update cf_request set closed = null, made_by = pg_current_xact_id() where name = %s and closed is not null", name)
 
     def drop(self, name: str) -> None:
         number = self._id(name)
@@ -238,6 +257,9 @@ class Postgres(Store):
 
     def beats(self) -> Dict[int, int]:
         return {int(session): int(count) for session, count in self._ask("select session, count from cf_beat")}
+
+    def drop_beat(self, session: int) -> None:
+        self._ask("delete from cf_beat where session = %s", session)
 
     def now(self) -> float:
         return float(self._ask(f"select {NOW}")[0][0])

@@ -70,9 +70,17 @@ class Stage(_Future[T]):
         """The value, or what the function gives of the exception."""
         return self.request._attach(Form.EXCEPTIONALLY, (self,), fn)
 
+    def compose(self, fn: "Callable[[Request, T], Stage[U]]") -> "Stage[U]":
+        """What the stage comes to that the function gives. It is called with this request, as the process has it that runs the function, and
+        the value; it attaches stages and gives one of them. Two stages are attached here: a promise stands for what comes, and whoever sees
+        that the given stage is settled settles the promise alike."""
+        return self.request._compose(self, fn)
+
     def again(self, times: int = 1) -> "Stage[T]":
         """So many further tries, each a stage, where the process that ran this one's function is gone. What the function did before may be
         done twice then, unless it is transactional."""
+        if "to" in self.request._desk.said(self.number):
+            raise TypeError("a stage that composes has no further tries; those that its function attaches may")
         stage, name = self, f"{self.name} again"
         for _ in range(times):
             stage = self.request._attach(Form.EXCEPTIONALLY, (stage,), Again(self.number), name=name)
@@ -227,13 +235,52 @@ class Request:
             number, (first, second) = len(desk.forms), (*sources, 0, 0)[:2]
             low = form << 24 | second << 12 | (0 if call is None else number)
             return [(ATTACH << 56 | desk.who << 48 | first << 36 | len(sources) << 32 | low, payload)]
-        done = self._act(decide)
+        return self._attached(self._act(decide))
+
+    def _compose(self, source: "Stage[Any]", call: Callable[..., Any]) -> "Stage[Any]":
+        if source.request._desk is not self._desk:
+            raise TypeError("no stage of this request")
+        said = said_of(self._service.functions, call, (), {})
+
+        def decide(desk: Desk) -> Any:
+            desk.make_room(2)
+            number, head = len(desk.forms), ATTACH << 56 | desk.who << 48
+            promise = json.dumps({"name": f"what {said['fn']} gives"}).encode()
+            own = json.dumps({"name": said["fn"], "to": number, **said}).encode()
+            return [(head | Form.SOURCE << 24, promise), (head | source.number << 36 | 1 << 32 | Form.COMPOSE << 24 | number + 1, own)]
+        return self._attached(self._act(decide))
+
+    def _attached(self, done: Optional[List[Done]]) -> "Stage[Any]":
+        """The last of the stages that were attached."""
         assert done is not None
         if self._desk.plan.rows:
             self._service.store.reopen(self.name)
             self._service._requests.setdefault(self.name, self)
         self._service._serve(self)
-        return self._stage(done[0].reply[NUMBER])
+        return self._stage(done[-1].reply[NUMBER])
+
+    def _relay(self) -> None:
+        """Settles the promises of stages that composed as the stages are that their functions gave, where those are settled."""
+        desk = self._desk
+        for promise, place in list(desk.links.items()):
+            given = int(json.loads(desk.payload(place))["stage"]) if not desk.is_settled(promise) else promise
+            if given == promise:
+                desk.links.pop(promise, None)
+            elif desk.is_settled(given):
+                kind, payload = self._alike(desk.told[given])
+                self._settle(kind, promise, payload)
+
+    def _alike(self, told: Told) -> Tuple[int, Optional[bytes]]:
+        """The call that settles a promise so, and its payload."""
+        if told.kind == VALUE:
+            return COMPLETE, self._desk.payload(told.number) if told.some else None
+        if told.kind == CANCELLED and not told.wrapped:
+            return CANCEL, None
+        if told.kind == THROWN:
+            return FAIL, self._desk.payload(told.code)
+        error = self._outcome(told)[1]
+        assert error is not None
+        return FAIL, self._service.codec.write_error(error)
 
     def _tree(self, form: Form, of: "Sequence[Stage[Any]]", name: str) -> "Stage[Any]":
         """An attached stage has at most two sources; a tree of them tells what one stage of all would."""

@@ -113,6 +113,11 @@ class Store(abc.ABC):
     def ends(self) -> Dict[str, int]:
         """How many words each open request has."""
 
+    def news(self, mark: Any) -> Tuple[Dict[str, int], Any]:
+        """How many words those open requests have that may have changed since a mark, and the next mark; since None, all of them. A request
+        that was opened again is only told since None. A store that can't tell them apart gives all."""
+        return self.ends(), None
+
     @abc.abstractmethod
     def changed(self, seconds: float) -> None:
         """Waits until something may have been put since this thread's last call, or so many seconds."""
@@ -140,6 +145,10 @@ class Store(abc.ABC):
     @abc.abstractmethod
     def beats(self) -> Dict[int, int]:
         """How often each session has said so."""
+
+    @abc.abstractmethod
+    def drop_beat(self, session: int) -> None:
+        """Forgets a session that has ended or is long gone. If it isn't gone, its next beat counts from 1."""
 
     @abc.abstractmethod
     def now(self) -> float:
@@ -191,10 +200,15 @@ class Memory(Store):
         self._beats: Dict[int, int] = {}
         self._timers: Dict[Tuple[str, int], Timer] = {}
         self._puts = 0
+        self._last: Dict[str, int] = {}  # the number of the put that a request had last
         self._seen = threading.local()
 
     def open(self, name: str, plan: str) -> Opened:
         with self._change:
+            if name not in self._opened:
+                self._puts += 1
+                self._last[name] = self._puts
+                self._change.notify_all()
             return self._opened.setdefault(name, Opened(name, plan, time.time()))
 
     def find(self, name: str) -> Optional[Opened]:
@@ -204,6 +218,7 @@ class Memory(Store):
         with self._change:
             told = [self._append(put) for put in puts]
             self._puts += 1
+            self._last.update((put.request, self._puts) for put in puts)
             self._change.notify_all()
         return told
 
@@ -224,6 +239,10 @@ class Memory(Store):
     def ends(self) -> Dict[str, int]:
         with self._change:
             return {name: len(self._rows.get(name, [])) for name in self._opened if name not in self._closed}
+
+    def news(self, mark: Any) -> Tuple[Dict[str, int], Any]:
+        puts, ends = self._puts, self.ends()  # (the mark first: what comes between is told once more)
+        return ends if mark is None else {name: many for name, many in ends.items() if self._last.get(name, 0) > mark}, puts
 
     def changed(self, seconds: float) -> None:
         with self._change:
@@ -258,6 +277,10 @@ class Memory(Store):
     def beats(self) -> Dict[int, int]:
         with self._change:
             return dict(self._beats)
+
+    def drop_beat(self, session: int) -> None:
+        with self._change:
+            self._beats.pop(session, None)
 
     def now(self) -> float:
         return time.time()
@@ -336,6 +359,9 @@ class Grouped(Store):
     def ends(self) -> Dict[str, int]:
         return self._store.ends()
 
+    def news(self, mark: Any) -> Tuple[Dict[str, int], Any]:
+        return self._store.news(mark)
+
     def changed(self, seconds: float) -> None:
         self._store.changed(seconds)
 
@@ -356,6 +382,9 @@ class Grouped(Store):
 
     def beats(self) -> Dict[int, int]:
         return self._store.beats()
+
+    def drop_beat(self, session: int) -> None:
+        self._store.drop_beat(session)
 
     def now(self) -> float:
         return self._store.now()

@@ -10,7 +10,7 @@ from typing import Any, Callable, Dict, List, NamedTuple, Optional, Sequence, Se
 
 from ..service.flow import Flow
 from ..service.history import Told
-from ..service.words import (ANSWER, ARGS, CLAIM, FAIL, FINISH, FIRST, FIRST_SOME, GIVES, GOT, ONE, OUTCOME, SECOND, SECOND_SOME, THROWS,
+from ..service.words import (ANSWER, ARGS, CLAIM, FAIL, FINISH, FIRST, FIRST_SOME, GIVES, GOT, LINKS, ONE, OUTCOME, SECOND, SECOND_SOME, THROWS,
                              TWO, VALUE)
 from ..values import Form
 from .codec import Abandoned, Json
@@ -47,6 +47,8 @@ class Finish(NamedTuple):
 
     def word(self, desk: Desk) -> Tuple[int, Optional[bytes]]:
         """Its word at the end of what is seen."""
+        if self.kind == LINKS:
+            return FINISH << 56 | desk.who << 48 | self.stage << 36 | LINKS << 32 | int(desk.said(self.stage)["to"]), self.payload
         tag, low = (self.kind, desk.place) if self.payload is not None else (0, 0)
         return FINISH << 56 | desk.who << 48 | self.stage << 36 | tag << 32 | low, self.payload
 
@@ -86,6 +88,7 @@ class DurableService(concurrent.futures.Executor):
         self.broken: Dict[str, BaseException] = {}  # requests that can't be gone on with here, and why
         self._lock, self._stops, self._process = threading.Lock(), threading.Event(), os.getpid()
         self._watcher, self._next_beat, self._next_look = Watcher(self.store, lease), 0.0, 0.0
+        self._mark: Any = None
         self._firing: Set[Tuple[str, int, float]] = set()
         self._pump = threading.Thread(target=self._run_pump, name="cf-shared", daemon=True)
         self._pump.start()
@@ -144,6 +147,8 @@ class DurableService(concurrent.futures.Executor):
         self._pool.shutdown(wait)
         if wait and threading.current_thread() is not self._pump:
             self._pump.join()
+            with contextlib.suppress(Unknown):  # others see it by its silence
+                self.store.drop_beat(self.session)
             self.store.close()
 
     # Requests that are worked on.
@@ -209,6 +214,7 @@ class DurableService(concurrent.futures.Executor):
             self._next_beat = now + self._lease / 5
             self.store.beat(self.session)
             self._watcher.look()
+            self._watcher.forget()
         if now >= self._next_look:
             self._next_look = now + 0.02
             for timer in self.store.due(self.store.now()):
@@ -216,20 +222,21 @@ class DurableService(concurrent.futures.Executor):
                     self._firing.add(timer[:3])
                     self._submit(timer.request, self._fire, timer)
         known = list(self._requests.values())  # (before the store is asked: what is opened meanwhile isn't in its answer)
-        ends = self.store.ends()
-        for request in known:
+        ends, mark = self.store.news(None if looks else self._mark)
+        for request in known if looks else ():
             if request.name not in ends and not request.is_leaving:
                 request.is_leaving = True
                 self._submit(request.name, self._let_go, request)
         for name, end in ends.items():
             taken = self._taken(name) if self._takes_all else self._requests.get(name)
-            if taken is not None and (end > taken.seen or looks and self._needs(taken)):
+            if taken is not None and (end > taken.seen or (looks or not end) and self._needs(taken)):
                 self._serve(taken)
+        self._mark = mark
 
     def _needs(self, request: Request) -> bool:
         """Whether something is to do in a request without a new word."""
         gone = [self._watcher.is_gone(session) for session in request._desk.open_claims().values() if session != self.session]
-        return bool(request._desk.ready or request._unshown) or any(gone)
+        return bool(request._desk.ready or request._desk.links or request._unshown) or any(gone)
 
     def _let_go(self, request: Request) -> None:
         """Forgets a request that is closed, once all is told."""
@@ -277,9 +284,11 @@ class DurableService(concurrent.futures.Executor):
         request.is_queued = False
         request._catch_up()
         self._abandon(request)
+        request._relay()
         claimed = self._next(request, None)
         while claimed is not None:
             claimed = self._run(request, claimed)
+        request._relay()
         request._end_if_done()
 
     def _abandon(self, request: Request) -> None:
@@ -369,9 +378,20 @@ class DurableService(concurrent.futures.Executor):
 
     def _run(self, request: Request, claimed: Claimed) -> Optional[Claimed]:
         """Calls a function and puts its finish; what was claimed with it."""
+        if request._desk.forms[claimed.stage][0] == Form.COMPOSE:
+            return self._next(request, self._composed(request, claimed))
         if claimed.error is None and claimed.known.is_transactional:
             return self._in_transaction(request, claimed)
         return self._next(request, self._called(claimed))
+
+    def _composed(self, request: Request, claimed: Claimed) -> Finish:
+        try:
+            given = claimed.known.call(request, *claimed.args, **claimed.kwargs)
+            if not isinstance(given, Stage) or given.request._desk is not request._desk:
+                raise TypeError(f"{claimed.known.name} has to give a stage of the request")
+            return Finish(claimed.stage, LINKS, self.codec.write({"stage": given.number}))
+        except BaseException as error:
+            return Finish(claimed.stage, THROWS, self.codec.write_error(error))
 
     def _called(self, claimed: Claimed, *first: Any) -> Finish:
         try:

@@ -13,8 +13,8 @@ T = TypeVar("T")
 SCHEMA = """
     create table if not exists cf_request (id integer primary key autoincrement, name text not null unique, plan text not null,
         opened real not null, closed real);
-    create table if not exists cf_word (request integer, at integer, word integer not null, token integer not null, payload blob,
-        primary key (request, at)) without rowid;
+    create table if not exists cf_word (n integer primary key, request integer, at integer, word integer not null, token integer not null,
+        payload blob, unique (request, at));
     create table if not exists cf_large (request integer, place integer, payload blob not null, primary key (request, place));
     create table if not exists cf_beat (session integer primary key, count integer not null);
     create table if not exists cf_timer (request integer, stage integer, due real not null, payload blob not null,
@@ -22,7 +22,7 @@ SCHEMA = """
     create index if not exists cf_timer_due on cf_timer (due);
     create index if not exists cf_request_open on cf_request (id) where closed is null
 """
-PUT = "insert or ignore into cf_word values (?, ?, ?, ?, ?)"
+PUT = "insert or ignore into cf_word (request, at, word, token, payload) values (?, ?, ?, ?, ?)"
 SMALL = 512  # bytes: a larger payload would make the words' own pages large
 BETWEEN_LOOKS = 0.001  # seconds between two looks at the file's version
 
@@ -142,6 +142,17 @@ class SQLite(Store):
         return {str(name): int(many or 0) for name, many in self._ask(
             "select name, (select max(at) + 1 from cf_word where request = id) from cf_request where closed is null")}
 
+    def news(self, mark: Any) -> Tuple[Dict[str, int], Any]:
+        # Rows are numbered in the order of their commits, since SQLite has one writer. Where the last ones were dropped numbers come again,
+        # and what was put by then is told since None.
+        at = self._ask("select (select coalesce(max(n), 0) from cf_word), (select coalesce(max(id), 0) from cf_request)")[0]
+        if mark is None or at[0] < mark[0]:
+            return self.ends(), at
+        told = {str(name): 0 for name, in self._ask("select name from cf_request where id > ? and closed is null", mark[1])}
+        told.update((str(name), int(many)) for name, many in self._ask(
+            "select name, max(at) + 1 from cf_word join cf_request on id = request where n > ? and closed is null group by request", mark[0]))
+        return told, at
+
     def listing(self) -> List[Listed]:
         return [Listed(str(name), float(opened), closed, int(many or 0)) for name, opened, closed, many in self._ask(
             "select name, opened, closed, (select max(at) + 1 from cf_word where request = id) from cf_request order by name")]
@@ -209,6 +220,9 @@ class SQLite(Store):
 
     def beats(self) -> Dict[int, int]:
         return {int(session): int(count) for session, count in self._ask("select session, count from cf_beat")}
+
+    def drop_beat(self, session: int) -> None:
+        self._in_turn(lambda db: db.execute("delete from cf_beat where session = ?", (session,)))
 
     def now(self) -> float:
         return time.time()

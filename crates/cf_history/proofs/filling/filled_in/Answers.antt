@@ -1,0 +1,14 @@
+use Rattle.std.proofs.Common.{List, refl, ap, ◌∙◌}
+use Rattle.cf_history.specs.declared.shared.SharedCaller.{SharedCaller}
+use Rattle.cf_history.specs.Shared.{all_filled, entries_of, records_of}
+use Rattle.cf_history.proofs.Fillings.{fills_by}
+use Rattle.cf_history.proofs.filling.filled_in.Goals as goal
+
+pub returns-clause-fills : goal.returns-clause-fills
+returns-clause-fills c = record {
+  functions = refl;
+  words = refl;
+  callers = fills_by c.deref-2.result.now (entries_of c.args.shared.callers.items) (records_of c.in_ok-callers.callers.items)
+      (c.in_ok-callers.ensures ∙ ap (λ (ks : List SharedCaller). all_filled c.deref-2.result.now (entries_of ks)) c.deref-3.ensures.value);
+  outcomes = refl;
+}

@@ -1,0 +1,183 @@
+//! The replies that nobody knows, by the sequential graph.
+ghost use Rattle.std.specs.Prelude.{◌≡◌, ◌↔◌, IfOk, false, get_or, map, true};
+ghost use Rattle.cf_plan.specs.Plans.{has_place, with_room};
+ghost use Rattle.cf_model.specs.Ranges.{EventsFit};
+ghost use Rattle.cf_model.specs.States.{start};
+ghost use Rattle.cf_model.specs.declared.events.Reply.TheVariants.{Flag};
+ghost use Rattle.cf_event.specs.Decoding.{decoded};
+ghost use Rattle.cf_event.specs.Events.{AreEventsOf};
+ghost use Rattle.cf_history.specs.Histories.{FitsOneGraph};
+ghost use Rattle.cf_history.specs.Shared.{Fills, FitsWithSomeReplies, HasGraphsReplies, all_filled, entries_of, filled, records_of, replies_at};
+ghost use Rattle.cf_history.specs.declared.verdict.Verdict.TheVariants.{Fits};
+
+use crate::checking::{check, graph_of};
+use crate::events::{find_unfit, read_events};
+use crate::history::{Caller, History};
+use crate::merging::merge_all;
+use crate::shared::{Entry, SharedCaller, SharedHistory};
+use crate::verdict::Verdict;
+use cf_core::Graph;
+use cf_event::Record;
+use cf_model::{Event, Reply};
+use cf_plan::Plan;
+use std::alloc::{AllocError, Global};
+
+/// Whether there are replies with which a history that sessions tell is that of one sequential graph, as `check` says it. It
+/// fails only where there is no memory.
+pub fn check_shared(
+    alloc: Global,
+    plan: &Plan,
+    room: u16,
+    shared: SharedHistory,
+) -> Result<Verdict, AllocError>
+    requires place { has_place plan.now.stages room ≡ true }
+    ensures fits { IfOk result (λ verdict. (verdict ≡ Fits) ↔ FitsWithSomeReplies (with_room plan.now room) shared) }
+{
+    let history = fill_in(alloc, plan, room, shared)?;
+    check(alloc, plan, room, &history)
+}
+
+/// What sessions tell, as a history: the records of a caller are those of its sessions, by their places, and a reply that
+/// nobody knows is the sequential graph's, where the words are events that it takes. It fails only where there is no memory.
+pub fn fill_in(
+    alloc: Global,
+    plan: &Plan,
+    room: u16,
+    shared: SharedHistory,
+) -> Result<History, AllocError>
+    requires place { has_place plan.now.stages room ≡ true }
+    ensures fills { IfOk result (λ history. Fills shared history) }
+    ensures replies { IfOk result (λ history. HasGraphsReplies (with_room plan.now room) shared history) }
+    ensures fits { IfOk result (λ history. FitsOneGraph (with_room plan.now room) history ↔ FitsWithSomeReplies (with_room plan.now room) shared) }
+{
+    let history = filled_in(alloc, plan, room, shared)?;
+    Ok(history)
+}
+
+/// The same history.
+fn filled_in(
+    alloc: Global,
+    plan: &Plan,
+    room: u16,
+    shared: SharedHistory,
+) -> Result<History, AllocError>
+    requires place { has_place plan.now.stages room ≡ true }
+    ensures fills { IfOk result (λ history. Fills shared history) }
+    ensures replies { IfOk result (λ history. HasGraphsReplies (with_room plan.now room) shared history) }
+{
+    let SharedHistory {
+        functions,
+        words,
+        callers,
+        outcomes,
+    } = shared;
+    let replies = known_replies(alloc, plan, room, &words, callers.len(), functions)?;
+    let callers = fill_callers(alloc, &replies, &callers)?;
+    Ok(History {
+        functions,
+        words,
+        callers,
+        outcomes,
+    })
+}
+
+/// What the graph replies to the events of these words, by their places, where it takes them.
+fn known_replies(
+    alloc: Global,
+    plan: &Plan,
+    room: u16,
+    words: &[u64],
+    callers: usize,
+    functions: u32,
+) -> Result<Vec<Reply>, AllocError>
+    requires place { has_place plan.now.stages room ≡ true }
+    ensures { IfOk result (λ replies. AreEventsOf callers functions (start (with_room plan.now room)) (decoded words.now) → replies.items ≡ replies_at (start (with_room plan.now room)) (decoded words.now)) }
+{
+    let events = read_events(alloc, words)?;
+    let mut graph = graph_of(alloc, plan, room)?;
+    match find_unfit(&mut graph, &events, callers, functions) {
+        Some((_k, _why)) => Ok(Vec::new(alloc)),
+        None => replies_anew(alloc, plan, room, &events),
+    }
+}
+
+/// What the graph of a plan replies to these events.
+fn replies_anew(
+    alloc: Global,
+    plan: &Plan,
+    room: u16,
+    events: &[Event],
+) -> Result<Vec<Reply>, AllocError>
+    requires place { has_place plan.now.stages room ≡ true }
+    requires fits { EventsFit (start (with_room plan.now room)) events.now }
+    ensures { IfOk result (λ replies. replies.items ≡ replies_at (start (with_room plan.now room)) events.now) }
+{
+    let mut graph = graph_of(alloc, plan, room)?;
+    replies_of(alloc, &mut graph, events)
+}
+
+/// What a graph replies to each of these events, behind one that stands for place 0.
+fn replies_of(alloc: Global, graph: &mut Graph, events: &[Event]) -> Result<Vec<Reply>, AllocError>
+    requires { EventsFit graph.old.state events.now }
+    ensures { IfOk result (λ replies. replies.items ≡ replies_at graph.old.state events.now) }
+{
+    let mut replies = Vec::new(alloc);
+    replies.push(Reply::Flag(false))?;
+    for event in events {
+        replies.push(graph.answer(event))?;
+    }
+    Ok(replies)
+}
+
+/// The records of each of these callers.
+fn fill_callers(
+    alloc: Global,
+    replies: &[Reply],
+    callers: &[SharedCaller],
+) -> Result<Vec<Caller>, AllocError>
+    ensures { IfOk result (λ filled. records_of filled.items ≡ all_filled replies.now (entries_of callers.now)) }
+{
+    let mut told = Vec::new(alloc);
+    for caller in callers {
+        let entries = merge_all(alloc, &caller.sessions)?;
+        let records = fill(alloc, replies, &entries)?;
+        told.push(Caller { records })?;
+    }
+    Ok(told)
+}
+
+/// These entries with the replies at their places.
+fn fill(alloc: Global, replies: &[Reply], entries: &[Entry]) -> Result<Vec<Record>, AllocError>
+    ensures { IfOk result (λ records. records.items ≡ map (filled replies.now) entries.now) }
+{
+    let mut records = Vec::new(alloc);
+    for entry in entries {
+        records.push(filled(replies, entry))?;
+    }
+    Ok(records)
+}
+
+/// An entry with the reply at its place.
+fn filled(replies: &[Reply], entry: &Entry) -> Record
+    ensures { result ≡ filled replies.now entry.now }
+{
+    match *entry {
+        Entry::Known(record) => record,
+        Entry::Unanswered { place, event } => Record::Did {
+            place,
+            event,
+            reply: reply_at(replies, place),
+        },
+    }
+}
+
+/// The reply at a place, and any where there is none.
+fn reply_at(replies: &[Reply], place: usize) -> Reply
+    ensures { result ≡ get_or replies.now place (Flag false) }
+{
+    if place < replies.len() {
+        replies[place]
+    } else {
+        Reply::Flag(false)
+    }
+}
