@@ -1,5 +1,6 @@
 package cf.service;
 
+import cf.service.Faults.Fault;
 import java.util.Objects;
 import java.util.concurrent.CancellationException;
 import java.util.concurrent.CompletableFuture;
@@ -37,6 +38,8 @@ public class Stage<T> extends CompletableFuture<T> {
     // These are the request's, under its lock, or of the one thread that tells the news.
     Object function;
     int dependents;
+    /** Whether it is ready and waits for the thread that made it so to claim it. */
+    boolean waitsHere;
     Stage<?> nextSettled, nextReady;
     volatile More more;
 
@@ -46,7 +49,6 @@ public class Stage<T> extends CompletableFuture<T> {
         Stage<?>[] feeds, outside;
         Stage<?> nextFed;
         Observer observers;
-        volatile Throwable refused;
     }
 
     private static final class Observer {
@@ -438,12 +440,12 @@ public class Stage<T> extends CompletableFuture<T> {
 
     @Override
     public boolean isCancelled() {
-        return told instanceof Request.Fault && ((Request.Fault) told).error instanceof CancellationException;
+        return told instanceof Fault && ((Fault) told).error instanceof CancellationException;
     }
 
     @Override
     public boolean isCompletedExceptionally() {
-        return told instanceof Request.Fault;
+        return told instanceof Fault;
     }
 
     @Override
@@ -481,7 +483,7 @@ public class Stage<T> extends CompletableFuture<T> {
     public String toString() {
         Object told = this.told;
         String state = told == null ? dependents == 0 ? "Not completed" : "Not completed, " + dependents + " dependents"
-                : told instanceof Request.Fault ? "Completed exceptionally: " + ((Request.Fault) told).error : "Completed normally";
+                : told instanceof Fault ? "Completed exceptionally: " + ((Fault) told).error : "Completed normally";
         String waits = told == null ? request.waitsFor(this) : "";
         return getClass().getName() + "@" + Integer.toHexString(hashCode()) + "[" + request.name() + ": " + request.called(this) + ": " + state
                 + waits + "]";
@@ -492,8 +494,8 @@ public class Stage<T> extends CompletableFuture<T> {
         if (told == NIL) {
             return null;
         }
-        if (told instanceof Request.Fault) {
-            Throwable error = ((Request.Fault) told).error;
+        if (told instanceof Fault) {
+            Throwable error = ((Fault) told).error;
             if (error instanceof CancellationException) {
                 throw (CancellationException) error;
             }
@@ -507,8 +509,8 @@ public class Stage<T> extends CompletableFuture<T> {
         if (told == NIL) {
             return null;
         }
-        if (told instanceof Request.Fault) {
-            Throwable error = ((Request.Fault) told).error;
+        if (told instanceof Fault) {
+            Throwable error = ((Fault) told).error;
             if (error instanceof CancellationException) {
                 throw (CancellationException) error;
             }
@@ -524,14 +526,14 @@ public class Stage<T> extends CompletableFuture<T> {
     @SuppressWarnings("unchecked")
     void show() {
         Object told = this.told;
-        if (told instanceof Request.Fault) {
-            super.completeExceptionally(((Request.Fault) told).error);
+        if (told instanceof Fault) {
+            super.completeExceptionally(((Fault) told).error);
         } else {
             super.complete(told == NIL ? null : (T) told);
         }
         if (Recorder.NOW != null && Recorder.NOW.takesStages()) {
             Recorder.NOW.stage(request.name(), number, form.text, request.called(this), told == NIL ? null
-                    : told instanceof Request.Fault ? ((Request.Fault) told).error : told);
+                    : told instanceof Fault ? ((Fault) told).error : told);
         }
         More more = this.more;
         if (more != null) {

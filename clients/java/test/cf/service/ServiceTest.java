@@ -1,5 +1,6 @@
 package cf.service;
 
+import java.io.IOException;
 import java.lang.ref.WeakReference;
 import java.nio.file.Files;
 import java.nio.file.Path;
@@ -45,6 +46,7 @@ public final class ServiceTest {
         test("refused tasks", ServiceTest::refusedTasks);
         test("one call", ServiceTest::oneCall);
         test("histories", ServiceTest::histories);
+        test("pages", ServiceTest::pages);
         test("texts of stages", ServiceTest::texts);
         test("interrupts", ServiceTest::interrupts);
         test("races", ServiceTest::races);
@@ -271,6 +273,31 @@ public final class ServiceTest {
         is(history.events(), 6);
         is(request.history().events(), 7);
         is(Words.name(history.words()[2]), "complete");
+    }
+
+    /** Where the program cf_look is. */
+    private static void pages() throws Exception {
+        Request request = SERVICE.request("told \"<b>\"");
+        Stage<Integer> first = request.<Integer>promise().named("first");
+        first.thenApply(x -> 10 / x).named("divided");
+        first.complete(0);
+        String program = System.getProperty("cf.look", "cf_look");
+        if (program.contains("/") && !Files.isExecutable(Paths.get(program))) {
+            thrown(IOException.class, () -> request.history().page());
+            return;
+        }
+        String page;
+        try {
+            page = request.history().page();
+        } catch (IOException fault) {
+            if (!program.equals("cf_look") || !fault.getMessage().startsWith("Cannot run program")) {
+                throw fault;
+            }
+            System.out.println("(no cf_look on the path)");
+            return;
+        }
+        is(page.startsWith("<!doctype html>") && page.trim().endsWith("</html>"), true);
+        is(page.contains("divided") && page.contains("/ by zero") && !page.contains("<b>"), true);
     }
 
     private static void texts() {
