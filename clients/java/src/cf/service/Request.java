@@ -181,7 +181,7 @@ public final class Request implements AutoCloseable {
             long change = ledger.news(0);
             if (((int) change >>> 12 & 1) != 0) {
                 stages[stage.number] = null;
-                stage.told = told((int) change, (int) (change >>> 32));
+                stage.tells(told((int) change, (int) (change >>> 32)));
                 stage.show();
             }
         }
@@ -588,7 +588,7 @@ public final class Request implements AutoCloseable {
                 if (stage != null) {
                     stages[number] = null;
                     stage.function = null;
-                    stage.told = told(what, (int) (change >>> 32));
+                    stage.tells(told(what, (int) (change >>> 32)));
                     news.settled(stage);
                     if (stage.more != null && stage.more.feeds != null) {
                         stage.more.nextFed = fed;

@@ -6,6 +6,7 @@ import java.nio.file.Files;
 import java.nio.file.Path;
 import java.nio.file.Paths;
 import java.util.ArrayList;
+import java.util.Arrays;
 import java.util.Collections;
 import java.util.List;
 import java.util.Objects;
@@ -47,6 +48,7 @@ public final class ServiceTest {
         test("one call", ServiceTest::oneCall);
         test("histories", ServiceTest::histories);
         test("pages", ServiceTest::pages);
+        test("what is told now", ServiceTest::toldNow);
         test("texts of stages", ServiceTest::texts);
         test("interrupts", ServiceTest::interrupts);
         test("races", ServiceTest::races);
@@ -298,6 +300,38 @@ public final class ServiceTest {
         }
         is(page.startsWith("<!doctype html>") && page.trim().endsWith("</html>"), true);
         is(page.contains("divided") && page.contains("/ by zero") && !page.contains("<b>"), true);
+    }
+
+    /** As Java 19 has it, also before that; there the state, too. */
+    private static void toldNow() throws Exception {
+        Request request = SERVICE.request();
+        Stage<Integer> given = request.completedFuture(3), open = request.promise(), cancelled = request.promise();
+        Stage<Integer> failed = given.thenApply(x -> x / 0);
+        cancelled.cancel(true);
+        is(given.resultNow(), 3);
+        is(request.completedFuture(null).resultNow(), null);
+        is(failed.exceptionNow() instanceof ArithmeticException, true);
+        for (Stage<Integer> each : Arrays.asList(open, cancelled, failed)) {
+            thrown(IllegalStateException.class, each::resultNow);
+        }
+        for (Stage<Integer> each : Arrays.asList(open, cancelled, given)) {
+            thrown(IllegalStateException.class, each::exceptionNow);
+        }
+        java.lang.reflect.Method state;
+        try {
+            state = CompletableFuture.class.getMethod("state");
+        } catch (NoSuchMethodException older) {
+            return;
+        }
+        is("" + state.invoke(given) + state.invoke(open) + state.invoke(cancelled) + state.invoke(failed), "SUCCESSRUNNINGCANCELLEDFAILED");
+        for (int k = 0; k < 2000; k++) {
+            Stage<Integer> called = SERVICE.supplyAsync(() -> 1);
+            while (k % 2 == 0 && !called.isDone()) {
+                Thread.yield();
+            }
+            called.join();
+            is("" + state.invoke(called), "SUCCESS");
+        }
     }
 
     private static void texts() {
