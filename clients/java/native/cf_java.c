@@ -14,7 +14,7 @@
 #include <x86intrin.h>
 #endif
 
-enum { WORDS = 64, NEWS = 128, MOST = 4096, ROOM = 32, KEPT_ROOM = 512 };
+enum { WORDS = 64, NEWS = 128, MOST = 4096, ROOM = 32 };
 
 /* In the machine's order of bytes; Native.java has the places. */
 struct shown {
@@ -320,7 +320,7 @@ METHOD(void, destroy)(JNIEnv *env, jclass class, jlong at) {
 
 static uint32_t opened(struct core *core, struct plan *plan, uint32_t room, const uint64_t *words, size_t n) {
   size_t place;
-  if (n == 0 && core->ledger.full && core->plan == plan && core->room >= room && core->room <= KEPT_ROOM)
+  if (n == 0 && core->ledger.full && core->plan == plan && core->room >= room)
     return cf_ledger_restart(&core->ledger);
   cf_free(&core->ledger);
   core->plan = plan, core->room = room;

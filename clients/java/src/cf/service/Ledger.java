@@ -20,6 +20,8 @@ final class Ledger {
     static final int NOBODY = -1, ARGUMENTS = -2;
 
     private static final boolean TIMES = !"false".equals(System.getProperty("cf.times"));
+    /** Of how many stages more than those of its plan a core is kept to be used again, and with 16 times as many events. */
+    private static final int MOST_KEPT = 512;
     private static final Pool NO_PLAN = new Pool(0);
     /** Cores that aren't freed, and how many of them there may be until the collector is asked. */
     private static final AtomicInteger LIVE = new AtomicInteger();
@@ -90,7 +92,7 @@ final class Ledger {
         private final AtomicReferenceArray<Core> free;
 
         Pool(int stages) {
-            free = new AtomicReferenceArray<>(stages <= 512 ? MOST : 4);
+            free = new AtomicReferenceArray<>(stages <= MOST_KEPT ? MOST : Math.min(MOST, 4));
         }
 
         private int place() {
@@ -383,7 +385,7 @@ final class Ledger {
         kept = kept();
         Core core = this.core;
         this.core = null;
-        if (!pool().put(core)) {
+        if (stages - planned() > MOST_KEPT || events > 16 * MOST_KEPT || !pool().put(core)) {
             core.freed.now();
         }
     }

@@ -8,6 +8,7 @@ import java.nio.file.Paths;
 import java.util.ArrayList;
 import java.util.Arrays;
 import java.util.Collections;
+import java.util.HashSet;
 import java.util.List;
 import java.util.Objects;
 import java.util.concurrent.CancellationException;
@@ -45,6 +46,8 @@ public final class ServiceTest {
         test("late answers", ServiceTest::late);
         test("waiting in a pool of one", ServiceTest::waitsWhileRunning);
         test("refused tasks", ServiceTest::refusedTasks);
+        test("functions here", ServiceTest::here);
+        test("functions of others", ServiceTest::elsewhere);
         test("one call", ServiceTest::oneCall);
         test("histories", ServiceTest::histories);
         test("pages", ServiceTest::pages);
@@ -247,6 +250,71 @@ public final class ServiceTest {
         Stage<Integer> behind = promise.thenApplyAsync(x -> x + 1);
         promise.complete(1);
         is(thrown(CompletionException.class, behind::join).getCause() instanceof RejectedExecutionException, true);
+    }
+
+    /** Without Async each function is called once, the lowest stage's first, also those that a function makes ready meanwhile. */
+    private static void here() {
+        for (int round = 0; round < 2; round++) {
+            boolean mixed = round == 1;
+            Request request = SERVICE.request(), other = SERVICE.request();
+            Stage<Integer> first = request.promise(), second = request.promise(), third = other.promise();
+            List<Integer> called = new ArrayList<>();
+            List<Stage<Integer>> made = new ArrayList<>();
+            if (mixed) {
+                made.add(second.thenApplyAsync(x -> x));
+            }
+            for (int k = 0; k < 300; k++) {
+                int each = k;
+                Stage<Integer> behind = k % 3 == 0 ? first : k % 3 == 1 ? second : made.get(k / 2);
+                made.add(behind.thenApply(x -> {
+                    called.add(each);
+                    if (each == 30) {
+                        second.complete(2);
+                        third.complete(3);
+                    }
+                    return x + 1;
+                }));
+            }
+            Stage<Integer> outer = third.thenCombine(first, Integer::sum);
+            first.complete(1);
+            is(outer.join(), 4);
+            for (Stage<Integer> each : made) {
+                each.join();
+            }
+            is(called.size(), 300);
+            is(new HashSet<>(called).size(), 300);
+            is(called.indexOf(3) < called.indexOf(6) && called.indexOf(6) < called.indexOf(27), true);
+            String said = request.history().toString();
+            is(said.contains("too late") || said.contains("too early"), false);
+        }
+    }
+
+    /** A thread calls the functions that it has made ready itself, and none for another thread. */
+    private static void elsewhere() throws Exception {
+        Request request = SERVICE.request();
+        Stage<Integer> one = request.promise(), two = request.promise();
+        CountDownLatch runs = new CountDownLatch(1), go = new CountDownLatch(1);
+        Stage<String> slow = one.thenApply(x -> {
+            runs.countDown();
+            try {
+                is(go.await(20, TimeUnit.SECONDS), true);
+            } catch (InterruptedException interrupted) {
+                throw new AssertionError(interrupted);
+            }
+            return Thread.currentThread().getName();
+        });
+        Stage<String> own = two.thenApply(x -> Thread.currentThread().getName());
+        Stage<String> behind = one.thenApply(x -> Thread.currentThread().getName());
+        Stage<String> last = own.thenApply(x -> x + Thread.currentThread().getName());
+        Thread thread = new Thread(() -> one.complete(1), "first");
+        thread.start();
+        runs.await();
+        two.complete(2);
+        is(last.getNow(""), "mainmain");
+        is(behind.isDone(), false);
+        go.countDown();
+        thread.join();
+        is(slow.join() + behind.join(), "firstfirst");
     }
 
     private static void oneCall() {
