@@ -35,7 +35,7 @@ final class Ledger {
     private int stages;
     private int waiting;
     private int events;
-    /** The reply to the last word, as native/cf_java.c packs it. */
+    /** The reply to the last word, as native/cf_java.c packs it; before it is opened, the word that waits then. */
     private long reply;
     /** The words and their moments, where the core was given back. */
     private long[] kept;
@@ -147,6 +147,20 @@ final class Ledger {
         open(room);
     }
 
+    /** One of no plan that is opened by whoever comes first: who has begun it, or who does the first word after this one. */
+    Ledger(long word) {
+        plan = null;
+        reply = word;
+        stages = 1;
+    }
+
+    /** Opens it, if nobody has yet. */
+    void begin() {
+        if (core == null && kept == null) {
+            open();
+        }
+    }
+
     private int planned() {
         return plan == null ? 0 : plan.stages;
     }
@@ -171,6 +185,11 @@ final class Ledger {
             throw refusal(code);
         }
         this.core = core;
+        if (kept == null && reply != 0) {
+            core.memory.putLong(Native.WORDS, reply);
+            waiting = 1;
+            Native.since(core.at);
+        }
         kept = null;
     }
 
@@ -353,6 +372,7 @@ final class Ledger {
 
     /** The words, and behind them the moments: of each its ticks, and how many events were done by then. */
     long[] kept() {
+        begin();
         if (core == null) {
             return kept;
         }

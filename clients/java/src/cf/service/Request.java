@@ -50,15 +50,42 @@ public final class Request implements AutoCloseable {
     private boolean goesOn;
     private volatile Request next;
 
-    Request(Service service, String name, Flow flow, int room, boolean single) {
+    Request(Service service, String name, Flow flow, int room) {
         this.service = service;
         this.name = name;
         this.flow = flow;
-        this.single = single;
+        single = false;
         ledger = new Ledger(flow == null ? null : flow.plan(), room);
-        values = new Object[flow != null ? flow.count() : single ? 1 : 8];
+        values = new Object[flow != null ? flow.count() : 8];
         stages = flow == null && room > 0 ? new Stage<?>[room] : NO_STAGES;
         mixed = flow != null && flow.isMixed();
+    }
+
+    /** A request of one stage. */
+    private Request(Service service) {
+        this.service = service;
+        name = "one call";
+        flow = null;
+        single = true;
+        values = new Object[1];
+        stages = new Stage<?>[1];
+        mixed = true;
+        long word = Words.attach(who(), Form.SUPPLY, 0, 0, 0, 0);
+        ledger = new Ledger(word);
+        record(word);
+    }
+
+    /** A request of one stage that rests once that is settled. Its ledger is opened while the executor's thread wakes up. */
+    static <U> Stage<U> oneCall(Service service, Supplier<U> supplier) {
+        Objects.requireNonNull(supplier);
+        Request request = new Request(service);
+        Stage<U> stage = new Stage<>(request, 0, Form.SUPPLY, supplier, service.executor());
+        request.entered(stage);
+        request.handStarted(stage);
+        synchronized (request.ledger) {
+            request.ledger.begin();
+        }
+        return stage;
     }
 
     /** What an executor is given. */
@@ -223,6 +250,14 @@ public final class Request implements AutoCloseable {
         }
     }
 
+    private void rests() {
+        synchronized (ledger) {
+            if (ledger.stages() == 1 && stages[0] == null) {
+                ledger.rest();
+            }
+        }
+    }
+
     void name(int stage, String name) {
         synchronized (ledger) {
             if (names == null || names.length <= stage) {
@@ -256,15 +291,19 @@ public final class Request implements AutoCloseable {
         if (stage == null) {
             return further().started(form, function, executor);
         }
+        handStarted(stage);
+        return stage;
+    }
+
+    private void handStarted(Stage<?> stage) {
         try {
-            executor.execute(new Task(stage));
+            stage.executor.execute(new Task(stage));
         } catch (Throwable refused) {
             News news = new News();
             refused(stage, refused, news);
             tell(news);
             Request.<RuntimeException>rethrow(refused);
         }
-        return stage;
     }
 
     @SuppressWarnings("unchecked")
@@ -339,7 +378,7 @@ public final class Request implements AutoCloseable {
                 throw new RequestFullException(name);
             }
             if (next == null) {
-                next = new Request(service, name + ", further", null, 32, false).goesOn();
+                next = new Request(service, name + ", further", null, 32).goesOn();
             }
             return next;
         }
@@ -606,9 +645,6 @@ public final class Request implements AutoCloseable {
                 change(relayWord(relay.number, stage.told, true), who, news);
             }
         }
-        if (single && stages[0] == null && ledger.stages() == 1 && news.claimedIn == null) {
-            ledger.rest();
-        }
     }
 
     private Object told(int what, int number) {
@@ -695,6 +731,9 @@ public final class Request implements AutoCloseable {
             Stage<?> stage;
             while ((stage = news.pollSettled()) != null) {
                 stage.show();
+                if (stage.request.single) {
+                    stage.request.rests();
+                }
                 Stage<?>[] outside = stage.more == null ? null : stage.more.outside;
                 if (outside != null) {
                     stage.more.outside = null;
