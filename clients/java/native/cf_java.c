@@ -113,9 +113,14 @@ static void note(struct core *core, uint64_t at) {
   core->shown.moments++;
 }
 
-METHOD(void, since)(JNIEnv *env, jclass class, jlong at) {
+METHOD(void, since)(JNIEnv *env, jclass class, jlong at, jlong since) {
   (void)env, (void)class;
-  CORE(at)->since = ticks();
+  CORE(at)->since = since ? (uint64_t)since : ticks();
+}
+
+METHOD(jlong, ticks)(JNIEnv *env, jclass class) {
+  (void)env, (void)class;
+  return (jlong)ticks();
 }
 
 /* 12 bits of the stage, then whether it is settled; from 16 on the outcome's kind, whether it is wrapped, whether its value is a number. */

@@ -35,8 +35,8 @@ final class Ledger {
     private int stages;
     private int waiting;
     private int events;
-    /** The reply to the last word, as native/cf_java.c packs it; before it is opened, the word that waits then. */
-    private long reply;
+    /** The reply to the last word, as native/cf_java.c packs it; before it is opened, the word that waits then, and since when. */
+    private long reply, since;
     /** The words and their moments, where the core was given back. */
     private long[] kept;
     /** What was told: of a word its place, its answer, what was claimed behind it or -1, with which arguments, and its news. */
@@ -147,18 +147,12 @@ final class Ledger {
         open(room);
     }
 
-    /** One of no plan that is opened by whoever comes first: who has begun it, or who does the first word after this one. */
+    /** One of no plan that is opened by whoever does the first word after this one. */
     Ledger(long word) {
         plan = null;
         reply = word;
+        since = TIMES ? Native.ticks() : 0;
         stages = 1;
-    }
-
-    /** Opens it, if nobody has yet. */
-    void begin() {
-        if (core == null && kept == null) {
-            open();
-        }
     }
 
     private int planned() {
@@ -188,7 +182,7 @@ final class Ledger {
         if (kept == null && reply != 0) {
             core.memory.putLong(Native.WORDS, reply);
             waiting = 1;
-            Native.since(core.at);
+            Native.since(core.at, since);
         }
         kept = null;
     }
@@ -219,7 +213,7 @@ final class Ledger {
             flush();
         }
         if (waiting == 0 && TIMES) {
-            Native.since(core.at);
+            Native.since(core.at, 0);
         }
         core.memory.putLong(Native.WORDS + 8 * waiting++, word);
         return stages++;
@@ -372,9 +366,11 @@ final class Ledger {
 
     /** The words, and behind them the moments: of each its ticks, and how many events were done by then. */
     long[] kept() {
-        begin();
-        if (core == null) {
+        if (kept != null) {
             return kept;
+        }
+        if (core == null) {
+            open();
         }
         flush();
         long[] all = new long[events + 2 * core.memory.getInt(Native.MOMENTS)];

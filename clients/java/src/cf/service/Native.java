@@ -37,8 +37,10 @@ final class Native {
      */
     static native long apply(long core, int waiting, long word, int who, int from);
 
-    /** Now is when the first word came that waits. */
-    static native void since(long core);
+    /** This is when the first word came that waits: these ticks, or now. */
+    static native void since(long core, long ticks);
+
+    static native long ticks();
 
     /** The next news where not all had place. */
     static native int more(long core);

@@ -75,16 +75,13 @@ public final class Request implements AutoCloseable {
         record(word);
     }
 
-    /** A request of one stage that rests once that is settled. Its ledger is opened while the executor's thread wakes up. */
+    /** A request of one stage that rests once that is settled. The executor's thread opens its ledger, and gives it back. */
     static <U> Stage<U> oneCall(Service service, Supplier<U> supplier) {
         Objects.requireNonNull(supplier);
         Request request = new Request(service);
         Stage<U> stage = new Stage<>(request, 0, Form.SUPPLY, supplier, service.executor());
         request.entered(stage);
         request.handStarted(stage);
-        synchronized (request.ledger) {
-            request.ledger.begin();
-        }
         return stage;
     }
 
