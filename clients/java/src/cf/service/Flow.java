@@ -37,7 +37,7 @@ public final class Flow {
     private final List<Row> rows = new ArrayList<>();
     private final List<Integer> promises = new ArrayList<>();
     private volatile Row[] fixed;
-    private Ledger.Plan plan;
+    private volatile Ledger.Plan plan;
     private boolean startsReady, isMixed;
 
     static final class Row {
@@ -220,7 +220,12 @@ public final class Flow {
 
     // For requests.
 
-    synchronized Ledger.Plan plan() {
+    Ledger.Plan plan() {
+        Ledger.Plan made = plan;
+        return made != null ? made : fixed();
+    }
+
+    private synchronized Ledger.Plan fixed() {
         if (plan == null) {
             int length = 0;
             for (Row row : rows) {
@@ -239,8 +244,8 @@ public final class Flow {
                     numbers[at++] = source;
                 }
             }
-            plan = new Ledger.Plan(numbers, rows.size());
             fixed = rows.toArray(new Row[0]);
+            plan = new Ledger.Plan(numbers, rows.size());
         }
         return plan;
     }
