@@ -58,9 +58,9 @@ public final class Speed {
         boolean alone = !name.contains("pool") && !name.contains("timeouts");
         int[] each = new int[ways.length];
         for (int w = 0; w < ways.length; w++) {
-            long end = System.nanoTime() + Long.getLong("speed.warm", 3000) * 1_000_000L;
+            long end = now(alone) + Long.getLong("speed.warm", 3000) * 1_000_000L;
             int count = 0;
-            while (System.nanoTime() < end) {
+            while (now(alone) < end) {
                 ways[w].run();
                 count++;
             }

@@ -1,23 +1,28 @@
 /* The library's ledgers as native methods of cf.service.Native.
  *
  * A core is a ledger with a piece of memory that Java reads and writes by a direct buffer, so that one crossing does some words and brings
- * back the reply and the news. Its caller has it alone: that is a request's lock.
- *
- * The memory, in the machine's order of bytes: */
+ * back the reply and the news. Its caller has it alone: that is a request's lock. A core whose request is closed keeps its ledger, which
+ * starts again for the next request of the same plan. */
 #include "cf.h"
 #include <jni.h>
 #include <pthread.h>
 #include <stdlib.h>
 #include <string.h>
+#include <time.h>
+#ifdef __x86_64__
+#include <cpuid.h>
+#include <x86intrin.h>
+#endif
 
 enum { WORDS = 64, NEWS = 128, MOST = 4096, ROOM = 32 };
 
+/* In the machine's order of bytes; Native.java has the places. */
 struct shown {
-  int32_t done;        /* how many of the words were done; the others are refused, or weren't tried */
-  int32_t answer;      /* of the last word that was done */
-  int32_t number;
+  int32_t done;        /* how many of the words that waited were done */
+  int32_t number;      /* of the reply */
   int32_t news;        /* how many stages below became ready or settled */
-  int32_t claimed;     /* the stage that was claimed behind the words, or -1 */
+  int32_t moments;     /* how many moments are kept */
+  int32_t events;      /* how many words were done */
   int32_t args[10];    /* what its function is called with, or else the arguments in the reply: those of cf_args */
   int32_t rest;        /* where the news go on that had no place, or 0 */
   uint64_t words[WORDS];
@@ -25,24 +30,98 @@ struct shown {
   struct { uint32_t what; int32_t number; } changed[NEWS];
 };
 
+/* By when so many events were done, in ticks. */
+struct moment { uint64_t at, events; };
+
 struct core {
   struct shown shown;
   cf_handle ledger;
-  cf_handle empty; /* the plan without stages */
-  size_t events;
+  const struct plan *plan; /* of which the ledger is */
+  int32_t claimed; /* the stage that was claimed behind the words, or -1 */
   size_t told; /* the place of the event whose news are told */
-  uint32_t room, stages;
+  uint32_t room;
+  struct moment *moments;
+  size_t most_moments;
+  uint64_t since; /* when the first word came that waits */
+  bool timed;
 };
 
 struct plan {
   cf_handle handle;
   uint32_t stages;
+  uint64_t own[MOST / 64];
   pthread_mutex_t lock;
 };
 
+static struct plan empty; /* without stages */
+
 #define CORE(at) ((struct core *)(intptr_t)(at))
-#define PLAN(at) ((struct plan *)(intptr_t)(at))
+#define PLAN(at) ((at) ? (struct plan *)(intptr_t)(at) : &empty)
 #define METHOD(type, name) JNIEXPORT type JNICALL Java_cf_service_Native_##name
+
+/* Times. The processor's counter costs a fifth of a call of the clock. */
+
+static bool has_counter; /* one that runs evenly, also while a core sleeps */
+static uint64_t first_tick, first_nano;
+
+static uint64_t nanos(void) {
+  struct timespec now;
+  clock_gettime(CLOCK_MONOTONIC, &now);
+  return (uint64_t)now.tv_sec * 1000000000u + (uint64_t)now.tv_nsec;
+}
+
+static uint64_t ticks(void) {
+#ifdef __x86_64__
+  if (has_counter) return __rdtsc();
+#endif
+  return nanos();
+}
+
+JNIEXPORT jint JNICALL JNI_OnLoad(JavaVM *vm, void *reserved) {
+  (void)vm, (void)reserved;
+#ifdef __x86_64__
+  unsigned a, b, c, d;
+  has_counter = __get_cpuid(0x80000007, &a, &b, &c, &d) && d >> 8 & 1;
+#endif
+  first_tick = ticks(), first_nano = nanos();
+  pthread_mutex_init(&empty.lock, NULL);
+  if (cf_builder_new(&empty.handle, 0, 0) != CF_OK || cf_build(&empty.handle) != CF_OK) return JNI_ERR;
+  return JNI_VERSION_1_8;
+}
+
+/* How many nanoseconds a tick takes, as found since the library was loaded. */
+METHOD(jdouble, nanosPerTick)(JNIEnv *env, jclass class) {
+  (void)env, (void)class;
+  if (!has_counter) return 1;
+  uint64_t nano, tick;
+  do nano = nanos(), tick = ticks();
+  while (nano - first_nano < 2000000);
+  return (double)(nano - first_nano) / (double)(tick - first_tick);
+}
+
+/* All events that have no time yet were done by then. Times never go back. Where there is no memory they get the time of those after them. */
+static void note(struct core *core, uint64_t at) {
+  if (!core->timed) return;
+  size_t n = (size_t)core->shown.moments;
+  if (n > 0 && at < core->moments[n - 1].at) at = core->moments[n - 1].at;
+  if (n == core->most_moments) {
+    struct moment *more = realloc(core->moments, 2 * n * sizeof *more);
+    if (!more) return;
+    core->moments = more, core->most_moments = 2 * n;
+  }
+  core->moments[n].at = at, core->moments[n].events = (uint64_t)core->shown.events;
+  core->shown.moments++;
+}
+
+METHOD(void, since)(JNIEnv *env, jclass class, jlong at, jlong since) {
+  (void)env, (void)class;
+  CORE(at)->since = since ? (uint64_t)since : ticks();
+}
+
+METHOD(jlong, ticks)(JNIEnv *env, jclass class) {
+  (void)env, (void)class;
+  return (jlong)ticks();
+}
 
 /* 12 bits of the stage, then whether it is settled; from 16 on the outcome's kind, whether it is wrapped, whether its value is a number. */
 static void write_change(struct shown *shown, uint32_t stage, const cf_stage *now) {
@@ -67,19 +146,37 @@ static void write_args(struct shown *shown, const cf_args *args) {
   shown->args[8] = (int32_t)outcome->value.kind, shown->args[9] = outcome->value.number;
 }
 
+/* Makes room for a stage. */
+static uint32_t make_room(struct core *core) {
+  uint32_t place = MOST - core->plan->stages - core->room, more = core->room < ROOM ? ROOM : core->room;
+  if (more > place) more = place;
+  uint32_t code = more ? cf_ledger_grow(&core->ledger, (uint16_t)more) : CF_NO_ROOM;
+  if (code == CF_OK) core->room += more;
+  return code;
+}
+
 /* One event with so many of its news, and room for its stage where there is none. */
 static uint32_t apply(struct core *core, uint64_t word, cf_reply *reply, cf_news *changed, size_t most, size_t *n) {
   uint32_t code = cf_ledger_apply(&core->ledger, word, reply, changed, most, n);
   if (code == CF_NO_ROOM && core->room < MOST) {
-    uint32_t place = MOST - core->stages - core->room, more = core->room < ROOM ? ROOM : core->room;
-    if (more > place) more = place;
-    code = more ? cf_ledger_grow(&core->ledger, (uint16_t)more) : CF_NO_ROOM;
-    if (code == CF_OK) {
-      core->room += more;
-      code = cf_ledger_apply(&core->ledger, word, reply, changed, most, n);
-    }
+    code = make_room(core);
+    if (code == CF_OK) code = cf_ledger_apply(&core->ledger, word, reply, changed, most, n);
   }
-  if (code == CF_OK) core->events++;
+  if (code == CF_OK) core->shown.events++;
+  return code;
+}
+
+/* The words that waited: of stages that nothing can be told of yet. */
+static uint32_t apply_row(struct core *core, size_t count) {
+  struct shown *shown = &core->shown;
+  uint32_t code = CF_OK;
+  for (shown->done = 0; (size_t)shown->done < count && code == CF_OK;) {
+    size_t done = 0;
+    code = cf_ledger_apply_all(&core->ledger, shown->words + shown->done, count - (size_t)shown->done, &done);
+    shown->done += (int32_t)done, core->shown.events += (int32_t)done;
+    if (code == CF_NO_ROOM) code = make_room(core);
+  }
+  note(core, core->since);
   return code;
 }
 
@@ -92,45 +189,83 @@ static int32_t own_ready(const struct shown *shown) {
   return -1;
 }
 
-static uint32_t claim(struct core *core, uint32_t who) {
+/* The reply in one number: 8 bits of the code; then from 8 on the answer, 12 the stage that was claimed and 1 more, or 0, 25 how many
+ * news, 34 whether there are more of them, 36 the kind of arguments. */
+static jlong told(const struct core *core, uint32_t code, uint32_t answer) {
+  const struct shown *shown = &core->shown;
+  return (jlong)((uint64_t)code | (uint64_t)answer << 8 | (uint64_t)(core->claimed + 1) << 12 | (uint64_t)shown->news << 25 |
+                 (uint64_t)(shown->rest != 0) << 34 | (uint64_t)shown->args[0] << 36);
+}
+
+static void write_news(struct core *core, const cf_news *changed, size_t n) {
+  for (size_t k = 0; k < n && k < NEWS; k++) write_change(&core->shown, changed[k].stage, &changed[k].now);
+  if (n > NEWS) core->shown.rest = NEWS;
+}
+
+/* A finish by who has claimed the stage, and a claim of the lowest stage that is ready then, from a number on. */
+static uint32_t step(struct core *core, uint64_t word, uint32_t who, uint32_t from, uint32_t *answer) {
   struct shown *shown = &core->shown;
-  int32_t stage = own_ready(shown);
-  if (stage < 0) return CF_OK;
-  cf_reply reply;
-  size_t n; /* It changes that stage alone. */
-  uint32_t code = apply(core, (uint64_t)4 << 56 | (uint64_t)who << 48 | (uint64_t)stage << 36, &reply, NULL, 0, &n);
+  cf_news changed[NEWS];
+  size_t n;
+  cf_step step = {(uint8_t)who, (uint16_t)from, 0, 0, 0};
+  cf_task task;
+  uint32_t tag = word >> 32 & 0xf;
+  task.held = 1, task.stage = word >> 36 & 0xfff;
+  task.answer.kind = tag == 2 ? CF_THROW : CF_GIVE, task.answer.code = (uint32_t)word, task.answer.stage = 0;
+  task.answer.value.kind = tag == 1 ? CF_INT : CF_NIL, task.answer.value.number = (int32_t)(uint32_t)word;
+  uint32_t code = cf_ledger_step(&core->ledger, &step, &task, changed, NEWS, &n);
+  if (code != CF_OK && code != CF_NOTHING) return code;
+  core->told = (size_t)core->shown.events;
+  core->shown.events += code == CF_OK ? 2 : 1;
+  *answer = task.finished;
+  write_news(core, changed, n);
   if (code == CF_OK) {
-    shown->claimed = stage;
+    core->claimed = task.stage;
+    write_args(shown, &task.args);
+  }
+  return CF_OK;
+}
+
+static uint32_t one(struct core *core, uint64_t word, int32_t who, uint32_t *answer) {
+  struct shown *shown = &core->shown;
+  cf_reply reply;
+  cf_news changed[NEWS];
+  size_t n;
+  uint32_t code = apply(core, word, &reply, changed, NEWS, &n);
+  if (code != CF_OK) return code;
+  core->told = (size_t)core->shown.events - 1;
+  *answer = reply.answer;
+  shown->number = (int32_t)reply.number;
+  write_news(core, changed, n);
+  int32_t stage = who >= 0 ? own_ready(shown) : -1;
+  if (stage < 0) {
+    if (reply.args.kind || who == -2) write_args(shown, &reply.args);
+    return CF_OK;
+  }
+  code = apply(core, (uint64_t)4 << 56 | (uint64_t)who << 48 | (uint64_t)stage << 36, &reply, NULL, 0, &n); /* changes that stage alone */
+  if (code == CF_OK) {
+    core->claimed = stage;
     write_args(shown, &reply.args);
   }
   return code;
 }
 
-/* Does so many of the words, and then, where `who` isn't negative, claims for that caller the first stage that became ready by them and is
- * its own to call. Stops behind a word whose news leave no place for those of one more. */
-METHOD(jint, apply)(JNIEnv *env, jclass class, jlong at, jint count, jint who) {
+/* Does the words that wait, and then this one, if it isn't 0. Where `who` isn't negative, it claims for that caller the first stage that
+ * became ready by it and is its own to call; where `from` isn't either, the word is a finish of a stage that the caller has claimed, and
+ * the lowest ready stage from that number on is claimed. */
+METHOD(jlong, apply)(JNIEnv *env, jclass class, jlong at, jint waiting, jlong word, jint who, jint from) {
   (void)env, (void)class;
   struct core *core = CORE(at);
   struct shown *shown = &core->shown;
-  shown->done = shown->news = shown->rest = 0;
-  shown->claimed = -1;
-  cf_reply reply = {0, 0, {0, {0, 0}, {0, 0}, {0, 0, 0, {0, 0}}}};
-  cf_news changed[NEWS];
-  while (shown->done < count) {
-    size_t n;
-    uint32_t code = apply(core, shown->words[shown->done], &reply, changed, NEWS, &n);
-    if (code != CF_OK) return (jint)code;
-    shown->done++;
-    core->told = core->events - 1;
-    for (size_t k = 0; k < n && k < NEWS; k++) write_change(shown, changed[k].stage, &changed[k].now);
-    if (n > NEWS) shown->rest = NEWS;
-    if (shown->news > 0) break;
-  }
-  shown->answer = (int32_t)reply.answer, shown->number = (int32_t)reply.number;
-  if (shown->done < count) return CF_OK;
-  if (who >= 0 && shown->news > 0) return (jint)claim(core, (uint32_t)who);
-  if (reply.args.kind || who == -2) write_args(shown, &reply.args);
-  return CF_OK;
+  uint32_t code = CF_OK, answer = 0;
+  shown->news = shown->rest = shown->done = shown->args[0] = 0;
+  core->claimed = -1;
+  if (waiting > 0) code = apply_row(core, (size_t)waiting);
+  if (word == 0 || code != CF_OK) return told(core, code, 0);
+  if (from >= 0) code = step(core, (uint64_t)word, (uint32_t)who, (uint32_t)from, &answer);
+  if (from < 0 || code == CF_NOT_HELD) code = one(core, (uint64_t)word, who, &answer);
+  note(core, ticks());
+  return told(core, code, answer);
 }
 
 /* The news that had no place, from `rest` on: as they are now, which is as they were then, since nothing was done meanwhile. */
@@ -147,7 +282,7 @@ METHOD(jint, more)(JNIEnv *env, jclass class, jlong at) {
     cf_stage now;
     code = cf_ledger_stage(&core->ledger, stages[k], &now);
     if (code != CF_OK) return (jint)code;
-    if (stages[k] != shown->claimed) write_change(shown, stages[k], &now);
+    if (stages[k] != core->claimed) write_change(shown, stages[k], &now);
   }
   shown->rest = k < n ? (int32_t)k : 0;
   return CF_OK;
@@ -165,12 +300,13 @@ METHOD(jint, ask)(JNIEnv *env, jclass class, jlong at, jint stage) {
 }
 
 /* A core without a ledger, or 0 where there is no memory. */
-METHOD(jlong, create)(JNIEnv *env, jclass class) {
+METHOD(jlong, create)(JNIEnv *env, jclass class, jboolean timed) {
   (void)env, (void)class;
   struct core *core = calloc(1, sizeof *core);
   if (!core) return 0;
-  if (cf_builder_new(&core->empty, 0, 0) == CF_OK && cf_build(&core->empty) == CF_OK) return (jlong)(intptr_t)core;
-  cf_free(&core->empty);
+  core->timed = timed, core->most_moments = 32;
+  core->moments = malloc(core->most_moments * sizeof *core->moments);
+  if (core->moments) return (jlong)(intptr_t)core;
   free(core);
   return 0;
 }
@@ -183,60 +319,58 @@ METHOD(jobject, memory)(JNIEnv *env, jclass class, jlong at) {
 METHOD(void, destroy)(JNIEnv *env, jclass class, jlong at) {
   (void)env, (void)class;
   cf_free(&CORE(at)->ledger);
-  cf_free(&CORE(at)->empty);
+  free(CORE(at)->moments);
   free(CORE(at));
 }
 
-/* Frees the ledger, and keeps the memory for another. */
-METHOD(void, rest)(JNIEnv *env, jclass class, jlong at) {
-  (void)env, (void)class;
-  cf_free(&CORE(at)->ledger);
-  memset(CORE(at)->shown.own, 0, sizeof CORE(at)->shown.own);
-}
-
-static uint32_t opened(struct core *core, cf_handle *plan, uint16_t room, const uint64_t *words, size_t n) {
+static uint32_t opened(struct core *core, struct plan *plan, uint32_t room, const uint64_t *words, size_t n) {
   size_t place;
-  return n ? cf_ledger_of(plan, room, words, n, &core->ledger, &place) : cf_ledger_new(plan, room, &core->ledger);
+  if (n == 0 && core->ledger.full && core->plan == plan && core->room >= room)
+    return cf_ledger_restart(&core->ledger);
+  cf_free(&core->ledger);
+  core->plan = plan, core->room = room;
+  pthread_mutex_lock(&plan->lock);
+  uint32_t code = n ? cf_ledger_of(&plan->handle, (uint16_t)room, words, n, &core->ledger, &place)
+                    : cf_ledger_new(&plan->handle, (uint16_t)room, &core->ledger);
+  pthread_mutex_unlock(&plan->lock);
+  return code;
 }
 
-/* A ledger of the plan, or of none where it is 0, in which these words are done already. */
-METHOD(jint, open)(JNIEnv *env, jclass class, jlong at, jlong plan, jint room, jlongArray words) {
+/* A ledger of the plan, or of none where it is 0, in which the first n of these words are done already; behind them stand their moments. */
+METHOD(jint, open)(JNIEnv *env, jclass class, jlong at, jlong plan, jint room, jlongArray kept, jint n) {
   (void)class;
   struct core *core = CORE(at);
-  jsize n = words ? (*env)->GetArrayLength(env, words) : 0;
-  jlong *done = n ? (*env)->GetLongArrayElements(env, words, NULL) : NULL;
+  jlong *done = n ? (*env)->GetLongArrayElements(env, kept, NULL) : NULL;
   if (n && !done) return CF_NO_MEMORY;
-  uint32_t code;
-  if (plan) {
-    pthread_mutex_lock(&PLAN(plan)->lock);
-    code = opened(core, &PLAN(plan)->handle, (uint16_t)room, (const uint64_t *)done, (size_t)n);
-    pthread_mutex_unlock(&PLAN(plan)->lock);
-  } else {
-    code = opened(core, &core->empty, (uint16_t)room, (const uint64_t *)done, (size_t)n);
+  uint32_t code = opened(core, PLAN(plan), (uint32_t)room, (const uint64_t *)done, (size_t)n);
+  core->shown.moments = 0;
+  if (n) {
+    for (jsize k = n; k + 1 < (*env)->GetArrayLength(env, kept); k += 2) {
+      core->shown.events = (int32_t)done[k + 1];
+      note(core, (uint64_t)done[k]);
+    }
+    (*env)->ReleaseLongArrayElements(env, kept, done, JNI_ABORT);
   }
-  if (done) (*env)->ReleaseLongArrayElements(env, words, done, JNI_ABORT);
-  core->events = (size_t)n, core->told = 0;
-  core->room = (uint32_t)room, core->stages = plan ? PLAN(plan)->stages : 0;
+  core->shown.events = n, core->told = 0;
+  memcpy(core->shown.own, PLAN(plan)->own, sizeof core->shown.own);
   return (jint)code;
 }
 
-METHOD(jint, events)(JNIEnv *env, jclass class, jlong at) {
-  (void)env, (void)class;
-  return (jint)CORE(at)->events;
-}
-
-METHOD(jint, words)(JNIEnv *env, jclass class, jlong at, jlongArray words) {
+/* The n words, and behind them the moments, of each its ticks and how many events were done by then. */
+METHOD(jint, keep)(JNIEnv *env, jclass class, jlong at, jlongArray into, jint n) {
   (void)class;
-  jsize room = (*env)->GetArrayLength(env, words);
-  jlong *into = (*env)->GetPrimitiveArrayCritical(env, words, NULL);
-  if (!into) return CF_NO_MEMORY;
-  size_t n;
-  uint32_t code = cf_ledger_words(&CORE(at)->ledger, 0, (uint64_t *)into, (size_t)room, &n);
-  (*env)->ReleasePrimitiveArrayCritical(env, words, into, 0);
+  struct core *core = CORE(at);
+  jlong *kept = (*env)->GetPrimitiveArrayCritical(env, into, NULL);
+  if (!kept) return CF_NO_MEMORY;
+  size_t all;
+  uint32_t code = cf_ledger_words(&core->ledger, 0, (uint64_t *)kept, (size_t)n, &all);
+  memcpy(kept + n, core->moments, (size_t)core->shown.moments * sizeof *core->moments);
+  (*env)->ReleasePrimitiveArrayCritical(env, into, kept, 0);
   return (jint)code;
 }
 
-/* Plans: rows of form, function or -1, count of sources, sources; the fault's code, negated, or the plan. */
+/* Plans: rows of form, to which 256 is added where whoever makes the stage ready calls its function; function or -1; count of sources;
+ * sources. The fault's code, negated, or the plan. */
 METHOD(jlong, plan)(JNIEnv *env, jclass class, jintArray rows) {
   (void)class;
   struct plan *plan = calloc(1, sizeof *plan);
@@ -247,9 +381,11 @@ METHOD(jlong, plan)(JNIEnv *env, jclass class, jintArray rows) {
   for (jsize k = 0; k < n && code == CF_OK; k += 3 + row[k + 2]) {
     uint16_t of[MOST], stage;
     for (jint i = 0; i < row[k + 2] && i < MOST; i++) of[i] = (uint16_t)row[k + 3 + i];
-    uint32_t function = row[k + 1] < 0 ? CF_NO_FUNCTION : (uint32_t)row[k + 1];
-    code = row[k + 2] > MOST ? CF_TOO_MANY_EDGES : cf_builder_stage(&plan->handle, (uint32_t)row[k], of, (size_t)row[k + 2], function, &stage);
-    if (code == CF_OK) plan->stages++;
+    uint32_t function = row[k + 1] < 0 ? CF_NO_FUNCTION : (uint32_t)row[k + 1], form = (uint32_t)row[k] & 0xff;
+    code = row[k + 2] > MOST ? CF_TOO_MANY_EDGES : cf_builder_stage(&plan->handle, form, of, (size_t)row[k + 2], function, &stage);
+    if (code != CF_OK) break;
+    if (row[k] & 256) plan->own[stage / 64] |= (uint64_t)1 << stage % 64;
+    plan->stages++;
   }
   if (row) (*env)->ReleaseIntArrayElements(env, rows, row, JNI_ABORT);
   if (code == CF_OK) code = cf_build(&plan->handle);

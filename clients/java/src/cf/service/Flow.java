@@ -37,8 +37,8 @@ public final class Flow {
     private final List<Row> rows = new ArrayList<>();
     private final List<Integer> promises = new ArrayList<>();
     private volatile Row[] fixed;
-    private Ledger.Plan plan;
-    private boolean startsReady;
+    private volatile Ledger.Plan plan;
+    private boolean startsReady, isMixed;
 
     static final class Row {
         final Form form;
@@ -220,7 +220,12 @@ public final class Flow {
 
     // For requests.
 
-    synchronized Ledger.Plan plan() {
+    Ledger.Plan plan() {
+        Ledger.Plan made = plan;
+        return made != null ? made : fixed();
+    }
+
+    private synchronized Ledger.Plan fixed() {
         if (plan == null) {
             int length = 0;
             for (Row row : rows) {
@@ -230,15 +235,17 @@ public final class Flow {
             int at = 0;
             for (int k = 0; k < rows.size(); k++) {
                 Row row = rows.get(k);
-                numbers[at++] = row.form.ordinal();
+                // Its function is called by whoever makes it ready, or by an executor.
+                numbers[at++] = row.form.ordinal() + (row.form.calls && row.executor == null ? 256 : 0);
+                isMixed |= row.executor != null;
                 numbers[at++] = row.form.calls ? k : -1;
                 numbers[at++] = row.of.length;
                 for (int source : row.of) {
                     numbers[at++] = source;
                 }
             }
-            plan = new Ledger.Plan(numbers, rows.size());
             fixed = rows.toArray(new Row[0]);
+            plan = new Ledger.Plan(numbers, rows.size());
         }
         return plan;
     }
@@ -276,9 +283,9 @@ public final class Flow {
         return fixed[number].name;
     }
 
-    /** Whether whoever makes it ready calls its function. */
-    boolean isOwn(int number) {
-        return fixed[number].form.calls && fixed[number].executor == null;
+    /** Whether executors call some of its functions. */
+    boolean isMixed() {
+        return isMixed;
     }
 
     <U> Stage<U> stage(Request request, int number) {

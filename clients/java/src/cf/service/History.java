@@ -1,5 +1,12 @@
 package cf.service;
 
+import java.io.ByteArrayOutputStream;
+import java.io.IOException;
+import java.io.InputStream;
+import java.io.InterruptedIOException;
+import java.nio.charset.StandardCharsets;
+import java.nio.file.Files;
+import java.nio.file.Path;
 import java.util.ArrayList;
 import java.util.Arrays;
 import java.util.List;
@@ -38,8 +45,9 @@ public final class History {
     History(String name, Flow flow, Ledger ledger, String[] names, Object[] values, Throwable[] errors, String[] threads) {
         this.name = name;
         this.flow = flow;
-        words = ledger.words();
-        times = ledger.times(words.length);
+        long[] kept = ledger.kept();
+        words = Arrays.copyOf(kept, ledger.events());
+        times = Ledger.times(kept, words.length);
         stages = ledger.stages();
         witness = ledger.witness();
         this.names = names;
@@ -75,7 +83,7 @@ public final class History {
         int[] told = new int[TOLD * stages];
         int tolds = 0;
         for (int k = 0; k < words.length; k++) {
-            ledger.apply(words[k], Ledger.ARGUMENTS);
+            ledger.apply(words[k], Ledger.ARGUMENTS, -1);
             replies[REPLY * k] = ledger.answer();
             replies[REPLY * k + 1] = ledger.number();
             for (int i = 0; i < 10; i++) {
@@ -156,7 +164,7 @@ public final class History {
         String[] forms = forms();
         int next = 0;
         for (int k = 0; k < events(); k++) {
-            String time = times == null ? "" : String.format(Locale.ROOT, "%9.3f ms  ", (times[k] - times[0]) / 1e6);
+            String time = times == null ? "" : String.format(Locale.ROOT, "%9.3f ms  ", times[k] / 1e6);
             text.append(time).append(sentence(k, forms)).append('\n');
             for (; next < told.length && told[next] == k + 1; next += TOLD) {
                 text.append("              ").append(stage(told[next + 1], forms)).append(" ends: ")
@@ -183,7 +191,7 @@ public final class History {
             }
         }
         String time = times == null || times.length == 0 ? ""
-                : String.format(Locale.ROOT, " in %.3f ms", (times[times.length - 1] - times[0]) / 1e6);
+                : String.format(Locale.ROOT, " in %.3f ms", times[times.length - 1] / 1e6);
         return (name + ": " + events() + " events, " + stages + " stages" + time + "; " + failed + " failed" + first + "; " + open + " open"
                 + waiting).replace('\n', ' ').replace('\r', ' ');
     }
@@ -347,7 +355,7 @@ public final class History {
     private String forPeople(int callers) {
         StringBuilder moments = new StringBuilder();
         for (int k = 0; times != null && k < times.length; k++) {
-            moments.append(k == 0 ? "" : ",").append(times[k] - times[0]);
+            moments.append(k == 0 ? "" : ",").append(times[k]);
         }
         return ",\"name\":" + quoted(name) + ",\"times\":[" + moments + "]"
                 + texts("names", stages, k -> names[k] == null ? "" : names[k].substring(0, Math.min(names[k].length(), LONGEST_NAME)))
@@ -377,6 +385,40 @@ public final class History {
             }
         }
         return quoted.append('"').toString();
+    }
+
+    /**
+     * A page for a browser, which loads nothing, as {@code cf_look page} makes it of the account. The program is found on the path, or the
+     * property {@code cf.look} names it.
+     *
+     * @throws IOException where the program isn't there, or fails
+     */
+    public String page() throws IOException {
+        Path input = Files.createTempFile("cf", ".json");
+        try {
+            Files.write(input, account().getBytes(StandardCharsets.UTF_8));
+            Process look = new ProcessBuilder(System.getProperty("cf.look", "cf_look"), "page").redirectInput(input.toFile()).start();
+            String page = text(look.getInputStream()), fault = text(look.getErrorStream());
+            int status = look.waitFor();
+            if (status != 0) {
+                throw new IOException("cf_look page ended with status " + status + ": " + fault);
+            }
+            return page;
+        } catch (InterruptedException interrupted) {
+            Thread.currentThread().interrupt();
+            throw new InterruptedIOException("interrupted while cf_look made a page");
+        } finally {
+            Files.delete(input);
+        }
+    }
+
+    private static String text(InputStream from) throws IOException {
+        ByteArrayOutputStream all = new ByteArrayOutputStream();
+        byte[] part = new byte[8192];
+        for (int n; (n = from.read(part)) >= 0;) {
+            all.write(part, 0, n);
+        }
+        return all.toString("UTF-8");
     }
 
     /** How a stage ends, as reports have it: "pending", "value 3", "fault cancelled raw". */

@@ -3,10 +3,9 @@ package cf.service;
 import java.nio.ByteBuffer;
 import java.nio.ByteOrder;
 import java.util.ArrayList;
-import java.util.Arrays;
 import java.util.List;
-import java.util.concurrent.ConcurrentLinkedQueue;
 import java.util.concurrent.atomic.AtomicInteger;
+import java.util.concurrent.atomic.AtomicReferenceArray;
 
 /**
  * A ledger of the library, with the times of its words. It is its request's lock: who has it, calls it.
@@ -20,33 +19,26 @@ final class Ledger {
     /** What stands for nobody where a caller is asked for who would claim, and for who wants the arguments of the word's own reply. */
     static final int NOBODY = -1, ARGUMENTS = -2;
 
-    /** How many cores are kept to be used again. */
-    private static final int KEPT = Integer.getInteger("cf.kept", 64);
     private static final boolean TIMES = !"false".equals(System.getProperty("cf.times"));
-    private static final ConcurrentLinkedQueue<Core> CORES = new ConcurrentLinkedQueue<>();
-    private static final AtomicInteger FREE = new AtomicInteger();
+    /** Of how many stages more than those of its plan a core is kept to be used again, and with 16 times as many events. */
+    private static final int MOST_KEPT = 512;
+    private static final Pool NO_PLAN = new Pool(0);
     /** Cores that aren't freed, and how many of them there may be until the collector is asked. */
     private static final AtomicInteger LIVE = new AtomicInteger();
     private static final int LEAST_LIVE = 8192;
     private static volatile int mostLive = LEAST_LIVE;
-    private static final long[] NO_WORDS = {};
     /** Whether histories also compare what callers were told with what a ledger tells in which the words are done again; for tests. */
     static final boolean WITNESSED = Boolean.getBoolean("cf.witness");
 
     private final Plan plan;
     private Core core;
-    /** With how much room it is opened; the core makes more itself. */
-    private int room;
     private int stages;
     private int waiting;
-    private int place;
-    /** The words, where the core was given back. */
-    private long[] words;
-    /** When words were done: of each moment the count of words by its end. */
-    private long[] moments;
-    private int[] ends;
-    private int momentCount;
-    private long since;
+    private int events;
+    /** The reply to the last word, as native/cf_java.c packs it; before it is opened, the word that waits then, and since when. */
+    private long reply, since;
+    /** The words and their moments, where the core was given back. */
+    private long[] kept;
     /** What was told: of a word its place, its answer, what was claimed behind it or -1, with which arguments, and its news. */
     private final List<int[]> witness = WITNESSED ? new ArrayList<>() : null;
 
@@ -60,7 +52,7 @@ final class Ledger {
             if (LIVE.incrementAndGet() > mostLive) {
                 collect();
             }
-            long made = Native.create();
+            long made = Native.create(TIMES);
             if (made == 0) {
                 LIVE.getAndDecrement();
                 throw new OutOfMemoryError("a ledger of cf");
@@ -94,10 +86,48 @@ final class Ledger {
         }
     }
 
+    /** Cores of closed requests of one plan, whose ledgers start again. A thread looks first where it has put one last. */
+    static final class Pool {
+        private static final int MOST = Math.max(1, Integer.getInteger("cf.kept", 64));
+        private final AtomicReferenceArray<Core> free;
+
+        Pool(int stages) {
+            free = new AtomicReferenceArray<>(stages <= MOST_KEPT ? MOST : Math.min(MOST, 4));
+        }
+
+        private int place() {
+            return (int) (Thread.currentThread().getId() % free.length());
+        }
+
+        /** One, or null. */
+        Core take() {
+            for (int k = 0, at = place(); k < free.length(); k++) {
+                Core core = free.get(at) == null ? null : free.getAndSet(at, null);
+                if (core != null) {
+                    return core;
+                }
+                at = at + 1 == free.length() ? 0 : at + 1;
+            }
+            return null;
+        }
+
+        /** Whether there was a place for it. */
+        boolean put(Core core) {
+            for (int k = 0, at = place(); k < free.length(); k++) {
+                if (free.get(at) == null && free.compareAndSet(at, null, core)) {
+                    return true;
+                }
+                at = at + 1 == free.length() ? 0 : at + 1;
+            }
+            return false;
+        }
+    }
+
     /** A plan of the library; it is freed once no ledger needs it. */
     static final class Plan {
         final long at;
         final int stages;
+        final Pool pool;
 
         Plan(int[] rows, int stages) {
             long made = Native.plan(rows);
@@ -106,34 +136,55 @@ final class Ledger {
             }
             at = made;
             this.stages = stages;
+            pool = new Pool(stages);
             new Freed(this, () -> Native.forget(made));
         }
     }
 
     Ledger(Plan plan, int room) {
         this.plan = plan;
-        this.room = room;
-        stages = plan == null ? 0 : plan.stages;
-        moments = TIMES ? new long[8] : NO_WORDS;
-        ends = TIMES ? new int[8] : null;
-        open(null);
+        stages = planned();
+        open(room);
     }
 
-    private void open(long[] done) {
-        Core core = CORES.poll();
+    /** One of no plan that is opened by whoever does the first word after this one. */
+    Ledger(long word) {
+        plan = null;
+        reply = word;
+        since = TIMES ? Native.ticks() : 0;
+        stages = 1;
+    }
+
+    private int planned() {
+        return plan == null ? 0 : plan.stages;
+    }
+
+    private Pool pool() {
+        return plan == null ? NO_PLAN : plan.pool;
+    }
+
+    private void open() {
+        open(stages - planned());
+    }
+
+    /** With so much room, of which the core makes more itself. */
+    private void open(int room) {
+        Core core = pool().take();
         if (core == null) {
             core = new Core();
-        } else {
-            FREE.getAndDecrement();
         }
-        room = Math.max(room, stages - (plan == null ? 0 : plan.stages));
-        int code = Native.open(core.at, plan == null ? 0 : plan.at, room, done);
+        int code = Native.open(core.at, plan == null ? 0 : plan.at, room, kept, events);
         if (code != Native.OK) {
             core.freed.now();
             throw refusal(code);
         }
         this.core = core;
-        words = null;
+        if (kept == null && reply != 0) {
+            core.memory.putLong(Native.WORDS, reply);
+            waiting = 1;
+            Native.since(core.at, since);
+        }
+        kept = null;
     }
 
     int stages() {
@@ -147,7 +198,7 @@ final class Ledger {
     /** Says of a stage that is to be attached next that its function is called by whoever makes it ready. */
     void own(int stage) {
         if (core == null) {
-            open(words);
+            open();
         }
         int at = Native.OWN + (stage >>> 6 << 3);
         core.memory.putLong(at, core.memory.getLong(at) | 1L << stage);
@@ -156,77 +207,74 @@ final class Ledger {
     /** A stage more whose sources aren't settled. */
     int attachLater(long word) {
         if (core == null) {
-            open(words);
+            open();
         }
-        if (waiting == Native.MOST_WORDS - 1) {
+        if (waiting == Native.MOST_WORDS) {
             flush();
         }
         if (waiting == 0 && TIMES) {
-            since = System.nanoTime();
+            Native.since(core.at, 0);
         }
         core.memory.putLong(Native.WORDS + 8 * waiting++, word);
         return stages++;
     }
 
     int attach(long word, int who) {
-        apply(word, who);
+        apply(word, who, -1);
         return stages++;
     }
 
     /** Does what waits. Such words have no news. */
     void flush() {
         if (waiting > 0) {
-            perform(waiting, NOBODY);
+            perform(0, NOBODY, -1);
         }
     }
 
     /**
-     * Does the event of a word, and where the caller isn't {@link #NOBODY} claims for it the first stage that became ready and is its own.
-     * The reply and the news stand in the core then.
+     * Does the event of a word. Where the caller isn't {@link #NOBODY}, it claims for it the first stage that became ready and is its own;
+     * or, where {@code from} isn't negative, which is asked of the finish of a stage that the caller has claimed alone, the lowest ready
+     * stage from there on. The reply and the news stand in the core then.
      */
-    void apply(long word, int who) {
+    void apply(long word, int who, int from) {
         if (core == null) {
-            open(words);
+            open();
         }
-        core.memory.putLong(Native.WORDS + 8 * waiting, word);
-        perform(waiting + 1, who);
+        perform(word, who, from);
+        if (WITNESSED) {
+            witness.add(told());
+        }
     }
 
-    private void perform(int count, int who) {
-        ByteBuffer memory = core.memory;
-        int code = Native.apply(core.at, count, who);
-        int done = memory.getInt(Native.DONE);
-        if (done < count) {
-            waiting = Math.max(0, waiting - done);
-            for (int k = 0; k < waiting; k++) {
-                memory.putLong(Native.WORDS + 8 * k, memory.getLong(Native.WORDS + 8 * (k + done)));
-            }
-            place += done;
-            // Of words that wait none has news: the library would have to tell some of a stage whose sources aren't settled.
-            throw code == Native.OK ? new AssertionError("a stage was ready before its sources") : refusal(code);
-        }
-        place += waiting;
-        if (TIMES && waiting > 0) {
-            moment(since);
-        }
-        if (count > waiting) {
-            place += memory.getInt(Native.CLAIMED) >= 0 ? 2 : 1;
-            if (TIMES) {
-                moment(System.nanoTime());
-            }
-            if (WITNESSED) {
-                witness.add(told());
-            }
-        }
-        waiting = 0;
+    private void perform(long word, int who, int from) {
+        long told = Native.apply(core.at, waiting, word, who, from);
+        int code = (int) told & 0xff;
         if (code != Native.OK) {
-            throw refusal(code);
+            refused(code);
         }
+        reply = told;
+        events += waiting;
+        waiting = 0;
+        if (word != 0) {
+            events += claimed() >= 0 ? 2 : 1;
+        }
+    }
+
+    /** Some of the words that waited may have been done, and the last one without the claim behind it. */
+    private void refused(int code) {
+        ByteBuffer memory = core.memory;
+        int done = memory.getInt(Native.DONE);
+        waiting -= done;
+        for (int k = 0; k < waiting; k++) {
+            memory.putLong(Native.WORDS + 8 * k, memory.getLong(Native.WORDS + 8 * (k + done)));
+        }
+        events = memory.getInt(Native.EVENTS);
+        throw refusal(code);
     }
 
     private int[] told() {
         int[] told = new int[13 + 2 * news()];
-        told[0] = claimed() >= 0 ? place - 2 : place - 1;
+        told[0] = claimed() >= 0 ? events - 2 : events - 1;
         told[1] = answer();
         told[2] = claimed();
         for (int k = 0; k < 10; k++) {
@@ -244,15 +292,6 @@ final class Ledger {
         return witness == null ? null : witness.toArray(new int[0][]);
     }
 
-    private void moment(long time) {
-        if (momentCount == moments.length) {
-            moments = Arrays.copyOf(moments, 2 * momentCount);
-            ends = Arrays.copyOf(ends, 2 * momentCount);
-        }
-        moments[momentCount] = time;
-        ends[momentCount++] = place;
-    }
-
     private static Error refusal(int code) {
         return code == Native.NO_MEMORY ? new OutOfMemoryError("a ledger of cf") : new AssertionError("the library refused with code " + code);
     }
@@ -260,7 +299,7 @@ final class Ledger {
     // What stands in the core.
 
     int answer() {
-        return core.memory.getInt(Native.ANSWER);
+        return (int) reply >>> 8 & 0xf;
     }
 
     int number() {
@@ -268,7 +307,12 @@ final class Ledger {
     }
 
     int claimed() {
-        return core.memory.getInt(Native.CLAIMED);
+        return ((int) (reply >>> 12) & 0x1fff) - 1;
+    }
+
+    /** The kind of the arguments. */
+    int arguments() {
+        return (int) (reply >>> 36) & 3;
     }
 
     int argument(int at) {
@@ -302,7 +346,7 @@ final class Ledger {
     /** Brings a stage as news, if it is ready or settled. */
     void ask(int stage) {
         if (core == null) {
-            open(words);
+            open();
         }
         flush();
         check(Native.ask(core.at, stage));
@@ -316,25 +360,34 @@ final class Ledger {
 
     // All of it.
 
-    long[] words() {
+    int events() {
+        return events + waiting;
+    }
+
+    /** The words, and behind them the moments: of each its ticks, and how many events were done by then. */
+    long[] kept() {
+        if (kept != null) {
+            return kept;
+        }
         if (core == null) {
-            return words.clone();
+            open();
         }
         flush();
-        long[] all = new long[Native.events(core.at)];
-        check(Native.words(core.at, all));
+        long[] all = new long[events + 2 * core.memory.getInt(Native.MOMENTS)];
+        check(Native.keep(core.at, all, events));
         return all;
     }
 
-    /** The time of each word, by nanoTime; null without times. */
-    long[] times(int count) {
+    /** The time of each word in nanoseconds from the first one's on, of what was kept; null without times. */
+    static long[] times(long[] kept, int count) {
         if (!TIMES) {
             return null;
         }
+        double rate = Native.nanosPerTick();
         long[] times = new long[count];
-        for (int k = 0, at = 0; k < momentCount; k++) {
-            while (at < ends[k] && at < count) {
-                times[at++] = moments[k];
+        for (int k = count, at = 0; k < kept.length; k += 2) {
+            while (at < kept[k + 1] && at < count) {
+                times[at++] = Math.round((kept[k] - kept[count]) * rate);
             }
         }
         return times;
@@ -345,16 +398,11 @@ final class Ledger {
         if (core == null) {
             return;
         }
-        words = words();
+        kept = kept();
         Core core = this.core;
         this.core = null;
-        Native.rest(core.at);
-        if (FREE.get() < KEPT) {
-            FREE.getAndIncrement();
-            CORES.add(core);
-        } else {
+        if (stages - planned() > MOST_KEPT || events > 16 * MOST_KEPT || !pool().put(core)) {
             core.freed.now();
         }
     }
-
 }

@@ -41,6 +41,16 @@ final class MinimalStage<T> extends Stage<T> {
     }
 
     @Override
+    public T resultNow() {
+        throw refusal();
+    }
+
+    @Override
+    public Throwable exceptionNow() {
+        throw refusal();
+    }
+
+    @Override
     public boolean complete(T value) {
         throw refusal();
     }

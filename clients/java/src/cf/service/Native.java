@@ -19,7 +19,7 @@ final class Native {
     static final int OK = 0, NO_MEMORY = 8;
 
     /** Places in a core's memory, in bytes: those of struct shown. */
-    static final int DONE = 0, ANSWER = 4, NUMBER = 8, NEWS = 12, CLAIMED = 16, ARGS = 20, REST = 60, WORDS = 64, OWN = 576, CHANGED = 1088;
+    static final int DONE = 0, NUMBER = 4, NEWS = 8, MOMENTS = 12, EVENTS = 16, ARGS = 20, REST = 60, WORDS = 64, OWN = 576, CHANGED = 1088;
 
     /** How many words a core takes at once. */
     static final int MOST_WORDS = 64;
@@ -30,8 +30,17 @@ final class Native {
 
     private Native() {}
 
-    /** Does so many of the words in the memory, and then claims for the caller {@code who}, if it isn't negative. */
-    static native int apply(long core, int count, int who);
+    /**
+     * Does the words in the memory that wait, so many, and then one more, if it isn't 0. Then it claims for the caller {@code who}, if that
+     * isn't negative: the first stage that became ready and is its own; or, if {@code from} isn't negative either, the lowest ready stage
+     * from there on. It gives the reply in one number, as {@link Ledger} reads it.
+     */
+    static native long apply(long core, int waiting, long word, int who, int from);
+
+    /** This is when the first word came that waits: these ticks, or now. */
+    static native void since(long core, long ticks);
+
+    static native long ticks();
 
     /** The next news where not all had place. */
     static native int more(long core);
@@ -43,21 +52,19 @@ final class Native {
     static native int ready(long core, int from);
 
     /** A core without a ledger, or 0. */
-    static native long create();
+    static native long create(boolean timed);
 
     static native ByteBuffer memory(long core);
 
     static native void destroy(long core);
 
-    /** Frees the ledger and keeps the core. */
-    static native void rest(long core);
+    /** A ledger of a plan, 0 for the one without stages, with room, in which the first n of these words are done, with their moments. */
+    static native int open(long core, long plan, int room, long[] kept, int n);
 
-    /** A ledger of a plan, 0 for the one without stages, with room, in which these words are done. */
-    static native int open(long core, long plan, int room, long[] words);
+    /** The n words, and behind them the moments: of each its ticks, and how many events were done by then. */
+    static native int keep(long core, long[] into, int n);
 
-    static native int events(long core);
-
-    static native int words(long core, long[] into);
+    static native double nanosPerTick();
 
     /** A plan, or a code negated. */
     static native long plan(int[] rows);

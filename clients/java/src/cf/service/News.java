@@ -8,6 +8,10 @@ final class News {
     private Stage<?> settled, lastSettled, handed, lastHanded, lastHere;
     /** The first stage that this thread is to claim and call. */
     Stage<?> here;
+    /** The request of all of them, or null where there are none or of several; how many aren't claimed; below none of which this number is. */
+    Request hereOf;
+    int hereCount, lowest = Integer.MAX_VALUE;
+    private boolean isRising;
 
     /** The request of the stage that was claimed, or null; the stage; what is called, and with what. */
     Request claimedIn;
@@ -28,10 +32,17 @@ final class News {
         if (stage.executor == null) {
             if (here == null) {
                 here = stage;
+                hereOf = stage.request;
+                lowest = stage.number;
+                isRising = true;
             } else {
                 lastHere.nextReady = stage;
+                isRising &= stage.number > lastHere.number;
+                hereOf = hereOf == stage.request ? hereOf : null;
+                lowest = Math.min(lowest, stage.number);
             }
             lastHere = stage;
+            hereCount++;
         } else {
             if (handed == null) {
                 handed = stage;
@@ -65,8 +76,21 @@ final class News {
         if (stage != null) {
             here = stage.nextReady;
             stage.nextReady = null;
+            if (here == null) {
+                lowest = Integer.MAX_VALUE;
+            } else if (isRising) {
+                lowest = here.number;
+            }
         }
         return stage;
+    }
+
+    /** One of them is claimed, or is to be. */
+    void left() {
+        hereCount--;
+        while (here != null && !here.waitsHere) {
+            pollHere();
+        }
     }
 
     /** Whether the next stage that becomes ready and is this thread's own is the one to be called next. */

@@ -1,10 +1,10 @@
 package cf.service;
 
+import cf.service.Faults.Fault;
 import java.util.Arrays;
 import java.util.Objects;
 import java.util.concurrent.CancellationException;
 import java.util.concurrent.CompletableFuture;
-import java.util.concurrent.CompletionException;
 import java.util.concurrent.CompletionStage;
 import java.util.concurrent.Executor;
 import java.util.function.Supplier;
@@ -36,38 +36,53 @@ public final class Request implements AutoCloseable {
     /** Those that aren't settled; of a flow, those that were asked for. */
     private Stage<?>[] stages;
     private String[] names;
-    private Object[] values = new Object[8];
+    private Object[] values;
     private int valueCount;
-    private Throwable[] errors;
-    private Fault[] raw, wrapped;
-    private int errorCount;
-    private Fault cancellation, wrappedCancellation;
+    private Faults faults;
     private long thread = -1;
     private long[] threads;
     private String[] threadNames = new String[1];
     private int threadCount;
+    /** How many stages wait for threads to claim them that have made them ready. */
+    private int pending;
+    /** Whether executors call some of its functions. */
+    private boolean mixed;
     private boolean goesOn;
     private volatile Request next;
 
-    Request(Service service, String name, Flow flow, int room, boolean single) {
+    Request(Service service, String name, Flow flow, int room) {
         this.service = service;
         this.name = name;
         this.flow = flow;
-        this.single = single;
+        single = false;
         ledger = new Ledger(flow == null ? null : flow.plan(), room);
+        values = new Object[flow != null ? flow.count() : 8];
         stages = flow == null && room > 0 ? new Stage<?>[room] : NO_STAGES;
+        mixed = flow != null && flow.isMixed();
     }
 
-    /** What an exception is told by: the stage's outcome, and what its function is called with. */
-    static final class Fault {
-        final Throwable error;
-        /** Its number in this request, or -1 of a cancellation. */
-        final int code;
+    /** A request of one stage. */
+    private Request(Service service) {
+        this.service = service;
+        name = "one call";
+        flow = null;
+        single = true;
+        values = new Object[1];
+        stages = new Stage<?>[1];
+        mixed = true;
+        long word = Words.attach(who(), Form.SUPPLY, 0, 0, 0, 0);
+        ledger = new Ledger(word);
+        record(word);
+    }
 
-        Fault(Throwable error, int code) {
-            this.error = error;
-            this.code = code;
-        }
+    /** A request of one stage that rests once that is settled. The executor's thread opens its ledger, and gives it back. */
+    static <U> Stage<U> oneCall(Service service, Supplier<U> supplier) {
+        Objects.requireNonNull(supplier);
+        Request request = new Request(service);
+        Stage<U> stage = new Stage<>(request, 0, Form.SUPPLY, supplier, service.executor());
+        request.entered(stage);
+        request.handStarted(stage);
+        return stage;
     }
 
     /** What an executor is given. */
@@ -190,7 +205,7 @@ public final class Request implements AutoCloseable {
             long change = ledger.news(0);
             if (((int) change >>> 12 & 1) != 0) {
                 stages[stage.number] = null;
-                stage.told = told((int) change, (int) (change >>> 32));
+                stage.tells(told((int) change, (int) (change >>> 32)));
                 stage.show();
             }
         }
@@ -220,7 +235,7 @@ public final class Request implements AutoCloseable {
                 names[k] = names[k] == null ? flow.name(k) : names[k];
             }
             return new History(name, flow, ledger, names, Arrays.copyOf(values, valueCount),
-                    errors == null ? new Throwable[0] : Arrays.copyOf(errors, errorCount), Arrays.copyOf(threadNames, threadCount));
+                    faults == null ? new Throwable[0] : faults.errors(), Arrays.copyOf(threadNames, threadCount));
         }
     }
 
@@ -229,6 +244,14 @@ public final class Request implements AutoCloseable {
     public void close() {
         synchronized (ledger) {
             ledger.rest();
+        }
+    }
+
+    private void rests() {
+        synchronized (ledger) {
+            if (ledger.stages() == 1 && stages[0] == null) {
+                ledger.rest();
+            }
         }
     }
 
@@ -251,13 +274,33 @@ public final class Request implements AutoCloseable {
 
     // Attaching.
 
+    /** A stage whose function waits for nobody. Its word waits for the claim of the executor's thread, which is refused if that isn't so. */
     private <U> Stage<U> started(Form form, Object function, Executor executor) {
-        Stage<U> stage = attach(form, null, null, function, executor, false);
-        Throwable refused = stage.more == null ? null : stage.more.refused;
-        if (refused != null) {
+        if (next != null) {
+            return next.started(form, function, executor);
+        }
+        Stage<U> stage = null;
+        synchronized (ledger) {
+            if (ledger.hasPlace(1)) {
+                stage = added(form, null, null, function, executor, false, null);
+            }
+        }
+        if (stage == null) {
+            return further().started(form, function, executor);
+        }
+        handStarted(stage);
+        return stage;
+    }
+
+    private void handStarted(Stage<?> stage) {
+        try {
+            stage.executor.execute(new Task(stage));
+        } catch (Throwable refused) {
+            News news = new News();
+            refused(stage, refused, news);
+            tell(news);
             Request.<RuntimeException>rethrow(refused);
         }
-        return stage;
     }
 
     @SuppressWarnings("unchecked")
@@ -332,7 +375,7 @@ public final class Request implements AutoCloseable {
                 throw new RequestFullException(name);
             }
             if (next == null) {
-                next = new Request(service, name + ", further", null, 32, false).goesOn();
+                next = new Request(service, name + ", further", null, 32).goesOn();
             }
             return next;
         }
@@ -347,7 +390,9 @@ public final class Request implements AutoCloseable {
         int number = ledger.stages();
         Stage<U> stage = minimal ? new MinimalStage<>(this, number, form, function, executor)
                 : new Stage<>(this, number, form, function, executor);
-        if (form.calls && executor == null) {
+        if (executor != null) {
+            mixed = true;
+        } else if (form.calls) {
             ledger.own(number);
         }
         int sources = b != null ? 2 : a != null ? 1 : 0;
@@ -416,15 +461,10 @@ public final class Request implements AutoCloseable {
         News news = new News();
         synchronized (ledger) {
             int who = who();
-            for (int k = 0; k < flow.count(); k++) {
-                if (flow.isOwn(k)) {
-                    ledger.own(k);
-                }
-            }
             for (int from = 0; flow.startsReady();) {
                 from = ledger.ready(from);
                 for (int k = 0; k < ledger.news(); k++) {
-                    news.ready(at((int) ledger.news(k) & 0xfff));
+                    ready(at((int) ledger.news(k) & 0xfff), news);
                 }
                 if (from == 0) {
                     break;
@@ -529,11 +569,33 @@ public final class Request implements AutoCloseable {
 
     /** Does one word under the lock, and says whether its answer is 1, as of a stage that it settled. */
     private boolean change(long word, int who, News news) {
-        ledger.apply(word, news.isFree() ? who : Ledger.NOBODY);
+        return change(word, who, -1, news);
+    }
+
+    private boolean change(long word, int who, int from, News news) {
+        ledger.apply(word, from >= 0 || news.isFree() ? who : Ledger.NOBODY, from);
         boolean answer = ledger.answer() == 1;
         record(word);
         publish(news, who);
         return answer;
+    }
+
+    /**
+     * Finishes a stage that this thread has claimed. Where all that is ready is this thread's own to call, the next one is claimed with it:
+     * the lowest. It isn't below any that waits here, nor below the stage itself.
+     */
+    private void finish(long word, int who, News news) {
+        boolean alone = !mixed && pending == (news.hereOf == this ? news.hereCount : 0) && (news.here == null || news.hereOf == this);
+        change(word, who, alone ? Math.min(Words.stage(word) + 1, news.lowest) : -1, news);
+    }
+
+    /** Takes a stage that is ready: for its executor, or for this thread. */
+    private void ready(Stage<?> stage, News news) {
+        news.ready(stage);
+        if (stage.executor == null) {
+            stage.waitsHere = true;
+            pending++;
+        }
     }
 
     /** Shows under the lock what was settled, takes what is ready, and goes on with what hangs on it by relays. */
@@ -551,7 +613,7 @@ public final class Request implements AutoCloseable {
                 int what = (int) change, number = what & 0xfff;
                 if ((what >>> 12 & 1) == 0) {
                     if (number != claimed) {
-                        news.ready(at(number));
+                        ready(at(number), news);
                     }
                     continue;
                 }
@@ -562,7 +624,7 @@ public final class Request implements AutoCloseable {
                 if (stage != null) {
                     stages[number] = null;
                     stage.function = null;
-                    stage.told = told(what, (int) (change >>> 32));
+                    stage.tells(told(what, (int) (change >>> 32)));
                     news.settled(stage);
                     if (stage.more != null && stage.more.feeds != null) {
                         stage.more.nextFed = fed;
@@ -580,9 +642,6 @@ public final class Request implements AutoCloseable {
                 change(relayWord(relay.number, stage.told, true), who, news);
             }
         }
-        if (single && stages[0] == null && ledger.stages() == 1 && news.claimedIn == null) {
-            ledger.rest();
-        }
     }
 
     private Object told(int what, int number) {
@@ -593,8 +652,19 @@ public final class Request implements AutoCloseable {
     /** Claims the next stage whose function this thread is to call, if it is one of this request. */
     private void claimNext(News news, int who) {
         while (news.claimedIn == null && news.here != null && news.here.request == this) {
-            claim(news.pollHere(), who, news);
+            Stage<?> stage = news.pollHere();
+            if (stage.waitsHere) {
+                left(stage, news);
+                claim(stage, who, news);
+            }
         }
+    }
+
+    /** Of a stage that waited for this thread: it doesn't any more. */
+    private void left(Stage<?> stage, News news) {
+        stage.waitsHere = false;
+        pending--;
+        news.left();
     }
 
     private void claimHere(News news) {
@@ -605,7 +675,7 @@ public final class Request implements AutoCloseable {
 
     private void claim(Stage<?> stage, int who, News news) {
         long word = Words.claim(who, stage.number);
-        ledger.apply(word, Ledger.ARGUMENTS);
+        ledger.apply(word, Ledger.ARGUMENTS, -1);
         record(word);
         if (ledger.answer() == History.GRANTED) {
             granted(stage.number, news);
@@ -621,11 +691,14 @@ public final class Request implements AutoCloseable {
             news.form = flow.form(number);
             news.function = flow.function(number);
         } else {
+            if (stage.waitsHere) {
+                left(stage, news);
+            }
             news.form = stage.form;
             news.function = stage.function;
             stage.function = null;
         }
-        switch (ledger.argument(0)) {
+        switch (ledger.arguments()) {
             case History.NO_ARGS:
                 news.first = news.second = null;
                 break;
@@ -655,6 +728,9 @@ public final class Request implements AutoCloseable {
             Stage<?> stage;
             while ((stage = news.pollSettled()) != null) {
                 stage.show();
+                if (stage.request.single) {
+                    stage.request.rests();
+                }
                 Stage<?>[] outside = stage.more == null ? null : stage.more.outside;
                 if (outside != null) {
                     stage.more.outside = null;
@@ -679,14 +755,19 @@ public final class Request implements AutoCloseable {
         try {
             stage.executor.execute(new Task(stage));
         } catch (Throwable refused) {
-            synchronized (ledger) {
-                stage.more().refused = refused;
-                int who = who();
-                ledger.apply(Words.claim(who, stage.number), Ledger.ARGUMENTS);
-                record(Words.claim(who, stage.number));
-                if (ledger.answer() == History.GRANTED) {
-                    change(Words.finishThrowing(who, stage.number, code(refused)), who, news);
-                }
+            refused(stage, refused, news);
+        }
+    }
+
+    /** A stage whose executor takes nothing ends by what that threw. */
+    private void refused(Stage<?> stage, Throwable refused, News news) {
+        synchronized (ledger) {
+            int who = who();
+            long word = Words.claim(who, stage.number);
+            ledger.apply(word, Ledger.ARGUMENTS, -1);
+            record(word);
+            if (ledger.answer() == History.GRANTED) {
+                change(Words.finishThrowing(who, stage.number, code(refused)), who, news);
             }
         }
     }
@@ -710,11 +791,11 @@ public final class Request implements AutoCloseable {
         synchronized (ledger) {
             int who = who();
             if (thrown != null) {
-                change(Words.finishThrowing(who, number, code(thrown)), who, news);
+                finish(Words.finishThrowing(who, number, code(thrown)), who, news);
             } else if (form.composes) {
                 relay = link(number, (CompletionStage<?>) given, who, news);
             } else {
-                change(Words.finish(who, number, number(given)), who, news);
+                finish(Words.finish(who, number, number(given)), who, news);
             }
             claimNext(news, who);
         }
@@ -733,7 +814,7 @@ public final class Request implements AutoCloseable {
         Stage<?> relay = relayOf(number);
         name(relay.number, own == null ? "relay of what is elsewhere" : "relay of " + own.number);
         long word = Words.finishLinking(who, number, relay.number);
-        ledger.apply(word, Ledger.NOBODY);
+        ledger.apply(word, Ledger.NOBODY, -1);
         record(word);
         boolean won = ledger.answer() == History.WON;
         publish(news, who);
@@ -822,37 +903,21 @@ public final class Request implements AutoCloseable {
     }
 
     private int code(Throwable error) {
-        if (errorCount > 0 && errors[errorCount - 1] == error) {
-            return errorCount - 1;
-        }
-        if (errors == null || errorCount == errors.length) {
-            int length = Math.max(2, 2 * errorCount);
-            errors = errors == null ? new Throwable[length] : Arrays.copyOf(errors, length);
-            raw = raw == null ? new Fault[length] : Arrays.copyOf(raw, length);
-            wrapped = wrapped == null ? new Fault[length] : Arrays.copyOf(wrapped, length);
-        }
-        errors[errorCount] = error;
-        return errorCount++;
+        return faults().code(error);
     }
 
     private Fault fault(int kind, boolean isWrapped, int code) {
         if (kind == History.CANCELLED) {
-            if (cancellation == null) {
-                cancellation = new Fault(new CancellationException(), -1);
-            }
-            if (!isWrapped) {
-                return cancellation;
-            }
-            return wrappedCancellation != null ? wrappedCancellation
-                    : (wrappedCancellation = new Fault(new CompletionException(cancellation.error), -1));
+            return faults().cancellation(isWrapped);
         }
         if (kind != History.THROWN) {
             throw new AssertionError("outcome " + kind);
         }
-        if (isWrapped && !(errors[code] instanceof CompletionException)) {
-            return wrapped[code] != null ? wrapped[code] : (wrapped[code] = new Fault(new CompletionException(errors[code]), code));
-        }
-        return raw[code] != null ? raw[code] : (raw[code] = new Fault(errors[code], code));
+        return faults().thrown(isWrapped, code);
+    }
+
+    private Faults faults() {
+        return faults != null ? faults : (faults = new Faults());
     }
 
     /** What a stage waits for, by its word: numbers of stages, or those of a flow's. */

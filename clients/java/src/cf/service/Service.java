@@ -27,7 +27,7 @@ public final class Service {
 
     /** A request by this name, which histories tell. */
     public Request request(String name) {
-        return new Request(this, Objects.requireNonNull(name), null, ROOM, false);
+        return new Request(this, Objects.requireNonNull(name), null, ROOM);
     }
 
     public Request request() {
@@ -36,7 +36,7 @@ public final class Service {
 
     /** A request of one stage, which is closed once that is settled. */
     public <T> Stage<T> supplyAsync(Supplier<T> supplier) {
-        return new Request(this, "one call", null, 1, true).supplyAsync(supplier);
+        return Request.oneCall(this, supplier);
     }
 
     /**
@@ -48,7 +48,7 @@ public final class Service {
         if (given.length > flow.promises()) {
             throw new IllegalArgumentException(given.length + " values for " + flow.promises() + " promises");
         }
-        Request request = new Request(this, flow.name(), flow, 0, false);
+        Request request = new Request(this, flow.name(), flow, 0);
         request.begin(given);
         return request;
     }

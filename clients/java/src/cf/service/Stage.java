@@ -1,5 +1,6 @@
 package cf.service;
 
+import cf.service.Faults.Fault;
 import java.util.Objects;
 import java.util.concurrent.CancellationException;
 import java.util.concurrent.CompletableFuture;
@@ -10,6 +11,7 @@ import java.util.concurrent.Executor;
 import java.util.concurrent.Future;
 import java.util.concurrent.TimeUnit;
 import java.util.concurrent.TimeoutException;
+import java.util.concurrent.atomic.AtomicReferenceFieldUpdater;
 import java.util.function.BiConsumer;
 import java.util.function.BiFunction;
 import java.util.function.Consumer;
@@ -31,12 +33,17 @@ public class Stage<T> extends CompletableFuture<T> {
     final Form form;
     final Executor executor;
 
-    /** What it is settled with: a Fault, NIL or a value; null before. It is written under the request's lock. */
+    @SuppressWarnings("rawtypes")
+    private static final AtomicReferenceFieldUpdater<Stage, Object> TOLD = AtomicReferenceFieldUpdater.newUpdater(Stage.class, Object.class, "told");
+
+    /** What it is settled with: a Fault, NIL or a value; null before. It is written under the request's lock, by {@link #tells}. */
     volatile Object told;
 
     // These are the request's, under its lock, or of the one thread that tells the news.
     Object function;
     int dependents;
+    /** Whether it is ready and waits for the thread that made it so to claim it. */
+    boolean waitsHere;
     Stage<?> nextSettled, nextReady;
     volatile More more;
 
@@ -46,7 +53,6 @@ public class Stage<T> extends CompletableFuture<T> {
         Stage<?>[] feeds, outside;
         Stage<?> nextFed;
         Observer observers;
-        volatile Throwable refused;
     }
 
     private static final class Observer {
@@ -80,6 +86,11 @@ public class Stage<T> extends CompletableFuture<T> {
         form = Form.SOURCE;
         executor = null;
         at.entered(this);
+    }
+
+    /** Settles it. The write needs no fence of its own, since the lock that is held is one. */
+    void tells(Object outcome) {
+        TOLD.lazySet(this, outcome);
     }
 
     More more() {
@@ -438,18 +449,18 @@ public class Stage<T> extends CompletableFuture<T> {
 
     @Override
     public boolean isCancelled() {
-        return told instanceof Request.Fault && ((Request.Fault) told).error instanceof CancellationException;
+        return told instanceof Fault && ((Fault) told).error instanceof CancellationException;
     }
 
     @Override
     public boolean isCompletedExceptionally() {
-        return told instanceof Request.Fault;
+        return told instanceof Fault;
     }
 
     @Override
     public T join() {
         Object told = this.told;
-        return told != null ? joined(told) : super.join();
+        return told != null ? joined(helped(told)) : super.join();
     }
 
     @Override
@@ -461,14 +472,31 @@ public class Stage<T> extends CompletableFuture<T> {
     @Override
     public T get() throws InterruptedException, ExecutionException {
         Object told = this.told;
-        return told != null ? gotten(told) : super.get();
+        return told != null ? gotten(helped(told)) : super.get();
     }
 
     @Override
     public T get(long timeout, TimeUnit unit) throws InterruptedException, ExecutionException, TimeoutException {
         Objects.requireNonNull(unit);
         Object told = this.told;
-        return told != null ? gotten(told) : super.get(timeout, unit);
+        return told != null ? gotten(helped(told)) : super.get(timeout, unit);
+    }
+
+    /** The value of a stage that has one, as of Java 19. */
+    public T resultNow() {
+        Object told = this.told;
+        if (told == null || told instanceof Fault) {
+            throw new IllegalStateException(told == null ? "the stage isn't settled" : "the stage has no value");
+        }
+        return joined(told);
+    }
+
+    /** The exception of a stage that failed, as of Java 19: that which was thrown. */
+    public Throwable exceptionNow() {
+        if (!isCompletedExceptionally() || isCancelled()) {
+            throw new IllegalStateException(told == null ? "the stage isn't settled" : "the stage hasn't failed");
+        }
+        return cause(((Fault) told).error);
     }
 
     @Override
@@ -481,7 +509,7 @@ public class Stage<T> extends CompletableFuture<T> {
     public String toString() {
         Object told = this.told;
         String state = told == null ? dependents == 0 ? "Not completed" : "Not completed, " + dependents + " dependents"
-                : told instanceof Request.Fault ? "Completed exceptionally: " + ((Request.Fault) told).error : "Completed normally";
+                : told instanceof Fault ? "Completed exceptionally: " + ((Fault) told).error : "Completed normally";
         String waits = told == null ? request.waitsFor(this) : "";
         return getClass().getName() + "@" + Integer.toHexString(hashCode()) + "[" + request.name() + ": " + request.called(this) + ": " + state
                 + waits + "]";
@@ -492,8 +520,8 @@ public class Stage<T> extends CompletableFuture<T> {
         if (told == NIL) {
             return null;
         }
-        if (told instanceof Request.Fault) {
-            Throwable error = ((Request.Fault) told).error;
+        if (told instanceof Fault) {
+            Throwable error = ((Fault) told).error;
             if (error instanceof CancellationException) {
                 throw (CancellationException) error;
             }
@@ -507,31 +535,48 @@ public class Stage<T> extends CompletableFuture<T> {
         if (told == NIL) {
             return null;
         }
-        if (told instanceof Request.Fault) {
-            Throwable error = ((Request.Fault) told).error;
+        if (told instanceof Fault) {
+            Throwable error = ((Fault) told).error;
             if (error instanceof CancellationException) {
                 throw (CancellationException) error;
             }
-            Throwable cause = error instanceof CompletionException ? error.getCause() : null;
-            throw new ExecutionException(cause != null ? cause : error);
+            throw new ExecutionException(cause(error));
         }
         return (T) told;
+    }
+
+    private static Throwable cause(Throwable error) {
+        Throwable cause = error instanceof CompletionException ? error.getCause() : null;
+        return cause != null ? cause : error;
     }
 
     // Telling.
 
     /** Tells the inherited part what the ledger has decided, by which it wakes who waits. */
     @SuppressWarnings("unchecked")
-    void show() {
-        Object told = this.told;
-        if (told instanceof Request.Fault) {
-            super.completeExceptionally(((Request.Fault) told).error);
+    private void inherit(Object told) {
+        if (told instanceof Fault) {
+            super.completeExceptionally(((Fault) told).error);
         } else {
             super.complete(told == NIL ? null : (T) told);
         }
+    }
+
+    /** Who has waited finds the inherited part told, as {@code state} of Java 19 reads it. */
+    private Object helped(Object told) {
+        if (!super.isDone()) {
+            inherit(told);
+        }
+        return told;
+    }
+
+    /** Tells all who hang on it, and the recording. */
+    void show() {
+        Object told = this.told;
+        inherit(told);
         if (Recorder.NOW != null && Recorder.NOW.takesStages()) {
             Recorder.NOW.stage(request.name(), number, form.text, request.called(this), told == NIL ? null
-                    : told instanceof Request.Fault ? ((Request.Fault) told).error : told);
+                    : told instanceof Fault ? ((Fault) told).error : told);
         }
         More more = this.more;
         if (more != null) {

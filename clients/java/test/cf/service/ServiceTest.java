@@ -1,11 +1,14 @@
 package cf.service;
 
+import java.io.IOException;
 import java.lang.ref.WeakReference;
 import java.nio.file.Files;
 import java.nio.file.Path;
 import java.nio.file.Paths;
 import java.util.ArrayList;
+import java.util.Arrays;
 import java.util.Collections;
+import java.util.HashSet;
 import java.util.List;
 import java.util.Objects;
 import java.util.concurrent.CancellationException;
@@ -43,8 +46,12 @@ public final class ServiceTest {
         test("late answers", ServiceTest::late);
         test("waiting in a pool of one", ServiceTest::waitsWhileRunning);
         test("refused tasks", ServiceTest::refusedTasks);
+        test("functions here", ServiceTest::here);
+        test("functions of others", ServiceTest::elsewhere);
         test("one call", ServiceTest::oneCall);
         test("histories", ServiceTest::histories);
+        test("pages", ServiceTest::pages);
+        test("what is told now", ServiceTest::toldNow);
         test("texts of stages", ServiceTest::texts);
         test("interrupts", ServiceTest::interrupts);
         test("races", ServiceTest::races);
@@ -245,6 +252,71 @@ public final class ServiceTest {
         is(thrown(CompletionException.class, behind::join).getCause() instanceof RejectedExecutionException, true);
     }
 
+    /** Without Async each function is called once, the lowest stage's first, also those that a function makes ready meanwhile. */
+    private static void here() {
+        for (int round = 0; round < 2; round++) {
+            boolean mixed = round == 1;
+            Request request = SERVICE.request(), other = SERVICE.request();
+            Stage<Integer> first = request.promise(), second = request.promise(), third = other.promise();
+            List<Integer> called = new ArrayList<>();
+            List<Stage<Integer>> made = new ArrayList<>();
+            if (mixed) {
+                made.add(second.thenApplyAsync(x -> x));
+            }
+            for (int k = 0; k < 300; k++) {
+                int each = k;
+                Stage<Integer> behind = k % 3 == 0 ? first : k % 3 == 1 ? second : made.get(k / 2);
+                made.add(behind.thenApply(x -> {
+                    called.add(each);
+                    if (each == 30) {
+                        second.complete(2);
+                        third.complete(3);
+                    }
+                    return x + 1;
+                }));
+            }
+            Stage<Integer> outer = third.thenCombine(first, Integer::sum);
+            first.complete(1);
+            is(outer.join(), 4);
+            for (Stage<Integer> each : made) {
+                each.join();
+            }
+            is(called.size(), 300);
+            is(new HashSet<>(called).size(), 300);
+            is(called.indexOf(3) < called.indexOf(6) && called.indexOf(6) < called.indexOf(27), true);
+            String said = request.history().toString();
+            is(said.contains("too late") || said.contains("too early"), false);
+        }
+    }
+
+    /** A thread calls the functions that it has made ready itself, and none for another thread. */
+    private static void elsewhere() throws Exception {
+        Request request = SERVICE.request();
+        Stage<Integer> one = request.promise(), two = request.promise();
+        CountDownLatch runs = new CountDownLatch(1), go = new CountDownLatch(1);
+        Stage<String> slow = one.thenApply(x -> {
+            runs.countDown();
+            try {
+                is(go.await(20, TimeUnit.SECONDS), true);
+            } catch (InterruptedException interrupted) {
+                throw new AssertionError(interrupted);
+            }
+            return Thread.currentThread().getName();
+        });
+        Stage<String> own = two.thenApply(x -> Thread.currentThread().getName());
+        Stage<String> behind = one.thenApply(x -> Thread.currentThread().getName());
+        Stage<String> last = own.thenApply(x -> x + Thread.currentThread().getName());
+        Thread thread = new Thread(() -> one.complete(1), "first");
+        thread.start();
+        runs.await();
+        two.complete(2);
+        is(last.getNow(""), "mainmain");
+        is(behind.isDone(), false);
+        go.countDown();
+        thread.join();
+        is(slow.join() + behind.join(), "firstfirst");
+    }
+
     private static void oneCall() {
         Stage<Integer> stage = SERVICE.supplyAsync(() -> 1);
         is(stage.join(), 1);
@@ -271,6 +343,63 @@ public final class ServiceTest {
         is(history.events(), 6);
         is(request.history().events(), 7);
         is(Words.name(history.words()[2]), "complete");
+    }
+
+    /** Where the program cf_look is. */
+    private static void pages() throws Exception {
+        Request request = SERVICE.request("told \"<b>\"");
+        Stage<Integer> first = request.<Integer>promise().named("first");
+        first.thenApply(x -> 10 / x).named("divided");
+        first.complete(0);
+        String program = System.getProperty("cf.look", "cf_look");
+        if (program.contains("/") && !Files.isExecutable(Paths.get(program))) {
+            thrown(IOException.class, () -> request.history().page());
+            return;
+        }
+        String page;
+        try {
+            page = request.history().page();
+        } catch (IOException fault) {
+            if (!program.equals("cf_look") || !fault.getMessage().startsWith("Cannot run program")) {
+                throw fault;
+            }
+            System.out.println("(no cf_look on the path)");
+            return;
+        }
+        is(page.startsWith("<!doctype html>") && page.trim().endsWith("</html>"), true);
+        is(page.contains("divided") && page.contains("/ by zero") && !page.contains("<b>"), true);
+    }
+
+    /** As Java 19 has it, also before that; there the state, too. */
+    private static void toldNow() throws Exception {
+        Request request = SERVICE.request();
+        Stage<Integer> given = request.completedFuture(3), open = request.promise(), cancelled = request.promise();
+        Stage<Integer> failed = given.thenApply(x -> x / 0);
+        cancelled.cancel(true);
+        is(given.resultNow(), 3);
+        is(request.completedFuture(null).resultNow(), null);
+        is(failed.exceptionNow() instanceof ArithmeticException, true);
+        for (Stage<Integer> each : Arrays.asList(open, cancelled, failed)) {
+            thrown(IllegalStateException.class, each::resultNow);
+        }
+        for (Stage<Integer> each : Arrays.asList(open, cancelled, given)) {
+            thrown(IllegalStateException.class, each::exceptionNow);
+        }
+        java.lang.reflect.Method state;
+        try {
+            state = CompletableFuture.class.getMethod("state");
+        } catch (NoSuchMethodException older) {
+            return;
+        }
+        is("" + state.invoke(given) + state.invoke(open) + state.invoke(cancelled) + state.invoke(failed), "SUCCESSRUNNINGCANCELLEDFAILED");
+        for (int k = 0; k < 2000; k++) {
+            Stage<Integer> called = SERVICE.supplyAsync(() -> 1);
+            while (k % 2 == 0 && !called.isDone()) {
+                Thread.yield();
+            }
+            called.join();
+            is("" + state.invoke(called), "SUCCESS");
+        }
     }
 
     private static void texts() {
@@ -486,13 +615,15 @@ public final class ServiceTest {
             request.allOf(first, last, request.failedFuture(new IllegalStateException("no")));
             first.complete(20);
             words = request.history().events();
+            Stage<Integer> call = new Service(Runnable::run).supplyAsync(() -> 1);
+            words += call.request().history().events();
             recording.stop();
             recording.dump(file);
         }
         int recorded = 0;
         List<String> ends = new ArrayList<>();
         for (jdk.jfr.consumer.RecordedEvent event : jdk.jfr.consumer.RecordingFile.readAllEvents(file)) {
-            if (event.getEventType().getName().equals("cf.Word") && event.getString("request").equals("recorded")) {
+            if (event.getEventType().getName().equals("cf.Word") && event.getString("request").matches("recorded|one call")) {
                 recorded++;
             }
             if (event.getEventType().getName().equals("cf.Stage") && event.getString("request").equals("recorded")) {
@@ -543,7 +674,7 @@ public final class ServiceTest {
         System.gc();
         Thread.sleep(50);
         long after = resident();
-        if (Boolean.getBoolean("test.times")) {
+        if (Boolean.getBoolean("test.times") || after - before >= 100) {
             System.out.println("           resident before and after " + count + " requests: " + before + " and " + after + " MB");
         }
         is(after - before < 100, true);
