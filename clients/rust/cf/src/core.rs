@@ -29,8 +29,10 @@ pub(crate) struct Core {
     inner: Mutex<Inner>,
 }
 
-/// How often a thread looks whether the lock is free before it sleeps. A hold is some hundred nanoseconds.
-const SPINS: usize = 40;
+/// How often a thread looks whether the lock is free before it sleeps, and how long it pauses at most between two looks. A hold is some hundred
+/// nanoseconds: who pauses longer lets the one that has it take several, with all that it needs at hand.
+const LOOKS: usize = 12;
+const PAUSES: usize = 64;
 
 impl Core {
     /// How many functions a job runs before it goes to the end of the line.
@@ -46,12 +48,14 @@ impl Core {
     pub(crate) fn lock(&self) -> MutexGuard<'_, Inner> {
         #[cfg(test)]
         crate::search::turn();
-        for _ in 0..SPINS {
+        let mut pauses = 1;
+        for _ in 0..LOOKS {
             match self.inner.try_lock() {
                 Ok(inner) => return inner,
                 Err(TryLockError::Poisoned(inner)) => return inner.into_inner(),
-                Err(TryLockError::WouldBlock) => std::hint::spin_loop(),
+                Err(TryLockError::WouldBlock) => (0..pauses).for_each(|_| std::hint::spin_loop()),
             }
+            pauses = PAUSES.min(2 * pauses);
         }
         self.inner.lock().unwrap_or_else(PoisonError::into_inner)
     }

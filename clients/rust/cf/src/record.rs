@@ -68,10 +68,13 @@ impl Record {
     /// Room grows by a quarter, since there are many records that grow no more.
     #[inline]
     fn write(&mut self, item: &Bytes) {
-        if self.bytes.capacity() - self.bytes.len() < item.length {
+        let length = self.bytes.len() + item.length;
+        if self.bytes.capacity() < self.bytes.len() + item.bytes.len() {
             self.bytes.reserve_exact(64 + self.bytes.len() / 4);
         }
-        self.bytes.extend_from_slice(item.written());
+        // All of an item is copied at once, since so many bytes as are known beforehand take no call.
+        self.bytes.extend_from_slice(&item.bytes);
+        self.bytes.truncate(length);
     }
 
     /// All that was written.
@@ -101,11 +104,6 @@ impl Bytes {
             number >>= 7;
         }
         self.push(number as u8);
-    }
-
-    #[inline]
-    fn written(&self) -> &[u8] {
-        &self.bytes[..self.length]
     }
 }
 
