@@ -1,7 +1,7 @@
 //! A graph, which one owner has alone.
 use crate::event::{reply_out, Event};
 use crate::handle::Handle;
-use crate::plan::{function_in, Form};
+use crate::plan::{function_in, Form, Plan};
 use crate::refused::{if_there, Refused};
 use crate::values::*;
 use cf_sys as sys;
@@ -98,6 +98,22 @@ impl Graph {
     pub fn restart(&mut self) -> Result<(), Refused> {
         // SAFETY: `h` is this call's alone.
         self.0.call(|h| unsafe { sys::cf_restart(h) })
+    }
+
+    /// Starts again, and then completes these stages, one after another: a request by a plan that is there. `NO_STAGE`, whereupon nothing is
+    /// done.
+    pub fn restart_with(&mut self, given: &[(u16, Value)]) -> Result<(), Refused> {
+        let given: Vec<_> = given.iter().map(|&(stage, value)| sys::cf_given { stage, value: value_in(value) }).collect();
+        // SAFETY: `h` is this call's alone, and `given` points to as many elements as said.
+        self.0.call(|h| unsafe { sys::cf_restart_with(h, given.as_ptr(), given.len()) })
+    }
+
+    /// The plan as the graph was opened. `NO_MEMORY`.
+    pub fn plan(&mut self) -> Result<Plan, Refused> {
+        let mut plan = Handle::empty();
+        // SAFETY: two different handles, both this call's alone.
+        self.0.call(|h| Refused::code_of(plan.call(|plan| unsafe { sys::cf_plan_of(h, plan) })))?;
+        Ok(Plan(plan))
     }
 
     /// Claims ready stages, the lowest first, calls `function` with the number of each stage's function and its arguments, and finishes

@@ -26,11 +26,35 @@ use cf_sys as sys;
 #[derive(Debug)]
 pub struct Ledger {
     handle: Handle,
-    /// What the last word changed, as far as there was room, and how many that were.
+    /// What the last word changed.
+    changes: Changes,
+}
+
+/// The stages that a word or a finish changed, rising, each as it is now. It keeps its room, so one serves the words of many ledgers.
+#[derive(Debug, Default)]
+pub struct Changes {
     news: Vec<sys::cf_news>,
-    changed: usize,
-    /// What the last word changed, where there wasn't room.
-    more: Vec<sys::cf_news>,
+    count: usize,
+}
+
+/// What a caller's step did: whether what it finished came too late, and what it has to do now.
+#[derive(Clone, Copy, PartialEq, Eq, Debug)]
+pub struct Step {
+    /// What the finish was answered, if the caller held something.
+    pub finished: Option<Finished>,
+    /// What it has claimed, if something was ready.
+    pub taken: Option<Taken>,
+}
+
+/// A stage that a step has claimed, the number of its function, and what that is to be called with.
+#[derive(Clone, Copy, PartialEq, Eq, Debug)]
+pub struct Taken {
+    /// The stage's number.
+    pub stage: u16,
+    /// The number of its function.
+    pub function: u16,
+    /// What the function is to be called with.
+    pub args: Args,
 }
 
 /// Where a stage stands.
@@ -75,8 +99,72 @@ pub struct Misfit {
     pub place: Option<usize>,
 }
 
-/// How many changed stages there is room for at first. A word that changes more is asked about once more.
-const NEWS: usize = 8;
+/// How many changed stages there is room for at first. A word that changes more is asked about once more, and then there is room.
+const NEWS: usize = 16;
+
+impl Changes {
+    /// How many they are.
+    #[inline]
+    pub fn len(&self) -> usize {
+        self.count
+    }
+
+    /// Whether nothing was changed.
+    #[inline]
+    pub fn is_empty(&self) -> bool {
+        self.count == 0
+    }
+
+    /// One of them, by its place among them.
+    ///
+    /// # Panics
+    ///
+    /// Where there are no more than `at`.
+    #[inline]
+    pub fn at(&self, at: usize) -> News {
+        let news = &self.news[..self.count][at];
+        News { stage: news.stage, now: stage_out(news.now) }
+    }
+
+    /// All of them.
+    #[inline]
+    pub fn iter(&self) -> impl ExactSizeIterator<Item = News> + '_ {
+        self.news[..self.count].iter().map(|news| News { stage: news.stage, now: stage_out(news.now) })
+    }
+
+    /// Makes a call that tells of changes: where to, for how many there is room, and where it writes how many they are.
+    #[inline]
+    fn tell(
+        &mut self,
+        handle: &mut Handle,
+        call: impl FnOnce(*mut sys::cf_handle, *mut sys::cf_news, usize, *mut usize) -> u32,
+    ) -> Result<(), Refused> {
+        if self.news.is_empty() {
+            self.news = vec![sys::cf_news::default(); NEWS];
+        }
+        self.count = 0;
+        let mut count = 0;
+        let (news, room) = (self.news.as_mut_ptr(), self.news.len());
+        let answer = handle.call(|h| call(h, news, room, &mut count));
+        self.count = count;
+        answer
+    }
+
+    /// Asks for what the word at a place changed, where that was more than there was room for.
+    #[cold]
+    fn tell_more(&mut self, handle: &mut Handle, place: usize) -> Result<(), Refused> {
+        let mut stages = vec![0; self.count];
+        let (first, room) = (stages.as_mut_ptr(), stages.len());
+        // SAFETY: `h` and what is told to are this call's alone, and `first` points to as many numbers as said.
+        handle.tell(|h, told| unsafe { sys::cf_ledger_news(h, place, first, room, told) })?;
+        self.news.resize(self.count.next_power_of_two(), sys::cf_news::default());
+        for (news, stage) in self.news.iter_mut().zip(stages) {
+            // SAFETY: `h` and what is told to are this call's alone.
+            *news = sys::cf_news { stage, now: handle.tell(|h, told| unsafe { sys::cf_ledger_stage(h, stage, told) })? };
+        }
+        Ok(())
+    }
+}
 
 impl Ledger {
     /// A ledger of the plan in which nothing is written, with room for so many stages that are attached later. `ROOM`, `NO_MEMORY`.
@@ -100,71 +188,91 @@ impl Ledger {
     }
 
     fn behind(handle: Handle) -> Ledger {
-        Ledger { handle, news: vec![sys::cf_news::default(); NEWS], changed: 0, more: Vec::new() }
+        Ledger { handle, changes: Changes::default() }
     }
 
     /// Does the event of a word, writes the word behind the others, and gives the reply. [`news`](Ledger::news) tells what it changed.
     /// `NO_WORD`, `NO_STAGE`, `NO_ROOM`, `NO_MEMORY`: nothing is changed then.
     #[inline]
     pub fn apply(&mut self, word: u64) -> Result<Reply, Refused> {
-        if !self.more.is_empty() {
-            self.more = Vec::new();
-        }
-        let (news, room, changed) = (self.news.as_mut_ptr(), self.news.len(), &mut self.changed);
-        // SAFETY: `h` and what is told to are this call's alone, and `news` points to as many elements as said.
-        let reply = self.handle.tell(|h, told| unsafe { sys::cf_ledger_apply(h, word, told, news, room, changed) })?;
-        if self.changed > room {
-            self.tell_more()?;
-        }
-        Ok(reply_of_word(word, reply))
+        let Ledger { handle, changes } = self;
+        apply(handle, word, changes)
     }
 
-    /// Asks for the stages that the last word changed, which were more than there was room for.
-    #[cold]
-    fn tell_more(&mut self) -> Result<(), Refused> {
-        let last = self.count()? - 1;
-        let mut stages = vec![0; self.changed];
-        let (first, room) = (stages.as_mut_ptr(), stages.len());
-        // SAFETY: `h` and what is told to are this call's alone, and `first` points to as many numbers as said.
-        self.handle.tell(|h, told| unsafe { sys::cf_ledger_news(h, last, first, room, told) })?;
-        self.more.reserve_exact(self.changed);
-        for stage in stages {
-            // SAFETY: `h` and what is told to are this call's alone.
-            let now = self.handle.tell(|h, told| unsafe { sys::cf_ledger_stage(h, stage, told) })?;
-            self.more.push(sys::cf_news { stage, now });
+    /// The same, which tells there what it changed.
+    #[inline]
+    pub fn apply_telling(&mut self, word: u64, changes: &mut Changes) -> Result<Reply, Refused> {
+        apply(&mut self.handle, word, changes)
+    }
+
+    /// One step of a caller, in one call: finishes the stage that it holds with this answer, and claims the lowest ready stage from the number
+    /// `from` on, both of them as words. `changes` tells what the finish changed; the claim changes the stage that is taken alone. `NO_WORD`
+    /// where `who` is above 63, `NO_STAGE`, `NOT_HELD`, `NO_MEMORY`: nothing is changed then.
+    ///
+    /// ```
+    /// use cf_graph::{Answer, Args, Call, Changes, Event, Form, Ledger, Of, PlanBuilder, Value};
+    /// # fn main() -> Result<(), cf_graph::Refused> {
+    /// let mut ledger = Ledger::new(&mut PlanBuilder::new()?.build()?, 2)?;
+    /// ledger.act(Event { who: 0, call: Call::Attach(Form::Supply, Of::None, Some(0)) })?;
+    /// ledger.act(Event { who: 0, call: Call::Attach(Form::Apply, Of::One(0), Some(1)) })?;
+    /// let mut changes = Changes::default();
+    /// let first = ledger.step(3, None, 0, &mut changes)?.taken.unwrap();
+    /// assert_eq!((first.stage, first.args), (0, Args::None));
+    /// let second = ledger.step(3, Some((0, Answer::Give(Value::Int(7)))), 0, &mut changes)?.taken.unwrap();
+    /// assert_eq!((second.stage, second.args), (1, Args::One(Value::Int(7))));
+    /// assert_eq!(changes.iter().map(|news| news.stage).collect::<Vec<_>>(), [0, 1]);
+    /// # Ok(())
+    /// # }
+    /// ```
+    #[inline]
+    pub fn step(&mut self, who: u8, held: Option<(u16, Answer)>, from: u16, changes: &mut Changes) -> Result<Step, Refused> {
+        let mut step = sys::cf_step { who, from, ..sys::cf_step::default() };
+        let mut task = sys::cf_task::default();
+        if let Some((stage, answer)) = held {
+            task.held = 1;
+            task.stage = stage;
+            task.answer = answer_in(answer);
         }
-        Ok(())
+        let told = (&mut step, &mut task);
+        // SAFETY: `h` and what is told to are this call's alone, and `news` points to as many elements as said.
+        let taken = match changes.tell(&mut self.handle, |h, news, room, n| unsafe { sys::cf_ledger_step(h, told.0, told.1, news, room, n) }) {
+            Ok(()) => Some(Taken { stage: task.stage, function: task.function, args: args_out(task.args) }),
+            Err(Refused::NOTHING) => None,
+            Err(refused) => return Err(refused),
+        };
+        if changes.count > changes.news.len() {
+            changes.tell_more(&mut self.handle, step.place)?;
+        }
+        let finished = held.map(|_| if task.finished == 0 { Finished::Won } else { Finished::Late });
+        Ok(Step { finished, taken })
+    }
+
+    /// Does words one after another, up to the first that can't be done, and says how many were done and why that one wasn't.
+    pub fn apply_all(&mut self, words: &[u64]) -> (usize, Result<(), Refused>) {
+        let mut done = 0;
+        let (first, n, told) = (words.as_ptr(), words.len(), &mut done);
+        // SAFETY: `h` and what is told to are this call's alone, and `first` points to as many words as said.
+        let answer = self.handle.call(|h| unsafe { sys::cf_ledger_apply_all(h, first, n, told) });
+        self.changes.count = 0;
+        (done, answer)
+    }
+
+    /// Starts again: no word is written then, and all of its room is free. `NO_MEMORY`.
+    pub fn restart(&mut self) -> Result<(), Refused> {
+        self.changes.count = 0;
+        // SAFETY: `h` is this call's alone.
+        self.handle.call(|h| unsafe { sys::cf_ledger_restart(h) })
     }
 
     /// The stages that the last word changed, rising, each as it is now.
     #[inline]
     pub fn news(&self) -> impl ExactSizeIterator<Item = News> + '_ {
-        let told = if self.changed > self.news.len() { &self.more } else { &self.news };
-        told[..self.changed].iter().map(|news| News { stage: news.stage, now: stage_out(news.now) })
-    }
-
-    /// The same, each with its number alone, so that it can be looked at while the ledger is used: how many they are.
-    #[inline]
-    pub fn changed(&self) -> usize {
-        self.changed
-    }
-
-    /// One of the stages that the last word changed, by its place among them.
-    ///
-    /// # Panics
-    ///
-    /// Where it changed no more than `at`.
-    #[inline]
-    pub fn news_at(&self, at: usize) -> News {
-        let told = if self.changed > self.news.len() { &self.more } else { &self.news };
-        let news = &told[..self.changed][at];
-        News { stage: news.stage, now: stage_out(news.now) }
+        self.changes.iter()
     }
 
     /// How many words there are.
     pub fn count(&mut self) -> Result<usize, Refused> {
-        // SAFETY: `h` and what is told to are this call's alone; there is room for no word.
-        self.handle.tell(|h, told| unsafe { sys::cf_ledger_words(h, 0, std::ptr::null_mut(), 0, told) })
+        count(&mut self.handle)
     }
 
     /// The words of all that was done, in their one order.
@@ -210,6 +318,25 @@ impl Ledger {
     pub fn act(&mut self, event: Event) -> Result<Reply, Refused> {
         self.apply(event.word()?)
     }
+}
+
+#[inline]
+fn apply(handle: &mut Handle, word: u64, changes: &mut Changes) -> Result<Reply, Refused> {
+    let mut reply = sys::cf_reply::default();
+    let told = &mut reply;
+    // SAFETY: `h` and what is told to are this call's alone, and `news` points to as many elements as said.
+    changes.tell(handle, |h, news, room, n| unsafe { sys::cf_ledger_apply(h, word, told, news, room, n) })?;
+    if changes.count > changes.news.len() {
+        let last = count(handle)? - 1;
+        changes.tell_more(handle, last)?;
+    }
+    Ok(reply_of_word(word, reply))
+}
+
+/// How many words there are.
+fn count(handle: &mut Handle) -> Result<usize, Refused> {
+    // SAFETY: `h` and what is told to are this call's alone; there is room for no word.
+    handle.tell(|h, told| unsafe { sys::cf_ledger_words(h, 0, std::ptr::null_mut(), 0, told) })
 }
 
 #[inline]

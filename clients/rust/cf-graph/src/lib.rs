@@ -40,7 +40,7 @@ pub use closed::{Closed, Record};
 pub use desk::{Caller, Desk, NotClosed};
 pub use event::{Call, Event, Of};
 pub use graph::Graph;
-pub use ledger::{Ledger, Misfit, News, Stage, State};
+pub use ledger::{Changes, Ledger, Misfit, News, Stage, State, Step, Taken};
 pub use plan::{Form, Limit, Plan, PlanBuilder, Sizes};
 pub use refused::Refused;
 pub use text::{outcome_text, run_script, ScriptFault};

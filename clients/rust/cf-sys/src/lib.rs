@@ -144,7 +144,7 @@ pub const CF_IS_SETTLED: u32 = 4;
 pub const CF_NO_FUNCTION: u32 = u32::MAX;
 pub const CF_NOBODY: u32 = u32::MAX;
 pub const CF_VERSION_MAJOR: u32 = 1;
-pub const CF_VERSION_MINOR: u32 = 0;
+pub const CF_VERSION_MINOR: u32 = 1;
 
 #[repr(C)]
 #[derive(Clone, Copy, Debug, Default, PartialEq, Eq)]
@@ -262,6 +262,23 @@ pub struct cf_news {
     pub now: cf_stage,
 }
 
+#[repr(C)]
+#[derive(Clone, Copy, Debug, Default, PartialEq, Eq)]
+pub struct cf_given {
+    pub stage: u16,
+    pub value: cf_value,
+}
+
+#[repr(C)]
+#[derive(Clone, Copy, Debug, Default, PartialEq, Eq)]
+pub struct cf_step {
+    pub who: u8,
+    pub from: u16,
+    pub place: usize,
+    pub finish: u64,
+    pub claim: u64,
+}
+
 pub type cf_stage_function = unsafe extern "C" fn(context: *mut c_void, task: *const cf_task, answer: *mut cf_answer);
 
 extern "C" {
@@ -285,6 +302,8 @@ extern "C" {
     pub fn cf_stages(graph: *mut cf_handle, stages: *mut u16) -> u32;
     pub fn cf_turns(graph: *mut cf_handle, turns: *mut u64) -> u32;
     pub fn cf_restart(graph: *mut cf_handle) -> u32;
+    pub fn cf_restart_with(graph: *mut cf_handle, given: *const cf_given, n: usize) -> u32;
+    pub fn cf_plan_of(graph: *mut cf_handle, plan: *mut cf_handle) -> u32;
     pub fn cf_desk_open(plan: *mut cf_handle, callers: *mut cf_handle, n: usize, log: u16, calls: u16) -> u32;
     pub fn cf_desk_open_with(plan: *mut cf_handle, callers: *mut cf_handle, n: usize, sizes: *const cf_desk_sizes) -> u32;
     pub fn cf_desk_complete(caller: *mut cf_handle, stage: u16, value: cf_value, reply: *mut cf_reply) -> u32;
@@ -322,6 +341,8 @@ extern "C" {
     pub fn cf_ledger_new(plan: *mut cf_handle, room: u16, ledger: *mut cf_handle) -> u32;
     pub fn cf_ledger_of(plan: *mut cf_handle, room: u16, words: *const u64, n: usize, ledger: *mut cf_handle, place: *mut usize) -> u32;
     pub fn cf_ledger_apply(ledger: *mut cf_handle, word: u64, reply: *mut cf_reply, news: *mut cf_news, room: usize, n: *mut usize) -> u32;
+    pub fn cf_ledger_step(ledger: *mut cf_handle, step: *mut cf_step, task: *mut cf_task, news: *mut cf_news, room: usize, n: *mut usize) -> u32;
+    pub fn cf_ledger_apply_all(ledger: *mut cf_handle, words: *const u64, n: usize, done: *mut usize) -> u32;
     pub fn cf_ledger_words(ledger: *mut cf_handle, from: usize, words: *mut u64, room: usize, n: *mut usize) -> u32;
     pub fn cf_ledger_news(ledger: *mut cf_handle, place: usize, stages: *mut u16, room: usize, n: *mut usize) -> u32;
     pub fn cf_ledger_ready(ledger: *mut cf_handle, from: u16, stage: *mut u16) -> u32;
@@ -329,6 +350,7 @@ extern "C" {
     pub fn cf_ledger_function(ledger: *mut cf_handle, stage: u16, function: *mut u16) -> u32;
     pub fn cf_ledger_stages(ledger: *mut cf_handle, stages: *mut u16) -> u32;
     pub fn cf_ledger_grow(ledger: *mut cf_handle, more: u16) -> u32;
+    pub fn cf_ledger_restart(ledger: *mut cf_handle) -> u32;
     pub fn cf_version() -> *const u8;
     pub fn cf_fits(major: u32, minor: u32) -> bool;
     pub fn cf_code_name(code: u32) -> *const u8;
@@ -366,6 +388,8 @@ pub fn mismatch() -> Option<&'static str> {
         known!(cf_event: call who stage value code answer now form sources first second function),
         known!(cf_stage: kind who target outcome),
         known!(cf_news: stage now),
+        known!(cf_given: stage value),
+        known!(cf_step: who from place finish claim),
     ];
     structures.iter().find_map(|it| *it)
 }

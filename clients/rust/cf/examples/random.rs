@@ -1,11 +1,11 @@
 //! Lets eight threads race random requests, and prints what became of each: conformance/rust-requests judges it.
 //!
-//!     random FIRST COUNT
+//!     random FIRST COUNT [CF_LOOK]
 //!
 //! Each seed makes two requests, of which the one takes stages of the other. Eight threads attach stages of all forms, complete, fail, cancel
 //! and name them, while four threads run their functions, which give values, return errors, panic, rest, wait for stages, or give futures.
 //! Three lines for each history, one of them taken in the midst of the race: the account, the script, and the report with tabs for ends of
-//! lines. At the end no stage may be ready or claimed: else the status is 1.
+//! lines. At the end no stage may be ready or claimed, and by the program CF_LOOK the first history has to become a page: else the status is 1.
 use cf::{Error, HandClock, Pool, Request, Spawn, Stage, SystemClock};
 use cf_graph::{Ledger, PlanBuilder, State};
 use std::sync::Arc;
@@ -141,8 +141,10 @@ fn is_open(history: &cf::History) -> bool {
 }
 
 fn main() {
-    let mut args = env::args().skip(1).map(|word| word.parse::<u64>().expect("a number"));
-    let (first, count) = (args.next().unwrap_or(0), args.next().unwrap_or(100));
+    let mut args = env::args().skip(1);
+    let mut number = |other| args.next().map_or(other, |word| word.parse::<u64>().expect("a number"));
+    let (first, count) = (number(0), number(100));
+    let mut look = args.next();
     panic::set_hook(Box::new(|_| {}));
     let spawn: Arc<dyn Spawn> = Arc::new(Pool::new(4));
     for seed in first..first + count {
@@ -166,6 +168,10 @@ fn main() {
             if !history.comes_again() {
                 eprintln!("it doesn't come again:\n{history}");
                 process::exit(1);
+            }
+            if let Some(program) = look.take() {
+                let page = history.page_by(&program).expect("a page");
+                assert!(page.starts_with("<!DOCTYPE html>") && page.contains(&format!("seed {seed}")), "{page}");
             }
             println!("{}\n{}\n{}", history.account().trim_end(), history.script(), history.report().replace('\n', "\t"));
         }

@@ -1,7 +1,11 @@
 //! What time it is, and who rings when it is later.
-use crate::core::Alarm;
+use crate::core::Core;
+use crate::error::Error;
+use crate::spawn::CLOCK;
+use crate::value::Val;
 use std::collections::BTreeMap;
-use std::sync::{Arc, Condvar, Mutex, MutexGuard, Once, PoisonError};
+use std::fmt;
+use std::sync::{Arc, Condvar, Mutex, MutexGuard, Once, PoisonError, Weak};
 use std::thread;
 use std::time::{Duration, Instant};
 
@@ -32,6 +36,67 @@ pub trait Clock: Send + Sync + 'static {
 
     /// Rings the alarm after a while. It must not ring it before it returns.
     fn after(&self, wait: Duration, alarm: Alarm);
+}
+
+/// A timeout to come, which a [`Clock`] rings. It keeps no request alive.
+///
+/// ```
+/// struct Never;
+/// impl cf::Clock for Never {
+///     fn now(&self) -> std::time::Duration {
+///         std::time::Duration::ZERO
+///     }
+///     fn after(&self, _wait: std::time::Duration, alarm: cf::Alarm) {
+///         drop(alarm);
+///     }
+/// }
+/// ```
+pub struct Alarm {
+    pub(crate) core: Weak<Core>,
+    pub(crate) stage: u16,
+    pub(crate) wait: Duration,
+    pub(crate) gives: Option<Val>,
+}
+
+impl Alarm {
+    /// Lets it be that moment: the stage times out or gets its value, unless it is settled.
+    ///
+    /// ```
+    /// struct AtOnce;
+    /// impl cf::Clock for AtOnce {
+    ///     fn now(&self) -> std::time::Duration {
+    ///         std::time::Duration::ZERO
+    ///     }
+    ///     fn after(&self, _wait: std::time::Duration, alarm: cf::Alarm) {
+    ///         std::thread::spawn(move || alarm.ring());
+    ///     }
+    /// }
+    /// let request = cf::Request::with_clock("order 17", std::sync::Arc::new(cf::Inline), std::sync::Arc::new(AtOnce));
+    /// assert!(request.promise::<u32>().or_timeout(std::time::Duration::from_secs(5)).wait().unwrap_err().is_timeout());
+    /// ```
+    pub fn ring(self) {
+        if let Some(core) = self.core.upgrade() {
+            let with = self.gives.ok_or(Error::TimedOut(self.wait));
+            drop(core.settle(CLOCK, self.stage, with));
+        }
+    }
+
+    /// Whether its stage isn't settled. A clock may leave aside alarms that nobody wants.
+    ///
+    /// ```
+    /// fn swept(alarms: &mut Vec<cf::Alarm>) {
+    ///     alarms.retain(cf::Alarm::is_wanted);
+    /// }
+    /// ```
+    pub fn is_wanted(&self) -> bool {
+        self.core.upgrade().map_or(false, |core| !core.lock().slot(self.stage).is_settled())
+    }
+}
+
+impl fmt::Debug for Alarm {
+    fn fmt(&self, f: &mut fmt::Formatter<'_>) -> fmt::Result {
+        write!(f, "Alarm(stage {}, after {:?})", self.stage, self.wait)
+    }
 }
 
 /// The computer's clock. Its alarms are rung by one thread, which is there from the first timeout on.
@@ -217,8 +282,8 @@ impl Default for HandClock {
     }
 }
 
-impl std::fmt::Debug for HandClock {
-    fn fmt(&self, f: &mut std::fmt::Formatter<'_>) -> std::fmt::Result {
+impl fmt::Debug for HandClock {
+    fn fmt(&self, f: &mut fmt::Formatter<'_>) -> fmt::Result {
         write!(f, "HandClock({:?})", self.now())
     }
 }

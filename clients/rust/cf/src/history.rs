@@ -1,13 +1,18 @@
-//! What happened to a request: in words, as an account that `cf_look check` judges, as a script that `cf run` does again.
+//! What happened to a request: in words, as an account that `cf_look check` judges, as a script that `cf run` does again, as a page.
 use crate::core::Core;
 use crate::error::Error;
 use crate::ledger::comes_again;
+use crate::name::Made;
 use crate::record::{Item, Record};
 use crate::spawn::{CALLER, CLOCK, FIRST_WORKER, RELAY};
 use crate::value::Val;
 use crate::word::{self, Parts, ATTACH, CANCEL, CLAIM, COMPLETE, FAIL, FINISH, FORM_NAMES, LINKS, SOME, THROWS, TICK};
 use cf_graph::{Args, Cause, Claimed, Finished, Outcome, Reply, Ticked, Value};
+use std::ffi::OsStr;
 use std::fmt::{self, Write};
+use std::io::{self, Write as _};
+use std::process::{Command, Stdio};
+use std::thread;
 use std::time::Duration;
 
 /// Characters that accounts take of a stage's name.
@@ -49,11 +54,12 @@ impl History {
         let words = inner.ledger.words();
         let record = inner.ledger.record.clone();
         let slots = inner.slots.iter();
-        let (names, values): (Vec<_>, Vec<_>) = slots.map(|slot| (slot.name.clone(), (slot.value().cloned(), slot.error().cloned()))).unzip();
-        let relays = inner.relays.clone();
+        let (made, kept): (Vec<_>, Vec<_>) = slots.map(|slot| (slot.made, (slot.value().cloned(), slot.error().cloned()))).unzip();
+        let (given, relays) = (inner.names.clone(), inner.relays.clone());
         drop(inner);
-        let names = names.iter().map(|name| name.to_string()).collect();
-        let (values, errors) = values.into_iter().unzip();
+        let mut names: Vec<String> = made.iter().map(Made::to_string).collect();
+        given.into_iter().for_each(|(stage, name)| names[usize::from(stage)] = name.into_owned());
+        let (values, errors) = kept.into_iter().unzip();
         History { name: core.name.to_string(), words, record, names, values, errors, relays }
     }
 
@@ -192,6 +198,50 @@ impl History {
         text += "],\"relays\":[";
         list(&mut text, self.relays.iter().map(|(relay, stage)| format!("[{relay},{stage}]")));
         text + "]}\n"
+    }
+
+    /// A page for a browser, which loads nothing, as the program `cf_look` makes it of the account.
+    ///
+    /// # Errors
+    ///
+    /// `NotFound` where `cf_look` isn't on the path; else those of [`page_by`](History::page_by).
+    ///
+    /// ```
+    /// let request = cf::Request::new("order 17", cf::Inline);
+    /// request.promise().complete(49).unwrap();
+    /// match request.history().page() {
+    ///     Ok(page) => assert!(page.contains("order 17")),
+    ///     Err(error) => assert_eq!(error.kind(), std::io::ErrorKind::NotFound),
+    /// }
+    /// ```
+    pub fn page(&self) -> io::Result<String> {
+        self.page_by("cf_look")
+    }
+
+    /// The same, by the program `cf_look` that stands there.
+    ///
+    /// # Errors
+    ///
+    /// Where the program can't be started, or ends with another status than 0: what it says then.
+    ///
+    /// ```
+    /// let request = cf::Request::new("order 17", cf::Inline);
+    /// assert!(request.history().page_by("/no/such/program").is_err());
+    /// ```
+    pub fn page_by(&self, program: impl AsRef<OsStr>) -> io::Result<String> {
+        let mut command = Command::new(program);
+        let mut looking = command.arg("page").stdin(Stdio::piped()).stdout(Stdio::piped()).stderr(Stdio::piped()).spawn()?;
+        let (account, input) = (self.account(), looking.stdin.take());
+        let ended = thread::scope(|scope| {
+            // A program that reads no further says why by its status.
+            scope.spawn(|| input.map(|mut input| input.write_all(account.as_bytes())));
+            looking.wait_with_output()
+        })?;
+        if !ended.status.success() {
+            let said = String::from_utf8_lossy(&ended.stderr);
+            return Err(io::Error::new(io::ErrorKind::Other, format!("cf_look ended with {}: {}", ended.status, said.trim())));
+        }
+        String::from_utf8(ended.stdout).map_err(|error| io::Error::new(io::ErrorKind::InvalidData, error))
     }
 
     fn account_parts(&self) -> Account {
@@ -360,7 +410,7 @@ fn caller(who: u8) -> String {
 /// A value of a common type as it is, cut to 60 letters; of another that it is one.
 fn shown(value: &Val) -> String {
     macro_rules! common {
-        ($($of:ty),*) => { $(if let Some(value) = value.downcast_ref::<$of>() { return short(format!("{value:?}")); })* };
+        ($($of:ty),*) => { $(if let Some(value) = value.any().downcast_ref::<$of>() { return short(format!("{value:?}")); })* };
     }
     common!(i32, i64, u32, u64, usize, u16, u8, f64, bool, char, String, &'static str, ());
     common!(Vec<i32>, Vec<i64>, Vec<u32>, Vec<u64>, Vec<f64>, Vec<String>, Option<i32>, Option<i64>, Option<u64>, Option<String>, Duration);

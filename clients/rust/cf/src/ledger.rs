@@ -2,7 +2,7 @@
 use crate::error::Refusal;
 use crate::record::Record;
 use crate::word::{self, Form};
-use cf_graph::{Ledger as Words, Outcome, Plan, PlanBuilder, Refused, Reply};
+use cf_graph::{Answer, Args, Changes, Claimed, Finished, Ledger as Words, Outcome, Plan, PlanBuilder, Refused, Reply};
 use std::sync::{Mutex, MutexGuard, PoisonError};
 
 /// How many stages a request can have.
@@ -63,21 +63,27 @@ impl Ledger {
 
     /// Does the event of a word, and writes down what it was answered.
     #[inline]
-    pub(crate) fn act(&mut self, word: u64) -> Reply {
-        let reply = self.words.apply(word).expect("memory for a word");
+    pub(crate) fn act(&mut self, word: u64, changes: &mut Changes) -> Reply {
+        let reply = self.words.apply_telling(word, changes).expect("memory for a word");
         self.record.event(self.now, reply);
         reply
     }
 
-    /// How many stages the last word changed, and each by its place: its number and where it stands.
+    /// Finishes what a caller holds, if it holds a stage, and claims the lowest ready stage from a number on, if there is one. What the finish
+    /// was answered is written down, and what was claimed is to be, by [`claimed`](Ledger::claimed), behind what the finish settled.
     #[inline]
-    pub(crate) fn changed(&self) -> usize {
-        self.words.changed()
+    pub(crate) fn step(&mut self, who: u8, held: Option<(u16, Answer)>, from: u16, changes: &mut Changes) -> (Option<Finished>, Option<(u16, Args)>) {
+        let step = self.words.step(who, held, from, changes).expect("memory for two words, and an open claim of what is held");
+        if let Some(finished) = step.finished {
+            self.record.event(self.now, Reply::Finished(finished));
+        }
+        (step.finished, step.taken.map(|taken| (taken.stage, taken.args)))
     }
 
+    /// Writes down what a claim was granted with.
     #[inline]
-    pub(crate) fn news_at(&self, at: usize) -> cf_graph::News {
-        self.words.news_at(at)
+    pub(crate) fn claimed(&mut self, args: Args) {
+        self.record.event(self.now, Reply::Claimed(Claimed::Granted(args)));
     }
 
     /// Writes down that a stage was settled by the last word.
@@ -87,12 +93,12 @@ impl Ledger {
     }
 
     /// Attaches a stage, whose function has the stage's own number, and gives the number.
-    pub(crate) fn attach(&mut self, who: u8, form: Form, of: &[u16], has_function: bool) -> Result<u16, Refusal> {
+    pub(crate) fn attach(&mut self, who: u8, form: Form, of: &[u16], has_function: bool, changes: &mut Changes) -> Result<u16, Refusal> {
         let number = self.stages;
         if number == self.room {
             self.grow()?;
         }
-        self.act(word::attach(who, form, of, if has_function { number } else { 0 }));
+        self.act(word::attach(who, form, of, if has_function { number } else { 0 }), changes);
         self.stages = number + 1;
         Ok(number)
     }

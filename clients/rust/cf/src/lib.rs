@@ -60,19 +60,24 @@ mod clock;
 mod core;
 mod error;
 mod history;
+mod inner;
 mod ledger;
 mod name;
 mod record;
 mod request;
 #[cfg(feature = "tokio")]
 mod runtime;
+#[cfg(test)]
+mod search;
+mod slot;
 mod spawn;
 mod stage;
+mod task;
 mod value;
+mod wakers;
 mod word;
 
-pub use crate::core::Alarm;
-pub use clock::{Clock, HandClock, SystemClock};
+pub use clock::{Alarm, Clock, HandClock, SystemClock};
 pub use error::{BoxError, Error, Panic, Refusal};
 pub use history::History;
 pub use request::Request;

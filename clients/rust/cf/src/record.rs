@@ -9,10 +9,15 @@ pub(crate) struct Record {
     bytes: Vec<u8>,
     last: u64,
     pub(crate) events: usize,
+    /// How many attaches were answered with a stage.
+    attached: u16,
 }
 
 const TOLD: u8 = 64;
 const GOT: u8 = 32;
+/// An attach was answered with the number that is next, and a stage settled with its own number.
+const NEXT: u8 = 13;
+const OWN: u8 = 10;
 
 /// An event, or a stage that the event before it settled.
 #[derive(Clone, Copy, Debug, PartialEq, Eq)]
@@ -25,7 +30,13 @@ impl Record {
     /// An event that was done at this moment, in nanoseconds since the request began.
     pub(crate) fn event(&mut self, at: u64, reply: Reply) {
         let mut item = Bytes::default();
-        let (tag, numbers) = tag_of(reply);
+        let (mut tag, mut numbers) = tag_of(reply);
+        if let Reply::Attached(Some(stage)) = reply {
+            if stage == self.attached {
+                (tag, numbers) = (NEXT, [None, None]);
+            }
+            self.attached += 1;
+        }
         item.push(tag);
         item.number(at.saturating_sub(self.last));
         self.last = self.last.max(at);
@@ -42,7 +53,10 @@ impl Record {
     /// A stage that the last event settled.
     pub(crate) fn told(&mut self, stage: u16, outcome: Outcome) {
         let mut item = Bytes::default();
-        let (tag, number) = outcome_tag(outcome);
+        let (tag, number) = match outcome_tag(outcome) {
+            (tag @ 1..=3, Some(number)) if number == u32::from(stage) => (OWN + tag, None),
+            other => other,
+        };
         item.push(TOLD + tag);
         item.number(u64::from(stage));
         if let Some(number) = number {
@@ -54,15 +68,18 @@ impl Record {
     /// Room grows by a quarter, since there are many records that grow no more.
     #[inline]
     fn write(&mut self, item: &Bytes) {
-        if self.bytes.capacity() - self.bytes.len() < item.length {
+        let length = self.bytes.len() + item.length;
+        if self.bytes.capacity() < self.bytes.len() + item.bytes.len() {
             self.bytes.reserve_exact(64 + self.bytes.len() / 4);
         }
-        self.bytes.extend_from_slice(item.written());
+        // All of an item is copied at once, since so many bytes as are known beforehand take no call.
+        self.bytes.extend_from_slice(&item.bytes);
+        self.bytes.truncate(length);
     }
 
     /// All that was written.
     pub(crate) fn items(&self) -> Items<'_> {
-        Items { bytes: self.bytes.iter(), at: 0 }
+        Items { bytes: self.bytes.iter(), at: 0, attached: 0 }
     }
 }
 
@@ -88,16 +105,12 @@ impl Bytes {
         }
         self.push(number as u8);
     }
-
-    #[inline]
-    fn written(&self) -> &[u8] {
-        &self.bytes[..self.length]
-    }
 }
 
 pub(crate) struct Items<'a> {
     bytes: std::slice::Iter<'a, u8>,
     at: u64,
+    attached: u16,
 }
 
 impl Items<'_> {
@@ -133,6 +146,14 @@ impl Items<'_> {
         Outcome::Fault { cause, wrapped }
     }
 
+    fn told(&mut self, tag: u8, stage: u16) -> Outcome {
+        match tag.checked_sub(OWN) {
+            Some(1) => Outcome::Value(Value::Int(i32::from(stage))),
+            Some(tag) if tag > 1 => Outcome::Fault { cause: Cause::Thrown(u32::from(stage)), wrapped: tag == 3 },
+            _ => self.outcome(tag),
+        }
+    }
+
     fn reply(&mut self, tag: u8) -> Reply {
         match tag {
             0 => Reply::Flag(false),
@@ -148,6 +169,7 @@ impl Items<'_> {
             10 => Reply::Ticked(Ticked::Fired(self.number() as u32)),
             11 => Reply::Attached(None),
             12 => Reply::Attached(Some(self.number() as u16)),
+            NEXT => Reply::Attached(Some(self.attached)),
             16 | 17 => Reply::Claimed(Claimed::Granted(Args::One(self.value(tag == 17)))),
             tag if tag < GOT => {
                 let first = self.value(tag & 1 == 1);
@@ -165,10 +187,12 @@ impl Iterator for Items<'_> {
         let tag = *self.bytes.next()?;
         if tag >= TOLD {
             let stage = self.number() as u16;
-            return Some(Item::Told(stage, self.outcome(tag - TOLD)));
+            return Some(Item::Told(stage, self.told(tag - TOLD, stage)));
         }
         self.at += self.number();
-        Some(Item::Event(self.at, self.reply(tag)))
+        let reply = self.reply(tag);
+        self.attached += u16::from(matches!(reply, Reply::Attached(Some(_))));
+        Some(Item::Event(self.at, reply))
     }
 }
 
@@ -239,6 +263,12 @@ fn number(value: Value) -> Option<u32> {
 mod tests {
     use super::*;
 
+    /// The number of an outcome, where a stage has it.
+    fn own(outcome: Outcome) -> Option<u16> {
+        let number = outcome_tag(outcome).1?;
+        u16::try_from(number).ok()
+    }
+
     #[test]
     fn what_is_written_is_read() {
         let values = [Value::Nil, Value::Int(0), Value::Int(4095), Value::Int(-1), Value::Int(i32::MAX)];
@@ -257,14 +287,17 @@ mod tests {
             replies.extend(values.iter().map(|second| Reply::Claimed(Claimed::Granted(Args::Two(first, *second)))));
         }
         replies.extend(outcomes.iter().map(|outcome| Reply::Claimed(Claimed::Granted(Args::Got(*outcome)))));
+        replies.extend((0..3).map(|_| Reply::Attached(Some(3))));
+        outcomes.push(Outcome::Value(Value::Int(4)));
         let (mut record, mut wanted, mut at) = (Record::default(), Vec::new(), 0);
         for (k, reply) in replies.into_iter().enumerate() {
             at += 1 << (k % 50);
             record.event(at, reply);
             wanted.push(Item::Event(at, reply));
             let outcome = outcomes[k % outcomes.len()];
-            record.told(k as u16 * 60, outcome);
-            wanted.push(Item::Told(k as u16 * 60, outcome));
+            let stage = if k % 3 == 0 { own(outcome).unwrap_or(7) } else { k as u16 * 60 };
+            record.told(stage, outcome);
+            wanted.push(Item::Told(stage, outcome));
         }
         assert_eq!(record.items().collect::<Vec<_>>(), wanted);
         assert_eq!(record.events * 2, wanted.len());

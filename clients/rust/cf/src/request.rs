@@ -3,7 +3,7 @@ use crate::clock::{Clock, SystemClock};
 use crate::core::Core;
 use crate::error::{BoxError, Error, Refusal};
 use crate::history::History;
-use crate::name::Name;
+use crate::name::Made;
 use crate::spawn::{here, Spawn};
 use crate::stage::{sealed::Sealed, AnyStage, Stage};
 use crate::value::{Call, Gave};
@@ -99,7 +99,7 @@ impl Request {
         F: FnOnce() -> U + Send + 'static,
         U: Send + Sync + 'static,
     {
-        self.attach(Form::Supply, &[], Some(Box::new(move |_| Gave::value(f()))), Name::of_function::<F>())
+        self.attach(Form::Supply, &[], Some(Box::new(move |_| Gave::value(f()))), Made::by::<F>())
     }
 
     /// What the function gives, or its error.
@@ -116,7 +116,7 @@ impl Request {
         E: Into<BoxError>,
     {
         let call: Call = Box::new(move |_| Gave::result(f().map_err(|error| Error::of(error.into()))));
-        self.attach(Form::Supply, &[], Some(call), Name::of_function::<F>())
+        self.attach(Form::Supply, &[], Some(call), Made::by::<F>())
     }
 
     /// What the future gives, or its error. It is polled where functions run; a stage that is cancelled or times out drops it.
@@ -132,7 +132,7 @@ impl Request {
         U: Send + Sync + 'static,
         E: Into<BoxError>,
     {
-        self.attach(Form::Supply, &[], Some(Box::new(move |_| later(future))), Name::of_function::<F>())
+        self.attach(Form::Supply, &[], Some(Box::new(move |_| later(future))), Made::by::<F>())
     }
 
     /// What somebody completes it with, who has a clone of it.
@@ -145,7 +145,7 @@ impl Request {
     /// assert_eq!(price.wait().unwrap(), 49);
     /// ```
     pub fn promise<T: Send + Sync + 'static>(&self) -> Stage<T> {
-        self.attach(Form::Source, &[], None, Name::of("promise"))
+        self.attach(Form::Source, &[], None, Made::as_a(|| "promise"))
     }
 
     /// A stage of this request that ends as the given one does, whose request may be another. A stage of this request is given back itself.
@@ -174,7 +174,7 @@ impl Request {
     /// request.all_of([&user as &dyn cf::AnyStage, &price]).wait().unwrap();
     /// ```
     pub fn all_of<'a>(&self, stages: impl IntoIterator<Item = &'a dyn AnyStage>) -> Stage<()> {
-        self.tree(Form::AllOf, stages.into_iter().map(|stage| stage.adopted(self)).collect(), "all of")
+        self.tree(Form::AllOf, stages.into_iter().map(|stage| stage.adopted(self)).collect(), Made::as_a(|| "all of"))
     }
 
     /// What the first has that is settled, be it an error. Of no stages it is never settled. n stages take n - 1.
@@ -185,7 +185,7 @@ impl Request {
     /// assert_eq!(request.first_of(&quotes).wait().unwrap(), 49);
     /// ```
     pub fn first_of<'a, T: Send + Sync + 'static>(&self, stages: impl IntoIterator<Item = &'a Stage<T>>) -> Stage<T> {
-        self.tree(Form::AnyOf, stages.into_iter().map(|stage| stage.adopted(self)).collect(), "first of")
+        self.tree(Form::AnyOf, stages.into_iter().map(|stage| stage.adopted(self)).collect(), Made::as_a(|| "first of"))
     }
 
     /// The values of all, in this order; else as [`all_of`](Request::all_of). n stages take n.
@@ -233,7 +233,7 @@ impl Request {
     }
 
     /// A stage that is attached has at most two sources; a tree of them tells what one stage of all would.
-    fn tree<T: Send + Sync + 'static>(&self, form: Form, row: Vec<Result<u16, Refusal>>, name: &'static str) -> Stage<T> {
+    fn tree<T: Send + Sync + 'static>(&self, form: Form, row: Vec<Result<u16, Refusal>>, made: Made) -> Stage<T> {
         let mut row = match row.into_iter().collect::<Result<Vec<u16>, Refusal>>() {
             Ok(row) => row,
             Err(why) => return Stage::new(&self.0, Err(why)),
@@ -241,18 +241,18 @@ impl Request {
         while row.len() > 2 {
             let pair = |pair: &[u16]| match *pair {
                 [one] => Ok(one),
-                _ => self.0.attach(here(), form, pair, None, Name::of(name)),
+                _ => self.0.attach(here(), form, pair, None, made),
             };
             row = match row.chunks(2).map(pair).collect() {
                 Ok(row) => row,
                 Err(why) => return Stage::new(&self.0, Err(why)),
             };
         }
-        self.attach(form, &row, None, Name::of(name))
+        self.attach(form, &row, None, made)
     }
 
-    fn attach<U>(&self, form: Form, of: &[u16], call: Option<Call>, name: Name) -> Stage<U> {
-        Stage::new(&self.0, self.0.attach(here(), form, of, call, name))
+    fn attach<U>(&self, form: Form, of: &[u16], call: Option<Call>, made: Made) -> Stage<U> {
+        Stage::new(&self.0, self.0.attach(here(), form, of, call, made))
     }
 }
 
@@ -272,7 +272,7 @@ where
 impl fmt::Debug for Request {
     fn fmt(&self, f: &mut fmt::Formatter<'_>) -> fmt::Result {
         let inner = self.0.lock();
-        let settled = inner.slots.iter().filter(|slot| slot.told.is_some()).count();
+        let settled = inner.slots.iter().filter(|slot| slot.is_settled()).count();
         let (stages, events) = (inner.slots.len(), inner.ledger.record.events);
         drop(inner);
         f.debug_struct("Request").field("name", &self.0.name).field("stages", &stages).field("settled", &settled).field("events", &events).finish()

@@ -1,6 +1,5 @@
 //! tokio's threads and its clock.
-use crate::clock::Clock;
-use crate::core::Alarm;
+use crate::clock::{Alarm, Clock};
 use crate::spawn::{Job, Spawn};
 use std::time::Duration;
 use tokio::runtime::Handle;

@@ -1,5 +1,6 @@
 //! Who runs the functions of stages that are ready.
-use crate::core::{Core, Polling};
+use crate::core::Core;
+use crate::task::Polling;
 use std::cell::{Cell, RefCell};
 use std::collections::VecDeque;
 use std::fmt;

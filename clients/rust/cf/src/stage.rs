@@ -1,7 +1,7 @@
 //! A stage of a request: a value that will be there, and a future of it.
 use crate::core::Core;
 use crate::error::{BoxError, Error, Refusal};
-use crate::name::Name;
+use crate::name::Made;
 use crate::request::{later, Request};
 use crate::spawn::{here, run_here, CALLER};
 use crate::value::{self, Call, Gave, Given, Val};
@@ -73,7 +73,7 @@ impl<T> Stage<T> {
     /// ```
     pub fn named(self, name: impl Into<Cow<'static, str>>) -> Stage<T> {
         if let Ok(number) = self.at {
-            self.core.name_stage(number, Name::of(name));
+            self.core.name_stage(number, name.into());
         }
         self
     }
@@ -85,7 +85,7 @@ impl<T> Stage<T> {
     /// assert!(!request.promise::<u32>().is_settled());
     /// ```
     pub fn is_settled(&self) -> bool {
-        self.at.map_or(true, |number| self.core.lock().slot(number).told.is_some())
+        self.at.map_or(true, |number| self.core.lock().slot(number).is_settled())
     }
 
     fn told(&self) -> Option<Result<Val, Error>> {
@@ -157,7 +157,7 @@ impl<T> Stage<T> {
     /// assert_eq!(told.blamed(), price.number());
     /// ```
     pub fn blamed(&self) -> Option<u16> {
-        let told = self.core.lock().slot(self.at.ok()?).told?;
+        let told = self.core.lock().slot(self.at.ok()?).outcome()?;
         match told {
             cf_graph::Outcome::Fault { cause: cf_graph::Cause::Thrown(code), .. } => Some(code as u16),
             _ => None,
@@ -187,6 +187,10 @@ impl<T> Stage<T> {
                 continue;
             }
             while !parked.is_woken.swap(false, Ordering::SeqCst) {
+                #[cfg(test)]
+                if parked.is_searched() {
+                    continue;
+                }
                 match until.map(|until| until.saturating_duration_since(Instant::now())) {
                     None => thread::park(),
                     Some(Duration::ZERO) => return self.told(),
@@ -213,17 +217,17 @@ impl<T> Stage<T> {
 
     // Attaching.
 
-    fn behind<U>(&self, form: Form, call: Call, name: Name) -> Stage<U> {
-        Stage::new(&self.core, self.at.and_then(|number| self.core.attach(here(), form, &[number], Some(call), name)))
+    fn behind<U>(&self, form: Form, call: Call, made: Made) -> Stage<U> {
+        Stage::new(&self.core, self.at.and_then(|number| self.core.attach(here(), form, &[number], Some(call), made)))
     }
 
-    fn behind_both<O: Send + Sync + 'static, U>(&self, form: Form, other: &Stage<O>, call: Call, name: Name) -> Stage<U> {
+    fn behind_both<O: Send + Sync + 'static, U>(&self, form: Form, other: &Stage<O>, call: Call, made: Made) -> Stage<U> {
         let both = self.at.and_then(|first| Ok([first, self.request().adopt(other).at?]));
-        Stage::new(&self.core, both.and_then(|of| self.core.attach(here(), form, &of, Some(call), name)))
+        Stage::new(&self.core, both.and_then(|of| self.core.attach(here(), form, &of, Some(call), made)))
     }
 
-    fn composing<U>(&self, form: Form, call: Call, name: Name) -> Stage<U> {
-        Stage::new(&self.core, self.at.and_then(|number| self.core.attach_composing(here(), form, number, call, name)))
+    fn composing<U>(&self, form: Form, call: Call, made: Made) -> Stage<U> {
+        Stage::new(&self.core, self.at.and_then(|number| self.core.attach_composing(here(), form, number, call, made)))
     }
 }
 
@@ -231,6 +235,14 @@ impl<T> Stage<T> {
 struct Parked {
     thread: Thread,
     is_woken: AtomicBool,
+}
+
+#[cfg(test)]
+impl Parked {
+    fn is_searched(self: &Arc<Parked>) -> bool {
+        let parked = Arc::clone(self);
+        crate::search::rest(move || parked.is_woken.load(Ordering::SeqCst))
+    }
 }
 
 impl Wake for Parked {
@@ -253,7 +265,7 @@ impl<T: Send + Sync + 'static> Stage<T> {
         F: FnOnce(&T) -> U + Send + 'static,
         U: Send + Sync + 'static,
     {
-        self.behind(Form::Apply, Box::new(move |given| Gave::value(f(value::of(&given.one())))), Name::of_function::<F>())
+        self.behind(Form::Apply, Box::new(move |given| Gave::value(f(given.one()))), Made::by::<F>())
     }
 
     /// What the function gives of the value, or its error.
@@ -270,8 +282,8 @@ impl<T: Send + Sync + 'static> Stage<T> {
         U: Send + Sync + 'static,
         E: Into<BoxError>,
     {
-        let call = move |given: Given| Gave::result(f(value::of(&given.one())).map_err(|error| Error::of(error.into())));
-        self.behind(Form::Apply, Box::new(call), Name::of_function::<F>())
+        let call = move |given: &Given| Gave::result(f(given.one()).map_err(|error| Error::of(error.into())));
+        self.behind(Form::Apply, Box::new(call), Made::by::<F>())
     }
 
     /// What the future gives that the function makes of the value. A stage that is cancelled or times out drops it.
@@ -289,7 +301,7 @@ impl<T: Send + Sync + 'static> Stage<T> {
         U: Send + Sync + 'static,
         E: Into<BoxError>,
     {
-        self.behind(Form::Apply, Box::new(move |given| later(f(value::arc_of(given.one())))), Name::of_function::<F>())
+        self.behind(Form::Apply, Box::new(move |given| later(f(given.arc()))), Made::by::<F>())
     }
 
     /// What the stage gives that the function makes of the value: a stage of this request or another. It takes two stages of the request.
@@ -306,7 +318,7 @@ impl<T: Send + Sync + 'static> Stage<T> {
         F: FnOnce(&T) -> Stage<U> + Send + 'static,
         U: Send + Sync + 'static,
     {
-        self.composing(Form::Compose, Box::new(move |given| f(value::of(&given.one())).gave()), Name::of_function::<F>())
+        self.composing(Form::Compose, Box::new(move |given| f(given.one()).gave()), Made::by::<F>())
     }
 
     /// What the function gives of both values. The other stage may be another request's, for which this one takes a stage more.
@@ -323,11 +335,11 @@ impl<T: Send + Sync + 'static> Stage<T> {
         O: Send + Sync + 'static,
         U: Send + Sync + 'static,
     {
-        let call = move |given: Given| {
+        let call = move |given: &Given| {
             let (first, second) = given.two();
-            Gave::value(f(value::of(&first), value::of(&second)))
+            Gave::value(f(first, second))
         };
-        self.behind_both(Form::Combine, other, Box::new(call), Name::of_function::<F>())
+        self.behind_both(Form::Combine, other, Box::new(call), Made::by::<F>())
     }
 
     /// What the function gives of the value that is there first. Where the first that is settled failed, so does this.
@@ -343,7 +355,7 @@ impl<T: Send + Sync + 'static> Stage<T> {
         F: FnOnce(&T) -> U + Send + 'static,
         U: Send + Sync + 'static,
     {
-        self.behind_both(Form::ApplyEither, other, Box::new(move |given| Gave::value(f(value::of(&given.one())))), Name::of_function::<F>())
+        self.behind_both(Form::ApplyEither, other, Box::new(move |given| Gave::value(f(given.one()))), Made::by::<F>())
     }
 
     /// What the function gives of the value or the error.
@@ -359,7 +371,7 @@ impl<T: Send + Sync + 'static> Stage<T> {
         F: FnOnce(Result<&T, &Error>) -> U + Send + 'static,
         U: Send + Sync + 'static,
     {
-        self.behind(Form::Handle, Box::new(move |given| Gave::value(f(given.got().as_ref().map(value::of)))), Name::of_function::<F>())
+        self.behind(Form::Handle, Box::new(move |given| Gave::value(f(given.got().map(value::of)))), Made::by::<F>())
     }
 
     /// The same value or error, once the function was called with it. A panic of the function counts where there was a value.
@@ -374,11 +386,11 @@ impl<T: Send + Sync + 'static> Stage<T> {
     where
         F: FnOnce(Result<&T, &Error>) + Send + 'static,
     {
-        let call = move |given: Given| {
-            f(given.got().as_ref().map(value::of));
-            Gave::Nil
+        let call = move |given: &Given| {
+            f(given.got().map(value::of));
+            Gave::Value(Val::Nil)
         };
-        self.behind(Form::WhenComplete, Box::new(call), Name::of_function::<F>())
+        self.behind(Form::WhenComplete, Box::new(call), Made::by::<F>())
     }
 
     /// The value, or what the function gives of the error.
@@ -393,11 +405,11 @@ impl<T: Send + Sync + 'static> Stage<T> {
     where
         F: FnOnce(&Error) -> T + Send + 'static,
     {
-        let call = move |given: Given| match given.got() {
-            Ok(value) => Gave::Value(value),
-            Err(error) => Gave::value(f(&error)),
+        let call = move |given: &Given| match given.got() {
+            Ok(value) => Gave::Value(value.clone()),
+            Err(error) => Gave::value(f(error)),
         };
-        self.behind(Form::Exceptionally, Box::new(call), Name::of_function::<F>())
+        self.behind(Form::Exceptionally, Box::new(call), Made::by::<F>())
     }
 
     /// The value, or what the stage gives that the function makes of the error. It takes two stages of the request.
@@ -413,11 +425,11 @@ impl<T: Send + Sync + 'static> Stage<T> {
     where
         F: FnOnce(&Error) -> Stage<T> + Send + 'static,
     {
-        let call = move |given: Given| match given.got() {
-            Ok(value) => Gave::Value(value),
-            Err(error) => f(&error).gave(),
+        let call = move |given: &Given| match given.got() {
+            Ok(value) => Gave::Value(value.clone()),
+            Err(error) => f(error).gave(),
         };
-        self.composing(Form::ExceptionallyCompose, Box::new(call), Name::of_function::<F>())
+        self.composing(Form::ExceptionallyCompose, Box::new(call), Made::by::<F>())
     }
 
     // Who settles it.
@@ -439,7 +451,7 @@ impl<T: Send + Sync + 'static> Stage<T> {
             Ok(number) => number,
             Err(_) => return Err(value),
         };
-        match self.core.settle(here(), number, Ok(Arc::new(value))) {
+        match self.core.settle(here(), number, Ok(Val::of(value))) {
             Ok(()) => Ok(()),
             Err(back) => {
                 let back: Arc<T> = value::arc_of(back.unwrap_or_else(|_| unreachable!("a value was handed in")));
@@ -457,7 +469,7 @@ impl<T: Send + Sync + 'static> Stage<T> {
     /// ```
     pub fn complete_on_timeout(self, value: T, wait: Duration) -> Stage<T> {
         if let Ok(number) = self.at {
-            self.core.after(wait, number, Some(Arc::new(value)));
+            self.core.after(wait, number, Some(Val::of(value)));
         }
         self
     }
@@ -621,8 +633,8 @@ impl<T> fmt::Debug for Stage<T> {
             Ok(number) => number,
             Err(why) => return write!(f, "Stage(refused: {why})"),
         };
-        let mut inner = self.core.lock();
-        let (name, told) = (inner.slot(number).name.clone(), inner.told(number));
+        let inner = self.core.lock();
+        let (name, told) = (inner.name(number), inner.told(number));
         drop(inner);
         match told {
             None => write!(f, "Stage({number} {name}, pending)"),

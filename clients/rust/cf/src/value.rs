@@ -1,13 +1,57 @@
 //! What functions are called with and give, whatever its type.
 use crate::core::Core;
 use crate::error::Error;
-use std::any::{Any, TypeId};
+use std::any::Any;
 use std::future::Future;
 use std::pin::Pin;
 use std::sync::Arc;
 
-/// A value of any type.
-pub(crate) type Val = Arc<dyn Any + Send + Sync>;
+macro_rules! values {
+    ($($kind:ident $type:ty),*) => {
+        /// A value of any type. Numbers and the like are kept in place, and take no memory of their own.
+        #[derive(Clone)]
+        pub(crate) enum Val {
+            Nil,
+            $($kind($type),)*
+            Shared(Arc<dyn Any + Send + Sync>),
+        }
+
+        impl Val {
+            #[inline]
+            pub(crate) fn of<T: Send + Sync + 'static>(value: T) -> Val {
+                let any: &dyn Any = &value;
+                if any.is::<()>() {
+                    return Val::Nil;
+                }
+                $(
+                    if let Some(small) = any.downcast_ref::<$type>() {
+                        return Val::$kind(*small);
+                    }
+                )*
+                Val::Shared(Arc::new(value))
+            }
+
+            #[inline]
+            pub(crate) fn any(&self) -> &dyn Any {
+                match self {
+                    Val::Nil => &(),
+                    $(Val::$kind(small) => small,)*
+                    Val::Shared(value) => &**value,
+                }
+            }
+
+            fn shared(self) -> Arc<dyn Any + Send + Sync> {
+                match self {
+                    Val::Nil => Arc::new(()),
+                    $(Val::$kind(small) => Arc::new(small),)*
+                    Val::Shared(value) => value,
+                }
+            }
+        }
+    };
+}
+
+values!(Bool bool, Char char, I8 i8, U8 u8, I16 i16, U16 u16, I32 i32, U32 u32, I64 i64, U64 u64, Isize isize, Usize usize, F32 f32, F64 f64);
 
 /// What a function is called with.
 pub(crate) enum Given {
@@ -17,9 +61,8 @@ pub(crate) enum Given {
     Got(Result<Val, Error>),
 }
 
-/// What a function gave. Nil stands for `()`, which needs no memory.
+/// What a function gave.
 pub(crate) enum Gave {
-    Nil,
     Value(Val),
     Error(Error),
     /// A stage, of this request or another, whose outcome is taken.
@@ -30,16 +73,13 @@ pub(crate) enum Gave {
 
 pub(crate) type Later = Pin<Box<dyn Future<Output = Gave> + Send>>;
 
-/// A stage's function.
-pub(crate) type Call = Box<dyn FnOnce(Given) -> Gave + Send>;
+/// A stage's function. What it is called with stays with the worker, for whom the next stage may be called with the same.
+pub(crate) type Call = Box<dyn FnOnce(&Given) -> Gave + Send>;
 
 impl Gave {
+    #[inline]
     pub(crate) fn value<U: Send + Sync + 'static>(value: U) -> Gave {
-        if TypeId::of::<U>() == TypeId::of::<()>() {
-            Gave::Nil
-        } else {
-            Gave::Value(Arc::new(value))
-        }
+        Gave::Value(Val::of(value))
     }
 
     pub(crate) fn result<U: Send + Sync + 'static>(result: Result<U, Error>) -> Gave {
@@ -51,32 +91,41 @@ impl Gave {
 }
 
 /// The value of a stage, whose type the stage's own type says.
+#[inline]
 pub(crate) fn of<T: 'static>(value: &Val) -> &T {
-    value.downcast_ref().expect("a stage's value is of its type")
+    value.any().downcast_ref().expect("a stage's value is of its type")
 }
 
 pub(crate) fn arc_of<T: Send + Sync + 'static>(value: Val) -> Arc<T> {
-    value.downcast().unwrap_or_else(|_| unreachable!("a stage's value is of its type"))
+    value.shared().downcast().unwrap_or_else(|_| unreachable!("a stage's value is of its type"))
 }
 
 impl Given {
-    pub(crate) fn one(self) -> Val {
+    #[inline]
+    pub(crate) fn one<T: 'static>(&self) -> &T {
         match self {
-            Given::One(value) | Given::Got(Ok(value)) => value,
+            Given::One(value) | Given::Got(Ok(value)) => of(value),
             _ => unreachable!("the stage's form has one value"),
         }
     }
 
-    pub(crate) fn two(self) -> (Val, Val) {
+    pub(crate) fn arc<T: Send + Sync + 'static>(&self) -> Arc<T> {
         match self {
-            Given::Two(first, second) => (first, second),
+            Given::One(value) => arc_of(value.clone()),
+            _ => unreachable!("the stage's form has one value"),
+        }
+    }
+
+    pub(crate) fn two<T: 'static, U: 'static>(&self) -> (&T, &U) {
+        match self {
+            Given::Two(first, second) => (of(first), of(second)),
             _ => unreachable!("the stage's form has two values"),
         }
     }
 
-    pub(crate) fn got(self) -> Result<Val, Error> {
+    pub(crate) fn got(&self) -> Result<&Val, &Error> {
         match self {
-            Given::Got(got) => got,
+            Given::Got(got) => got.as_ref(),
             _ => unreachable!("the stage's form has an outcome"),
         }
     }

@@ -184,7 +184,10 @@ fn threads_are_woken() {
                     let mut handle = stage.clone();
                     let _ = Pin::new(&mut handle).poll(&mut Context::from_waker(&Waker::from(Arc::clone(&bell))));
                 }
-                assert_eq!(Arc::strong_count(&bell), 1);
+                // Who completes it may still be about to wake.
+                while Arc::strong_count(&bell) > 1 {
+                    std::thread::yield_now();
+                }
             });
             scope.spawn(|| stage.complete(round).unwrap());
             for wait in waits {

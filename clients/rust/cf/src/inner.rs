@@ -1,0 +1,453 @@
+//! What stands under a request's lock: the library's ledger, and what its numbers stand for.
+//!
+//! Each change is one word that the ledger does. What the word changed comes with its reply, and is written where polls read it under the same
+//! hold: nobody reads what lies behind what he was told. Nothing here says who wins, what is ready or what follows.
+//!
+//! A value's number is that of the stage that gave it, and so is an error's.
+use crate::core::Core;
+use crate::error::{Error, Refusal};
+use crate::ledger::Ledger;
+use crate::name::Made;
+use crate::slot::{Held, Slot};
+use crate::spawn::RELAY;
+use crate::task::Task;
+use crate::value::{Call, Gave, Given, Val};
+use crate::wakers::Wakers;
+use crate::word::{self, Form, CANCEL, COMPLETE, FAIL, FINISH, LINKS, SOME, THROWS};
+use cf_graph::{Answer, Args, Cause, Changes, Finished, Outcome, Reply, State, Value};
+use std::borrow::Cow;
+use std::cell::RefCell;
+use std::collections::BTreeMap;
+use std::mem::{replace, take};
+use std::sync::Arc;
+use std::task::Waker;
+use std::time::Duration;
+
+pub(crate) struct Inner {
+    pub(crate) ledger: Ledger,
+    pub(crate) slots: Vec<Slot>,
+    /// The names that were given to stages.
+    pub(crate) names: BTreeMap<u16, Cow<'static, str>>,
+    /// Which stage each relay of this request stands for.
+    pub(crate) relays: Vec<(u16, u16)>,
+    /// The handles that wait for a stage.
+    pub(crate) waiting: Wakers,
+    /// Workers that wait for a stage of this request, and could run functions meanwhile.
+    pub(crate) helpers: Vec<Waker>,
+    /// Jobs that were asked for and aren't done, and those of them that haven't begun.
+    pub(crate) jobs: usize,
+    pub(crate) coming: usize,
+    /// How many stages are told to be ready, no one of them below this number, and whether one has become so under this hold.
+    ready: usize,
+    from: u16,
+    is_more: bool,
+    /// What few stages have.
+    extras: BTreeMap<u16, Extra>,
+    /// Relays that are to be settled as these stages were, before the lock is free.
+    relaying: Vec<(u16, u16)>,
+}
+
+#[derive(Default)]
+pub(crate) struct Extra {
+    pub(crate) task: Option<Arc<Task>>,
+    /// Relays, of this request or others, that are settled as this one is.
+    pub(crate) feeds: Vec<(Arc<Core>, u16)>,
+}
+
+/// What a hold of the lock changed, and what is to be told once the lock is free.
+#[derive(Default)]
+pub(crate) struct After {
+    changes: Changes,
+    pub(crate) wakers: Vec<Waker>,
+    pub(crate) dropped: Vec<Held>,
+    pub(crate) feeds: Vec<(Arc<Core>, u16, Result<Val, Error>)>,
+    pub(crate) tasks: Vec<Arc<Task>>,
+    /// A stage, and the relay that is to be settled as it is.
+    pub(crate) links: Vec<(Arc<Core>, u16, u16)>,
+    pub(crate) jobs: usize,
+}
+
+/// What a worker is to do: a stage that it has claimed, its function, and what that is called with.
+pub(crate) type Todo = (u16, Call, Args);
+
+thread_local! {
+    /// What this thread has told of all, to be used again. One is large, so they are handed on behind a pointer.
+    #[allow(clippy::vec_box)]
+    static TOLD: RefCell<Vec<Box<After>>> = const { RefCell::new(Vec::new()) };
+}
+
+impl After {
+    /// Nothing, with room that was there before.
+    #[inline]
+    pub(crate) fn nothing() -> Box<After> {
+        TOLD.try_with(|told| told.borrow_mut().pop()).ok().flatten().unwrap_or_default()
+    }
+
+    /// Keeps the room of what was told of all.
+    #[inline]
+    pub(crate) fn keep(self: Box<After>) {
+        let _ = TOLD.try_with(|told| told.borrow_mut().push(self));
+    }
+
+    #[inline]
+    pub(crate) fn is_empty(&self) -> bool {
+        let ends = self.tasks.is_empty() && self.feeds.is_empty() && self.links.is_empty() && self.dropped.is_empty();
+        self.jobs == 0 && self.wakers.is_empty() && ends
+    }
+}
+
+impl Inner {
+    pub(crate) fn new(room: u16) -> Result<Inner, Refusal> {
+        Ok(Inner {
+            ledger: Ledger::new(room)?,
+            slots: Vec::new(),
+            names: BTreeMap::new(),
+            relays: Vec::new(),
+            waiting: Wakers::default(),
+            helpers: Vec::new(),
+            jobs: 0,
+            coming: 0,
+            ready: 0,
+            from: 0,
+            is_more: false,
+            extras: BTreeMap::new(),
+            relaying: Vec::new(),
+        })
+    }
+
+    #[inline]
+    pub(crate) fn slot(&mut self, stage: u16) -> &mut Slot {
+        &mut self.slots[usize::from(stage)]
+    }
+
+    pub(crate) fn name(&self, stage: u16) -> String {
+        self.names.get(&stage).map_or_else(|| self.slots[usize::from(stage)].made.to_string(), |name| name.to_string())
+    }
+
+    pub(crate) fn extra(&mut self, stage: u16) -> &mut Extra {
+        self.extras.entry(stage).or_default()
+    }
+
+    /// What a stage is settled with, as the ledger told it.
+    #[inline]
+    pub(crate) fn told(&self, stage: u16) -> Option<Result<Val, Error>> {
+        self.slots[usize::from(stage)].outcome().map(|outcome| self.outcome(outcome))
+    }
+
+    fn outcome(&self, outcome: Outcome) -> Result<Val, Error> {
+        match outcome {
+            Outcome::Value(value) => Ok(self.value(value)),
+            Outcome::Fault { cause, .. } => Err(match cause {
+                Cause::Thrown(code) => self.slots[code as usize].error().expect("the stage failed").clone(),
+                Cause::Cancelled => Error::Cancelled,
+                Cause::TimedOut => Error::TimedOut(Duration::ZERO),
+                Cause::BadAnswer => Error::BadAnswer,
+            }),
+        }
+    }
+
+    #[inline]
+    fn value(&self, value: Value) -> Val {
+        match value {
+            Value::Nil => Val::Nil,
+            Value::Int(number) => self.slots[number as usize].value().expect("the stage gave a value").clone(),
+        }
+    }
+
+    /// What a function is called with.
+    #[inline]
+    pub(crate) fn given(&self, args: Args) -> Given {
+        match args {
+            Args::None => Given::Nothing,
+            Args::One(value) => Given::One(self.value(value)),
+            Args::Two(first, second) => Given::Two(self.value(first), self.value(second)),
+            Args::Got(outcome) => Given::Got(self.outcome(outcome)),
+        }
+    }
+
+    // Changes.
+
+    #[allow(clippy::too_many_arguments)]
+    pub(crate) fn attach(
+        &mut self,
+        core: &Arc<Core>,
+        who: u8,
+        form: Form,
+        of: &[u16],
+        call: Option<Call>,
+        made: Made,
+        after: &mut After,
+    ) -> Result<u16, Refusal> {
+        match self.ledger.attach(who, form, of, call.is_some(), &mut after.changes) {
+            Ok(stage) => {
+                self.slots.push(Slot::new(made, call));
+                self.show(core, after);
+                Ok(stage)
+            }
+            Err(why) => {
+                after.dropped.extend(call.map(Held::Call));
+                Err(why)
+            }
+        }
+    }
+
+    pub(crate) fn settle(
+        &mut self,
+        core: &Arc<Core>,
+        who: u8,
+        stage: u16,
+        with: Result<Val, Error>,
+        after: &mut After,
+    ) -> Result<(), Result<Val, Error>> {
+        let number = u64::from(stage);
+        let (kind, tail, holds) = match with {
+            Ok(Val::Nil) => (COMPLETE, 0, Held::Nothing),
+            Ok(value) => (COMPLETE, SOME | number, Held::Value(value)),
+            Err(Error::Cancelled) => (CANCEL, 0, Held::Nothing),
+            Err(error) => (FAIL, number, Held::Error(Box::new(error))),
+        };
+        if matches!(self.act(word::of(kind, who, stage, tail), after), Reply::Flag(true)) {
+            self.hold(stage, holds, after);
+            self.show(core, after);
+            return Ok(());
+        }
+        Err(match holds {
+            Held::Value(value) => Ok(value),
+            Held::Error(error) => Err(*error),
+            _ if kind == CANCEL => Err(Error::Cancelled),
+            _ => Ok(Val::Nil),
+        })
+    }
+
+    #[inline]
+    fn act(&mut self, word: u64, after: &mut After) -> Reply {
+        self.ledger.act(word, &mut after.changes)
+    }
+
+    /// Keeps what a stage was settled with, unless it was cancelled again, or has nothing to keep.
+    #[inline]
+    fn hold(&mut self, stage: u16, holds: Held, after: &mut After) {
+        let slot = self.slot(stage);
+        if !slot.is_settled() {
+            let old = replace(&mut slot.held, holds);
+            if let Held::Call(_) = old {
+                after.dropped.push(old);
+            }
+        }
+    }
+
+    /// Shows what the last word changed: which stages are ready, and which are settled.
+    #[inline]
+    fn show(&mut self, core: &Arc<Core>, after: &mut After) {
+        for at in 0..after.changes.len() {
+            let news = after.changes.at(at);
+            match news.now.state {
+                State::Ready => self.set_ready(news.stage),
+                State::Settled(outcome) => self.settled(core, news.stage, outcome, after),
+                State::Pending | State::Claimed | State::Linked(_) => {}
+            }
+        }
+    }
+
+    #[inline]
+    fn set_ready(&mut self, stage: u16) {
+        self.slot(stage).set_ready(true);
+        self.ready += 1;
+        self.from = self.from.min(stage);
+        self.is_more = true;
+    }
+
+    #[inline]
+    fn set_unready(&mut self, stage: u16) {
+        let slot = self.slot(stage);
+        if slot.is_ready() {
+            slot.set_ready(false);
+            self.ready -= 1;
+        }
+    }
+
+    /// A stage is told to be settled. A second time that is told where only the claim of it has ended.
+    #[inline]
+    fn settled(&mut self, core: &Arc<Core>, stage: u16, outcome: Outcome, after: &mut After) {
+        self.set_unready(stage);
+        let slot = &mut self.slots[usize::from(stage)];
+        if slot.is_settled() {
+            return;
+        }
+        slot.settle(outcome);
+        self.ledger.told(stage, outcome);
+        if let Held::Call(_) = slot.held {
+            after.dropped.push(replace(&mut slot.held, Held::Nothing));
+        }
+        if slot.waits > 0 {
+            self.waiting.take(&mut slot.waits, &mut after.wakers);
+        }
+        if !self.extras.is_empty() {
+            self.settled_extra(core, stage, outcome, after);
+        }
+    }
+
+    fn settled_extra(&mut self, core: &Arc<Core>, stage: u16, outcome: Outcome, after: &mut After) {
+        let extra = self.extras.remove(&stage).unwrap_or_default();
+        after.tasks.extend(extra.task);
+        for (to, relay) in extra.feeds {
+            if Arc::ptr_eq(&to, core) {
+                self.relaying.push((relay, stage));
+            } else {
+                after.feeds.push((to, relay, self.outcome(outcome)));
+            }
+        }
+    }
+
+    /// Settles relays of this request as the stages are for which they stand.
+    #[inline]
+    pub(crate) fn relay(&mut self, core: &Arc<Core>, after: &mut After) {
+        if !self.relaying.is_empty() {
+            self.relay_all(core, after);
+        }
+    }
+
+    fn relay_all(&mut self, core: &Arc<Core>, after: &mut After) {
+        while let Some((relay, stage)) = self.relaying.pop() {
+            let outcome = self.slot(stage).outcome().expect("the stage is settled");
+            let (kind, tail) = match outcome {
+                Outcome::Value(Value::Nil) => (COMPLETE, 0),
+                Outcome::Value(Value::Int(number)) => (COMPLETE, SOME | u64::from(number as u32)),
+                Outcome::Fault { cause: Cause::Thrown(code), .. } => (FAIL, u64::from(code)),
+                Outcome::Fault { cause: Cause::Cancelled, .. } => (CANCEL, 0),
+                Outcome::Fault { .. } => {
+                    let _ = self.settle(core, RELAY, relay, Err(Error::BadAnswer), after);
+                    continue;
+                }
+            };
+            self.act(word::of(kind, RELAY, relay, tail), after);
+            self.show(core, after);
+        }
+    }
+
+    // Working.
+
+    /// A step of a worker: what it has to do next, if something is ready. Before that it finishes what it did.
+    #[inline]
+    pub(crate) fn step(&mut self, core: &Arc<Core>, who: u8, ended: Option<(u16, Gave)>, after: &mut After) -> Option<Todo> {
+        let (held, holds) = match ended {
+            Some((stage, Gave::Stage(of, target))) => {
+                self.link(core, who, stage, of, target, after);
+                (None, Held::Nothing)
+            }
+            Some((stage, gave)) => {
+                let (answer, holds) = answered(stage, gave);
+                (Some((stage, answer)), holds)
+            }
+            None => (None, Held::Nothing),
+        };
+        if held.is_none() && self.ready == 0 {
+            return None;
+        }
+        // What a finish makes ready is above it.
+        let from = held.map_or(self.from, |(stage, _)| self.from.min(stage + 1));
+        let (finished, taken) = self.ledger.step(who, held, from, &mut after.changes);
+        if let (Some(finished), Some((stage, _))) = (finished, held) {
+            self.ended(core, stage, finished, holds, after);
+        }
+        let (stage, args) = match taken {
+            Some(taken) => taken,
+            None => {
+                debug_assert_eq!(self.ready, 0);
+                self.from = u16::MAX;
+                return None;
+            }
+        };
+        self.ledger.claimed(args);
+        self.set_unready(stage);
+        self.from = stage + 1;
+        match replace(&mut self.slot(stage).held, Held::Nothing) {
+            Held::Call(call) => Some((stage, call, args)),
+            _ => unreachable!("a stage that is ready has its function"),
+        }
+    }
+
+    pub(crate) fn finish(&mut self, core: &Arc<Core>, who: u8, stage: u16, gave: Gave, after: &mut After) {
+        if let Gave::Stage(of, target) = gave {
+            return self.link(core, who, stage, of, target, after);
+        }
+        let (answer, holds) = answered(stage, gave);
+        let tail = match answer {
+            Answer::Give(Value::Nil) => 0,
+            Answer::Give(Value::Int(number)) => SOME | u64::from(number as u32),
+            Answer::Throw(code) => THROWS | u64::from(code),
+            Answer::Link(target) => LINKS | u64::from(target),
+        };
+        if let Reply::Finished(finished) = self.act(word::of(FINISH, who, stage, tail), after) {
+            self.ended(core, stage, finished, holds, after);
+        }
+    }
+
+    /// A function's answer was taken, or came too late.
+    #[inline]
+    fn ended(&mut self, core: &Arc<Core>, stage: u16, finished: Finished, holds: Held, after: &mut After) {
+        match (finished, holds) {
+            (Finished::Won, holds) => self.hold(stage, holds, after),
+            (_, Held::Nothing) => {}
+            (_, late) => after.dropped.push(late),
+        }
+        self.show(core, after);
+    }
+
+    /// Finishes a composing stage with a link to the stage that its function gave, or to the relay that stands for that.
+    fn link(&mut self, core: &Arc<Core>, who: u8, stage: u16, of: Arc<Core>, number: u16, after: &mut After) {
+        let is_own = Arc::ptr_eq(core, &of);
+        let relay = stage - 1;
+        let target = if is_own && number < stage { number } else { relay };
+        let reply = self.act(word::of(FINISH, who, stage, LINKS | u64::from(target)), after);
+        self.show(core, after);
+        if reply != Reply::Finished(Finished::Won) || (is_own && target == number) {
+            return;
+        }
+        if !is_own {
+            self.names.insert(target, format!("relay of {number} of {}", of.name).into());
+            after.links.push((of, number, target));
+            return;
+        }
+        self.names.insert(target, format!("relay of {number}").into());
+        self.relays.push((target, number));
+        if self.slot(number).is_settled() {
+            self.relaying.push((target, number));
+        } else {
+            self.extra(number).feeds.push((of, target));
+        }
+    }
+
+    /// Asks for one more job where more stages are ready than jobs come for, and wakes workers that only wait. A job that begins asks for the
+    /// next one, so nobody wakes many.
+    #[inline]
+    pub(crate) fn hire(&mut self, most: usize, begins: bool, after: &mut After) {
+        if take(&mut self.is_more) {
+            after.wakers.append(&mut self.helpers);
+        } else if !begins {
+            return;
+        }
+        if self.ready > self.coming && self.jobs < most {
+            self.jobs += 1;
+            self.coming += 1;
+            after.jobs += 1;
+        }
+    }
+
+    /// The stages that are ready, if no job is there that would run them.
+    pub(crate) fn given_up(&self) -> Vec<u16> {
+        let all = 0..self.slots.len() as u16;
+        all.filter(|stage| self.jobs == 0 && self.slots[usize::from(*stage)].is_ready()).collect()
+    }
+}
+
+/// A function's answer as the ledger has it, and what is kept of it.
+#[inline]
+fn answered(stage: u16, gave: Gave) -> (Answer, Held) {
+    match gave {
+        Gave::Value(Val::Nil) => (Answer::Give(Value::Nil), Held::Nothing),
+        Gave::Value(value) => (Answer::Give(Value::Int(i32::from(stage))), Held::Value(value)),
+        Gave::Error(error) => (Answer::Throw(u32::from(stage)), Held::Error(Box::new(error))),
+        Gave::Stage(..) | Gave::Later(_) => unreachable!("a link and what comes later are no answers"),
+    }
+}

@@ -1,0 +1,146 @@
+//! What a stage's number stands for.
+use crate::error::Error;
+use crate::name::Made;
+use crate::value::{Call, Val};
+use cf_graph::{Cause, Outcome, Value};
+
+pub(crate) struct Slot {
+    pub(crate) made: Made,
+    pub(crate) held: Held,
+    /// The first of the handles that wait for it.
+    pub(crate) waits: u32,
+    /// What the ledger told of it, and the number that belongs to that: the stage from which a value or an error came.
+    told: Told,
+    number: u16,
+}
+
+/// A function to be called, and then what that gave.
+pub(crate) enum Held {
+    Nothing,
+    Call(Call),
+    Value(Val),
+    Error(Box<Error>),
+}
+
+#[derive(Clone, Copy, PartialEq, Eq)]
+enum Told {
+    Waits,
+    Ready,
+    Nil,
+    Value,
+    Fault(Fault),
+    Wrapped(Fault),
+}
+
+#[derive(Clone, Copy, PartialEq, Eq)]
+enum Fault {
+    Thrown,
+    Cancelled,
+    TimedOut,
+    BadAnswer,
+}
+
+impl Slot {
+    pub(crate) fn new(made: Made, call: Option<Call>) -> Slot {
+        Slot { made, held: call.map_or(Held::Nothing, Held::Call), waits: 0, told: Told::Waits, number: 0 }
+    }
+
+    /// Whether it was told to be ready, and nobody has claimed it.
+    #[inline]
+    pub(crate) fn is_ready(&self) -> bool {
+        self.told == Told::Ready
+    }
+
+    #[inline]
+    pub(crate) fn set_ready(&mut self, is_ready: bool) {
+        self.told = if is_ready { Told::Ready } else { Told::Waits };
+    }
+
+    #[inline]
+    pub(crate) fn is_settled(&self) -> bool {
+        !matches!(self.told, Told::Waits | Told::Ready)
+    }
+
+    /// Keeps what it was settled with.
+    #[inline]
+    pub(crate) fn settle(&mut self, outcome: Outcome) {
+        (self.told, self.number) = match outcome {
+            Outcome::Value(Value::Nil) => (Told::Nil, 0),
+            Outcome::Value(Value::Int(number)) => (Told::Value, number as u16),
+            Outcome::Fault { cause, wrapped } => {
+                let (fault, number) = match cause {
+                    Cause::Thrown(code) => (Fault::Thrown, code as u16),
+                    Cause::Cancelled => (Fault::Cancelled, 0),
+                    Cause::TimedOut => (Fault::TimedOut, 0),
+                    Cause::BadAnswer => (Fault::BadAnswer, 0),
+                };
+                (if wrapped { Told::Wrapped(fault) } else { Told::Fault(fault) }, number)
+            }
+        };
+    }
+
+    /// What it was settled with.
+    #[inline]
+    pub(crate) fn outcome(&self) -> Option<Outcome> {
+        let (fault, wrapped) = match self.told {
+            Told::Waits | Told::Ready => return None,
+            Told::Nil => return Some(Outcome::Value(Value::Nil)),
+            Told::Value => return Some(Outcome::Value(Value::Int(i32::from(self.number)))),
+            Told::Fault(fault) => (fault, false),
+            Told::Wrapped(fault) => (fault, true),
+        };
+        let cause = match fault {
+            Fault::Thrown => Cause::Thrown(u32::from(self.number)),
+            Fault::Cancelled => Cause::Cancelled,
+            Fault::TimedOut => Cause::TimedOut,
+            Fault::BadAnswer => Cause::BadAnswer,
+        };
+        Some(Outcome::Fault { cause, wrapped })
+    }
+
+    /// The error that it holds, if it is the one that failed first.
+    pub(crate) fn error(&self) -> Option<&Error> {
+        match &self.held {
+            Held::Error(error) => Some(error),
+            _ => None,
+        }
+    }
+
+    /// The value that it gave.
+    #[inline]
+    pub(crate) fn value(&self) -> Option<&Val> {
+        match &self.held {
+            Held::Value(value) => Some(value),
+            _ => None,
+        }
+    }
+}
+
+#[cfg(test)]
+mod tests {
+    use super::*;
+
+    #[test]
+    fn a_slot_is_small() {
+        assert_eq!(std::mem::size_of::<Slot>(), 48);
+    }
+
+    #[test]
+    fn what_is_settled_is_told() {
+        let mut slot = Slot::new(Made::as_a(|| "tested"), None);
+        assert!(!slot.is_settled() && !slot.is_ready() && slot.outcome().is_none());
+        slot.set_ready(true);
+        assert!(!slot.is_settled() && slot.is_ready() && slot.outcome().is_none());
+        let mut outcomes = vec![Outcome::Value(Value::Nil), Outcome::Value(Value::Int(0)), Outcome::Value(Value::Int(4095))];
+        for wrapped in [false, true] {
+            for cause in [Cause::Thrown(0), Cause::Thrown(4095), Cause::Cancelled, Cause::TimedOut, Cause::BadAnswer] {
+                outcomes.push(Outcome::Fault { cause, wrapped });
+            }
+        }
+        for outcome in outcomes {
+            slot.settle(outcome);
+            assert!(slot.is_settled() && !slot.is_ready());
+            assert_eq!(slot.outcome(), Some(outcome));
+        }
+    }
+}

@@ -1,0 +1,145 @@
+//! Who waits for the stages of a request.
+use std::mem::take;
+use std::task::Waker;
+
+/// The wakers of handles that wait: for each stage a row, of which the stage has the first place. Places are numbered from 1 on, and those
+/// that are free stand in a row, too; 0 is no place.
+#[derive(Default)]
+pub(crate) struct Wakers {
+    places: Vec<Place>,
+    free: u32,
+}
+
+struct Place {
+    waker: Option<Waker>,
+    before: u32,
+    next: u32,
+}
+
+impl Wakers {
+    #[inline]
+    fn place(&mut self, number: u32) -> &mut Place {
+        &mut self.places[number as usize - 1]
+    }
+
+    /// Keeps a waker at the front of a row. Its place.
+    pub(crate) fn keep(&mut self, first: &mut u32, waker: Waker) -> u32 {
+        let place = Place { waker: Some(waker), before: 0, next: *first };
+        let number = match self.free {
+            0 => {
+                self.places.push(place);
+                self.places.len() as u32
+            }
+            free => {
+                self.free = self.place(free).next;
+                *self.place(free) = place;
+                free
+            }
+        };
+        if *first > 0 {
+            self.place(*first).before = number;
+        }
+        *first = number;
+        number
+    }
+
+    /// Whether the waker at a place does what this one does.
+    pub(crate) fn will_wake(&mut self, number: u32, waker: &Waker) -> bool {
+        self.place(number).waker.as_ref().map_or(false, |kept| kept.will_wake(waker))
+    }
+
+    /// Keeps another waker at a place, and gives back the one that was there.
+    pub(crate) fn replace(&mut self, number: u32, waker: Waker) -> Option<Waker> {
+        self.place(number).waker.replace(waker)
+    }
+
+    /// Takes a place out of its row, and gives back its waker.
+    pub(crate) fn forget(&mut self, first: &mut u32, number: u32) -> Option<Waker> {
+        let Place { waker, before, next } = self.place(number);
+        let (waker, before, next) = (waker.take(), *before, *next);
+        match before {
+            0 => *first = next,
+            before => self.place(before).next = next,
+        }
+        if next > 0 {
+            self.place(next).before = before;
+        }
+        self.set_free(number);
+        waker
+    }
+
+    /// Takes all wakers of a row.
+    #[inline]
+    pub(crate) fn take(&mut self, first: &mut u32, to: &mut Vec<Waker>) {
+        let mut number = take(first);
+        while number > 0 {
+            let place = self.place(number);
+            to.extend(place.waker.take());
+            let next = place.next;
+            self.set_free(number);
+            number = next;
+        }
+    }
+
+    fn set_free(&mut self, number: u32) {
+        self.place(number).next = std::mem::replace(&mut self.free, number);
+    }
+}
+
+#[cfg(test)]
+mod tests {
+    use super::*;
+    use std::sync::atomic::{AtomicUsize, Ordering};
+    use std::sync::Arc;
+    use std::task::Wake;
+
+    struct Bell(AtomicUsize);
+
+    impl Wake for Bell {
+        fn wake(self: Arc<Bell>) {
+            self.0.fetch_add(1, Ordering::SeqCst);
+        }
+    }
+
+    /// Rows of two stages, to which places come and from which they go, beside lists of the same.
+    #[test]
+    fn rows_hold_what_was_kept() {
+        let (mut wakers, mut firsts, mut kept) = (Wakers::default(), [0, 0], [Vec::new(), Vec::new()]);
+        let mut dice = 7_u64;
+        for _ in 0..3000 {
+            dice = dice.wrapping_mul(6364136223846793005).wrapping_add(1442695040888963407);
+            let (row, what, at) = ((dice >> 40) as usize % 2, (dice >> 50) % 8, (dice >> 33) as usize);
+            match what {
+                0..=3 => {
+                    let bell = Arc::new(Bell(AtomicUsize::new(0)));
+                    let number = wakers.keep(&mut firsts[row], Waker::from(Arc::clone(&bell)));
+                    kept[row].push((number, bell));
+                }
+                4 if !kept[row].is_empty() => {
+                    let at = at % kept[row].len();
+                    let (bell, waker) = (Arc::new(Bell(AtomicUsize::new(0))), kept[row][at].0);
+                    assert!(!wakers.will_wake(waker, &Waker::from(Arc::clone(&bell))));
+                    let old = wakers.replace(waker, Waker::from(Arc::clone(&bell))).unwrap();
+                    old.wake();
+                    assert_eq!(kept[row][at].1 .0.load(Ordering::SeqCst), 1);
+                    kept[row][at].1 = bell;
+                }
+                5 | 6 if !kept[row].is_empty() => {
+                    let (number, bell) = kept[row].swap_remove(at % kept[row].len());
+                    wakers.forget(&mut firsts[row], number).unwrap().wake();
+                    assert_eq!(bell.0.load(Ordering::SeqCst), 1);
+                }
+                7 if at % 40 == 0 => {
+                    let mut all = Vec::new();
+                    wakers.take(&mut firsts[row], &mut all);
+                    assert_eq!((all.len(), firsts[row]), (kept[row].len(), 0));
+                    all.into_iter().for_each(Waker::wake);
+                    assert!(kept[row].drain(..).all(|(_, bell)| bell.0.load(Ordering::SeqCst) == 1));
+                }
+                _ => {}
+            }
+        }
+        let most = wakers.places.len();
+        assert!(most < 3000, "places are used again");
+    }
+}
