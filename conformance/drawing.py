@@ -24,6 +24,21 @@ def function_text(said):
     return " ".join(["", name] + ["null" if part is None else str(part) for part in parts])
 
 
+def names_of(script):
+    """The names of stages, attached ones too: those of the list, and else their own."""
+    attached = [step[1] for step in script.get("steps", []) if step[0] == "attach"]
+    names = [stage.get("name", "") for stage in script["stages"] + attached]
+    listed = script.get("names", [])
+    return [(listed[i] if i < len(listed) else "") or (names[i] if i < len(names) else "") for i in range(max(len(names), len(listed)))]
+
+
+def label_of(name):
+    """A name before a form, with nothing in it that could end the label."""
+    told = {'"': '\\"', "\\": "\\\\", "&": "&amp;", "<": "&lt;", ">": "&gt;"}
+    hidden = [*range(32), *range(127, 160), 0x200E, 0x200F, *range(0x2028, 0x202F), *range(0x2066, 0x206A)]
+    return "".join(told.get(c, "\ufffd" if ord(c) in hidden else c) for c in name) + (": " if name else "")
+
+
 def look_of(kept):
     if kept[0] != "settled":
         return LOOKS[kept[0]]
@@ -50,12 +65,12 @@ def picture(script):
         line, state = model.do(state, step, functions)
         if step[0] == "finish" and line == "won":
             links[step[2]] = step[3].get("link")
-    lines, edges = [], 0
+    lines, edges, names = [], 0, names_of(script) + [""] * len(state.stages)
     for i, (stage, kept) in enumerate(zip(state.plan.stages, state.stages)):
         said = "" if stage.function is None else function_text(functions[stage.function])
         end = model.outcome_text(kept[1]) if kept[0] == "settled" else kept[0]
         shape = SHAPES.get(stage.form, "box")
-        lines.append(f's{i} [label="{i} {stage.form}{said}\\n{end}", shape={shape}, {look_of(kept)}];')
+        lines.append(f's{i} [label="{i} {label_of(names[i])}{stage.form}{said}\\n{end}", shape={shape}, {look_of(kept)}];')
         for k, j in enumerate(stage.sources):
             label = f' [label="{k + 1}"]' if stage.form in ("combine", "acceptBoth") else ""
             lines.append(f"s{j} -> s{i}{label};")

@@ -12,7 +12,7 @@ from .closed import Closed, Did, Record, Saw, SawNow
 from .desk import Caller, Desk, InUse, SharedFuture
 from .events import Event, event_of, word_of
 from .graph import Future, Graph
-from .ledger import Applied, Ledger, Misfit, Stage, StageKind
+from .ledger import Applied, Ledger, Misfit, Stage, StageKind, Stepped, Task
 from .plan import Plan
 from .texts import BadScript, code_text, outcome_text, run_script
 from .values import (BadAnswer, Cancelled, ClaimReply, ClaimStatus, Code, Fault, FinishReply, Form, Link, Now, NowKind, Outcome, Refused,
@@ -21,5 +21,5 @@ from .workers import Workers
 
 __all__ = ["Applied", "BadAnswer", "BadScript", "Caller", "Cancelled", "ClaimReply", "ClaimStatus", "Closed", "Code", "Desk", "Did", "Event",
            "Fault", "FinishReply", "Form", "Future", "Graph", "InUse", "InvalidStateError", "Ledger", "Link", "Misfit", "Now", "NowKind", "Outcome", "Plan",
-           "Record", "Refused", "Saw", "SawNow", "SharedFuture", "Stage", "StageKind", "Thrown", "TimedOut", "Workers", "code_text", "event_of", "events",
+           "Record", "Refused", "Saw", "SawNow", "SharedFuture", "Stage", "StageKind", "Stepped", "Task", "Thrown", "TimedOut", "Workers", "code_text", "event_of", "events",
            "outcome_text", "run_script", "word_of"]

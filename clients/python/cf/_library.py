@@ -6,7 +6,7 @@ from types import SimpleNamespace
 from typing import Any, Callable, Dict, List, Sequence
 
 NO_FUNCTION = 0xFFFFFFFF
-VERSION = (1, 0)  # of the library that this module is written for
+VERSION = (1, 1)  # of the library that this module is written for
 
 
 class CHandle(c.Structure):
@@ -54,6 +54,15 @@ class CStage(c.Structure):
 
 class CNews(c.Structure):
     _fields_ = [("stage", c.c_uint16), ("now", CStage)]
+
+
+class CTask(c.Structure):
+    _fields_ = [("held", c.c_uint32), ("stage", c.c_uint16), ("function", c.c_uint16), ("args", CArgs), ("answer", CAnswer),
+                ("finished", c.c_uint32)]
+
+
+class CStep(c.Structure):
+    _fields_ = [("who", c.c_uint8), ("first", c.c_uint16), ("place", c.c_size_t), ("finish", c.c_uint64), ("claim", c.c_uint64)]
 
 
 class CEvent(c.Structure):
@@ -135,6 +144,8 @@ CALLS: Dict[str, List[Any]] = {
     "cf_ledger_new": [_H, _U16, _H],
     "cf_ledger_of": [_H, _U16, c.POINTER(_U64), _SIZE, _H, _SIZE_OUT],
     "cf_ledger_apply": [_H, _U64, _R, c.POINTER(CNews), _SIZE, _SIZE_OUT],
+    "cf_ledger_step": [_H, c.POINTER(CStep), c.POINTER(CTask), c.POINTER(CNews), _SIZE, _SIZE_OUT],
+    "cf_ledger_apply_all": [_H, c.POINTER(_U64), _SIZE, _SIZE_OUT],
     "cf_ledger_words": [_H, _SIZE, c.POINTER(_U64), _SIZE, _SIZE_OUT],
     "cf_ledger_news": [_H, _SIZE, _OF, _SIZE, _SIZE_OUT],
     "cf_ledger_ready": [_H, _U16, _U16_OUT],
@@ -142,6 +153,7 @@ CALLS: Dict[str, List[Any]] = {
     "cf_ledger_function": [_H, _U16, _U16_OUT],
     "cf_ledger_stages": [_H, _U16_OUT],
     "cf_ledger_grow": [_H, _U16],
+    "cf_ledger_restart": [_H],
     "cf_run_script": [c.c_char_p, _SIZE, *_TEXT],
     "cf_text_of_outcome": [_OUTCOME, *_TEXT],
     "cf_code_text": [_U32, *_TEXT],
@@ -166,7 +178,7 @@ def _checked(call: Callable[..., int], arguments: List[Any]) -> Callable[..., in
 # The structures by their names in C.
 STRUCTURES = {"cf_handle": CHandle, "cf_value": CValue, "cf_answer": CAnswer, "cf_outcome": COutcome, "cf_args": CArgs, "cf_now": CNow,
               "cf_reply": CReply, "cf_record": CRecord, "cf_desk_sizes": CDeskSizes, "cf_stage": CStage, "cf_news": CNews,
-              "cf_event": CEvent}
+              "cf_event": CEvent, "cf_task": CTask, "cf_step": CStep}
 
 
 def fit(loaded: c.CDLL, path: str) -> None:

@@ -3,13 +3,14 @@ import ctypes as c
 import enum
 from typing import List, NamedTuple, Optional, Sequence
 
-from ._library import CNews, CReply, CStage, library
+from ._library import CNews, CReply, CStage, CStep, CTask, in_range, library
 from .events import Event, reply_of, word_of
 from .handle import Handle
 from .plan import Plan
-from .values import Code, Outcome, Refused, Reply, check, outcome_out
+from .values import Answer, Args, Code, FinishReply, Outcome, Refused, Reply, answer_in, args_out, check, outcome_out
 
 _NOBODY = 0xFFFFFFFF
+_MISFITS = (Code.NO_WORD, Code.NO_STAGE, Code.BAD_ATTACH, Code.NO_ROOM)
 
 
 class StageKind(enum.Enum):
@@ -33,6 +34,26 @@ class Applied(NamedTuple):
 
     reply: Reply
     news: List[Stage]
+
+
+class Task(NamedTuple):
+    """A stage that a caller has claimed: the number of its function, and what that is to be called with."""
+
+    stage: int
+    function: int
+    args: Args
+
+
+class Stepped(NamedTuple):
+    """What a step did: the place of its first word, the words of the finish and of the claim, where there are such, what the finish was
+    answered, the stages that it changed, rising, as they are now, and what was claimed."""
+
+    place: int
+    finish: Optional[int]
+    claim: Optional[int]
+    finished: FinishReply
+    news: List[Stage]
+    task: Optional[Task]
 
 
 class Misfit(Refused):
@@ -59,7 +80,7 @@ class Ledger(Handle):
         try:
             plan.build()._call("cf_ledger_of", room, (c.c_uint64 * len(words))(*words), len(words), ledger._at, c.byref(place))
         except Refused as refused:
-            if refused.code in (Code.NO_WORD, Code.NO_STAGE, Code.BAD_ATTACH, Code.NO_ROOM):
+            if refused.code in _MISFITS:
                 raise Misfit(refused.code, place.value) from None
             raise
         return ledger
@@ -72,6 +93,39 @@ class Ledger(Handle):
             reply, news, count = CReply(), (CNews * room)(), c.c_size_t()
             self._call("cf_ledger_apply", word, c.byref(reply), news, room, c.byref(count))
         return Applied(reply_of(word, reply), [_stage_out(told.stage, told.now) for told in news[:count.value]])
+
+    def step(self, who: int, task: Optional[Task] = None, answer: Answer = None, first: int = 0) -> Stepped:
+        """One step of a caller's loop in one call: finishes the stage of a task with what its function answered, and claims the lowest
+        ready stage from a number on, if there is one. Both are words that are written. `Refused` has NOT_HELD where this caller has no
+        open claim of the task's stage, NO_STAGE where that isn't there, and NO_WORD where the caller isn't below 64."""
+        step = CStep(who=in_range(who, 0xFF), first=in_range(first, 0xFFFF))
+        told = CTask(answer=answer_in(answer))
+        if task is not None:
+            told.held, told.stage = 1, in_range(task.stage, 0xFFFF)
+        with self._lock:
+            room = self.stages()
+            news, count = (CNews * room)(), c.c_size_t()
+            code = library.cf_ledger_step(self._at, c.byref(step), c.byref(told), news, room, c.byref(count))
+            if code != Code.NOTHING:
+                check(code)
+        claimed = Task(told.stage, told.function, args_out(told.args)) if told.held else None
+        return Stepped(step.place, step.finish or None, step.claim or None, FinishReply(told.finished),
+                       [_stage_out(it.stage, it.now) for it in news[:count.value]], claimed)
+
+    def apply_all(self, words: Sequence[int]) -> None:
+        """Does words one after another in one call. The first that can't be done raises `Misfit` with its place among them; those
+        before it are done."""
+        done = c.c_size_t()
+        row = (c.c_uint64 * len(words))(*[in_range(word, 2**64 - 1) for word in words])
+        with self._lock:
+            code = library.cf_ledger_apply_all(self._at, row, len(words), c.byref(done))
+        if code in _MISFITS:
+            raise Misfit(code, done.value)
+        check(code)
+
+    def restart(self) -> None:
+        """Starts again, as the ledger was opened: no word is written then, and all of its room is free."""
+        self._call("cf_ledger_restart")
 
     def do(self, event: Event) -> Applied:
         """Does an event."""

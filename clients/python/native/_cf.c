@@ -49,7 +49,7 @@ typedef struct {
   uint32_t room, stages, events, event_room;
   Row *rows;
   Event *done;
-  PyObject *works, *title, *keeps, *values, *errors;
+  PyObject *works, *title, *keeps, *values, *errors, *weak;
   Plan *plan;
 } Request;
 
@@ -58,6 +58,7 @@ typedef struct {
   Request *request;
   uint16_t number;
   bool shown;  /* to those who wait by its condition, and to callbacks */
+  uint32_t forks;  /* as the process had when they began to wait */
   PyObject *call, *args, *kwargs, *callbacks, *condition, *waiters, *error;
 } Stage;
 
@@ -68,6 +69,7 @@ static const News NO_NEWS = {NONE, NONE, NONE, NONE};
 static cf_handle nothing;          /* a plan without stages */
 static cf_news changed[MOST];      /* what the last event changed */
 static _Thread_local int caller;   /* which caller this thread is */
+static uint32_t forks;             /* how many forks lie between the first process and this one */
 static PyTypeObject RequestType, StageType, PlanType;
 static PyTypeObject *stage_type;   /* the class of futures, below StageType */
 static PyObject *full, *bad_answer, *cancelled_error, *future_error, *condition_class;
@@ -88,10 +90,10 @@ static int64_t now(void) {
 
 /* ---- One event ---- */
 
-/* Memory for one event more. At first for those of a request whose stages are each attached, claimed and finished. */
-static int room_for_event(Request *self) {
-  if (self->events < self->event_room) return 0;
-  uint32_t room = self->event_room ? 2 * self->event_room : self->room < 64 ? 3 * self->room : 192;
+/* Memory for two events more. At first for those of a request whose stages are each attached, claimed and finished. */
+static int room_for_events(Request *self) {
+  if (self->events + 2 <= self->event_room) return 0;
+  uint32_t room = self->event_room ? 2 * self->event_room : self->room < 64 ? 3 * self->room + 1 : 192;
   Event *done = PyMem_Realloc(self->done, room * sizeof *done);
   if (!done) return -1;
   self->done = done;
@@ -99,15 +101,8 @@ static int room_for_event(Request *self) {
   return 0;
 }
 
-/* Does the event of a word, and adds what it settled and made ready to the news. The code of the library. */
-static uint32_t apply(Request *self, uint64_t word, cf_reply *reply, News *news) {
-  if (room_for_event(self)) return CF_NO_MEMORY;
-  Event *event = &self->done[self->events];
-  size_t n = 0;
-  uint32_t code = cf_ledger_apply(&self->ledger, word, &event->reply, changed, MOST, &n);
-  if (code) return code;
-  event->at = now();
-  self->events++;
+/* Writes down the stages that the last event changed. */
+static void note(Request *self, size_t n, News *news) {
   for (size_t k = 0; k < n; k++) {
     uint16_t i = changed[k].stage;
     Row *row = &self->rows[i];
@@ -123,7 +118,40 @@ static uint32_t apply(Request *self, uint64_t word, cf_reply *reply, News *news)
       news->last_ready = i;
     } else if (changed[k].now.kind == CF_IS_CLAIMED) row->running = true;
   }
+}
+
+/* Does the event of a word, and adds what it settled and made ready to the news. The code of the library. */
+static uint32_t apply(Request *self, uint64_t word, cf_reply *reply, News *news) {
+  if (room_for_events(self)) return CF_NO_MEMORY;
+  Event *event = &self->done[self->events];
+  size_t n = 0;
+  uint32_t code = cf_ledger_apply(&self->ledger, word, &event->reply, changed, MOST, &n);
+  if (code) return code;
+  event->at = now();
+  self->events++;
+  note(self, n, news);
   *reply = event->reply;
+  return CF_OK;
+}
+
+/* One step of the only one who runs this request's stages: finishes what the task holds, and claims the lowest ready stage, if there is
+ * one. Two events of one moment. */
+static uint32_t step(Request *self, int who, cf_task *task, News *news) {
+  if (room_for_events(self)) return CF_NO_MEMORY;
+  bool held = task->held;
+  size_t n = 0;
+  cf_step step = {.who = (uint8_t)who};
+  uint32_t code = cf_ledger_step(&self->ledger, &step, task, changed, MOST, &n);
+  if (code && code != CF_NOTHING) return code;
+  int64_t at = now();
+  if (held) {
+    self->done[self->events++] = (Event){.at = at, .reply = {.answer = task->finished}};
+    note(self, n, news);
+  }
+  if (task->held) {
+    self->done[self->events++] = (Event){.at = at, .reply = {.answer = CF_GRANTED, .args = task->args}};
+    self->rows[task->stage].running = true;
+  }
   return CF_OK;
 }
 
@@ -189,6 +217,7 @@ static Stage *new_stage(Request *request, uint16_t number) {
   Py_INCREF(request);
   stage->request = request;
   stage->number = number;
+  stage->forks = forks;
   return stage;
 }
 
@@ -217,6 +246,17 @@ static cf_outcome told(Stage *self) {
   return self->request ? self->request->rows[self->number].told : (cf_outcome){0};
 }
 
+/* In a child of `fork`: those who wait for a stage by its condition, had that at the moment, or were about to show the stage, are the
+ * parent's threads, which aren't there. */
+static void be_here(Stage *self) {
+  if (self->forks == forks) return;
+  PyObject *condition = self->condition, *waiters = self->waiters;
+  self->forks = forks;
+  self->condition = self->waiters = NULL;
+  if (told(self).kind) self->shown = true;
+  Py_XDECREF(condition); Py_XDECREF(waiters);
+}
+
 /* ---- Telling ---- */
 
 /* Keeps the first error, that the rest be done. */
@@ -234,6 +274,7 @@ static int raise_kept(Kept *first) {
 
 /* Lets those see a stage who wait for it by its condition. */
 static void show(Stage *stage, Kept *first) {
+  be_here(stage);
   while (!stage->shown) {
     if (!stage->condition) { stage->shown = true; return; }
     PyObject *none = PyObject_CallMethodNoArgs((PyObject *)stage, show_name);
@@ -358,6 +399,7 @@ static int Request_clear(Request *self) {
 static void Request_dealloc(Request *self) {
   PyTypeObject *type = Py_TYPE(self);
   PyObject_GC_UnTrack(self);
+  if (self->weak) PyObject_ClearWeakRefs((PyObject *)self);
   Request_clear(self);
   for (uint32_t i = 0; i < self->stages; i++) Py_CLEAR(self->rows[i].name);
   Py_CLEAR(self->values); Py_CLEAR(self->errors); Py_CLEAR(self->title);
@@ -471,14 +513,9 @@ static void called_clear(Called *it) {
   for (int k = 0; k < 3; k++) Py_CLEAR(it->given[k]);
 }
 
-/* Claims a stage: 1 where its function is to be called, 0 where nobody is to. */
-static int begin(Request *self, uint16_t i, int who, Called *it) {
-  News news = NO_NEWS;
-  cf_reply reply;
+/* What a stage that is claimed lets be called. */
+static int to_call(Request *self, uint16_t i, const cf_args *args, Called *it) {
   memset(it, 0, sizeof *it);
-  uint32_t code = apply(self, KIND(CLAIM) | WHO(who) | OF(i), &reply, &news);
-  if (code) { refused(code); return -1; }
-  if (reply.answer != CF_GRANTED) return tell(self, news, NULL);
   Stage *stage = (Stage *)self->rows[i].stage;
   it->call = stage ? stage->call : self->plan ? PyTuple_GET_ITEM(self->plan->calls, i) : NULL;
   if (!it->call) { PyErr_SetString(PyExc_RuntimeError, "the request is collected"); return -1; }
@@ -487,17 +524,27 @@ static int begin(Request *self, uint16_t i, int who, Called *it) {
     it->args = stage->args; Py_XINCREF(it->args);
     it->kwargs = stage->kwargs; Py_XINCREF(it->kwargs);
   }
-  it->many = reply.args.kind == CF_ONE ? 1 : reply.args.kind == CF_TWO ? 2 : 0;
-  if (it->many > 0) it->given[0] = value_out(self, reply.args.first);
-  if (it->many > 1) it->given[1] = value_out(self, reply.args.second);
-  if (reply.args.kind == CF_GOT) {
-    cf_outcome got = reply.args.outcome;
+  it->many = args->kind == CF_ONE ? 1 : args->kind == CF_TWO ? 2 : 0;
+  if (it->many > 0) it->given[0] = value_out(self, args->first);
+  if (it->many > 1) it->given[1] = value_out(self, args->second);
+  if (args->kind == CF_GOT) {
+    cf_outcome got = args->outcome;
     it->many = 2;
     it->given[0] = got.kind == CF_VALUE ? value_out(self, got.value) : (Py_INCREF(Py_None), Py_None);
     it->given[1] = got.kind == CF_VALUE ? (Py_INCREF(Py_None), Py_None) : error_out(self, got);
     if (!it->given[1]) { called_clear(it); return -1; }
   }
   return 1;
+}
+
+/* Claims a stage: 1 where its function is to be called, 0 where nobody is to. */
+static int begin(Request *self, uint16_t i, int who, Called *it) {
+  News news = NO_NEWS;
+  cf_reply reply;
+  memset(it, 0, sizeof *it);
+  uint32_t code = apply(self, KIND(CLAIM) | WHO(who) | OF(i), &reply, &news);
+  if (code) { refused(code); return -1; }
+  return reply.answer != CF_GRANTED ? tell(self, news, NULL) : to_call(self, i, &reply.args, it);
 }
 
 static PyObject *call(Called *it, uint8_t form) {
@@ -578,6 +625,52 @@ static PyObject *Request_run(Request *self, PyObject *const *args, Py_ssize_t n)
       Py_DECREF(error);
     }
     if (failed) keep(&first);
+  }
+  if (raise_kept(&first)) return NULL;
+  Py_RETURN_NONE;
+}
+
+/* Hands what the function of a stage gave or raised to the task that holds the stage, or finishes a composing stage by itself. */
+static int answer(Request *self, int who, PyObject *given, cf_task *task) {
+  uint16_t i = task->stage, following = NONE;
+  uint8_t form = self->rows[i].form;
+  uint32_t number;
+  uint64_t low;
+  if (!given) {
+    PyObject *error = caught();
+    int failed = kept(&self->errors, error, &number);
+    Py_DECREF(error);
+    task->answer = (cf_answer){.kind = CF_THROW, .code = number};
+    return failed;
+  }
+  if (form == CF_COMPOSE || form == CF_EXCEPTIONALLY_COMPOSE) {
+    task->held = 0;
+    return end_linking(self, i, who, given, &following);
+  }
+  if (value_in(self, given, &low)) return -1;
+  task->answer = (cf_answer){.kind = CF_GIVE, .value = {.kind = low != 0, .number = (int32_t)(uint32_t)low}};
+  return 0;
+}
+
+/* _work(who): runs all that is ready, and all that gets ready by that, where nobody else does. */
+static PyObject *Request_work(Request *self, PyObject *number) {
+  int who = (int)PyLong_AsLong(number);
+  if (who == -1 && PyErr_Occurred()) return NULL;
+  Kept first = {0};
+  cf_task task = {0};
+  for (;;) {
+    News news = NO_NEWS;
+    Called it;
+    uint32_t code = step(self, who, &task, &news);
+    if (code) { refused(code); keep(&first); break; }
+    bool is_held = task.held;
+    int failed = is_held ? to_call(self, task.stage, &task.args, &it) < 0 : 0;
+    if (tell(self, news, NULL)) keep(&first);
+    if (!is_held) break;
+    PyObject *given = failed ? NULL : call(&it, self->rows[task.stage].form);
+    if (!failed) called_clear(&it);
+    if (answer(self, who, given, &task)) { keep(&first); if (task.held) break; }
+    Py_XDECREF(given);
   }
   if (raise_kept(&first)) return NULL;
   Py_RETURN_NONE;
@@ -720,6 +813,7 @@ static PyMethodDef request_methods[] = {
   {"_attach", FAST(Request_attach), METH_FASTCALL, "Attaches a stage."},
   {"_change", FAST(Request_change), METH_FASTCALL, "Completes, fails or cancels a stage."},
   {"_run", FAST(Request_run), METH_FASTCALL, "Runs a stage, and those that follow."},
+  {"_work", (PyCFunction)Request_work, METH_O, "Runs all that is ready."},
   {"_begin", FAST(Request_begin), METH_FASTCALL, "Claims a stage."},
   {"_end", FAST(Request_end), METH_FASTCALL, "Finishes a stage."},
   {"_open", (PyCFunction)Request_open, METH_NOARGS, "Hands on what is ready from the start."},
@@ -739,7 +833,7 @@ static PyTypeObject RequestType = {
   PyVarObject_HEAD_INIT(NULL, 0).tp_name = "cf._cf.RequestCore", .tp_basicsize = sizeof(Request),
   .tp_flags = Py_TPFLAGS_DEFAULT | Py_TPFLAGS_BASETYPE | Py_TPFLAGS_HAVE_GC, .tp_new = PyType_GenericNew, .tp_init = (initproc)Request_init,
   .tp_traverse = (traverseproc)Request_traverse, .tp_clear = (inquiry)Request_clear, .tp_dealloc = (destructor)Request_dealloc,
-  .tp_methods = request_methods, .tp_members = request_members};
+  .tp_weaklistoffset = offsetof(Request, weak), .tp_methods = request_methods, .tp_members = request_members};
 
 /* ---- Futures ---- */
 
@@ -814,6 +908,7 @@ static PyObject *Stage_exception(Stage *self, PyObject *const *args, Py_ssize_t 
 }
 
 static PyObject *Stage_add_done_callback(Stage *self, PyObject *call) {
+  be_here(self);
   PyObject *list = self->callbacks || self->shown ? NULL : PyList_New(0);
   if (PyErr_Occurred()) return NULL;
   if (self->shown) {
@@ -829,6 +924,7 @@ static PyObject *Stage_add_done_callback(Stage *self, PyObject *call) {
 }
 
 static PyObject *Stage_state(Stage *self, void *Py_UNUSED(which)) {
+  be_here(self);
   cf_outcome outcome = told(self);
   PyObject *state = self->shown ? was_cancelled(outcome) ? cancelled_state : finished
                     : self->request && self->request->rows[self->number].running ? running : pending;
@@ -840,7 +936,20 @@ static PyObject *Stage_form(Stage *self, void *Py_UNUSED(which)) {
   return PyLong_FromLong(self->request ? self->request->rows[self->number].form : 0);
 }
 
+static PyObject *Stage_shown(Stage *self, void *Py_UNUSED(which)) {
+  be_here(self);
+  return PyBool_FromLong(self->shown);
+}
+
+static int Stage_set_shown(Stage *self, PyObject *shown, void *Py_UNUSED(which)) {
+  int is_shown = shown ? PyObject_IsTrue(shown) : -1;
+  if (is_shown < 0) return -1;
+  self->shown = is_shown;
+  return 0;
+}
+
 static PyObject *Stage_condition(Stage *self, void *Py_UNUSED(which)) {
+  be_here(self);
   if (!self->condition) {
     PyObject *made = PyObject_CallNoArgs(condition_class);
     if (!made) return NULL;
@@ -860,7 +969,11 @@ static PyObject *list_of(PyObject **list) {
   return *list;
 }
 
-static PyObject *Stage_waiters(Stage *self, void *Py_UNUSED(which)) { return list_of(&self->waiters); }
+static PyObject *Stage_waiters(Stage *self, void *Py_UNUSED(which)) {
+  be_here(self);
+  return list_of(&self->waiters);
+}
+
 static PyObject *Stage_callbacks(Stage *self, void *Py_UNUSED(which)) { return copied(self->callbacks); }
 
 static PyObject *Stage_value(Stage *self, void *Py_UNUSED(which)) {
@@ -884,10 +997,10 @@ static PyMethodDef stage_methods[] = {
 static PyMemberDef stage_members[] = {
   {"request", T_OBJECT, offsetof(Stage, request), READONLY, "What it belongs to."},
   {"number", T_USHORT, offsetof(Stage, number), READONLY, "Its place in the request, from 0 on."},
-  {"_shown", T_BOOL, offsetof(Stage, shown), 0, NULL},
   {NULL}};
 static PyGetSetDef stage_getters[] = {
   {"_state", (getter)Stage_state, NULL, NULL, NULL},
+  {"_shown", (getter)Stage_shown, (setter)Stage_set_shown, NULL, NULL},
   {"_form", (getter)Stage_form, NULL, NULL, NULL},
   {"_condition", (getter)Stage_condition, NULL, NULL, NULL},
   {"_waiters", (getter)Stage_waiters, NULL, NULL, NULL},
@@ -988,9 +1101,15 @@ static PyObject *be(PyObject *Py_UNUSED(module), PyObject *who) {
   Py_RETURN_NONE;
 }
 
+static PyObject *forked(PyObject *Py_UNUSED(module), PyObject *Py_UNUSED(none)) {
+  forks++;
+  Py_RETURN_NONE;
+}
+
 static PyMethodDef module_methods[] = {
   {"use", (PyCFunction)use, METH_VARARGS, "Tells the classes that are written in Python."},
   {"be", (PyCFunction)be, METH_O, "Gives this thread the number of a caller."},
+  {"forked", (PyCFunction)forked, METH_NOARGS, "Tells that this process is a fork's child."},
   {NULL}};
 static PyModuleDef module = {PyModuleDef_HEAD_INIT, "_cf", "Requests and stages over the proved ledger.", -1, module_methods, NULL, NULL, NULL, NULL};
 

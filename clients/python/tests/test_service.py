@@ -4,7 +4,8 @@
     CF_LIBRARY=/path/to/libcf.so python3 clients/python/tests/test_service.py [-v] [TEST ..]
 
 They are of the package beside this folder, or with CF_INSTALLED=1 of the one that is installed; over the C module where it was built, and
-by ctypes with CF_NO_MODULE=1. CF_REQUESTS is how many requests the tests of memory make (20,000).
+by ctypes with CF_NO_MODULE=1. CF_REQUESTS is how many requests the tests of memory make (20,000), CF_FORKS how often the test of forks
+does (20).
 """
 import asyncio
 import concurrent.futures
@@ -49,11 +50,11 @@ def inc(x):
     return x + 1
 
 
-def program(text, **environment):
+def program(text, timeout=60, **environment):
     """What a program of its own prints, whose first lines find the package."""
     head = "" if os.environ.get("CF_INSTALLED") else f"import sys; sys.path.insert(0, {str(HERE.parent)!r})\n"
     head += "import os, threading, time\nfrom cf.service import Service, LoopService\n"
-    done = subprocess.run([sys.executable, "-c", head + textwrap.dedent(text)], stdout=subprocess.PIPE, stderr=subprocess.PIPE, timeout=60,
+    done = subprocess.run([sys.executable, "-c", head + textwrap.dedent(text)], stdout=subprocess.PIPE, stderr=subprocess.PIPE, timeout=timeout,
                           universal_newlines=True, env=dict(os.environ, **environment))
     return done.stdout, done.stderr, done.returncode
 
@@ -690,6 +691,163 @@ class Ending(unittest.TestCase):
                 print("parent", {it.result(5) for it in queued} == {os.getpid()}, stage.result(5), flush=True)
         """)
         self.assertEqual((out, status), ("child True 1 False\nparent True True\n", 0), err)
+
+    @unittest.skipUnless(hasattr(os, "fork"), "no fork")
+    def test_forks_under_load(self):
+        """Children go on with requests that the parent's threads were changing, waiting for and reading as it forked."""
+        out, err, status = program("""
+            import concurrent.futures, random, signal
+            from cf.service import RequestFull
+            FORKS, service, over = int(os.environ.get("CF_FORKS", "20")), Service(3), []
+            known = [service.request(room=64) for _ in range(6)]
+            last = [(request, request.promise()) for request in known]
+
+            def change(k):
+                while not over:
+                    request, rng = known[k], random.random()
+                    try:
+                        promise = request.promise()
+                        last[k] = (request, promise)
+                        behind = [promise.then(lambda x: x), promise.handle(lambda value, error: value)]
+                        both = request.all_of(*behind)
+                        promise.add_done_callback(lambda _: request.promise())
+                        time.sleep(rng / 1000)
+                        (promise.complete if rng < 0.6 else promise.fail if rng < 0.8 else promise.or_timeout)(0.001 if rng >= 0.8 else KeyError())
+                        both.add_done_callback(lambda _: None)
+                    except RequestFull:
+                        known[k] = service.request(room=64)
+                    if request._stages > 100:
+                        known[k] = service.request(room=64)
+
+            def wait_for(k):
+                while not over:
+                    promise = last[k][1]
+                    concurrent.futures.wait([promise, last[k - 1][1]], 0.0002)
+                    try:
+                        promise.exception(0.0002)
+                    except (concurrent.futures.TimeoutError, concurrent.futures.CancelledError):
+                        pass
+                    known[k].history()
+                    time.sleep(0.0005)
+
+            def child():
+                told = []
+                for request, promise in [*last, *[(request, None) for request in known]]:
+                    if promise is not None:
+                        promise.done(), promise.running()
+                        promise.complete(7)
+                        assert not concurrent.futures.wait([promise], 10).not_done
+                        assert list(concurrent.futures.as_completed([promise], 10)) == [promise]
+                        promise.exception(10)
+                        promise.add_done_callback(told.append)
+                        assert told.pop() is promise
+                    try:
+                        mine = request.promise()
+                        behind = mine.then(lambda x: x + 1)
+                        got = []
+                        waits = threading.Thread(target=lambda: got.append(mine.result(10)))
+                        waits.start()
+                        mine.complete(1)
+                        waits.join(10)
+                        assert (got, behind.result(10)) == ([1], 2)
+                    except RequestFull:
+                        pass
+                    history = request.history()
+                    assert history.report().count("\\n") == len(history.words) + len(history.names)
+                assert service.submit(os.getpid).result(10) == os.getpid()
+
+            threads = [threading.Thread(target=each, args=[k], daemon=True) for k in range(6) for each in (change, wait_for)]
+            for thread in threads:
+                thread.start()
+            ends = []
+            for _ in range(FORKS):
+                time.sleep(random.random() / 200)
+                pid = os.fork()
+                if not pid:
+                    signal.alarm(30)  # ends a child that hangs
+                    try:
+                        child()
+                        os._exit(0)
+                    except BaseException:
+                        import traceback
+                        traceback.print_exc()
+                    finally:
+                        os._exit(1)
+                ends.append(os.waitpid(pid, 0)[1])
+                if ends[-1]:
+                    break
+            over.append(1)
+            print(len(ends), set(ends), flush=True)
+            os._exit(0)
+        """, timeout=300)
+        self.assertEqual((out, status), (f"{os.environ.get('CF_FORKS', '20')} {{0}}\n", 0), err)
+
+    @unittest.skipUnless(hasattr(os, "fork"), "no fork")
+    def test_fork_while_a_thread_has_a_stage(self):
+        """A thread of the parent's is within a stage's condition, and another waits for it, as the process forks."""
+        out, err, status = program("""
+            import concurrent.futures, signal
+            service, held, goes_on = Service(1), threading.Event(), threading.Event()
+            promise = service.request().promise()
+            waits = threading.Thread(target=concurrent.futures.wait, args=([promise],), daemon=True)
+            waits.start()
+            time.sleep(0.1)
+
+            def hold():
+                with promise._condition:
+                    held.set()
+                    goes_on.wait(20)
+            threading.Thread(target=hold, daemon=True).start()
+            held.wait(5)
+            pid = os.fork()
+            if not pid:
+                signal.alarm(10)  # ends it where it hangs
+                promise.complete(1)
+                print(promise.result(5), len(concurrent.futures.wait([promise], 5).done), promise.running(), flush=True)
+                os._exit(0)
+            status = os.waitpid(pid, 0)[1]
+            goes_on.set()
+            promise.complete(2)
+            waits.join(5)
+            print(status, promise.result(5), waits.is_alive(), flush=True)
+        """)
+        self.assertEqual((out, status), ("1 1 False\n0 2 False\n", 0), err)
+
+    @unittest.skipIf(IS_MODULE or not hasattr(os, "fork"), "the module has no lock")
+    def test_fork_while_a_thread_changes_a_request(self):
+        """The fork waits for it; where that takes too long, the request is the parent's."""
+        out, err, status = program("""
+            import signal
+            from cf.service import _plain
+            service = Service(1)
+            request, other = service.request(), service.request()
+            promise, goes_on = request.promise(), threading.Event()
+
+            def hold(seconds):
+                with request._lock:
+                    goes_on.set()
+                    time.sleep(seconds)
+            for seconds, most in ((0.3, 10), (2, 0.1)):
+                _plain._forks.SECONDS = most
+                goes_on.clear()
+                thread = threading.Thread(target=hold, args=[seconds])
+                thread.start()
+                goes_on.wait(5)
+                pid = os.fork()
+                if not pid:
+                    signal.alarm(10)
+                    try:
+                        print(promise.complete(1), flush=True)
+                    except RuntimeError as error:
+                        print(error, flush=True)
+                    print(other.promise().complete(3), flush=True)
+                    os._exit(0)
+                print(os.waitpid(pid, 0)[1], flush=True)
+                thread.join()
+            print(promise.complete(2), promise.result(5))
+        """)
+        told = "this request was being changed as its process forked: it is the parent's alone"
+        self.assertEqual((out, status), (f"True\nTrue\n0\n{told}\nTrue\n0\nTrue 2\n", 0), err)
 
     def test_dropped_stage_is_done(self):
         done = threading.Event()

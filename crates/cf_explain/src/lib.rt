@@ -17,6 +17,7 @@ mod explaining;
 mod fitting;
 mod functions;
 mod idle;
+mod names;
 mod place;
 mod planned;
 mod refusing;
@@ -32,6 +33,7 @@ mod wanted;
 mod why;
 
 pub use explaining::explain;
+pub use names::stage_name;
 pub use place::{Area, Hop, Place};
 pub use remark::{Idle, Remark};
 pub use verdict::{Explanation, Refusal, Verdict};

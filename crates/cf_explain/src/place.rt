@@ -139,11 +139,20 @@ impl fmt::Display for Area {
     }
 }
 
-/// As in `stages[3].of[1]`.
+/// As in `stages[3].of[1]`, and of a member of the whole as in `names[3]`.
 impl fmt::Display for Place {
     fn fmt<W: fmt::Write>(&self, f: &mut fmt::Formatter<W>) -> fmt::Result {
-        write!(f, "{}", self.area)?;
-        for hop in self.hops {
+        let first = match (self.area, self.hops[0]) {
+            (Area::Part(Part::Top), Some(Hop::Member(name))) => {
+                write!(f, "{name}")?;
+                1
+            }
+            _ => {
+                write!(f, "{}", self.area)?;
+                0
+            }
+        };
+        for hop in self.hops.iter().skip(first) {
             match hop {
                 Some(Hop::Member(name)) => write!(f, ".{name}")?,
                 Some(Hop::Item(i)) => write!(f, "[{i}]")?,

@@ -14,6 +14,12 @@ pub enum Remark {
         /// The name that is read, if one is near.
         nearest: Option<&'static str>,
     },
+    /// What is to be the name of a stage is none.
+    NoName(Place),
+    /// What is to be the name of the script is none.
+    NoTitle(Place),
+    /// What is to be the list of names is none.
+    NoList(Place),
     /// `room` is read in version 2 alone.
     RoomInVersionOne,
     /// A limit that times its stage out has no value.
@@ -60,6 +66,11 @@ impl fmt::Display for Remark {
                 name,
                 nearest,
             } => unread(f, place, name.as_str(), *nearest),
+            Remark::NoName(place) => {
+                write!(f, "{place}: has to be a text of at most 64 characters")
+            }
+            Remark::NoTitle(place) => write!(f, "{place}: has to be a text"),
+            Remark::NoList(place) => write!(f, "{place}: has to be an array"),
             Remark::RoomInVersionOne => write!(f, "room: is read with \"cf\": 2 alone"),
             Remark::ValueOfTimeout(place) => {
                 write!(f, "{place}: is read with the kind \"value\" alone")

@@ -5,6 +5,7 @@ ghost use Rattle.cf_explain.specs.Limits.{items_in};
 ghost use Rattle.cf_explain.specs.Remarks.{IsOfWriting};
 
 use crate::counts::attach_of;
+use crate::names::{remark_name, remark_title};
 use crate::place::Place;
 use crate::remark::Remark;
 use crate::shapes::version_of;
@@ -22,11 +23,12 @@ pub(crate) fn remark_unread(
     ensures { OnOk result (All IsOfWriting remarks.new.items) }
 {
     in_object(alloc, Place::top(), json, Words::ScriptMembers, remarks)?;
+    remark_title(json, remarks)?;
     if version_of(json) == 1 && json.get("room").is_some() {
         remarks.push(Remark::RoomInVersionOne)?;
     }
     'stages: for (k, stage) in items(json.get("stages")).iter().enumerate() {
-        in_object(alloc, Place::stage(k), stage, Words::StageMembers, remarks)?;
+        in_stage(alloc, Place::stage(k), stage, remarks)?;
     }
     'limits: for (k, limit) in items(json.get("limits")).iter().enumerate() {
         in_limit(alloc, Place::limit(k), limit, remarks)?;
@@ -34,7 +36,7 @@ pub(crate) fn remark_unread(
     'steps: for (k, step) in items(json.get("steps")).iter().enumerate() {
         if let Some(stage) = attach_of(step) {
             let place = Place::step(k).item(1);
-            in_object(alloc, place, stage, Words::StageMembers, remarks)?;
+            in_stage(alloc, place, stage, remarks)?;
         }
     }
     Ok(())
@@ -51,6 +53,20 @@ pub(crate) fn items(said: Option<&Json>) -> &[Json]
         Some(list) => list.as_slice(),
         None => &[],
     }
+}
+
+/// Remarks the members of a stage that nobody reads, and a name that is none.
+fn in_stage(
+    alloc: Global,
+    place: Place,
+    stage: &Json,
+    remarks: &mut Vec<Remark>,
+) -> Result<(), AllocError>
+    requires { All IsOfWriting remarks.old.items }
+    ensures { OnOk result (All IsOfWriting remarks.new.items) }
+{
+    in_object(alloc, place, stage, Words::StageMembers, remarks)?;
+    remark_name(place.member("name"), stage.get("name"), remarks)
 }
 
 /// Remarks the members of a limit that nobody reads.

@@ -52,9 +52,11 @@ const PLAIN_FUNCTIONS: [&str; 2] = ["neg", "sum"];
 
 const KINDS: [&str; 2] = ["timeout", "value"];
 
-const SCRIPT_MEMBERS: [&str; 6] = ["cf", "room", "stages", "limits", "steps", "note"];
+const SCRIPT_MEMBERS: [&str; 8] = [
+    "cf", "room", "stages", "limits", "steps", "note", "name", "names",
+];
 
-const STAGE_MEMBERS: [&str; 4] = ["form", "of", "fn", "note"];
+const STAGE_MEMBERS: [&str; 5] = ["form", "of", "fn", "note", "name"];
 
 const LIMIT_MEMBERS: [&str; 5] = ["stage", "at", "kind", "value", "note"];
 

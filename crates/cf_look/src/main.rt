@@ -26,6 +26,7 @@ ghost use Rattle.std.specs.Prelude.{◌≡◌, ◌≢◌};
 
 mod args;
 mod history;
+mod named;
 mod page;
 mod people;
 mod script;
@@ -38,7 +39,7 @@ use cf_explain::Verdict as Said;
 use cf_history::Verdict;
 use history::judge;
 use page::{Known, read_in, text_of, write_refusal};
-use script::{draw, explain_script, script_in};
+use script::{Drawn, draw, explain_script, script_in};
 use show::line_of;
 use std::process::ExitCode;
 use std::rt::Env;
@@ -113,10 +114,10 @@ fn draw_one<R: Input + Print + Eprint + AllocGlobal>(rt: &R) -> Result<u8> {
         eprintln!(rt; "unreadable: standard input")?;
         return Ok(UNREADABLE);
     };
-    Ok(if draw(rt, bytes.as_slice())? {
-        DRAWN
-    } else {
-        REFUSED
+    Ok(match draw(rt, bytes.as_slice())? {
+        Drawn::Whole => DRAWN,
+        Drawn::Refused => REFUSED,
+        Drawn::NoName => UNREADABLE,
     })
 }
 

@@ -1,21 +1,23 @@
 //! What an account or a script says for people alone.
 use crate::history::Account;
 use anyhow::{Result, anyhow};
+use cf_explain::stage_name;
 use cf_history::{Caller, Record};
 use cf_model::Reply;
 use cf_page::People;
 use serde_json::Value as Json;
 use std::alloc::Global;
 
-/// A stage's name has at most so many characters.
-const LONGEST: usize = 64;
+/// Why what is said is no name.
+const NO_NAME: &str = "has to be a text of at most 64 characters";
 
 /// What an account says for people.
 pub(crate) fn people_of(alloc: Global, json: &Json, account: &Account) -> Result<People> {
     let mut people = People::new(alloc);
     let plan = json.get("plan").and_then(|plan| plan.get("stages"));
     people.name = title_of(alloc, json, "a history")?;
-    people.names = names_of(alloc, json.get("names"), plan)?;
+    people.names = names_in(alloc, plan)?;
+    put_listed(alloc, &mut people.names, json.get("names"))?;
     people.times = times_of(alloc, json.get("times"))?;
     people.lanes = texts_of(alloc, json.get("lanes"), "lanes")?;
     people.values = texts_of(alloc, json.get("values"), "values")?;
@@ -29,8 +31,9 @@ pub(crate) fn people_of(alloc: Global, json: &Json, account: &Account) -> Result
 pub(crate) fn people_in(alloc: Global, json: &Json) -> Result<People> {
     let mut people = People::new(alloc);
     people.name = title_of(alloc, json, "a script")?;
-    people.names = names_of(alloc, json.get("names"), json.get("stages"))?;
+    people.names = names_in(alloc, json.get("stages"))?;
     add_attached(alloc, &mut people.names, json)?;
+    put_listed(alloc, &mut people.names, json.get("names"))?;
     Ok(people)
 }
 
@@ -47,30 +50,35 @@ fn title_of(alloc: Global, json: &Json, none: &str) -> Result<String> {
     }
 }
 
-/// The names of stages: those of the list, and else those that the stages of a plan have in them.
-fn names_of(alloc: Global, listed: Option<&Json>, stages: Option<&Json>) -> Result<Vec<String>> {
+/// The names that stages of a plan have in them.
+fn names_in(alloc: Global, stages: Option<&Json>) -> Result<Vec<String>> {
     let mut names = Vec::new(alloc);
     for (k, stage) in items(stages).iter().enumerate() {
-        let name = short(stage.get("name"));
-        let name = name.ok_or_else(|| anyhow!(
-            "stages[{k}].name: has to be a text of at most 64 characters"
-        ))?;
+        let name = name_of(stage.get("name"));
+        let name = name.ok_or_else(|| anyhow!("stages[{k}].name: {NO_NAME}"))?;
         names.push(String::from_str(alloc, name)?)?;
     }
+    Ok(names)
+}
+
+/// Puts the names of a list in their places, and behind the others: an empty one leaves the stage its own.
+fn put_listed(alloc: Global, names: &mut Vec<String>, listed: Option<&Json>) -> Result<()> {
     let Some(said) = listed else {
-        return Ok(names);
+        return Ok(());
     };
     let list = said
         .as_array()
         .ok_or_else(|| anyhow!("names: has to be an array"))?;
     for (k, said) in list.iter().enumerate() {
-        let name = short(Some(said));
-        let name = name.ok_or_else(|| anyhow!(
-            "names[{k}]: has to be a text of at most 64 characters"
-        ))?;
-        put(alloc, &mut names, k, name)?;
+        let name = name_of(Some(said));
+        put(
+            alloc,
+            names,
+            k,
+            name.ok_or_else(|| anyhow!("names[{k}]: {NO_NAME}"))?,
+        )?;
     }
-    Ok(names)
+    Ok(())
 }
 
 /// Puts a name in its place, or behind the others.
@@ -89,16 +97,12 @@ fn put(alloc: Global, names: &mut Vec<String>, k: usize, name: &str) -> Result<(
     Ok(())
 }
 
-/// A name: what isn't said is empty, what is none or too long isn't there.
-fn short(said: Option<&Json>) -> Option<&str> {
-    let Some(json) = said else {
-        return Some("");
-    };
-    let text = json.as_str()?;
-    if text.chars().count() > LONGEST {
-        return None;
+/// A name: what isn't said is empty, what is none isn't there.
+fn name_of(said: Option<&Json>) -> Option<&str> {
+    match said {
+        Some(json) => stage_name(json),
+        None => Some(""),
     }
-    Some(text)
 }
 
 /// The elements of an array, none of what is no array.
@@ -113,10 +117,8 @@ fn items(said: Option<&Json>) -> &[Json] {
 fn add_attached(alloc: Global, names: &mut Vec<String>, json: &Json) -> Result<()> {
     for (k, step) in items(json.get("steps")).iter().enumerate() {
         if step.get(0usize).and_then(Json::as_str) == Some("attach") {
-            let name = short(step.get(1usize).and_then(|stage| stage.get("name")));
-            let name = name.ok_or_else(|| anyhow!(
-                "steps[{k}][1].name: has to be a text of at most 64 characters"
-            ))?;
+            let name = name_of(step.get(1usize).and_then(|stage| stage.get("name")));
+            let name = name.ok_or_else(|| anyhow!("steps[{k}][1].name: {NO_NAME}"))?;
             names.push(String::from_str(alloc, name)?)?;
         }
     }

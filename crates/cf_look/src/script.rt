@@ -1,10 +1,13 @@
 //! What is said of a script, and how it is drawn.
+use crate::named::Named;
+use crate::people::people_in;
 use anyhow::Result;
-use cf_explain::{Verdict, explain};
+use cf_explain::{Place, Remark, Verdict, explain};
 use cf_picture::draw_script;
 use cf_reading::MAX_BYTES;
 use cf_script::ScriptFault;
-use std::alloc::AllocError;
+use serde_json::Value as Json;
+use std::alloc::{AllocError, Global};
 use std::io;
 use std::io::Read;
 
@@ -17,19 +20,46 @@ pub(crate) fn script_in<R: Input + AllocGlobal>(rt: &R) -> io::Result<Vec<u8>> {
     Ok(bytes)
 }
 
-/// Writes the picture of the script of these bytes, and says whether there is one. Where `cf run` would refuse it, the line
-/// of its fault goes to standard error. Refused memory is an error, as everywhere in this program.
-pub(crate) fn draw<R: Print + Eprint + AllocGlobal>(rt: &R, bytes: &[u8]) -> Result<bool> {
-    match draw_script(rt.alloc(), bytes) {
-        Ok(text) => {
+/// What comes of drawing.
+pub(crate) enum Drawn {
+    /// The picture is written.
+    Whole,
+    /// `cf run` would refuse the script.
+    Refused,
+    /// A name is none.
+    NoName,
+}
+
+/// Writes the picture of the script of these bytes. Where `cf run` would refuse it, the line of its fault goes to standard
+/// error, and where a name is none, why. Refused memory is an error, as everywhere in this program.
+pub(crate) fn draw<R: Print + Eprint + AllocGlobal>(rt: &R, bytes: &[u8]) -> Result<Drawn> {
+    let names = names_in(rt.alloc(), bytes);
+    let known = match &names {
+        Ok(names) => names.as_slice(),
+        Err(_) => &[],
+    };
+    match (draw_script(rt.alloc(), bytes, known), &names) {
+        (Ok(text), Ok(_)) => {
             print!(rt; "{text}")?;
-            Ok(true)
+            Ok(Drawn::Whole)
         }
-        Err(ScriptFault::NoMemory) => Err(AllocError.into()),
-        Err(fault) => {
+        (Ok(_), Err(why)) => {
+            eprintln!(rt; "unreadable: {why}")?;
+            Ok(Drawn::NoName)
+        }
+        (Err(ScriptFault::NoMemory), _) => Err(AllocError.into()),
+        (Err(fault), _) => {
             eprintln!(rt; "{fault}")?;
-            Ok(false)
+            Ok(Drawn::Refused)
         }
+    }
+}
+
+/// The names of the stages of a script; of what is no JSON there are none.
+fn names_in(alloc: Global, bytes: &[u8]) -> Result<Vec<String>> {
+    match Json::from_slice(alloc, bytes) {
+        Ok(json) => Ok(people_in(alloc, &json)?.names),
+        Err(_) => Ok(Vec::new(alloc)),
     }
 }
 
@@ -37,16 +67,34 @@ pub(crate) fn draw<R: Print + Eprint + AllocGlobal>(rt: &R, bytes: &[u8]) -> Res
 /// with which `cf run` would refuse it, and where it sits.
 pub(crate) fn explain_script<R: Print + AllocGlobal>(rt: &R, bytes: &[u8]) -> Result<Verdict> {
     let said = explain(rt.alloc(), bytes)?;
+    let named = Named::of(rt.alloc(), bytes);
     if let Some(refusal) = &said.refusal {
         println!(rt; "{}", ScriptFault::from(refusal.fault))?;
-        println!(rt; "{refusal}")?;
+        let mut said = String::new(rt.alloc());
+        write!(said, "{refusal}")?;
+        let line = named.line(rt.alloc(), Some(refusal.place), &said)?;
+        println!(rt; "{line}")?;
     }
     for remark in &said.remarks {
-        println!(rt; "{remark}")?;
+        let mut said = String::new(rt.alloc());
+        write!(said, "{remark}")?;
+        let line = named.line(rt.alloc(), place_of(remark), &said)?;
+        println!(rt; "{line}")?;
     }
     let verdict = said.verdict();
     if verdict == Verdict::Right {
         println!(rt; "nothing is wrong")?;
     }
     Ok(verdict)
+}
+
+/// The place that a remark begins with.
+fn place_of(remark: &Remark) -> Option<Place> {
+    match remark {
+        Remark::Unread { place, .. }
+        | Remark::ValueOfTimeout(place)
+        | Remark::Behind(place, _)
+        | Remark::Idle(place, _) => Some(*place),
+        _ => None,
+    }
 }

@@ -17,26 +17,26 @@ pub(crate) const HEAD: &str = r##"<!doctype html>
     --timedout: #f6e1f7; --timedout-s: #8a2d8f; --ready: #fff6c8; --ready-s: #7d6600; --running: #dbe9fd; --running-s: #0b57d0;
     --linked: #e6f3f7; --linked-s: #106c82; --waits: #f1f2f4; --waits-s: #6a737d;
   }
-  @media (prefers-color-scheme: dark) { :root:not([data-theme=light]) {
+  @media screen and (prefers-color-scheme: dark) { :root:not([data-theme=light]) {
     color-scheme: dark;
     --page: #14171b; --panel: #1c2026; --line: #3d444d; --text: #e8eaed; --soft: #a8b1bb; --edge: #7d8791; --accent: #8ab4f8; --onaccent: #10243f; --mark: #5a4c00;
     --value: #12351c; --value-s: #63c77c; --failed: #4a1613; --failed-s: #ff8a80; --cancelled: #43290a; --cancelled-s: #ffb85c;
     --timedout: #3d163f; --timedout-s: #e79bea; --ready: #3a3200; --ready-s: #e3c94b; --running: #10294d; --running-s: #8ab4f8;
     --linked: #0d3039; --linked-s: #6cc7dd; --waits: #23282f; --waits-s: #929ca6;
   } }
-  :root[data-theme=dark] {
+  @media screen { :root[data-theme=dark] {
     color-scheme: dark;
     --page: #14171b; --panel: #1c2026; --line: #3d444d; --text: #e8eaed; --soft: #a8b1bb; --edge: #7d8791; --accent: #8ab4f8; --onaccent: #10243f; --mark: #5a4c00;
     --value: #12351c; --value-s: #63c77c; --failed: #4a1613; --failed-s: #ff8a80; --cancelled: #43290a; --cancelled-s: #ffb85c;
     --timedout: #3d163f; --timedout-s: #e79bea; --ready: #3a3200; --ready-s: #e3c94b; --running: #10294d; --running-s: #8ab4f8;
     --linked: #0d3039; --linked-s: #6cc7dd; --waits: #23282f; --waits-s: #929ca6;
-  }
+  } }
   * { box-sizing: border-box }
   body { margin: 0; font: 14px/1.45 system-ui, sans-serif; color: var(--text); background: var(--page); height: 100vh; display: grid; grid-template-rows: auto auto 1fr auto; overflow: hidden }
   h1 { font-size: 17px; margin: 0; overflow: hidden; text-overflow: ellipsis; white-space: nowrap }
   h2 { font-size: 13px; margin: 0 }
   header { display: flex; gap: 6px 14px; align-items: center; padding: 8px 12px 4px; flex-wrap: wrap }
-  .tools { margin-left: auto; white-space: nowrap }
+  .tools { margin-left: auto; display: flex; gap: 6px }
   button, input[type=search] { font: inherit; color: inherit; background: var(--page); border: 1px solid var(--edge); border-radius: 6px; padding: 3px 9px; min-height: 28px }
   button { cursor: pointer }
   button:hover { background: var(--panel) }
@@ -51,11 +51,6 @@ pub(crate) const HEAD: &str = r##"<!doctype html>
   #verdict.not { border: 3px double var(--failed-s); background: var(--failed) }
   .stage.cause > rect { stroke-width: 4.5 } .edge.cause { stroke: var(--failed-s); stroke-width: 4; opacity: 1 }
   #about ol { margin: 0; padding-left: 20px }
-  @media print {
-    body { display: block; height: auto; overflow: visible } #bar .keys, #track, .tools, .zoom, #find, #split, #scale, dialog { display: none !important }
-    main { display: block } #view { height: 62vh; contain: none; break-inside: avoid } #side, #events, #about, #lanes { display: block; height: auto; max-height: none; overflow: visible; contain: none; border: 0 }
-    #events li { break-inside: avoid } #lanes { break-inside: avoid }
-  }
   #bar { display: grid; grid-template-columns: auto 1fr auto; gap: 4px 10px; align-items: center; padding: 4px 12px 8px; border-bottom: 1px solid var(--line) }
   #bar .keys { display: flex; gap: 4px }
   #track { position: relative; height: 30px }
@@ -113,7 +108,7 @@ pub(crate) const HEAD: &str = r##"<!doctype html>
   .stage.chosen .ring { stroke: var(--text); stroke-width: 2.5 }
   .stage:focus-visible .ring { stroke: var(--accent); stroke-width: 4 }
   .stage .big, .stage .wide { display: none; font-size: 25px; font-weight: 700; text-anchor: middle }
-  .stage .wide { font-size: 19px; font-weight: 600 }
+  .stage .wide { font-size: 18px; font-weight: 600 }
   .wide text, .mid text, .far text { display: none } .mid .stage .big, .wide .stage .wide { display: inline }
   .far .s1 > rect, .far .s2 > rect, .far .s3 > rect { fill: var(--c) }
   .edge { fill: none; stroke: var(--edge); stroke-width: 1.3 }
@@ -132,6 +127,12 @@ pub(crate) const HEAD: &str = r##"<!doctype html>
   kbd { border: 1px solid var(--edge); border-radius: 4px; padding: 0 5px; font: 12.5px ui-monospace, monospace; background: var(--panel) }
   .hidden { position: absolute; width: 1px; height: 1px; overflow: hidden; clip-path: inset(50%) }
   @media (max-width: 820px) { body { height: auto; overflow: auto; grid-template-rows: auto auto auto auto } main { grid-template-columns: 1fr } #split { display: none } #view { height: 56vh } #side { border-left: 0; height: 70vh } }
+  @media print {
+    * { print-color-adjust: exact; -webkit-print-color-adjust: exact }
+    body { display: block; height: auto; overflow: visible } #bar .keys, #track, .tools, .zoom, #find, #split, #scale, dialog { display: none !important }
+    main { display: block } #view { height: 62vh; contain: none; break-inside: avoid; background: none; border: 1px solid var(--line) } #side, #events, #about, #lanes { display: block; height: auto; max-height: none; overflow: visible; contain: none; border: 0 }
+    #events { columns: 2 } #events li { break-inside: avoid } #lanes { break-inside: avoid }
+  }
 </style>
 </head>
 <body>
@@ -185,6 +186,8 @@ const el = id => document.getElementById(id), NS = "http://www.w3.org/2000/svg",
 const WORDS = ["value", "failed", "cancelled", "timed out", "ready", "running", "linked", "waiting"], GLYPHS = ["✓", "✕", "⊘", "◷", "●", "▶", "⇢", "…"];
 const make = (name, attrs, parent, text) => { const it = document.createElementNS(NS, name); for (const k in attrs) it.setAttribute(k, attrs[k]); if (text !== undefined) it.textContent = text; return parent ? parent.appendChild(it) : it };
 const html = (name, props, ...kids) => { const it = Object.assign(document.createElement(name), props); it.append(...kids); return it };
+// What there is to say of a state behind its word.
+const rest = (s, t) => t === WORDS[s] || !t ? "" : t.startsWith(WORDS[s] + ", ") ? t.slice(WORDS[s].length) : ", " + t;
 const cut = (t, most) => t.length > most ? t.slice(0, most - 1) + "…" : t;
 const clamp = (v, a, b) => Math.max(a, Math.min(b, v));
 const caller = who => D.lanes[who] || "caller " + who;
@@ -231,15 +234,16 @@ const dress = n => {
   const pad = shape(s[1]) > 14 ? 14 : 8;
   make("text", {x: pad, y: 16, class: "name"}, g, cut(name(n), pad > 8 ? 17 : 19));
   make("text", {x: pad, y: 32, class: "glyph"}, g); make("text", {x: pad + 17, y: 32}, g);
-  make("rect", {x: -4, y: -4, width: W + 8, height: H + 8, rx: shape(s[1]) + 4, class: "ring"}, g); make("text", {x: W / 2, y: 29, class: "big"}, g, n); make("text", {x: W / 2, y: 27, class: "wide"}, g, cut(name(n), 11)); make("title", {}, g);
+  make("rect", {x: -4, y: -4, width: W + 8, height: H + 8, rx: shape(s[1]) + 4, class: "ring"}, g); make("text", {x: W / 2, y: 29, class: "big"}, g, n); make("text", {x: W / 2, y: 26, class: "wide"}, g); make("title", {}, g);
   shown[n] = null; paint(n, place, new Set(glow));
 };
 const LARGE = S.length > 700;
 const dressAll = () => { if (LARGE && view.k < .2) return; const [w, h] = room(); S.forEach((s, n) => { const x = s[3] * view.k + view.x, y = s[4] * view.k + view.y; if (!dressed[n] && (!LARGE || (x > -300 && y > -200 && x < w + 200 && y < h + 200))) dress(n) }) };
 let view = {x: 0, y: 0, k: 1}, chosen = null, only = null, place = N, follow = true, playing = 0, hits = [], found = new Set();
-const draw = () => { world.setAttribute("transform", `translate(${view.x},${view.y}) scale(${view.k})`); boxLayer.setAttribute("class", view.k < .2 ? "far" : view.k < .4 ? "mid" : view.k < .62 ? "wide" : ""); if (ready) dressAll() };
+const sizeOf = k => k < .2 ? "far" : k < .4 ? "mid" : k < .62 ? "wide" : "";
+const draw = () => { world.setAttribute("transform", `translate(${view.x},${view.y}) scale(${view.k})`); boxLayer.setAttribute("class", sizeOf(view.k)); if (ready) dressAll() };
 let ready = false, sized; const room = () => { if (!sized) { const r = plan.getBoundingClientRect(); sized = [r.width || 900, r.height || 500] } return sized };
-new ResizeObserver(() => { sized = null; if (fitted) fit() }).observe(plan);
+new ResizeObserver(() => { sized = null; if (fitted) fit(); keepInSight(place) }).observe(plan);
 let fitted = true;
 const fit = () => { fitted = true; const [w, h] = room(), k = Math.min(1.25, (w - 40) / PW, (h - 70) / PH); view = {k, x: (w - PW * k) / 2, y: 50 + (h - 70 - PH * k) / 2}; draw() };
 const zoom = (by, cx, cy) => { fitted = false; const [w, h] = room(); cx ??= w / 2; cy ??= h / 2; const k = clamp(view.k * by, .03, 3); view = {k, x: cx - (cx - view.x) * k / view.k, y: cy - (cy - view.y) * k / view.k}; draw() };
@@ -266,19 +270,22 @@ plan.addEventListener("click", e => { if (moved > 4) return; const g = e.target.
 const runs = el("runs"), LANE = 22; let byTime = D.timed, hand, ends;
 const seen = [...new Set(E.map(e => e[0]))].sort((a, b) => a - b);
 let runsWide = 900;
+// Calls of one caller that overlap stand below one another in its lane, in up to eight lines.
+const lines = new Map(seen.map(who => [who, []])), line = D.runs.map(([who, , from, to]) => { const ends = lines.get(who); let k = ends.findIndex(end => end <= from); if (k < 0) k = Math.min(ends.length, 7); ends[k] = to ?? N + 1; return k });
+const tops = []; let lanesHigh = 0; seen.forEach(who => { tops.push(lanesHigh); lanesHigh += LANE * Math.max(1, lines.get(who).length) });
 const X = k => { const wide = runsWide, left = 104, right = wide - 14; return byTime ? left + (right - left) * at(k) / (ends || 1) : left + (right - left) * k / (N + 1) };
 const lanes = () => {
   runs.textContent = ""; ends = D.timed && N ? Math.max(1, E[N - 1][5]) : 1;
-  const wide = runsWide = runs.clientWidth || 900, high = seen.length * LANE + 24;
+  const wide = runsWide = runs.clientWidth || 900, high = lanesHigh + 24;
   runs.setAttribute("viewBox", `0 0 ${wide} ${high}`); runs.style.height = high + "px";
   for (let k = 0; k <= 5; k++) { const x = 104 + (wide - 118) * k / 5; make("line", {x1: x, x2: x, y1: 0, y2: high - 18, class: "grid"}, runs); make("text", {x, y: high - 5, "text-anchor": k ? k < 5 ? "middle" : "end" : "start", class: "soft"}, runs, byTime ? time(Math.round(ends * k / 5)) : Math.round((N + 1) * k / 5)) }
-  seen.forEach((who, k) => { make("line", {x1: 0, x2: wide, y1: (k + 1) * LANE, y2: (k + 1) * LANE, class: "grid"}, runs); make("text", {x: 12, y: k * LANE + 15}, runs, cut(caller(who), 13)) });
-  const lane = new Map(seen.map((who, k) => [who, k * LANE]));
-  D.runs.forEach(r => {
+  seen.forEach((who, k) => { make("line", {x1: 0, x2: wide, y1: tops[k + 1] ?? lanesHigh, y2: tops[k + 1] ?? lanesHigh, class: "grid"}, runs); make("text", {x: 12, y: tops[k] + 15}, runs, cut(caller(who), 13)) });
+  const lane = new Map(seen.map((who, k) => [who, tops[k]]));
+  D.runs.forEach((r, k) => {
     const [who, n, from, to, late] = r, x = X(from), w = Math.max(X(to ?? N) - x, 2.5), last = to ? E[to - 1][4].find(c => c[0] === n) : null;
     const s = late ? 2 : !to ? 5 : last ? last[1] : 0, g = make("g", {class: "run s" + s, "data-k": from}, runs);
-    make("rect", {x, y: lane.get(who) + 3, width: w, height: LANE - 6, rx: 3, "stroke-dasharray": late ? "4 2" : ""}, g);
-    if (w > 34) make("text", {x: x + 4, y: lane.get(who) + 15}, g, cut(name(n), w / 7 | 0));
+    const y = lane.get(who) + line[k] * LANE; make("rect", {x, y: y + 3, width: w, height: LANE - 6, rx: 3, "stroke-dasharray": late ? "4 2" : ""}, g);
+    if (w > 34) make("text", {x: x + 4, y: y + 15}, g, cut(name(n), w / 7 | 0));
     make("title", {}, g, `${caller(who)} ran ${name(n)}` + (!to ? ", not finished" : D.timed ? " for " + time(at(to) - at(from)) : "") + (late ? ", too late" : ""));
     g.onclick = () => { choose(n); go(from) }; r.g = g; r.off = false;
   });
@@ -299,7 +306,7 @@ const item = k => {
   if (items[k]) return items[k]; const e = E[k];
   const li = html("li", {onclick: () => { choose(e[1]); go(k + 1) }}, html("time", {textContent: D.timed ? time(e[5]) : k + 1}), html("span", {textContent: e[2]}));
   if (e[6]) li.append(html("small", {textContent: "⚠ " + e[6]}));
-  e[4].forEach(([n, s, t]) => { if (s < 4 || (n !== e[1] && s === 4)) { const b = html("b", {textContent: GLYPHS[s] + " " + WORDS[s]}), small = html("small", {className: "s" + s}, n === e[1] ? "it is " : name(n) + ": ", b, s < 4 ? ", " + t : ""); li.append(small) } });
+  e[4].forEach(([n, s, t]) => { if (s < 4 || (n !== e[1] && s === 4)) { const b = html("b", {textContent: GLYPHS[s] + " " + WORDS[s]}), small = html("small", {className: "s" + s}, n === e[1] ? "it is " : name(n) + ": ", b, s < 4 ? rest(s, t) : ""); li.append(small) } });
   if (e[3]) li.classList.add("vain");
   return items[k] = mark(li, k);
 };
@@ -320,7 +327,7 @@ const about = () => {
   if (chosen === null) { box.append(html("p", {style: "margin:0;color:var(--soft)", textContent: "Choose a stage in the plan, or an event in the list."})); return }
   const n = chosen, s = S[n], now = is(n, place), dl = html("dl", {}), row = (k, ...v) => dl.append(html("dt", {textContent: k}), html("dd", {}, ...v));
   const joined = ns => ns.flatMap((m, k) => k ? [", ", stageLink(m)] : [stageLink(m)]);
-  row("now", html("span", {className: "chip s" + (now ? now[1] : 7)}, html("i", {textContent: now ? GLYPHS[now[1]] : ""}), now ? " " + WORDS[now[1]] : "not there yet"), now && now[2] ? " " + now[2] : "");
+  row("now", html("span", {className: "chip s" + (now ? now[1] : 7)}, html("i", {textContent: now ? GLYPHS[now[1]] : ""}), now ? " " + WORDS[now[1]] : "not there yet"), now ? rest(now[1], now[2]) : "");
   row("form", s[1]);
   if (s[2].length) row("takes from", ...joined([...new Set(s[2])]));
   const links = near[n].filter(e => e.place && e.b === n).map(e => e.a), behind = [...new Set(near[n].filter(e => e.a === n).map(e => e.b))];
@@ -347,9 +354,10 @@ const paint = (n, k, changed) => {
   const cls = `stage s${c}${now ? "" : " absent"}${changed.has(n) ? " changed" : ""}${n === chosen ? " chosen" : ""}${chain.length > 1 && chain.includes(n) ? " cause" : ""}${dim ? " dim" : ""}`, text = now ? c < 4 ? now[2] : c === 7 || c === 6 ? now[2] || WORDS[c] : WORDS[c] : "";
   const key = cls + "|" + text; if (shown[n] === key) return; shown[n] = key;
   const said = `${name(n)}, ${s[1]}, ${now ? WORDS[c] + (text && text !== WORDS[c] ? ": " + text : "") : "not there yet"}`; box.setAttribute("class", cls); box.setAttribute("aria-label", said); if (!dressed[n]) return;
-  box.children[2].textContent = now ? GLYPHS[c] : ""; box.children[5].textContent = n + (now && c < 4 ? " " + GLYPHS[c] : ""); box.children[3].textContent = cut(text, s[1] === "source" ? 15 : 18);
+  box.children[2].textContent = now ? GLYPHS[c] : ""; box.children[5].textContent = n + (now ? " " + GLYPHS[c] : ""); box.children[6].textContent = cut((now ? GLYPHS[c] + " " : "") + name(n), 12); box.children[3].textContent = cut(text, s[1] === "source" ? 15 : 18);
   box.lastChild.textContent = said;
 };
+const keepInSight = k => { const li = k ? items[k - 1] : null; if (li && li.isConnected) { const t = li.offsetTop - list.offsetTop; if (t < list.scrollTop || t + li.offsetHeight > list.scrollTop + list.clientHeight) list.scrollTop = t - list.clientHeight / 2 } else if (!k) list.scrollTop = 0 };
 const show = () => {
   const k = place, e = k ? E[k - 1] : null, changed = new Set(e ? e[4].map(c => c[0]) : []);
   chain = chainOf(chosen);
@@ -362,11 +370,11 @@ const show = () => {
   painted = k; stale = false; drawn = mood; glow = [...changed];
   const spot = listing ? listing.indexOf(k) : k - 1;
   if (first || (k && spot >= 0 && (spot < from || spot >= till)) || Math.abs(k - listed) > MOST) listRound(k); else for (let n = Math.max(0, Math.min(k, listed) - 1); n < Math.min(N, Math.max(k, listed) + 1); n++) if (items[n]) mark(items[n], n);
-  if (listed !== k || first) { const li = k ? items[k - 1] : null; if (li && li.isConnected) { const t = li.offsetTop - list.offsetTop; if (t < list.scrollTop || t + li.offsetHeight > list.scrollTop + list.clientHeight) list.scrollTop = t - list.clientHeight / 2 } else if (!k) list.scrollTop = 0 }
+  if (listed !== k || first) keepInSight(k);
   listed = k; first = false;
   el("at").value = k; el("at").setAttribute("aria-valuetext", e ? `${k} of ${N}: ${e[2]}` : "before the first event");
   el("where").textContent = `event ${k} of ${N}` + (D.timed ? ` · ${time(at(k))}` : "");
-  el("said").textContent = ""; if (e) { el("said").append(e[2]); const ended = e[4].filter(c => c[1] < 4); if (ended.length) el("said").append(html("small", {textContent: " → " + ended.slice(0, 3).map(c => `${name(c[0])}: ${c[1] ? WORDS[c[1]] + ", " : ""}${c[2]}`).join("; ") + (ended.length > 3 ? ` and ${ended.length - 3} more` : "")})) }
+  el("said").textContent = ""; if (e) { el("said").append(e[2]); const ended = e[4].filter(c => c[1] < 4); if (ended.length) el("said").append(html("small", {textContent: " → " + ended.slice(0, 3).map(c => `${name(c[0])}: ${c[1] ? WORDS[c[1]] + rest(c[1], c[2]) : c[2]}`).join("; ") + (ended.length > 3 ? ` and ${ended.length - 3} more` : "")})) }
   const x = X(k); hand.setAttribute("x1", x); hand.setAttribute("x2", x);
   D.runs.forEach(r => { const off = r[2] > k; if (r.off !== off) r.g.classList.toggle("off", r.off = off) });
   if (counted !== (counted = counts + "|" + only)) [...el("chips").children].forEach((b, s) => { b.lastChild.textContent = ` ${WORDS[s]} ${counts[s]}`; b.classList.toggle("none", !counts[s]); b.setAttribute("aria-pressed", only === s) });
@@ -430,6 +438,13 @@ const strip = () => {
   const colour = ["value", "failed", "cancelled", "timedout"].map(v => css.getPropertyValue(`--${v}-s`)), one = Math.max(devicePixelRatio, Math.min(w / N * .7, 6 * devicePixelRatio));
   [0, 3, 2, 1].forEach(s => E.forEach((e, k) => { const b = worst(e), is = b > 0 ? b : e[4].some(c => c[1] === 0) ? 0 : -1; if (is === s) { g.fillStyle = colour[s]; g.fillRect((k + 1) / N * w - one / 2, s ? 0 : h * .55, one, s ? h : h * .45) } }));
 };
+// ---- On paper: the whole plan, and the list round the event ----
+addEventListener("beforeprint", () => {
+  const k = Math.min(1, 700 / PW); if (!LARGE) S.forEach((_, n) => dress(n));
+  world.removeAttribute("transform"); plan.setAttribute("viewBox", `-8 -8 ${PW + 16} ${PH + 16}`); boxLayer.setAttribute("class", sizeOf(k));
+  if (N <= 1500) list.replaceChildren(...E.map((_, k) => mark(item(k), k)));
+});
+addEventListener("afterprint", () => { plan.removeAttribute("viewBox"); draw(); listRound(place) });
 addEventListener("resize", () => { lanes(); strip(); if (fitted) fit(); show() });
 const hash = k => +(location.hash.match(new RegExp(k + "=(\\d+)")) || [0, NaN])[1];
 place = clamp(isNaN(hash("event")) ? N : hash("event"), 0, N); chosen = hash("stage") < S.length ? hash("stage") : null;

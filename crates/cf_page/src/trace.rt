@@ -7,8 +7,9 @@ use crate::strings::write_string;
 use cf_model::Event;
 use std::alloc::{AllocError, Global};
 
-/// The trace of a scene: a row for each caller, a bar for each call of a function, a mark for each other call, an arrow from
-/// each source's bar. Without times an event takes a microsecond. It fails only where there is no memory.
+/// The trace of a scene: a row for each caller, and further ones where its calls of functions overlap, a bar for each call of a
+/// function, a mark for each other call, an arrow from each source's bar. Without times an event takes a microsecond. It fails
+/// only where there is no memory.
 pub fn trace_of(alloc: Global, scene: &Scene, people: &People) -> Result<String, AllocError> {
     let mut out = String::new(alloc);
     write!(
@@ -23,14 +24,11 @@ pub fn trace_of(alloc: Global, scene: &Scene, people: &People) -> Result<String,
     )?;
     write_string(&mut out, &people.name)?;
     write!(out, "}}}}")?;
-    for who in 0..64 {
-        if scene.calls.iter().any(|event| event.who() == who) {
-            write_row(&mut out, people, who)?;
-        }
-    }
-    for run in scene.notes.runs.iter() {
-        write_bar(&mut out, scene, people, *run)?;
-        write_arrows(&mut out, scene, people, *run)?;
+    let rows = rows_of(alloc, scene)?;
+    write_rows(&mut out, scene, people, &rows)?;
+    for (k, run) in scene.notes.runs.iter().enumerate() {
+        write_bar(&mut out, scene, people, *run, rows.of(k))?;
+        write_arrows(&mut out, scene, people, &rows, k, *run)?;
     }
     for (k, event) in scene.calls.iter().enumerate() {
         write_mark(&mut out, scene, people, k + 1, *event)?;
@@ -39,14 +37,91 @@ pub fn trace_of(alloc: Global, scene: &Scene, people: &People) -> Result<String,
     Ok(out)
 }
 
-/// Adds the row of a caller.
-fn write_row(out: &mut String, people: &People, who: u8) -> Result<(), AllocError> {
+/// A row of bars: whose, how many of that caller's rows stand above it, and the place by which its last bar ends.
+#[derive(Clone, Copy)]
+struct Row {
+    who: u8,
+    depth: u32,
+    end: usize,
+}
+
+/// The rows of bars, and for each call of a function the row that its bar is in.
+#[derive(Drop)]
+struct Rows {
+    rows: Vec<Row>,
+    of: Vec<u32>,
+}
+
+impl Rows {
+    /// The number of the row that the bar of a call is in.
+    fn of(&self, run: usize) -> u32 {
+        self.of.get(run).copied().unwrap_or(0)
+    }
+}
+
+/// The number of a row: the caller's, and 64 more for each of its rows above.
+fn number_of(who: u8, depth: u32) -> u32 {
+    depth.saturating_mul(64).saturating_add(u32::from(who))
+}
+
+/// Rows in which no two bars overlap.
+fn rows_of(alloc: Global, scene: &Scene) -> Result<Rows, AllocError> {
+    let mut rows = Vec::new(alloc);
+    let mut of = Vec::new(alloc);
+    for run in scene.notes.runs.iter() {
+        of.push(put(&mut rows, run.who, run.claimed, end_of(scene, *run))?)?;
+    }
+    Ok(Rows { rows, of })
+}
+
+/// Puts a bar of a caller into the first of its rows that is free by then, or into a new one: the row's number.
+fn put(rows: &mut Vec<Row>, who: u8, from: usize, end: usize) -> Result<u32, AllocError> {
+    let mut depth = 0u32;
+    for row in rows.iter_mut() {
+        if row.who == who {
+            if row.end <= from {
+                row.end = end;
+                return Ok(number_of(who, row.depth));
+            }
+            depth = depth.saturating_add(1);
+        }
+    }
+    rows.push(Row { who, depth, end })?;
+    Ok(number_of(who, depth))
+}
+
+/// Adds the names of rows: one for each caller, and those below it.
+fn write_rows(
+    out: &mut String,
+    scene: &Scene,
+    people: &People,
+    rows: &Rows,
+) -> Result<(), AllocError> {
+    for who in 0..64 {
+        if scene.calls.iter().any(|event| event.who() == who) {
+            write_row(out, people, who, 0)?;
+        }
+    }
+    for row in rows.rows.iter() {
+        if row.depth > 0 {
+            write_row(out, people, row.who, row.depth)?;
+        }
+    }
+    Ok(())
+}
+
+/// Adds the name of a row.
+fn write_row(out: &mut String, people: &People, who: u8, depth: u32) -> Result<(), AllocError> {
     write!(
         out,
-        ",\n{{\"ph\":\"M\",\"name\":\"thread_name\",\"pid\":1,\"tid\":{who},"
+        ",\n{{\"ph\":\"M\",\"name\":\"thread_name\",\"pid\":1,\"tid\":{},",
+        number_of(who, depth)
     )?;
     write!(out, "\"args\":{{\"name\":\"")?;
     write_caller(out, people, who)?;
+    if depth > 0 {
+        write!(out, ", {}", depth.saturating_add(1))?;
+    }
     write!(out, "\"}}}}")
 }
 
@@ -70,13 +145,18 @@ fn end_of(scene: &Scene, run: Run) -> usize {
 }
 
 /// Adds the bar of a call of a function.
-fn write_bar(out: &mut String, scene: &Scene, people: &People, run: Run) -> Result<(), AllocError> {
+fn write_bar(
+    out: &mut String,
+    scene: &Scene,
+    people: &People,
+    run: Run,
+    row: u32,
+) -> Result<(), AllocError> {
     let from = moment_of(scene, people, run.claimed);
     let to = moment_of(scene, people, end_of(scene, run));
     write!(
         out,
-        ",\n{{\"ph\":\"X\",\"cat\":\"stage\",\"pid\":1,\"tid\":{},\"name\":\"",
-        run.who
+        ",\n{{\"ph\":\"X\",\"cat\":\"stage\",\"pid\":1,\"tid\":{row},\"name\":\""
     )?;
     write_bare_name(out, &scene.notes, people, run.stage)?;
     write!(out, "\",\"ts\":")?;
@@ -107,62 +187,83 @@ fn write_end(out: &mut String, people: &People, seen: &Seen) -> Result<(), Alloc
     write!(out, "\"")
 }
 
-/// Adds an arrow from each source whose function was called to a call.
+/// Adds an arrow to call `k` from each source whose function was called.
 fn write_arrows(
     out: &mut String,
     scene: &Scene,
     people: &People,
+    rows: &Rows,
+    k: usize,
     run: Run,
 ) -> Result<(), AllocError> {
     let Some(seen) = scene.notes.stages.get(run.stage as usize) else {
         return Ok(());
     };
-    for j in seen.of.iter() {
-        if let Some(source) = run_of(scene, *j) {
-            write_arrow(out, scene, people, source, run)?;
+    for (at, j) in seen.of.iter().enumerate() {
+        let is_first = !seen.of.iter().take(at).any(|other| *other == *j);
+        if let (true, Some(number)) = (is_first, run_of(scene, *j)) {
+            if let Some(source) = scene.notes.runs.get(number) {
+                let from = starts_at(scene, people, *source, rows.of(number));
+                let to = End {
+                    row: rows.of(k),
+                    at: moment_of(scene, people, run.claimed),
+                };
+                write_arrow(out, (source.stage, run.stage), from, to)?;
+            }
         }
     }
     Ok(())
 }
 
-/// The call of a stage's function, if it was finished.
-fn run_of(scene: &Scene, stage: u16) -> Option<Run> {
+/// The number of the call of a stage's function, if it was finished.
+fn run_of(scene: &Scene, stage: u16) -> Option<usize> {
     let number = scene.notes.stages.get(stage as usize)?.run?;
     let run = *scene.notes.runs.get(number)?;
     if run.finished.is_some() {
-        Some(run)
+        Some(number)
     } else {
         None
     }
 }
 
-fn write_arrow(
-    out: &mut String,
-    scene: &Scene,
-    people: &People,
-    source: Run,
-    run: Run,
-) -> Result<(), AllocError> {
-    let id = u32::from(source.stage)
-        .saturating_mul(4_096)
-        .saturating_add(u32::from(run.stage));
-    let starts = moment_of(scene, people, end_of(scene, source));
-    let ends = moment_of(scene, people, run.claimed);
-    if starts > ends {
+/// An end of an arrow: its row, and its moment in nanoseconds.
+#[derive(Clone, Copy)]
+struct End {
+    row: u32,
+    at: u64,
+}
+
+/// Where an arrow from a call starts: within its bar, just before that ends, since tools bind it to the bar round it.
+fn starts_at(scene: &Scene, people: &People, source: Run, row: u32) -> End {
+    let begin = moment_of(scene, people, source.claimed);
+    let end = moment_of(scene, people, end_of(scene, source));
+    End {
+        row,
+        at: end.saturating_sub(1).max(begin),
+    }
+}
+
+/// Adds an arrow between the bars of two stages; none back in time.
+fn write_arrow(out: &mut String, stages: (u16, u16), from: End, to: End) -> Result<(), AllocError> {
+    if from.at > to.at {
         return Ok(());
     }
+    let (source, stage) = stages;
+    let id = u32::from(source)
+        .saturating_mul(4_096)
+        .saturating_add(u32::from(stage));
     write!(
         out,
         ",\n{{\"ph\":\"s\",\"cat\":\"source\",\"name\":\"source\",\"id\":{id},"
     )?;
-    write!(out, "\"pid\":1,\"tid\":{},\"ts\":", source.who)?;
-    write_micros(out, starts)?;
+    write!(out, "\"pid\":1,\"tid\":{},\"ts\":", from.row)?;
+    write_micros(out, from.at)?;
     write!(
         out,
         "}},\n{{\"ph\":\"f\",\"bp\":\"e\",\"cat\":\"source\",\"name\":\"source\",\"id\":{id},"
     )?;
-    write!(out, "\"pid\":1,\"tid\":{},\"ts\":", run.who)?;
-    write_micros(out, ends)?;
+    write!(out, "\"pid\":1,\"tid\":{},\"ts\":", to.row)?;
+    write_micros(out, to.at)?;
     write!(out, "}}")
 }
 

@@ -133,6 +133,31 @@ fn traces_have_bars_and_marks(rt: HostRuntime) -> Result<(), Fail> {
     Ok(())
 }
 
+/// Two supplies that one caller has at a time, and a stage behind both of one and behind the other.
+const OVERLAPPING: &str =
+    "{\"cf\":1,\"stages\":[{\"form\":\"supply\",\"fn\":\"neg\"},{\"form\":\"supply\",\"fn\":\"neg\"},{\"form\":\"combine\",\"of\":[0,0],\"fn\":\"sum\"}],\"steps\":[[\"claim\",3,0],[\"claim\",3,1],[\"finish\",3,0,{\"give\":1}],[\"finish\",3,1,{\"give\":2}],[\"claim\",3,2],[\"finish\",3,2,{\"give\":3}]]}";
+
+#[test]
+fn bars_of_one_row_never_overlap(rt: HostRuntime) -> Result<(), Fail> {
+    let alloc = rt.alloc();
+    let text = shown(alloc, OVERLAPPING, &People::new(alloc), Shape::Trace)?;
+    let lacks = lacking(
+        &text,
+        &[
+            "\"tid\":3,\"args\":{\"name\":\"caller 3\"}",
+            "\"tid\":67,\"args\":{\"name\":\"caller 3, 2\"}",
+            "\"tid\":3,\"name\":\"supply\",\"ts\":0.000,\"dur\":2.000",
+            "\"tid\":67,\"name\":\"supply\",\"ts\":1.000,\"dur\":2.000",
+            "\"tid\":3,\"name\":\"combine\",\"ts\":4.000,\"dur\":1.000",
+            "\"ph\":\"s\",\"cat\":\"source\",\"name\":\"source\",\"id\":2,\"pid\":1,\"tid\":3,\"ts\":1.999}",
+        ],
+    );
+    assert_eq!(rt; lacks, "");
+    let arrows = text.matches("\"ph\":\"s\"").count();
+    assert_eq!(rt; arrows, 1);
+    Ok(())
+}
+
 #[test]
 fn spans_have_their_ends(rt: HostRuntime) -> Result<(), Fail> {
     let alloc = rt.alloc();

@@ -4,30 +4,31 @@ ghost use Rattle.cf_picture.specs.Pictures.{Draws};
 
 use crate::limits::write_limits;
 use crate::run::{RunScript, run_of};
-use crate::stages::{write_attached, write_opening};
+use crate::stages::{Known, write_attached, write_opening};
 use cf_reading::{Script, read_script};
 use cf_script::ScriptFault;
 use std::alloc::{AllocError, Global};
 
 /// The picture of the script that the bytes say, as a text in the language of Graphviz, or the fault with which `run_script`
-/// would refuse it. `NoMemory` is a growth that was refused.
-pub fn draw_script(alloc: Global, bytes: &[u8]) -> Result<String, ScriptFault>
+/// would refuse it. `NoMemory` is a growth that was refused. `names` are those of the stages; an empty one is none, and so is
+/// one that isn't there.
+pub fn draw_script(alloc: Global, bytes: &[u8], names: &[String]) -> Result<String, ScriptFault>
     ensures { Draws (reading bytes.now) result }
 {
     let script = read_script(alloc, bytes)?;
-    Ok(drawing_of(alloc, script)?)
+    Ok(drawing_of(alloc, script, names)?)
 }
 
 /// The picture of a script.
-fn drawing_of(alloc: Global, script: Script) -> Result<String, AllocError> {
+fn drawing_of(alloc: Global, script: Script, names: &[String]) -> Result<String, AllocError> {
     let run = run_of(alloc, script)?;
     let mut text = String::new(alloc);
-    write_picture(&mut text, run)?;
+    write_picture(&mut text, run, names)?;
     Ok(text)
 }
 
 /// Adds the picture of a script whose steps are done.
-fn write_picture(text: &mut String, run: RunScript) -> Result<(), AllocError> {
+fn write_picture(text: &mut String, run: RunScript, names: &[String]) -> Result<(), AllocError> {
     let RunScript {
         plan,
         mut graph,
@@ -36,8 +37,13 @@ fn write_picture(text: &mut String, run: RunScript) -> Result<(), AllocError> {
         steps,
     } = run;
     write_head(text)?;
-    write_opening(text, &mut graph, &functions, &notes, &plan)?;
-    write_attached(text, &mut graph, &functions, &notes, plan.stages(), &steps)?;
+    let known = Known {
+        functions: &functions,
+        notes: &notes,
+        names,
+    };
+    write_opening(text, &mut graph, known, &plan)?;
+    write_attached(text, &mut graph, known, plan.stages(), &steps)?;
     write_limits(text, plan.limits())?;
     writeln!(text, "}}")
 }

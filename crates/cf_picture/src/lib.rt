@@ -6,8 +6,8 @@
 //! of form it has (`kinds.rt`), its line and colour what became of it (`standing.rt`), so that it reads without colours too.
 //! Edges go from sources to those that name them (`edges.rt`), and limits stand beside their stages (`limits.rt`).
 //!
-//! All words in a picture are of fixed tables, and the rest are numbers: nothing of the script's own text is copied into it,
-//! so nothing has to be quoted.
+//! All words in a picture are of fixed tables, and the rest are numbers, but the names of stages, in which each character that
+//! could end a label is written otherwise (`names.rt`).
 #![tactic(auto)]
 
 mod drawing;
@@ -15,6 +15,7 @@ mod edges;
 mod functions;
 mod kinds;
 mod limits;
+mod names;
 mod notes;
 mod run;
 mod stages;

@@ -4,6 +4,7 @@ ghost use Rattle.std.specs.Prelude.{◌<◌, length};
 use crate::edges::{write_links, write_sources};
 use crate::functions::write_function;
 use crate::kinds::shape_of;
+use crate::names::write_name;
 use crate::notes::Notes;
 use crate::standing::{Standing, look_of, standing_of, write_standing};
 use cf_core::Graph;
@@ -12,10 +13,19 @@ use cf_plan::{Form, Of, Plan};
 use cf_reading::{Func, Step};
 use std::alloc::AllocError;
 
+/// What is known of all stages, beside the graph.
+#[derive(Clone, Copy)]
+pub(crate) struct Known<'a> {
+    pub(crate) functions: &'a [Func],
+    pub(crate) notes: &'a Notes,
+    pub(crate) names: &'a [String],
+}
+
 /// A stage as its script says it.
 #[derive(Clone, Copy)]
-struct Said {
+struct Said<'a> {
     number: u16,
+    name: &'a str,
     form: Form,
     function: Option<Func>,
 }
@@ -24,18 +34,18 @@ struct Said {
 pub(crate) fn write_opening(
     text: &mut String,
     graph: &mut Graph,
-    functions: &[Func],
-    notes: &Notes,
+    known: Known<'_>,
     plan: &Plan,
 ) -> Result<(), AllocError> {
     for i in 0..plan.stages() {
         if graph.has(i) {
             let said = Said {
                 number: i,
+                name: name_of(known.names, i),
                 form: plan.form(i),
-                function: function_of(functions, plan.function(i)),
+                function: function_of(known.functions, plan.function(i)),
             };
-            write_stage(text, graph, notes, said, plan.sources(i))?;
+            write_stage(text, graph, known.notes, said, plan.sources(i))?;
         }
     }
     Ok(())
@@ -45,8 +55,7 @@ pub(crate) fn write_opening(
 pub(crate) fn write_attached(
     text: &mut String,
     graph: &mut Graph,
-    functions: &[Func],
-    notes: &Notes,
+    known: Known<'_>,
     first: u16,
     steps: &[Step],
 ) -> Result<(), AllocError> {
@@ -64,10 +73,11 @@ pub(crate) fn write_attached(
             if number < graph.stages() {
                 let said = Said {
                     number,
+                    name: name_of(known.names, number),
                     form,
-                    function: function_of(functions, function),
+                    function: function_of(known.functions, function),
                 };
-                write_stage_of(text, graph, notes, said, of)?;
+                write_stage_of(text, graph, known.notes, said, of)?;
                 number += 1;
             }
         }
@@ -80,12 +90,20 @@ fn function_of(functions: &[Func], number: Option<u16>) -> Option<Func> {
     functions.get(number? as usize).copied()
 }
 
+/// The name of a stage, empty where it has none.
+fn name_of(names: &[String], i: u16) -> &str {
+    match names.get(i as usize) {
+        Some(name) => name.as_str(),
+        None => "",
+    }
+}
+
 /// Adds a stage with these sources.
 fn write_stage_of(
     text: &mut String,
     graph: &mut Graph,
     notes: &Notes,
-    said: Said,
+    said: Said<'_>,
     of: Of,
 ) -> Result<(), AllocError>
     requires { said.number < length graph.old.state.plan.stages }
@@ -102,7 +120,7 @@ fn write_stage(
     text: &mut String,
     graph: &mut Graph,
     notes: &Notes,
-    said: Said,
+    said: Said<'_>,
     sources: &[u16],
 ) -> Result<(), AllocError>
     requires { said.number < length graph.old.state.plan.stages }
@@ -115,14 +133,10 @@ fn write_stage(
 }
 
 /// Adds the node of a stage.
-fn write_node(text: &mut String, said: Said, standing: Standing) -> Result<(), AllocError> {
-    write!(
-        text,
-        "  s{} [label=\"{} {}",
-        said.number,
-        said.number,
-        said.form.name()
-    )?;
+fn write_node(text: &mut String, said: Said<'_>, standing: Standing) -> Result<(), AllocError> {
+    write!(text, "  s{} [label=\"{} ", said.number, said.number)?;
+    write_name(text, said.name)?;
+    write!(text, "{}", said.form.name())?;
     if let Some(function) = said.function {
         write_function(text, function)?;
     }

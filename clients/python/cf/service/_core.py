@@ -12,9 +12,11 @@ elif os.environ.get("CF_NO_MODULE"):
     IS_MODULE = False
 else:
     try:
-        from .._cf import PlanCore, RequestCore, StageCore, be, use
+        from .._cf import PlanCore, RequestCore, StageCore, be, forked, use
 
         IS_MODULE = True
+        if hasattr(os, "register_at_fork"):
+            os.register_at_fork(after_in_child=forked)
     except ImportError:
         from ._plain import PlanCore, RequestCore, StageCore, be, use
 

@@ -4,13 +4,17 @@ A request has one lock. Each change is a word that the ledger does under it, and
 same lock: nobody reads what lies behind what he was told. Callbacks and threads are told once the lock is free. The only locks that are
 taken under it are those of stages' conditions, and under these no request's lock is ever taken.
 
+A fork waits until no request is being changed, so that the child has whole ones, with locks that its own threads give back.
+
 What no lock can help is what comes up between two bytecodes: a signal's handler that raises in the main thread, or a `__del__` that calls
 the very request in which it was collected, as within concurrent.futures. The C module has neither.
 
 The library is called by `PyDLL`, which keeps the interpreter's lock: to let it go and take it again costs more than a call does.
 """
 import ctypes as c
+import os
 import threading
+import weakref
 from array import array
 from concurrent.futures import CancelledError, Future
 from concurrent.futures._base import CANCELLED_AND_NOTIFIED, FINISHED, PENDING as PENDING_STATE, RUNNING
@@ -38,6 +42,7 @@ def _bound(name: str) -> Callable[..., int]:
 
 
 _new, _apply, _grow = _bound("cf_ledger_new"), _bound("cf_ledger_apply"), _bound("cf_ledger_grow")
+_ready = _bound("cf_ledger_ready")
 _words, _stage = _bound("cf_ledger_words"), _bound("cf_ledger_stage")
 _ReplyNumbers = c.c_uint32 * REPLY_NUMBERS
 _nothing = Plan().build()
@@ -65,6 +70,62 @@ _classes: Dict[str, Any] = {}
 def use(stage: type, full: type, bad_answer: type) -> None:
     """Tells the classes that are written in Python."""
     _classes.update(stage=stage, bad_answer=bad_answer)
+
+
+class _Parents:
+    """The lock of a request that a thread of the parent's kept while it forked: in the child nobody gives it back."""
+
+    def __enter__(self) -> None:
+        raise RuntimeError("this request was being changed as its process forked: it is the parent's alone")
+
+    def __exit__(self, *_cause: object) -> None: ...
+
+    def acquire(self, timeout: float = -1) -> bool:
+        return False
+
+    def release(self) -> None: ...
+
+
+class _Forks:
+    """Lets a fork wait until no request is being changed, and none is made. Stages know by `count` which process's threads wait for them."""
+
+    SECONDS = 10.0  # one that is changed for longer is the parent's alone
+
+    def __init__(self) -> None:
+        self.count = 0
+        self.gate = threading.RLock()
+        self.requests: "weakref.WeakSet[RequestCore]" = weakref.WeakSet()
+        self._held: "List[RequestCore]" = []
+        self._left: "List[RequestCore]" = []
+
+    def add(self, request: "RequestCore") -> None:
+        with self.gate:
+            self.requests.add(request)
+
+    def before(self) -> None:
+        self.gate.acquire()
+        for request in list(self.requests):
+            (self._held if request._lock.acquire(timeout=self.SECONDS) else self._left).append(request)
+
+    def in_parent(self) -> None:
+        self._let_go()
+
+    def in_child(self) -> None:
+        self.count += 1
+        for request in self._left:
+            request._lock = _Parents()
+        self._let_go()
+
+    def _let_go(self) -> None:
+        held, self._held, self._left = self._held, [], []
+        for request in held:
+            request._lock.release()
+        self.gate.release()
+
+
+_forks = _Forks()
+if hasattr(os, "register_at_fork"):
+    os.register_at_fork(before=_forks.before, after_in_parent=_forks.in_parent, after_in_child=_forks.in_child)
 
 
 class Told(NamedTuple):
@@ -104,7 +165,6 @@ if TYPE_CHECKING:
         _result: Any
         _exception: Optional[BaseException]
         _waiters: List[Any]
-        _condition: threading.Condition
 
         def _invoke_callbacks(self) -> None: ...
 else:
@@ -116,6 +176,7 @@ class StageCore(_Future):
 
     request: "RequestCore"
     number: int
+    _guard: Tuple[int, threading.Condition]
     _call: Optional[Callable[..., Any]] = None
     _given: Tuple[Tuple[Any, ...], Dict[str, Any]] = ((), {})
 
@@ -131,6 +192,23 @@ class StageCore(_Future):
     @property
     def _form(self) -> int:
         return self.request._rows[self.number].form
+
+    @property
+    def _condition(self) -> threading.Condition:
+        forks, condition = self._guard
+        return condition if forks == _forks.count else self._own_condition()
+
+    @_condition.setter
+    def _condition(self, condition: threading.Condition) -> None:
+        self._guard = (_forks.count, condition)
+
+    def _own_condition(self) -> threading.Condition:
+        """In a child of `fork`: those who wait by the old one, or had it at that moment, are the parent's threads."""
+        with _forks.gate:
+            if self._guard[0] != _forks.count:
+                self._waiters = []
+                self._condition = threading.Condition()
+            return self._guard[1]
 
     def _publish(self, told: Told) -> None:
         """Shows what the ledger has told. The request's lock is held, or nobody else has the stage."""
@@ -215,11 +293,11 @@ def _told(stage: Any) -> Told:
 class RequestCore:
     """A ledger, and the objects that it knows by numbers."""
 
-    __slots__ = ("_works", "_title", "_keeps", "_plan", "_lock", "_ledger", "_rows", "_room", "_values", "_errors", "_times", "_replies")
+    __slots__ = ("_works", "_title", "_keeps", "_plan", "_lock", "_ledger", "_rows", "_room", "_values", "_errors", "_times", "_replies", "__weakref__")
 
     def __init__(self, works: "Works", title: str, room: int, keeps: object = None, plan: Optional[PlanCore] = None) -> None:
         self._works, self._title, self._keeps, self._plan = works, title, keeps, plan
-        self._lock = threading.Lock()
+        self._lock: "threading.Lock | _Parents" = threading.Lock()
         self._rows: List[_Row] = [] if plan is None else [_Row(form, name) for form, _, _, name in plan.rows]
         for row, (kind, told) in zip(self._rows, () if plan is None else plan.start):
             row.told = told if kind == IS_SETTLED else _NOT_YET
@@ -229,6 +307,7 @@ class RequestCore:
         self._values: List[Any] = []
         self._errors: List[BaseException] = []
         self._times, self._replies = array("q"), bytearray()
+        _forks.add(self)
 
     @property
     def _stages(self) -> int:
@@ -339,6 +418,17 @@ class RequestCore:
             # An error's traceback may keep this frame, which is to keep nothing.
             del stage, begun, call, args, kwargs
 
+    def _work(self, who: int) -> None:
+        """Runs all that is ready, and all that gets ready by that, where nobody else does."""
+        ready = c.c_uint16()
+        while True:
+            with self._lock:
+                code = _ready(self._ledger.at, 0, c.byref(ready))
+            if code == 17:  # CF_NOTHING
+                return
+            check(code)
+            self._run(self._stage(ready.value), who)
+
     def _begin(self, stage: "Stage[Any]", who: int) -> Optional[Tuple[Callable[..., Any], Tuple[Any, ...], Dict[str, Any]]]:
         """Claims a stage. Its function with its arguments, or None where nobody is to call it."""
         news = _News([], [])
@@ -375,19 +465,23 @@ class RequestCore:
     def _stage(self, number: int) -> "Stage[Any]":
         """The future of a stage that may have none yet."""
         with self._lock:
-            row = self._rows[number]
-            if row.stage is not None:
-                return row.stage
-            stage: "Stage[Any]" = _classes["stage"](self, number)
-            if self._plan is not None and number < len(self._plan.rows):
-                stage._call = self._plan.rows[number][2]
-            if row.told.kind != PENDING:
-                stage._publish(row.told)
-            else:
-                row.stage = stage
-                if row.running:
-                    stage._state = RUNNING
-            return stage
+            return self._known(number)
+
+    def _known(self, number: int) -> "Stage[Any]":
+        """The same, under the lock."""
+        row = self._rows[number]
+        if row.stage is not None:
+            return row.stage
+        stage: "Stage[Any]" = _classes["stage"](self, number)
+        if self._plan is not None and number < len(self._plan.rows):
+            stage._call = self._plan.rows[number][2]
+        if row.told.kind != PENDING:
+            stage._publish(row.told)
+        else:
+            row.stage = stage
+            if row.running:
+                stage._state = RUNNING
+        return stage
 
     def _set_running(self, stage: "Stage[Any]") -> Optional[bool]:
         """Lets nobody cancel it any more but `abandon`. None where it is settled otherwise or runs, else whether it does now."""

@@ -7,7 +7,7 @@ from typing import TYPE_CHECKING, Any, Callable, Generic, List, Optional, Sequen
 from ..values import Form
 from ._core import PlanCore
 from .request import Request
-from .words import COMPLETE, MOST_STAGES, THIS_THREAD, RequestFull
+from .words import COMPLETE, FIRST_WORKER, MOST_STAGES, THIS_THREAD, RequestFull
 from .works import Here
 
 if TYPE_CHECKING:
@@ -140,9 +140,8 @@ class Flow:
     def run(self, *given: Any, name: str = "") -> Request:
         """A request of the flow, of which this thread runs all that becomes ready, and comes back once nothing is. It is the quickest way.
         Stages may be attached to it later, and are run by nobody."""
-        works = Here()
-        request = self._start(works, name or self.name, None, given)
-        works.work()
+        request = self._start(Here(), name or self.name, None, given)
+        request._work(FIRST_WORKER)
         return request
 
     def _step(self, form: Form, of: "Sequence[Step[Any]]", fn: Optional[Callable[..., Any]], name: str = "") -> "Step[Any]":

@@ -45,7 +45,7 @@ class Request(RequestCore):
     that. Values and exceptions are kept until nobody has the request or one of its stages any more. `RequestFull` is raised where it
     would have over 4,096 stages, and `RuntimeError` where a stage with a function is attached after the service's shutdown."""
 
-    __slots__ = ("__weakref__",)
+    __slots__ = ()
 
     @property
     def name(self) -> str:

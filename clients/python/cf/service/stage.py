@@ -23,6 +23,9 @@ if TYPE_CHECKING:
     class _Future(StageCore, concurrent.futures.Future[T]):
         request: "Request"
         _shown: bool
+
+        def result(self, timeout: Optional[float] = None) -> T: ...
+        def add_done_callback(self, fn: Callable[[concurrent.futures.Future[T]], object]) -> None: ...
 else:
 
     class _Future(StageCore, concurrent.futures.Future, Generic[T]):

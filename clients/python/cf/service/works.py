@@ -7,10 +7,9 @@ import os
 import threading
 import time
 import weakref
-from collections import deque
 from concurrent.futures.thread import BrokenThreadPool
 from queue import SimpleQueue
-from typing import Any, Callable, Deque, List, Optional, Set, Tuple
+from typing import Any, Callable, List, Optional, Set, Tuple
 
 from ._core import be
 from .stage import Stage
@@ -228,12 +227,9 @@ class Clock:
 
 
 class Here:
-    """This thread, which runs all that is ready before it goes on. There is no clock."""
+    """This thread, which runs all that is ready before it goes on, as its ledger tells it. There is no clock."""
 
     closed = False
-
-    def __init__(self) -> None:
-        self._stages: "Deque[Stage[Any]]" = deque()
 
     @property
     def clock(self) -> Clock:
@@ -243,14 +239,7 @@ class Here:
         return RuntimeError("nobody runs it")
 
     def put(self, stage: "Stage[Any]") -> bool:
-        self._stages.append(stage)
         return True
-
-    def work(self) -> None:
-        """Runs what is ready, until nothing is."""
-        while self._stages:
-            stage = self._stages.popleft()
-            stage.request._run(stage, FIRST_WORKER)
 
 
 _open: "weakref.WeakSet[Works]" = weakref.WeakSet()

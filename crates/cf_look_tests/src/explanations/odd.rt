@@ -2,7 +2,7 @@
 use crate::explanations::checks::Row;
 
 /// Members that nobody reads, or given twice.
-pub(crate) const MEMBERS: [Row; 9] = [
+pub(crate) const MEMBERS: [Row; 11] = [
     (
         r#"{"cf":1,"stages":[],"step":[["work"]]}"#,
         "script: nobody reads \"step\"; did you mean \"steps\"?",
@@ -38,6 +38,14 @@ pub(crate) const MEMBERS: [Row; 9] = [
     (
         r#"{"cf":1,"stages":[],"note":"é","cf":1}"#,
         "line 1 column 33: \"cf\" is given twice in one object; the last is read",
+    ),
+    (
+        r#"{"cf":2,"room":1,"name":7,"names":["a",null],"stages":[{"form":"source","name":"ok"}],"steps":[["attach",{"form":"source","name":[]}]]}"#,
+        "name: has to be a text\nnames[1]: has to be a text of at most 64 characters\nsteps[0][1].name: has to be a text of at most 64 characters",
+    ),
+    (
+        r#"{"cf":1,"names":{},"stages":[{"form":"source","name":"1234567890123456789012345678901234567890123456789012345678901234"},{"form":"source","name":"12345678901234567890123456789012345678901234567890123456789012345"}]}"#,
+        "names: has to be an array\nstages[1].name: has to be a text of at most 64 characters",
     ),
 ];
 

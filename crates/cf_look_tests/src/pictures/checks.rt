@@ -29,7 +29,7 @@ fn whole(alloc: Global, lines: &str) -> Result<String, AllocError> {
 
 /// The picture of a script, and no text where it is refused.
 fn drawn(alloc: Global, script: &str) -> String {
-    match draw_script(alloc, script.as_bytes()) {
+    match draw_script(alloc, script.as_bytes(), &[]) {
         Ok(text) => text,
         Err(_) => String::new(alloc),
     }
@@ -88,9 +88,37 @@ const REFUSED: [(&str, ScriptFault); 6] = [
 #[test]
 fn wrong_scripts_are_refused(rt: HostRuntime) {
     for (script, fault) in REFUSED {
-        let answer = draw_script(rt.alloc(), script.as_bytes()).err();
+        let answer = draw_script(rt.alloc(), script.as_bytes(), &[]).err();
         assert_eq!(rt; answer, Some(fault), "{script}");
     }
+}
+
+/// A name that would end a label and an element, if it could.
+const PLANTED: &str = "a\"];\\N<b>&amp;\n\u{7}\u{202e}z";
+
+#[test]
+fn no_name_leaves_its_label(rt: HostRuntime) -> Result<(), Fail> {
+    let alloc = rt.alloc();
+    let script =
+        r#"{"cf":2,"room":1,"stages":[{"form":"source"},{"form":"supply","fn":"neg"}],"steps":[["attach",{"form":"source"}]]}"#;
+    let mut names = Vec::new(alloc);
+    for name in [PLANTED, "", "last", "none"] {
+        names.push(String::from_str(alloc, name)?)?;
+    }
+    let text = match draw_script(alloc, script.as_bytes(), &names) {
+        Ok(text) => text,
+        Err(_) => String::new(alloc),
+    };
+    let first = r#"s0 [label="0 a\"];\\N&lt;b&gt;&amp;amp;���z: source\npending", "#;
+    for piece in [
+        first,
+        r#"s1 [label="1 supply neg\n"#,
+        r#"s2 [label="2 last: source\n"#,
+    ] {
+        assert!(rt; text.contains(piece), "{text}");
+    }
+    assert_eq!(rt; text.lines().count(), 8);
+    Ok(())
 }
 
 /// A script of so many stages in a chain behind a source.

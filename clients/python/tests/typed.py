@@ -1,0 +1,99 @@
+#!/usr/bin/env python3
+"""What a type checker has to find of the public names of cf and cf.service: each line without a remark is right, and each remark is needed.
+
+    mypy --strict clients/python/cf clients/python/tests/typed.py
+
+It is read and not run. `python3 clients/python/tests/typed.py` says which public function, method or attribute has a type left out, which
+mypy may guess and pyright reports.
+"""
+import ast
+import asyncio
+import concurrent.futures
+import sys
+from pathlib import Path
+from typing import TYPE_CHECKING, Any, Iterator, List, Optional, Tuple
+
+if TYPE_CHECKING:
+    import cf
+    from cf.service import Flow, History, LoopService, Request, RequestFull, Service, Stage
+
+    def load(number: int) -> str: ...
+
+    def size(text: str) -> int: ...
+
+    def futures(service: Service, request: Request, other: "concurrent.futures.Future[float]") -> None:
+        text: Stage[str] = request.supply(load, 17)
+        number: Stage[int] = text.then(size).or_timeout(2.5).named("size")
+        both: Stage[Tuple[str, int]] = text.combine(number, lambda a, b: (a, b))
+        mixed: Stage[float] = number.combine(other, lambda a, b: a + b)
+        first: Stage[int] = number.either(text.then(size), lambda x: x)
+        told: Stage[bool] = text.handle(lambda value, error: error is None)
+        same: Stage[str] = text.when_done(lambda value, error: None).recover(lambda error: str(error)).complete_on_timeout("late", 1)
+        deeper: Stage[int] = text.compose(lambda it: request.supply(size, it)).recover_compose(lambda error: request.supply(size, ""))
+        listed: Stage[List[int]] = request.gather(number, first)
+        nothing: Stage[None] = request.all_of(number, text, other)
+        one: Stage[float] = request.first_of(other, request.adopt(other))
+        as_future: "concurrent.futures.Future[int]" = service.submit(size, "x")
+        executor: concurrent.futures.Executor = service
+        history: History = request.history()
+        lines: List[str] = history.lines()
+        error: Optional[BaseException] = number.exception(timeout=1)
+        did: bool = number.complete(3) or number.fail(RequestFull()) or number.cancel() or number.abandon()
+        print(both, mixed, told, same, deeper, listed, nothing, one, as_future, executor, lines, error, did)
+        request.supply(load, "x")  # (the arguments of a function aren't checked, as those of Executor.submit)
+        number.complete("x")  # type: ignore[arg-type]
+        wrong: Stage[str] = number.then(lambda x: x + 1)  # type: ignore[arg-type, return-value]
+        number.then(load).then(load)  # type: ignore[arg-type]
+        print(wrong)
+
+    async def awaits(loop: asyncio.AbstractEventLoop) -> int:
+        service = LoopService(loop)
+        number: int = await service.request("r").supply(size, "x").then(lambda x: x + 1)
+        return number + await service.request().supply(load, 1)  # type: ignore[arg-type]
+
+    def flows(service: Service) -> None:
+        flow = Flow("order")
+        quoted = flow.supply(load, 3)
+        total = flow.promise("number").then(size).combine(quoted, lambda a, b: b * a)
+        request: Request = service.start(flow, "x", name="order 17")
+        stage: Stage[str] = request[total]
+        value: int = flow.run(1)[total].result()  # type: ignore[assignment]
+        print(stage, value)
+
+    def ledgers(plan: cf.Plan) -> None:
+        ledger = cf.Ledger(plan, room=2)
+        told: cf.Stepped = ledger.step(3)
+        task: Optional[cf.Task] = told.task
+        args: Tuple[Any, ...] = () if task is None else task.args
+        again: cf.Stepped = ledger.step(3, task, cf.Thrown(4), first=1)
+        news: List[cf.Stage] = again.news
+        ledger.apply_all([1, 2])
+        ledger.restart()
+        ledger.step(3, answer="x")  # type: ignore[arg-type]
+        print(args, news)
+
+
+def left_out(tree: ast.AST, name: str) -> Iterator[str]:
+    """Where a public function, or a public attribute of a class, has no type of its own."""
+    for node in ast.iter_child_nodes(tree):
+        if isinstance(node, ast.ClassDef):
+            if not node.name.startswith("_"):
+                yield from left_out(node, f"{name}.{node.name}")
+        elif isinstance(node, (ast.FunctionDef, ast.AsyncFunctionDef)):
+            if not node.name.startswith("_") or node.name.startswith("__"):
+                given = [*node.args.posonlyargs, *node.args.args, *node.args.kwonlyargs, *filter(None, [node.args.vararg, node.args.kwarg])]
+                bare = [it.arg for it in given if it.annotation is None and it.arg not in ("self", "cls")]
+                if bare or node.returns is None:
+                    yield f"{name}.{node.name}: {', '.join(bare) or 'what it gives'}"
+
+
+def main() -> int:
+    package = Path(__file__).resolve().parent.parent / "cf"
+    found = [line for file in sorted(package.rglob("*.py")) for line in left_out(ast.parse(file.read_text()), ".".join(file.relative_to(package.parent).with_suffix("").parts))]
+    print(*found, sep="\n", end="\n" if found else "")
+    print(f"{len(found)} public names without a type")
+    return 1 if found else 0
+
+
+if __name__ == "__main__":
+    sys.exit(main())

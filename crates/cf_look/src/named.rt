@@ -1,0 +1,120 @@
+//! The names of the stages that lines on a script are of.
+use crate::people::people_in;
+use anyhow::Result;
+use cf_explain::{Area, Place};
+use cf_reading::Part;
+use serde_json::Value as Json;
+use std::alloc::{AllocError, Global};
+
+/// A script that is to be named in lines, and the names of its stages.
+#[derive(Drop)]
+pub(crate) struct Named {
+    json: Json,
+    names: Vec<String>,
+}
+
+impl Named {
+    /// Of these bytes. Of what is no JSON, and where a name is none, there are no names.
+    pub(crate) fn of(alloc: Global, bytes: &[u8]) -> Named {
+        let json = Json::from_slice(alloc, bytes).unwrap_or(Json::Null);
+        let names = match people_in(alloc, &json) {
+            Ok(people) => people.names,
+            Err(_) => Vec::new(alloc),
+        };
+        Named { json, names }
+    }
+
+    /// A line that begins with this place, with the name of the stage that the place is of behind it, if that has one.
+    pub(crate) fn line(
+        &self,
+        alloc: Global,
+        place: Option<Place>,
+        said: &str,
+    ) -> Result<String, AllocError> {
+        let mut line = String::new(alloc);
+        let mut rest = said;
+        if let Some(place) = place {
+            let name = self.name_at(place.area);
+            write!(line, "{place}")?;
+            match said.strip_prefix(line.as_str()) {
+                Some(behind) if !name.is_empty() => {
+                    rest = behind;
+                    write_quoted(&mut line, name)?;
+                }
+                _ => line.clear(),
+            }
+        }
+        line.push_str(rest)?;
+        Ok(line)
+    }
+
+    /// The name of the stage that a part of the script is of; empty where it is of none, or that has none.
+    fn name_at(&self, area: Area) -> &str {
+        match self.stage_of(area).and_then(|i| self.names.get(i)) {
+            Some(name) => name.as_str(),
+            None => "",
+        }
+    }
+
+    /// The stage that a part of the script is of.
+    fn stage_of(&self, area: Area) -> Option<usize> {
+        match area {
+            Area::Part(Part::Stage(k)) => Some(k as usize),
+            Area::Part(Part::Limit(k)) => {
+                number(self.json.get("limits")?.get(k as usize)?.get("stage"))
+            }
+            Area::Part(_) => None,
+            Area::Step(k) => self.stage_of_step(k as usize),
+        }
+    }
+
+    /// The stage that a step names or attaches.
+    fn stage_of_step(&self, k: usize) -> Option<usize> {
+        let steps = self.json.get("steps")?;
+        let step = steps.get(k)?;
+        match step.get(0usize)?.as_str()? {
+            "complete" | "fail" | "cancel" | "now" | "outcome" => number(step.get(1usize)),
+            "claim" | "finish" => number(step.get(2usize)),
+            "attach" => {
+                let before = steps.as_array()?.iter().take(k);
+                let attached = before.filter(|step| is_attach(step)).count();
+                Some(
+                    self.json
+                        .get("stages")?
+                        .as_array()?
+                        .len()
+                        .saturating_add(attached),
+                )
+            }
+            _ => None,
+        }
+    }
+}
+
+fn is_attach(step: &Json) -> bool {
+    step.get(0usize).and_then(Json::as_str) == Some("attach")
+}
+
+fn number(said: Option<&Json>) -> Option<usize> {
+    usize::try_from(said?.as_u64()?).ok()
+}
+
+/// Adds a name in quotes, behind a blank: a quote and a backslash in it behind a backslash, what has no sign or turns the
+/// direction of a text by its number.
+fn write_quoted(line: &mut String, name: &str) -> Result<(), AllocError> {
+    write!(line, " \"")?;
+    for c in name.chars() {
+        let number = u32::from(c);
+        let is_control = number < 32 || (127 <= number && number < 160);
+        if c == '"' || c == '\\' {
+            write!(line, "\\{c}")?;
+        } else if is_control
+            || matches!(number, 0x200e | 0x200f | 0x2028..=0x202e | 0x2066..=0x2069)
+        {
+            write!(line, "\\u{{{number:x}}}")?;
+        } else {
+            line.push(c)?;
+        }
+    }
+    write!(line, "\"")
+}
