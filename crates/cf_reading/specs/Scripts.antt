@@ -1,6 +1,6 @@
 -- Scripts: a plan, room for stages that are attached to it later, a list of functions, and a list of steps.
-use Rattle.std.specs.Prelude.{ℕ, zero, suc, ◌+◌, ◌*◌, ◌<◌, ◌≤◌, List, [], ◌∷◌, length, IfSome, All, if◌then◌else◌}
-use Rattle.cf_plan.specs.Plans.{Planned, PlannedStage, edges_of, with_room}
+use Rattle.std.specs.Prelude.{◌≡◌, ℕ, zero, suc, ◌+◌, ◌<◌, ◌≤◌, List, [], ◌∷◌, length, true, IfSome, All, if◌then◌else◌}
+use Rattle.cf_plan.specs.Plans.{Planned, PlannedStage, has_place, with_room}
 use Rattle.cf_model.specs.declared.events.Event.TheVariants.{Attach as Attaches}
 use Rattle.cf_model.specs.Calls.{is_attach}
 use Rattle.cf_model.specs.Ranges.{EventFits, AskFits}
@@ -70,6 +70,5 @@ StepCalls n step = Unit {0}
 pub record IsScript (s : Script) : Type 0 where
   pub numbered : All (FunctionFits (length s.functions)) s.plan.stages
   pub called : All (StepCalls (length s.functions)) s.steps
-  pub few_stages : length s.plan.stages + s.room ≤ 4096
-  pub few_edges : edges_of s.plan.stages + 2 * s.room ≤ 16384
+  pub place : has_place s.plan.stages s.room ≡ true
   pub steps_fit : StepsFit (extent_of (opening s)) s.steps
