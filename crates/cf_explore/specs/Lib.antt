@@ -1,0 +1,6 @@
+pub mod Programs
+pub mod Moves
+pub mod Orders
+pub mod Conditions
+pub mod Layers
+pub mod Found

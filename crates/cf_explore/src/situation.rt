@@ -1,0 +1,85 @@
+//! A situation that the program has come to.
+pub(crate) mod changes;
+
+ghost use Rattle.std.specs.Prelude.{◌≡◌, ◌≤◌, true, IfOk, List, length, map, replicate};
+ghost use Rattle.cf_model.specs.States.{outcome_of};
+ghost use Rattle.cf_explore.specs.Programs.{hand_at, place_at};
+
+use crate::step::{Hand, Place};
+use cf_outcome::Outcome;
+use cf_plain::Plain;
+use std::alloc::{AllocError, Global};
+use std::marker::Model;
+
+/// The graph's state, how far each caller has come, what each worker has in hand, and for each stage whether its function was
+/// called.
+#[derive(Drop)]
+pub struct Situation {
+    pub(crate) graph: Plain,
+    pub(crate) places: Vec<Place>,
+    pub(crate) hands: Vec<Hand>,
+    pub(crate) called: Vec<bool>,
+}
+
+impl Model for Situation {
+    ghost use Rattle.cf_explore.specs.Programs.{Situated};
+
+    ghost Value = { Situated };
+
+    ghost view = { λ s. record { state = s.graph; places = s.places.items; hands = s.hands.items; called = s.called.items } };
+}
+
+impl Situation {
+    /// The same situation again. It fails only where there is no memory.
+    pub fn copy(&self, alloc: Global) -> Result<Situation, AllocError>
+        ensures { IfOk result (λ s. s ≡ self.now) }
+    {
+        let graph = self.graph.copy(alloc)?;
+        let places = Vec::from_slice(alloc, &self.places)?;
+        let hands = Vec::from_slice(alloc, &self.hands)?;
+        let called = Vec::from_slice(alloc, &self.called)?;
+        Ok(Situation {
+            graph,
+            places,
+            hands,
+            called,
+        })
+    }
+
+    /// Whether it is the same situation.
+    pub(crate) fn is_same(&self, other: &Situation) -> bool
+        ensures { result ≡ true → self.now ≡ other.now }
+    {
+        self.places.as_slice() == other.places.as_slice()
+            && self.hands.as_slice() == other.hands.as_slice()
+            && self.called.as_slice() == other.called.as_slice()
+            && self.graph.is_same(&other.graph)
+    }
+
+    /// The graph.
+    pub fn graph(&self) -> &Plain
+        ensures { result.now ≡ self.now.state }
+    {
+        &self.graph
+    }
+
+    /// A caller's place.
+    pub(crate) fn place(&self, c: u8) -> Place
+        ensures { result ≡ place_at self.now c }
+    {
+        match self.places.get(c as usize) {
+            Some(place) => *place,
+            None => Place { at: 0, looks: 0 },
+        }
+    }
+
+    /// What a worker has in hand.
+    pub(crate) fn hand(&self, w: u8) -> Hand
+        ensures { result ≡ hand_at self.now w }
+    {
+        match self.hands.get(w as usize) {
+            Some(hand) => *hand,
+            None => Hand::Idle,
+        }
+    }
+}
