@@ -5,7 +5,7 @@ use Rattle.std.specs.Option.{option_map_or}
 use Rattle.cf_plan.specs.declared.limits.Limit.{Limit}
 use Rattle.cf_plan.specs.declared.forms.Of.{Of}
 use Rattle.cf_plan.specs.declared.forms.Of.TheVariants.{None as NoSource, One, Two}
-use Rattle.cf_plan.specs.Meanings.{stage_answer}
+use Rattle.cf_plan.specs.Meanings.{Meanings, stage_answer}
 use Rattle.cf_plan.specs.Plans.{fits_form, sources_of}
 use Rattle.cf_model.specs.declared.events.Event.{Event}
 use Rattle.cf_model.specs.declared.events.Event.TheVariants as events
@@ -118,10 +118,10 @@ abbrev pub claim_by : Situated → ℕ → ℕ → Claimed × State → Situated
 claim_by s w i answer = record s { state = answer.1; hands = slice_set s.hands w (hand_of i answer.0) }
 
 -- it calls the function of the stage that it was granted
-abbrev pub call_by : Programmed → Situated → ℕ → Hand → Situated
-call_by p s w (hands.Granted i args) =
-    record s { hands = slice_set s.hands w (hands.Called i (stage_answer p.meanings s.state.plan.stages i args)); called = slice_set s.called i true }
-call_by p s w hand = s
+abbrev pub call_by : Meanings → Situated → ℕ → Hand → Situated
+call_by m s w (hands.Granted i args) =
+    record s { hands = slice_set s.hands w (hands.Called i (stage_answer m s.state.plan.stages i args)); called = slice_set s.called i true }
+call_by m s w hand = s
 
 -- it finishes the stage
 abbrev pub finish_by : Situated → ℕ → ℕ → Hand → Situated
@@ -136,12 +136,12 @@ abbrev pub ticked : Situated → Situated
 ticked s = record s { state = (ticking s.state (next_moment s.state)).1 }
 
 -- Where a move leads. The workers' numbers as callers stand behind those of the callers. A worker that isn't there does nothing.
-unfoldable pub moved : Programmed → Situated → Move → Situated
-moved p s (moving.Step c) = option_map_or (stepped s c) (step_of p s c) s
-moved p s (moving.Claim w i) = if nat_lt w p.workers then claim_by s w i (claiming s.state (length p.callers + w) i) else s
-moved p s (moving.Call w) = call_by p s w (hand_at s w)
-moved p s (moving.Finish w) = if nat_lt w p.workers then finish_by s w (length p.callers + w) (hand_at s w) else s
-moved p s moving.Tick = ticked s
+unfoldable pub moved : Meanings → Programmed → Situated → Move → Situated
+moved m p s (moving.Step c) = option_map_or (stepped s c) (step_of p s c) s
+moved m p s (moving.Claim w i) = if nat_lt w p.workers then claim_by s w i (claiming s.state (length p.callers + w) i) else s
+moved m p s (moving.Call w) = call_by m s w (hand_at s w)
+moved m p s (moving.Finish w) = if nat_lt w p.workers then finish_by s w (length p.callers + w) (hand_at s w) else s
+moved m p s moving.Tick = ticked s
 
 -- The event that a move is, if it is one: a read, a function's call and a call that the graph doesn't take are none. The clock
 -- stands behind callers and workers.

@@ -1,6 +1,5 @@
 -- Programs, and the situations that they come to.
 use Rattle.std.specs.Prelude.{ℕ, Bool, false, List, Option, length, replicate, slice_get, unwrap_or, option_and_then}
-use Rattle.cf_plan.specs.Meanings.{Meanings}
 use Rattle.cf_plan.specs.Plans.{Planned}
 use Rattle.cf_model.specs.States.{State, start}
 use Rattle.cf_explore.specs.declared.step.Step.{Step}
@@ -8,12 +7,11 @@ use Rattle.cf_explore.specs.declared.step.Place.{Place}
 use Rattle.cf_explore.specs.declared.step.Hand.{Hand}
 use Rattle.cf_explore.specs.declared.step.Hand.TheVariants.{Idle}
 
--- a plan with its room, each caller's steps, how many workers there are, what functions mean, and whether limits may fire at any time
+-- a plan with its room, each caller's steps, how many workers there are, and whether limits may fire at any time
 pub record Programmed : Type 0 where
   pub plan : Planned
   pub callers : List (List Step)
   pub workers : ℕ
-  pub meanings : Meanings
   pub free : Bool
 
 -- the graph's state, how far each caller has come, what each worker has in hand, and for each stage whether its function was called

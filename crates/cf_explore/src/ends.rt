@@ -1,16 +1,15 @@
 //! The distinct ends.
-ghost use Rattle.std.specs.Prelude.{◌≡◌, ◌+◌, IfOk, IfSome, map};
-ghost use Rattle.cf_explore.specs.Found.{outcomes_of};
+ghost use Rattle.std.specs.Prelude.{◌≡◌, ◌<◌, ◌∷◌, [], IfOk, IfSome, Some, length, slice_get, slice_set, true};
+ghost use Rattle.cf_explore.specs.Found.{AreMoreEnds, HasOutcomes, IsEnded, more_ended, outcomes_of};
 
 use crate::found::{End, Witness};
 use crate::layer::Entry;
 use crate::program::Program;
 use crate::situation::Situation;
 use cf_outcome::Outcome;
-use cf_plan::StageFn;
 use std::alloc::{AllocError, Global};
 
-impl<F: StageFn> Program<F> {
+impl Program {
     /// Adds those of these situations that are ends.
     pub(crate) fn add_ends(
         &self,
@@ -18,18 +17,33 @@ impl<F: StageFn> Program<F> {
         entries: &[Entry],
         moves: u32,
         ends: &mut Vec<End>,
-    ) -> Result<(), AllocError> {
+    ) -> Result<(), AllocError>
+        ensures { IfOk result (λ _. AreMoreEnds self.now moves entries.now ends.old.items ends.new.items) }
+    {
         for entry in entries {
-            if self.is_end(alloc, &entry.situation)? {
-                let outcomes = entry.situation.outcomes(alloc)?;
-                let witness = Witness {
-                    moves,
-                    number: entry.number,
-                };
-                add_end(ends, outcomes, entry.orders, witness)?;
-            }
+            self.add_if_end(alloc, entry, moves, ends)?;
         }
         Ok(())
+    }
+
+    /// Adds a situation if it is an end.
+    fn add_if_end(
+        &self,
+        alloc: Global,
+        entry: &Entry,
+        moves: u32,
+        ends: &mut Vec<End>,
+    ) -> Result<(), AllocError>
+        ensures { IfOk result (λ _. AreMoreEnds self.now moves (entry.now ∷ []) ends.old.items ends.new.items) }
+    {
+        if self.is_end(alloc, &entry.situation)? {
+            let outcomes = entry.situation.outcomes(alloc)?;
+            let number = entry.number;
+            let _new = add_end(ends, outcomes, entry.orders, Witness { moves, number })?;
+            Ok(())
+        } else {
+            Ok(())
+        }
     }
 }
 
@@ -42,17 +56,19 @@ impl Situation {
     }
 }
 
-/// So many orders more lead to this end. The witness is kept where it is a new one.
+/// So many orders more lead to this end. The witness is kept where it is a new one, which it says.
 fn add_end(
     ends: &mut Vec<End>,
     outcomes: Vec<Option<Outcome>>,
     orders: u128,
     witness: Witness,
-) -> Result<(), AllocError> {
+) -> Result<bool, AllocError>
+    ensures { IfOk result (λ new. IsEnded ends.old.items ends.new.items outcomes.items orders witness new) }
+{
     match find_end(ends, &outcomes) {
         Some(i) => {
             more_orders(ends, i, orders);
-            Ok(())
+            Ok(false)
         }
         None => {
             ends.push(End {
@@ -60,24 +76,49 @@ fn add_end(
                 orders,
                 witness,
             })?;
-            Ok(())
+            Ok(true)
         }
     }
 }
 
 /// The place of the end with these outcomes, if it is there.
-fn find_end(ends: &[End], outcomes: &[Option<Outcome>]) -> Option<usize> {
-    for (i, end) in ends.iter().enumerate() {
-        if end.outcomes.as_slice() == outcomes {
+fn find_end(ends: &[End], outcomes: &[Option<Outcome>]) -> Option<usize>
+    ensures { IfSome result (λ i. HasOutcomes ends.now i outcomes.now) }
+{
+    for i in 0..ends.len() {
+        if same_outcomes(&ends[i].outcomes, outcomes) {
             return Some(i);
         }
     }
     None
 }
 
+/// Whether they are the same outcomes.
+fn same_outcomes(a: &[Option<Outcome>], b: &[Option<Outcome>]) -> bool
+    ensures { result ≡ true → a.now ≡ b.now }
+{
+    if a.len() != b.len() {
+        return false;
+    }
+    for i in 0..a.len() {
+        if !same_outcome(a[i], b[i]) {
+            return false;
+        }
+    }
+    true
+}
+
+/// Whether it is the same outcome.
+fn same_outcome(a: Option<Outcome>, b: Option<Outcome>) -> bool
+    ensures { result ≡ true → a ≡ b }
+{
+    a == b
+}
+
 /// So many orders more lead to the end at this place.
 fn more_orders(ends: &mut [End], i: usize, orders: u128)
     requires { i < length ends.old }
+    ensures { (e : End) → slice_get ends.old i ≡ Some e → ends.new ≡ slice_set ends.old i (more_ended e orders) }
 {
     let end = &mut ends[i];
     end.orders = end.orders.saturating_add(orders);

@@ -1,5 +1,8 @@
 //! Whether facts and conditions hold in a situation.
-ghost use Rattle.std.specs.Prelude.{◌≡◌, ◌+◌, ◌≤◌, IfOk, length, unwrap_or, slice_get};
+ghost use Rattle.std.specs.Prelude.{◌≡◌, ◌<◌, ◌==◌, false, IfOk, Some, length};
+ghost use Rattle.std.specs.Option.{option_map_or};
+ghost use Rattle.cf_outcome.specs.declared.outcome.Value.TheVariants.{Int};
+ghost use Rattle.cf_outcome.specs.declared.outcome.Cause.TheVariants.{Thrown};
 ghost use Rattle.std.specs.List.{list_all};
 ghost use Rattle.cf_model.specs.States.{outcome_at};
 ghost use Rattle.cf_explore.specs.Conditions.{calls_among, calls_of, decides, decides_by, gives_value, has_cause, is_call_of, is_fact, is_so, is_time, same_cause, same_value, was_called};
@@ -8,10 +11,9 @@ use crate::condition::{Condition, Fact, How, Is, When};
 use crate::program::Program;
 use crate::situation::Situation;
 use cf_outcome::{Cause, Outcome, Value, is_cancelled, is_exceptional};
-use cf_plan::StageFn;
 use std::alloc::{AllocError, Global};
 
-impl<F: StageFn> Program<F> {
+impl Program {
     /// Whether a situation decides a condition. It fails only where there is no memory.
     pub(crate) fn decides(
         &self,
@@ -183,7 +185,7 @@ fn same_value(v: Value, w: Value) -> bool
 
 /// Whether a value is this number.
 fn is_int(v: Value, a: i32) -> bool
-    ensures { result ≡ same_value (Value.Int a) v }
+    ensures { result ≡ same_value (Int a) v }
 {
     match v {
         Value::Nil => false,
@@ -205,7 +207,7 @@ fn same_cause(a: Cause, b: Cause) -> bool
 
 /// Whether it is this thrown code.
 fn is_thrown(cause: Cause, a: u32) -> bool
-    ensures { result ≡ same_cause (Cause.Thrown a) cause }
+    ensures { result ≡ same_cause (Thrown a) cause }
 {
     match cause {
         Cause::Thrown(b) => a == b,

@@ -1,6 +1,6 @@
 //! The situations after so many moves.
-ghost use Rattle.std.specs.Prelude.{◌≡◌, ◌+◌, ◌<◌, [], ◌∷◌, IfOk, IfSome, Some, length, slice_get};
-ghost use Rattle.cf_explore.specs.Layers.{IsAdded, IsAt};
+ghost use Rattle.std.specs.Prelude.{◌≡◌, ◌<◌, [], IfOk, IfSome, Some, length, slice_get, slice_set, true};
+ghost use Rattle.cf_explore.specs.Layers.{IsAdded, IsAt, more};
 
 use crate::hash::hash_of;
 use crate::situation::Situation;

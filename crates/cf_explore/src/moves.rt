@@ -1,6 +1,7 @@
 //! Which moves there are in a situation, and where each leads.
 ghost use Rattle.std.specs.Prelude.{◌≡◌, ◌+◌, ◌++◌, ◌≤◌, ◌<◌, IfOk, if◌then◌else◌, length, nat_lt, true, unwrap_or};
 ghost use Rattle.std.specs.Option.{option_map_or};
+ghost use Rattle.cf_plan.specs.Meanings.{meanings_of};
 ghost use Rattle.cf_plan.specs.Plans.{function_at};
 ghost use Rattle.cf_model.specs.States.{is_ready};
 ghost use Rattle.cf_model.specs.Events.{claiming, finishing};
@@ -12,11 +13,12 @@ use crate::situation::Situation;
 use crate::situation::changes::{next_moment, put_called, put_hand, takes};
 use crate::step::{Call, Hand, Move, Step, event_by};
 use cf_model::{Event, Stage};
+use cf_outcome::Value;
 use cf_plain::Plain;
-use cf_plan::StageFn;
+use cf_plan::{Answer, Args, StageFn};
 use std::alloc::{AllocError, Global};
 
-impl<F: StageFn> Program<F> {
+impl Program {
     /// The moves that there are. It fails only where there is no memory.
     pub fn moves(&self, alloc: Global, s: &Situation) -> Result<Vec<Move>, AllocError>
         ensures { IfOk result (λ made. made.items ≡ moves self.now s.now) }
@@ -77,11 +79,17 @@ impl<F: StageFn> Program<F> {
     }
 
     /// Where a move leads. It fails only where there is no memory.
-    pub fn moved(&self, alloc: Global, s: &Situation, by: Move) -> Result<Situation, AllocError>
-        ensures { IfOk result (λ t. t ≡ moved self.now s.now by) }
+    pub fn moved<F: StageFn>(
+        &self,
+        alloc: Global,
+        functions: &[F],
+        s: &Situation,
+        by: Move,
+    ) -> Result<Situation, AllocError>
+        ensures { IfOk result (λ t. t ≡ moved (meanings_of F.meaning functions.now) self.now s.now by) }
     {
         let mut t = s.copy(alloc)?;
-        self.make(alloc, &mut t, by)?;
+        self.make(alloc, functions, &mut t, by)?;
         Ok(t)
     }
 
@@ -127,8 +135,14 @@ impl<F: StageFn> Program<F> {
     }
 
     /// Makes a move.
-    fn make(&self, alloc: Global, s: &mut Situation, by: Move) -> Result<(), AllocError>
-        ensures { IfOk result (λ _. s.new ≡ moved self.now s.old by) }
+    fn make<F: StageFn>(
+        &self,
+        alloc: Global,
+        functions: &[F],
+        s: &mut Situation,
+        by: Move,
+    ) -> Result<(), AllocError>
+        ensures { IfOk result (λ _. s.new ≡ moved (meanings_of F.meaning functions.now) self.now s.old by) }
     {
         match by {
             Move::Step(c) => self.make_step(alloc, s, c),
@@ -137,7 +151,7 @@ impl<F: StageFn> Program<F> {
                 Ok(())
             }
             Move::Call(w) => {
-                self.make_call(s, w);
+                make_call(functions, s, w);
                 Ok(())
             }
             Move::Finish(w) => self.make_finish(alloc, s, w),
@@ -151,17 +165,6 @@ impl<F: StageFn> Program<F> {
     {
         if w < self.workers {
             s.claim(w, self.callers.len() as u8 + w, i);
-        }
-    }
-
-    /// A worker calls the function of the stage that it was granted.
-    fn make_call(&self, s: &mut Situation, w: u8)
-        ensures { s.new ≡ call_by self.now s.old w (hand_at s.old w) }
-    {
-        if let Hand::Granted(i, args) = s.hand(w) {
-            let answer = self.answer(function(&s.graph, i), args);
-            put_hand(&mut s.hands, w as usize, Hand::Called(i, answer));
-            put_called(&mut s.called, i as usize);
         }
     }
 
@@ -273,5 +276,26 @@ fn finish_by_hand(hand: Hand, who: u8) -> Option<Event>
     match hand {
         Hand::Called(stage, answer) => Some(Event::Finish { who, stage, answer }),
         _ => None,
+    }
+}
+
+/// A worker calls the function of the stage that it was granted.
+fn make_call<F: StageFn>(functions: &[F], s: &mut Situation, w: u8)
+    ensures { s.new ≡ call_by (meanings_of F.meaning functions.now) s.old w (hand_at s.old w) }
+{
+    if let Hand::Granted(i, args) = s.hand(w) {
+        let given = answer(functions, function(&s.graph, i), args);
+        put_hand(&mut s.hands, w as usize, Hand::Called(i, given));
+        put_called(&mut s.called, i as usize);
+    }
+}
+
+/// What the function of this number answers, nil where it isn't there.
+fn answer<F: StageFn>(functions: &[F], number: u16, args: Args) -> Answer
+    ensures { result ≡ meanings_of F.meaning functions.now number args }
+{
+    match functions.get(number as usize) {
+        None => Answer::Give(Value::Nil),
+        Some(function) => function.call(&args),
     }
 }

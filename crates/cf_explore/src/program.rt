@@ -1,14 +1,12 @@
 //! What is searched.
 ghost use Rattle.std.specs.Prelude.{◌≡◌, ◌+◌, ◌<◌, ◌≤◌, true, IfOk, is_some, length, slice_get};
-ghost use Rattle.cf_plan.specs.Meanings.{meanings_of};
 ghost use Rattle.cf_plan.specs.Plans.{has_place, with_room};
 ghost use Rattle.cf_explore.specs.Programs.{place_at, start_of, step_of};
 
 use crate::situation::Situation;
 use crate::step::{Hand, Place, Step};
-use cf_outcome::Value;
 use cf_plain::Plain;
-use cf_plan::{Answer, Args, Plan, StageFn};
+use cf_plan::Plan;
 use std::alloc::{AllocError, Global};
 use std::marker::Model;
 
@@ -50,51 +48,41 @@ impl Caller {
     }
 }
 
-/// A plan with room, callers with their steps, workers, functions by their numbers, and a clock. Where the clock is free, the
+/// A plan with room, callers with their steps, workers, and a clock. Where the clock is free, the
 /// moment of the next unused limit may come between any two moves; else limits fire by the callers' ticks alone.
 #[derive(Drop)]
-pub struct Program<F: StageFn> {
+pub struct Program {
     pub(crate) plan: Plan,
     pub(crate) room: u16,
     pub(crate) callers: Vec<Caller>,
     pub(crate) workers: u8,
-    pub(crate) functions: Vec<F>,
     pub(crate) free: bool,
 }
 
-impl<F: StageFn> Model for Program<F> {
+impl Model for Program {
     ghost use Rattle.std.specs.Prelude.{◌≡◌, ◌+◌, ◌≤◌, true, length};
-    ghost use Rattle.cf_plan.specs.Meanings.{meanings_of};
     ghost use Rattle.cf_plan.specs.Plans.{has_place, with_room};
     ghost use Rattle.cf_explore.specs.Programs.{Programmed};
 
     ghost Value = { Programmed };
 
-    ghost view = { λ p. record { plan = with_room p.plan p.room; callers = p.callers.items; workers = p.workers; meanings = meanings_of F.meaning p.functions.items; free = p.free } };
+    ghost view = { λ p. record { plan = with_room p.plan p.room; callers = p.callers.items; workers = p.workers; free = p.free } };
 
     ghost invariant = { λ p. (has_place p.plan.stages p.room ≡ true) × (length p.callers.items + p.workers ≤ 63) };
 }
 
-impl<F: StageFn> Program<F> {
+impl Program {
     /// The program of a plan with room for so many stages.
-    pub fn new(
-        plan: Plan,
-        room: u16,
-        callers: Vec<Caller>,
-        workers: u8,
-        functions: Vec<F>,
-        free: bool,
-    ) -> Program<F>
+    pub fn new(plan: Plan, room: u16, callers: Vec<Caller>, workers: u8, free: bool) -> Program
         requires place { has_place plan.stages room ≡ true }
         requires few { length callers.items + workers ≤ 63 }
-        ensures { result ≡ record { plan = with_room plan room; callers = callers.items; workers = workers; meanings = meanings_of F.meaning functions.items; free = free } }
+        ensures { result ≡ record { plan = with_room plan room; callers = callers.items; workers = workers; free = free } }
     {
         Program {
             plan,
             room,
             callers,
             workers,
-            functions,
             free,
         }
     }
@@ -125,16 +113,6 @@ impl<F: StageFn> Program<F> {
         match self.callers.get(c as usize) {
             None => None,
             Some(caller) => caller.step(s.place(c).at),
-        }
-    }
-
-    /// What the function of this number answers, nil where it isn't there.
-    pub(crate) fn answer(&self, number: u16, args: Args) -> Answer
-        ensures { result ≡ self.now.meanings number args }
-    {
-        match self.functions.get(number as usize) {
-            None => Answer::Give(Value::Nil),
-            Some(function) => function.call(&args),
         }
     }
 }

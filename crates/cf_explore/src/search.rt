@@ -1,7 +1,10 @@
 //! The search, layer by layer.
-ghost use Rattle.std.specs.Prelude.{◌≡◌, ◌+◌, ◌*◌, ◌<◌, ◌≤◌, ℕ, IfOk, IfSome, List, Option, Some, All, length, map, sum_by, true};
-ghost use Rattle.cf_explore.specs.Layers.{IsLayer, LeadsTo, Spreads, counted, weigh};
-ghost use Rattle.cf_explore.specs.Found.{IsFound, IsSearch};
+ghost use Rattle.std.specs.Prelude.{◌≡◌, ◌+◌, ◌*◌, ◌<◌, ℕ, Contains, IfOk, IfSome, length, true, vec_len};
+ghost use Rattle.cf_plan.specs.Meanings.{Meanings, meanings_of};
+ghost use Rattle.cf_explore.specs.Programs.{Situated};
+ghost use Rattle.cf_explore.specs.Moves.{moved, moves};
+ghost use Rattle.cf_explore.specs.Layers.{IsLonger, IsNext, IsSpread, KeepsLed, LeadsOn, counted, weigh};
+ghost use Rattle.cf_explore.specs.Found.{AreUpdates, IsAdvance, IsFirst, IsFound, IsLook, IsSearch, IsUpdate};
 
 use crate::condition::Condition;
 use crate::found::{Found, Witness};
@@ -21,29 +24,30 @@ pub struct Search {
     pub is_on: bool,
 }
 
-impl<F: StageFn> Program<F> {
+impl Program {
     /// Searches all orders, up to so many situations. It fails only where there is no memory.
-    pub fn explore(
+    pub fn explore<F: StageFn>(
         &self,
         alloc: Global,
+        functions: &[F],
         conditions: &[Condition],
         bound: u32,
     ) -> Result<Found, AllocError>
-        ensures { IfOk result (λ found. IsFound self.now conditions.now found) }
+        ensures { IfOk result (λ found. IsFound (meanings_of F.meaning functions.now) self.now conditions.now found) }
     {
         let mut search = self.begin(alloc, conditions)?;
         for _ in 0..bound {
             if !search.is_on {
                 break;
             }
-            self.go_on(alloc, conditions, bound, &mut search)?;
+            self.go_on(alloc, functions, conditions, bound, &mut search)?;
         }
         Ok(search.found)
     }
 
     /// A search that has seen nothing yet.
     pub fn begin(&self, alloc: Global, conditions: &[Condition]) -> Result<Search, AllocError>
-        ensures { IfOk result (λ search. IsSearch self.now conditions.now search) }
+        ensures { IfOk result (λ search. (m : Meanings) → IsSearch m self.now conditions.now search) }
     {
         let mut layer = Layer::new(alloc);
         let start = self.start(alloc)?;
@@ -68,32 +72,23 @@ impl<F: StageFn> Program<F> {
     }
 
     /// Sees all orders of one move more, unless there are more situations than the bound, where it stops.
-    pub fn go_on(
+    pub fn go_on<F: StageFn>(
         &self,
         alloc: Global,
+        functions: &[F],
         conditions: &[Condition],
         bound: u32,
         search: &mut Search,
     ) -> Result<(), AllocError>
-        requires search { IsSearch self.now conditions.now search.old }
-        ensures { IfOk result (λ _. IsSearch self.now conditions.now search.new) }
+        requires { IsSearch (meanings_of F.meaning functions.now) self.now conditions.now search.old }
+        ensures { IfOk result (λ _. IsSearch (meanings_of F.meaning functions.now) self.now conditions.now search.new) }
     {
-        if !search.is_on || search.found.moves == u32::MAX {
-            return Ok(());
+        if search.is_on && search.found.moves < u32::MAX {
+            self.look(alloc, conditions, search)?;
+            self.advance(alloc, functions, bound, search)
+        } else {
+            Ok(())
         }
-        self.look(alloc, conditions, search)?;
-        let next = self.next_layer(alloc, &search.layer, bound, &mut search.found.trail)?;
-        match next {
-            None => search.is_on = false,
-            Some(layer) => {
-                if layer.entries.is_empty() {
-                    search.found.whole = true;
-                    search.is_on = false;
-                }
-                search.layer = layer;
-            }
-        }
-        Ok(())
     }
 
     /// Looks at a layer's ends, and at what it decides.
@@ -102,7 +97,11 @@ impl<F: StageFn> Program<F> {
         alloc: Global,
         conditions: &[Condition],
         search: &mut Search,
-    ) -> Result<(), AllocError> {
+    ) -> Result<(), AllocError>
+        requires few { search.old.found.moves < 4294967295 }
+        requires decisions { length search.old.found.decisions.items ≡ length conditions.now }
+        ensures { IfOk result (λ _. IsLook self.now conditions.now search.old search.new) }
+    {
         let moves = search.found.moves;
         self.add_ends(alloc, &search.layer.entries, moves, &mut search.found.ends)?;
         self.decide(
@@ -116,17 +115,54 @@ impl<F: StageFn> Program<F> {
         Ok(())
     }
 
-    /// The situations after one more move, or none where there would be more than the bound.
-    fn next_layer(
+    /// Goes on to the next layer, unless there would be more situations than the bound.
+    fn advance<F: StageFn>(
         &self,
         alloc: Global,
-        layer: &Layer,
+        functions: &[F],
+        bound: u32,
+        search: &mut Search,
+    ) -> Result<(), AllocError>
+        ensures { IfOk result (λ _. IsAdvance (meanings_of F.meaning functions.now) self.now search.old search.new) }
+    {
+        let next = self.next_layer(
+            alloc,
+            functions,
+            &search.layer.entries,
+            bound,
+            &mut search.found.trail,
+        )?;
+        match next {
+            None => {
+                search.is_on = false;
+                Ok(())
+            }
+            Some(layer) => {
+                let whole = layer.entries.is_empty();
+                search.found.whole = whole;
+                search.is_on = !whole;
+                search.layer = layer;
+                Ok(())
+            }
+        }
+    }
+
+    /// The situations after one more move, or none where there would be more than the bound.
+    fn next_layer<F: StageFn>(
+        &self,
+        alloc: Global,
+        functions: &[F],
+        entries: &[Entry],
         bound: u32,
         trail: &mut Vec<Trace>,
-    ) -> Result<Option<Layer>, AllocError> {
+    ) -> Result<Option<Layer>, AllocError>
+        ensures next { IfOk result (λ made. IfSome made (λ layer. IsNext (meanings_of F.meaning functions.now) self.now entries.now layer.entries.items)) }
+        ensures led { IfOk result (λ made. IfSome made (λ layer. LeadsOn (meanings_of F.meaning functions.now) self.now trail.old.items trail.new.items entries.now layer.entries.items)) }
+        ensures longer { IfOk result (λ _. IsLonger trail.old.items trail.new.items) }
+    {
         let mut next = Layer::new(alloc);
-        for entry in &layer.entries {
-            if !self.spread(alloc, entry, bound, trail, &mut next)? {
+        for entry in entries {
+            if !self.spread(alloc, functions, entry, bound, trail, &mut next)? {
                 return Ok(None);
             }
         }
@@ -134,28 +170,56 @@ impl<F: StageFn> Program<F> {
     }
 
     /// Adds the situations to which one more move leads from this one. It says whether there were no more than the bound.
-    fn spread(
+    fn spread<F: StageFn>(
         &self,
         alloc: Global,
+        functions: &[F],
         entry: &Entry,
         bound: u32,
         trail: &mut Vec<Trace>,
         next: &mut Layer,
-    ) -> Result<bool, AllocError> {
+    ) -> Result<bool, AllocError>
+        ensures spread { IfOk result (λ whole. whole ≡ true → IsSpread (meanings_of F.meaning functions.now) self.now entry.now next.old.entries.items next.new.entries.items) }
+        ensures led { IfOk result (λ whole. KeepsLed (meanings_of F.meaning functions.now) self.now trail.old.items trail.new.items next.old.entries.items next.new.entries.items entry.now) }
+        ensures longer { IfOk result (λ _. IsLonger trail.old.items trail.new.items) }
+    {
         let moves = self.moves(alloc, &entry.situation)?;
         for by in &moves {
             if trail.len() >= bound as usize {
                 return Ok(false);
             }
-            let situation = self.moved(alloc, &entry.situation, *by)?;
-            if next.add(situation, entry.orders, trail.len() as u32)? {
-                trail.push(Trace {
-                    before: entry.number,
-                    by: *by,
-                })?;
-            }
+            self.add_move(alloc, functions, entry, *by, trail, next)?;
         }
         Ok(true)
+    }
+
+    /// Adds the situation to which a move leads.
+    fn add_move<F: StageFn>(
+        &self,
+        alloc: Global,
+        functions: &[F],
+        entry: &Entry,
+        by: Move,
+        trail: &mut Vec<Trace>,
+        next: &mut Layer,
+    ) -> Result<(), AllocError>
+        requires { vec_len trail.old < 4294967296 }
+        ensures weighs { IfOk result (λ _. (f : Situated → ℕ) → counted (weigh f next.new.entries.items) ≡ counted (weigh f next.old.entries.items + entry.now.orders * f (moved (meanings_of F.meaning functions.now) self.now entry.now.situation by))) }
+        ensures led { IfOk result (λ _. Contains (moves self.now entry.now.situation) by → KeepsLed (meanings_of F.meaning functions.now) self.now trail.old.items trail.new.items next.old.entries.items next.new.entries.items entry.now) }
+        ensures longer { IfOk result (λ _. IsLonger trail.old.items trail.new.items) }
+    {
+        let situation = self.moved(alloc, functions, &entry.situation, by)?;
+        let number = trail.len() as u32;
+        let new = next.add(situation, entry.orders, number)?;
+        if new {
+            trail.push(Trace {
+                before: entry.number,
+                by,
+            })?;
+            Ok(())
+        } else {
+            Ok(())
+        }
     }
 
     /// Decides the conditions that aren't decided yet, as far as these situations decide them.
@@ -166,29 +230,48 @@ impl<F: StageFn> Program<F> {
         moves: u32,
         conditions: &[Condition],
         decisions: &mut [Option<Witness>],
-    ) -> Result<(), AllocError> {
+    ) -> Result<(), AllocError>
+        requires { length decisions.old ≡ length conditions.now }
+        ensures { IfOk result (λ _. AreUpdates self.now entries.now moves conditions.now decisions.old decisions.new (length conditions.now)) }
+    {
         for i in 0..conditions.len() {
-            if i < decisions.len() && decisions[i].is_none() {
-                decisions[i] = self.decided(alloc, entries, moves, &conditions[i])?;
-            }
+            let known = decisions[i];
+            decisions[i] = self.decision(alloc, entries, moves, &conditions[i], known)?;
         }
         Ok(())
     }
 
-    /// The first of these situations that decides a condition, if one does.
-    fn decided(
+    /// What is known of a condition already, or else the first of these situations that decides it, if one does.
+    fn decision(
         &self,
         alloc: Global,
         entries: &[Entry],
         moves: u32,
         condition: &Condition,
-    ) -> Result<Option<Witness>, AllocError> {
+        known: Option<Witness>,
+    ) -> Result<Option<Witness>, AllocError>
+        ensures { IfOk result (λ new. IsUpdate self.now entries.now moves condition.now known new) }
+    {
+        match known {
+            Some(w) => Ok(Some(w)),
+            None => self.first(alloc, entries, moves, condition),
+        }
+    }
+
+    /// The first of these situations that decides a condition, if one does.
+    fn first(
+        &self,
+        alloc: Global,
+        entries: &[Entry],
+        moves: u32,
+        condition: &Condition,
+    ) -> Result<Option<Witness>, AllocError>
+        ensures { IfOk result (λ found. IsFirst self.now entries.now moves condition.now found) }
+    {
         for entry in entries {
             if self.decides(alloc, condition, &entry.situation)? {
-                return Ok(Some(Witness {
-                    moves,
-                    number: entry.number,
-                }));
+                let number = entry.number;
+                return Ok(Some(Witness { moves, number }));
             }
         }
         Ok(None)

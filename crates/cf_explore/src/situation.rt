@@ -50,10 +50,13 @@ impl Situation {
     pub(crate) fn is_same(&self, other: &Situation) -> bool
         ensures { result ≡ true → self.now ≡ other.now }
     {
-        self.places.as_slice() == other.places.as_slice()
-            && self.hands.as_slice() == other.hands.as_slice()
-            && self.called.as_slice() == other.called.as_slice()
-            && self.graph.is_same(&other.graph)
+        if !same_places(&self.places, &other.places) {
+            return false;
+        }
+        if !same_hands(&self.hands, &other.hands) {
+            return false;
+        }
+        same_marks(&self.called, &other.called) && self.graph.is_same(&other.graph)
     }
 
     /// The graph.
@@ -82,4 +85,56 @@ impl Situation {
             None => Hand::Idle,
         }
     }
+}
+
+/// Whether they are the same places.
+fn same_places(a: &[Place], b: &[Place]) -> bool
+    ensures { result ≡ true → a.now ≡ b.now }
+{
+    if a.len() != b.len() {
+        return false;
+    }
+    for i in 0..a.len() {
+        if a[i].at != b[i].at || a[i].looks != b[i].looks {
+            return false;
+        }
+    }
+    true
+}
+
+/// Whether they are the same hands.
+fn same_hands(a: &[Hand], b: &[Hand]) -> bool
+    ensures { result ≡ true → a.now ≡ b.now }
+{
+    if a.len() != b.len() {
+        return false;
+    }
+    for i in 0..a.len() {
+        if !same_hand(a[i], b[i]) {
+            return false;
+        }
+    }
+    true
+}
+
+/// Whether it is the same hand.
+fn same_hand(a: Hand, b: Hand) -> bool
+    ensures { result ≡ true → a ≡ b }
+{
+    a == b
+}
+
+/// Whether the same functions were called.
+fn same_marks(a: &[bool], b: &[bool]) -> bool
+    ensures { result ≡ true → a.now ≡ b.now }
+{
+    if a.len() != b.len() {
+        return false;
+    }
+    for i in 0..a.len() {
+        if a[i] != b[i] {
+            return false;
+        }
+    }
+    true
 }

@@ -59,7 +59,7 @@ fn callers_of(alloc: Global, rows: &Rows) -> Result<Vec<Caller>, Fail> {
 }
 
 /// The functions.
-fn functions_of(alloc: Global, rows: &Rows) -> Result<Vec<Always>, Fail> {
+pub(crate) fn functions_of(alloc: Global, rows: &Rows) -> Result<Vec<Always>, Fail> {
     let mut functions = Vec::new(alloc);
     for answer in rows.functions {
         functions.push(Always { answer: *answer })?;
@@ -68,12 +68,11 @@ fn functions_of(alloc: Global, rows: &Rows) -> Result<Vec<Always>, Fail> {
 }
 
 /// The program, if it is one.
-pub(crate) fn program(alloc: Global, rows: &Rows) -> Result<Option<Program<Always>>, Fail> {
+pub(crate) fn program(alloc: Global, rows: &Rows) -> Result<Option<Program>, Fail> {
     let plan = plan_of(alloc, rows)?;
     let callers = callers_of(alloc, rows)?;
-    let functions = functions_of(alloc, rows)?;
     if plan.has_place(rows.room) && callers.len() + rows.workers as usize <= 63 {
-        Ok(Some(Program::new(plan, rows.room, callers, rows.workers, functions, rows.free)))
+        Ok(Some(Program::new(plan, rows.room, callers, rows.workers, rows.free)))
     } else {
         Ok(None)
     }

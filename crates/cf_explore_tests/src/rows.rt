@@ -1,5 +1,5 @@
 //! What small programs can come to.
-use crate::programs::{Rows, program};
+use crate::programs::{Rows, functions_of, program};
 use cf_explore::{Call, Condition, Fact, Found, How, Is, Step, When};
 use cf_outcome::{Cause, Outcome, Value};
 use cf_plan::{Answer, Form, Limit, LimitKind};
@@ -81,8 +81,9 @@ fn check(rt: &impl Abort, alloc: Global, row: &Row) -> Result<(), Fail> {
     match made {
         None => Ok(()),
         Some(program) => {
+            let functions = functions_of(alloc, &row.rows)?;
             let conditions = vec![in alloc]?;
-            let found = program.explore(alloc, &conditions, row.bound)?;
+            let found = program.explore(alloc, &functions, &conditions, row.bound)?;
             let orders = match found.ends.first() {
                 None => 0,
                 Some(end) => end.orders,

@@ -148,11 +148,13 @@ impl Plain {
     pub fn is_same(&self, other: &Plain) -> bool
         ensures { result ≡ true → self.now ≡ other.now }
     {
-        self.moment == other.moment
-            && self.used == other.used
-            && self.stages.as_slice() == other.stages.as_slice()
-            && self.claims.as_slice() == other.claims.as_slice()
-            && self.plan.is_same(&other.plan)
+        if self.moment != other.moment || self.used != other.used {
+            return false;
+        }
+        if !same_states(&self.stages, &other.stages) {
+            return false;
+        }
+        same_claims(&self.claims, &other.claims) && self.plan.is_same(&other.plan)
     }
 
     /// The lowest ready stage, or none where no stage is ready.
@@ -175,6 +177,43 @@ fn no_claims(alloc: Global, count: usize) -> Result<Vec<Option<u8>>, AllocError>
     ensures { IfOk result (λ claims. claims.items ≡ replicate count None) }
 {
     vec![in alloc; None; count]
+}
+
+/// Whether they are the same states.
+fn same_states(a: &[Stage], b: &[Stage]) -> bool
+    ensures { result ≡ true → a.now ≡ b.now }
+{
+    if a.len() != b.len() {
+        return false;
+    }
+    for i in 0..a.len() {
+        if !same_state(a[i], b[i]) {
+            return false;
+        }
+    }
+    true
+}
+
+/// Whether it is the same state.
+fn same_state(a: Stage, b: Stage) -> bool
+    ensures { result ≡ true → a ≡ b }
+{
+    a == b
+}
+
+/// Whether they are the same claims.
+fn same_claims(a: &[Option<u8>], b: &[Option<u8>]) -> bool
+    ensures { result ≡ true → a.now ≡ b.now }
+{
+    if a.len() != b.len() {
+        return false;
+    }
+    for i in 0..a.len() {
+        if a[i] != b[i] {
+            return false;
+        }
+    }
+    true
 }
 
 /// The outcomes of these stages.

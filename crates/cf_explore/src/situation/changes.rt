@@ -2,6 +2,7 @@
 ghost use Rattle.std.specs.Prelude.{◌≡◌, ◌+◌, ◌<◌, ◌++◌, [], ◌∷◌, IfOk, false, is_some, length, slice_set, true};
 ghost use Rattle.cf_model.specs.Events.{answered, claiming, finishing, ticking};
 ghost use Rattle.cf_model.specs.States.{outcome_at};
+ghost use Rattle.cf_explore.specs.declared.step.Step.TheVariants.{Join};
 ghost use Rattle.cf_explore.specs.Programs.{hand_at, place_at};
 ghost use Rattle.cf_explore.specs.Moves.{are_there, calling, claim_by, event_by, finish_by, hand_of, marked, next_moment, once_more, onward, stepped, takes, ticked};
 
@@ -61,7 +62,7 @@ impl Situation {
     /// A caller looks whether a stage is settled, and goes on where it is, or where it has looked so often.
     pub(crate) fn join(&mut self, c: u8, i: u16, most: u16)
         requires { (place_at self.old c).at < 65535 }
-        ensures { self.new ≡ stepped self.old c (Step.Join i most) }
+        ensures { self.new ≡ stepped self.old c (Join i most) }
     {
         let place = self.place(c);
         if settled(&self.graph, i) || place.looks as u32 + 1 >= most as u32 {

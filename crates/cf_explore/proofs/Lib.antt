@@ -1,0 +1,4 @@
+pub mod Counting
+pub mod Sums
+pub mod Trails
+pub mod Adding
