@@ -45,3 +45,7 @@ counted-more m first now next o s t step so_far =
 -- nothing is counted only where nothing is there
 pub counted-none : (m a : ℕ) → 0 < m → min 0 m ≡ min a m → a ≡ 0
 counted-none m a some h = omega arith
+
+-- both parts of a sum
+pub counted-both : (m a b c d : ℕ) → min a m ≡ min c m → min b m ≡ min d m → min (a + b) m ≡ min (c + d) m
+counted-both m a b c d e f = omega arith

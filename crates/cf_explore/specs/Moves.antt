@@ -14,7 +14,9 @@ use Rattle.cf_model.specs.declared.events.Reply.TheVariants.{Claim as ToldClaim,
 use Rattle.cf_model.specs.declared.replies.Claimed.{Claimed}
 use Rattle.cf_model.specs.declared.replies.Claimed.TheVariants as claimed
 use Rattle.cf_model.specs.declared.replies.Attached.TheVariants.{At}
-use Rattle.cf_model.specs.States.{State, is_ready, outcome_at, stage_at}
+use Rattle.cf_model.specs.declared.stage.Stage.{Stage}
+use Rattle.cf_model.specs.declared.stage.Stage.TheVariants.{Ready}
+use Rattle.cf_model.specs.States.{State, outcome_at, stage_at}
 use Rattle.cf_model.specs.Events.{answered, claiming, finishing, ticking}
 use Rattle.cf_explore.specs.declared.step.Call.{Call}
 use Rattle.cf_explore.specs.declared.step.Call.TheVariants as calls
@@ -53,13 +55,21 @@ takes n (calls.Attach form of function) = fits_form form (length (sources_of of)
 
 -- Which moves there are: each caller's next step; of each worker that is idle the claim of each ready stage, and of any other
 -- the call or the finish that it owes; and, where the clock is free, the moment of the next unused limit.
+abbrev pub step_moves : ℕ → Option Step → List Move
+step_moves c None = []
+step_moves c (Some step) = moving.Step c ∷ []
+
 abbrev pub caller_moves : Programmed → Situated → ℕ → List Move
 caller_moves p s zero = []
-caller_moves p s (suc c) = caller_moves p s c ++ (if is_some (step_of p s c) then moving.Step c ∷ [] else [])
+caller_moves p s (suc c) = caller_moves p s c ++ step_moves c (step_of p s c)
+
+abbrev pub claim_moves : ℕ → ℕ → Stage → List Move
+claim_moves w i (Ready args) = moving.Claim w i ∷ []
+claim_moves w i stage = []
 
 abbrev pub claims_by : State → ℕ → ℕ → List Move
 claims_by s w zero = []
-claims_by s w (suc i) = claims_by s w i ++ (if is_ready (stage_at s i) then moving.Claim w i ∷ [] else [])
+claims_by s w (suc i) = claims_by s w i ++ claim_moves w i (stage_at s i)
 
 abbrev pub moves_by_hand : Situated → ℕ → Hand → List Move
 moves_by_hand s w hands.Idle = claims_by s.state w (length s.state.plan.stages)
@@ -70,8 +80,12 @@ abbrev pub worker_moves : Situated → ℕ → List Move
 worker_moves s zero = []
 worker_moves s (suc w) = worker_moves s w ++ moves_by_hand s w (hand_at s w)
 
+abbrev pub tick_moves : Bool → Option Limit → List Move
+tick_moves true (Some limit) = moving.Tick ∷ []
+tick_moves free limit = []
+
 abbrev pub clock_moves : Bool → State → List Move
-clock_moves free s = if free && nat_lt s.used (length s.plan.limits) then moving.Tick ∷ [] else []
+clock_moves free s = tick_moves free (slice_get s.plan.limits s.used)
 
 unfoldable pub own_moves : Programmed → Situated → List Move
 own_moves p s = caller_moves p s (length p.callers) ++ worker_moves s p.workers

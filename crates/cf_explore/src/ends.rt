@@ -11,6 +11,7 @@ use std::alloc::{AllocError, Global};
 
 impl Program {
     /// Adds those of these situations that are ends.
+    #[tactic(none)]
     pub(crate) fn add_ends(
         &self,
         alloc: Global,
@@ -27,6 +28,7 @@ impl Program {
     }
 
     /// Adds a situation if it is an end.
+    #[tactic(none)]
     fn add_if_end(
         &self,
         alloc: Global,

@@ -1,5 +1,5 @@
 //! Whether facts and conditions hold in a situation.
-ghost use Rattle.std.specs.Prelude.{◌≡◌, ◌<◌, ◌==◌, false, IfOk, Some, length};
+ghost use Rattle.std.specs.Prelude.{◌≡◌, ◌<◌, ◌≤◌, ◌==◌, false, IfOk, Some, if◌then◌else◌, length};
 ghost use Rattle.std.specs.Option.{option_map_or};
 ghost use Rattle.cf_outcome.specs.declared.outcome.Value.TheVariants.{Int};
 ghost use Rattle.cf_outcome.specs.declared.outcome.Cause.TheVariants.{Thrown};
@@ -103,11 +103,17 @@ fn calls_of(s: &Situation, f: u16) -> u16
 {
     let mut calls = 0;
     for i in 0..s.graph.stages() {
-        if is_call_of(s, f, i) {
-            calls += 1;
-        }
+        calls += one_if(is_call_of(s, f, i));
     }
     calls
+}
+
+/// 1 where it holds, and else 0.
+fn one_if(holds: bool) -> u16
+    ensures is { result ≡ (if holds then 1 else 0) }
+    ensures most { result ≤ 1 }
+{
+    if holds { 1 } else { 0 }
 }
 
 /// Whether a stage has this function, and it was called.

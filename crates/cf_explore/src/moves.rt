@@ -3,10 +3,9 @@ ghost use Rattle.std.specs.Prelude.{◌≡◌, ◌+◌, ◌++◌, ◌≤◌, ◌
 ghost use Rattle.std.specs.Option.{option_map_or};
 ghost use Rattle.cf_plan.specs.Meanings.{meanings_of};
 ghost use Rattle.cf_plan.specs.Plans.{function_at};
-ghost use Rattle.cf_model.specs.States.{is_ready};
 ghost use Rattle.cf_model.specs.Events.{claiming, finishing};
 ghost use Rattle.cf_explore.specs.Programs.{hand_at, step_of};
-ghost use Rattle.cf_explore.specs.Moves.{call_by, caller_moves, claim_by, claims_by, call_event, claim_event, clock_moves, event_of, finish_by, finish_by_hand, finish_event, is_end, moved, moves, moves_by_hand, own_moves, step_event, stepped, worker_moves};
+ghost use Rattle.cf_explore.specs.Moves.{call_by, caller_moves, claim_by, claim_moves, claims_by, call_event, claim_event, clock_moves, event_of, finish_by, finish_by_hand, finish_event, is_end, moved, moves, moves_by_hand, own_moves, step_event, step_moves, stepped, tick_moves, worker_moves};
 
 use crate::program::Program;
 use crate::situation::Situation;
@@ -15,7 +14,7 @@ use crate::step::{Call, Hand, Move, Step, event_by};
 use cf_model::{Event, Stage};
 use cf_outcome::Value;
 use cf_plain::Plain;
-use cf_plan::{Answer, Args, StageFn};
+use cf_plan::{Answer, Args, Limit, StageFn};
 use std::alloc::{AllocError, Global};
 
 impl Program {
@@ -51,9 +50,7 @@ impl Program {
         ensures { IfOk result (λ _. made.new.items ≡ made.old.items ++ caller_moves self.now s.now (length self.now.callers)) }
     {
         for c in 0..self.callers.len() as u8 {
-            if self.step(s, c).is_some() {
-                made.push(Move::Step(c))?;
-            }
+            add_step(made, c, self.step(s, c))?;
         }
         Ok(())
     }
@@ -72,10 +69,7 @@ impl Program {
     fn add_clock(&self, made: &mut Vec<Move>, s: &Situation) -> Result<(), AllocError>
         ensures { IfOk result (λ _. made.new.items ≡ made.old.items ++ clock_moves self.now.free s.now.state) }
     {
-        if self.free && s.graph.next_limit().is_some() {
-            made.push(Move::Tick)?;
-        }
-        Ok(())
+        add_tick(made, self.free, s.graph.next_limit())
     }
 
     /// Where a move leads. It fails only where there is no memory.
@@ -234,18 +228,52 @@ fn add_claims(made: &mut Vec<Move>, graph: &Plain, w: u8) -> Result<(), AllocErr
     ensures { IfOk result (λ _. made.new.items ≡ made.old.items ++ claims_by graph.now w (length graph.now.plan.stages)) }
 {
     for i in 0..graph.stages() {
-        if ready(graph.stage(i)) {
-            made.push(Move::Claim(w, i))?;
-        }
+        add_claim(made, w, i, graph.stage(i))?;
     }
     Ok(())
 }
 
-/// Whether a stage is ready.
-fn ready(stage: Stage) -> bool
-    ensures { result ≡ is_ready stage }
+/// A worker's claim of a stage, if it is ready.
+fn add_claim(made: &mut Vec<Move>, w: u8, i: u16, stage: Stage) -> Result<(), AllocError>
+    ensures { IfOk result (λ _. made.new.items ≡ made.old.items ++ claim_moves w i stage) }
 {
-    matches!(stage, Stage::Ready(_))
+    match stage {
+        Stage::Ready(_) => {
+            made.push(Move::Claim(w, i))?;
+            Ok(())
+        }
+        _ => Ok(()),
+    }
+}
+
+/// A caller's next step, if it has one.
+fn add_step(made: &mut Vec<Move>, c: u8, step: Option<Step>) -> Result<(), AllocError>
+    ensures { IfOk result (λ _. made.new.items ≡ made.old.items ++ step_moves c step) }
+{
+    match step {
+        None => Ok(()),
+        Some(_) => {
+            made.push(Move::Step(c))?;
+            Ok(())
+        }
+    }
+}
+
+/// The moment of the next limit, where the clock is free and there is one.
+fn add_tick(made: &mut Vec<Move>, free: bool, limit: Option<Limit>) -> Result<(), AllocError>
+    ensures { IfOk result (λ _. made.new.items ≡ made.old.items ++ tick_moves free limit) }
+{
+    match limit {
+        None => Ok(()),
+        Some(_) => {
+            if free {
+                made.push(Move::Tick)?;
+                Ok(())
+            } else {
+                Ok(())
+            }
+        }
+    }
 }
 
 /// The event of a caller's step, if it has one and the graph takes it.

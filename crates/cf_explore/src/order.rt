@@ -16,7 +16,7 @@ impl Found {
     {
         let mut order = Vec::new(alloc);
         let mut number = witness.number;
-        for _ in 0..witness.moves {
+        for step in 0..witness.moves {
             match self.trail.get(number as usize) {
                 None => return Ok(order),
                 Some(trace) => {

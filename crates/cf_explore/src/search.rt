@@ -26,6 +26,7 @@ pub struct Search {
 
 impl Program {
     /// Searches all orders, up to so many situations. It fails only where there is no memory.
+    #[tactic(none)]
     pub fn explore<F: StageFn>(
         &self,
         alloc: Global,
@@ -46,6 +47,7 @@ impl Program {
     }
 
     /// A search that has seen nothing yet.
+    #[tactic(none)]
     pub fn begin(&self, alloc: Global, conditions: &[Condition]) -> Result<Search, AllocError>
         ensures { IfOk result (λ search. (m : Meanings) → IsSearch m self.now conditions.now search) }
     {
@@ -72,6 +74,7 @@ impl Program {
     }
 
     /// Sees all orders of one move more, unless there are more situations than the bound, where it stops.
+    #[tactic(none)]
     pub fn go_on<F: StageFn>(
         &self,
         alloc: Global,
@@ -92,6 +95,7 @@ impl Program {
     }
 
     /// Looks at a layer's ends, and at what it decides.
+    #[tactic(none)]
     fn look(
         &self,
         alloc: Global,
@@ -116,6 +120,7 @@ impl Program {
     }
 
     /// Goes on to the next layer, unless there would be more situations than the bound.
+    #[tactic(none)]
     fn advance<F: StageFn>(
         &self,
         alloc: Global,
@@ -148,6 +153,7 @@ impl Program {
     }
 
     /// The situations after one more move, or none where there would be more than the bound.
+    #[tactic(none)]
     fn next_layer<F: StageFn>(
         &self,
         alloc: Global,
@@ -170,6 +176,7 @@ impl Program {
     }
 
     /// Adds the situations to which one more move leads from this one. It says whether there were no more than the bound.
+    #[tactic(none)]
     fn spread<F: StageFn>(
         &self,
         alloc: Global,
@@ -194,6 +201,7 @@ impl Program {
     }
 
     /// Adds the situation to which a move leads.
+    #[tactic(none)]
     fn add_move<F: StageFn>(
         &self,
         alloc: Global,
@@ -223,6 +231,7 @@ impl Program {
     }
 
     /// Decides the conditions that aren't decided yet, as far as these situations decide them.
+    #[tactic(none)]
     fn decide(
         &self,
         alloc: Global,
@@ -242,6 +251,7 @@ impl Program {
     }
 
     /// What is known of a condition already, or else the first of these situations that decides it, if one does.
+    #[tactic(none)]
     fn decision(
         &self,
         alloc: Global,
@@ -259,6 +269,7 @@ impl Program {
     }
 
     /// The first of these situations that decides a condition, if one does.
+    #[tactic(none)]
     fn first(
         &self,
         alloc: Global,
