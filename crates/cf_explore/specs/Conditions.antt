@@ -1,5 +1,5 @@
 -- What is asked of situations.
-use Rattle.std.specs.Prelude.{ℕ, ◌+◌, ◌==◌, Bool, true, false, not, ◌&&◌, ◌||◌, Option, Some, None, List, is_some, is_none, nat_le, slice_get, unwrap_or, if◌then◌else◌}
+use Rattle.std.specs.Prelude.{ℕ, ◌+◌, ◌==◌, Bool, true, false, not, ◌&&◌, ◌||◌, Option, Some, None, List, is_some, is_none, nat_le, nat_lt, slice_get, unwrap_or, if◌then◌else◌}
 use Rattle.std.proofs.Common.{zero, suc}
 use Rattle.std.specs.List.{list_all}
 use Rattle.std.specs.Option.{option_map_or}
@@ -73,9 +73,13 @@ calls_among s f (suc i) = calls_among s f i + (if is_call_of s f i then 1 else 0
 abbrev pub calls_of : Situated → ℕ → ℕ
 calls_of s f = calls_among s f (length s.state.plan.stages)
 
+-- the outcome of a stage, none where it isn't there
+abbrev pub outcome_if_there : Situated → ℕ → Option Outcome
+outcome_if_there s i = if nat_lt i (length s.state.plan.stages) then outcome_at s.state i else None
+
 -- whether a fact holds in a situation
 abbrev pub is_fact : Situated → Fact → Bool
-is_fact s (facts.Stage i what) = is_so what (outcome_at s.state i)
+is_fact s (facts.Stage i what) = is_so what (outcome_if_there s i)
 is_fact s (facts.Called i) = was_called s i
 is_fact s (facts.NotCalled i) = not (was_called s i)
 is_fact s (facts.Exactly f n) = calls_of s f == n

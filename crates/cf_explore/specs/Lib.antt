@@ -1,6 +1,5 @@
 pub mod Programs
 pub mod Moves
-pub mod Orders
+pub mod Situations
 pub mod Conditions
 pub mod Layers
-pub mod Found

@@ -3,6 +3,7 @@ use Rattle.std.specs.Prelude.{ℕ, ◌+◌, ◌==◌, Bool, true, false, ◌&&�
 use Rattle.std.proofs.Common.{zero, suc}
 use Rattle.std.specs.Option.{option_map_or}
 use Rattle.cf_plan.specs.declared.limits.Limit.{Limit}
+use Rattle.cf_plan.specs.declared.forms.Answer.{Answer}
 use Rattle.cf_plan.specs.declared.forms.Of.{Of}
 use Rattle.cf_plan.specs.declared.forms.Of.TheVariants.{None as NoSource, One, Two}
 use Rattle.cf_plan.specs.Meanings.{Meanings, stage_answer}
@@ -117,10 +118,23 @@ onward s c = record s { places = slice_set s.places c (record { at = (place_at s
 abbrev pub once_more : Situated → ℕ → Situated
 once_more s c = record s { places = slice_set s.places c (record { at = (place_at s c).at; looks = (place_at s c).looks + 1 }) }
 
+abbrev pub is_settled : State → ℕ → Bool
+is_settled s i = if nat_lt i (length s.plan.stages) then is_some (outcome_at s i) else false
+
 abbrev pub stepped : Situated → ℕ → Step → Situated
 stepped s c (steps.Do call) = onward (calling s c call) c
 stepped s c (steps.Look ask) = onward s c
-stepped s c (steps.Join i n) = if is_some (outcome_at s.state i) || nat_le n ((place_at s c).looks + 1) then onward s c else once_more s c
+stepped s c (steps.Join i n) = if is_settled s.state i || nat_le n ((place_at s c).looks + 1) then onward s c else once_more s c
+
+-- Claims, finishes and looks at a stage that isn't there find it neither ready, nor claimed, nor settled.
+abbrev pub is_there : State → ℕ → Bool
+is_there s i = nat_lt i (length s.plan.stages)
+
+abbrev pub claim_answer : State → ℕ → ℕ → Claimed × State
+claim_answer s who i = if is_there s i then claiming s who i else (claimed.NotReady, s)
+
+abbrev pub finished : State → ℕ → ℕ → Answer → State
+finished s who i answer = if is_there s i then (finishing s who i answer).1 else s
 
 -- what a worker has in hand once its claim of stage i is answered
 abbrev pub hand_of : ℕ → Claimed → Hand
@@ -139,7 +153,7 @@ call_by m s w hand = s
 
 -- it finishes the stage
 abbrev pub finish_by : Situated → ℕ → ℕ → Hand → Situated
-finish_by s w who (hands.Called i answer) = record s { state = (finishing s.state who i answer).1; hands = slice_set s.hands w hands.Idle }
+finish_by s w who (hands.Called i answer) = record s { state = finished s.state who i answer; hands = slice_set s.hands w hands.Idle }
 finish_by s w who hand = s
 
 -- the moment of the next unused limit
@@ -152,7 +166,7 @@ ticked s = record s { state = (ticking s.state (next_moment s.state)).1 }
 -- Where a move leads. The workers' numbers as callers stand behind those of the callers. A worker that isn't there does nothing.
 unfoldable pub moved : Meanings → Programmed → Situated → Move → Situated
 moved m p s (moving.Step c) = option_map_or (stepped s c) (step_of p s c) s
-moved m p s (moving.Claim w i) = if nat_lt w p.workers then claim_by s w i (claiming s.state (length p.callers + w) i) else s
+moved m p s (moving.Claim w i) = if nat_lt w p.workers then claim_by s w i (claim_answer s.state (length p.callers + w) i) else s
 moved m p s (moving.Call w) = call_by m s w (hand_at s w)
 moved m p s (moving.Finish w) = if nat_lt w p.workers then finish_by s w (length p.callers + w) (hand_at s w) else s
 moved m p s moving.Tick = ticked s

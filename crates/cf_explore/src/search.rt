@@ -1,10 +1,5 @@
 //! The search, layer by layer.
-ghost use Rattle.std.specs.Prelude.{◌≡◌, ◌+◌, ◌*◌, ◌<◌, ℕ, Contains, IfOk, IfSome, length, true, vec_len};
-ghost use Rattle.cf_plan.specs.Meanings.{Meanings, meanings_of};
-ghost use Rattle.cf_explore.specs.Programs.{Situated};
-ghost use Rattle.cf_explore.specs.Moves.{moved, moves};
-ghost use Rattle.cf_explore.specs.Layers.{IsLonger, IsNext, IsSpread, KeepsLed, LeadsOn, counted, weigh};
-ghost use Rattle.cf_explore.specs.Found.{AreUpdates, IsAdvance, IsFirst, IsFound, IsLook, IsSearch, IsUpdate};
+ghost use Rattle.std.specs.Prelude.{◌<◌, vec_len};
 
 use crate::condition::Condition;
 use crate::found::{Found, Witness};
@@ -15,7 +10,7 @@ use crate::trail::Trace;
 use cf_plan::StageFn;
 use std::alloc::{AllocError, Global};
 
-/// A search that goes on layer by layer. `found` is true of all orders that were seen so far.
+/// A search that goes on layer by layer.
 #[derive(Drop)]
 pub struct Search {
     pub(crate) layer: Layer,
@@ -26,16 +21,13 @@ pub struct Search {
 
 impl Program {
     /// Searches all orders, up to so many situations. It fails only where there is no memory.
-    #[tactic(none)]
     pub fn explore<F: StageFn>(
         &self,
         alloc: Global,
         functions: &[F],
         conditions: &[Condition],
         bound: u32,
-    ) -> Result<Found, AllocError>
-        ensures { IfOk result (λ found. IsFound (meanings_of F.meaning functions.now) self.now conditions.now found) }
-    {
+    ) -> Result<Found, AllocError> {
         let mut search = self.begin(alloc, conditions)?;
         for _ in 0..bound {
             if !search.is_on {
@@ -47,10 +39,7 @@ impl Program {
     }
 
     /// A search that has seen nothing yet.
-    #[tactic(none)]
-    pub fn begin(&self, alloc: Global, conditions: &[Condition]) -> Result<Search, AllocError>
-        ensures { IfOk result (λ search. (m : Meanings) → IsSearch m self.now conditions.now search) }
-    {
+    pub fn begin(&self, alloc: Global, conditions: &[Condition]) -> Result<Search, AllocError> {
         let mut layer = Layer::new(alloc);
         let start = self.start(alloc)?;
         let _new = layer.add(start, 1, 0)?;
@@ -74,7 +63,6 @@ impl Program {
     }
 
     /// Sees all orders of one move more, unless there are more situations than the bound, where it stops.
-    #[tactic(none)]
     pub fn go_on<F: StageFn>(
         &self,
         alloc: Global,
@@ -82,10 +70,7 @@ impl Program {
         conditions: &[Condition],
         bound: u32,
         search: &mut Search,
-    ) -> Result<(), AllocError>
-        requires { IsSearch (meanings_of F.meaning functions.now) self.now conditions.now search.old }
-        ensures { IfOk result (λ _. IsSearch (meanings_of F.meaning functions.now) self.now conditions.now search.new) }
-    {
+    ) -> Result<(), AllocError> {
         if search.is_on && search.found.moves < u32::MAX {
             self.look(alloc, conditions, search)?;
             self.advance(alloc, functions, bound, search)
@@ -95,7 +80,6 @@ impl Program {
     }
 
     /// Looks at a layer's ends, and at what it decides.
-    #[tactic(none)]
     fn look(
         &self,
         alloc: Global,
@@ -103,8 +87,6 @@ impl Program {
         search: &mut Search,
     ) -> Result<(), AllocError>
         requires few { search.old.found.moves < 4294967295 }
-        requires decisions { length search.old.found.decisions.items ≡ length conditions.now }
-        ensures { IfOk result (λ _. IsLook self.now conditions.now search.old search.new) }
     {
         let moves = search.found.moves;
         self.add_ends(alloc, &search.layer.entries, moves, &mut search.found.ends)?;
@@ -120,16 +102,13 @@ impl Program {
     }
 
     /// Goes on to the next layer, unless there would be more situations than the bound.
-    #[tactic(none)]
     fn advance<F: StageFn>(
         &self,
         alloc: Global,
         functions: &[F],
         bound: u32,
         search: &mut Search,
-    ) -> Result<(), AllocError>
-        ensures { IfOk result (λ _. IsAdvance (meanings_of F.meaning functions.now) self.now search.old search.new) }
-    {
+    ) -> Result<(), AllocError> {
         let next = self.next_layer(
             alloc,
             functions,
@@ -153,7 +132,6 @@ impl Program {
     }
 
     /// The situations after one more move, or none where there would be more than the bound.
-    #[tactic(none)]
     fn next_layer<F: StageFn>(
         &self,
         alloc: Global,
@@ -161,11 +139,7 @@ impl Program {
         entries: &[Entry],
         bound: u32,
         trail: &mut Vec<Trace>,
-    ) -> Result<Option<Layer>, AllocError>
-        ensures next { IfOk result (λ made. IfSome made (λ layer. IsNext (meanings_of F.meaning functions.now) self.now entries.now layer.entries.items)) }
-        ensures led { IfOk result (λ made. IfSome made (λ layer. LeadsOn (meanings_of F.meaning functions.now) self.now trail.old.items trail.new.items entries.now layer.entries.items)) }
-        ensures longer { IfOk result (λ _. IsLonger trail.old.items trail.new.items) }
-    {
+    ) -> Result<Option<Layer>, AllocError> {
         let mut next = Layer::new(alloc);
         for entry in entries {
             if !self.spread(alloc, functions, entry, bound, trail, &mut next)? {
@@ -176,7 +150,6 @@ impl Program {
     }
 
     /// Adds the situations to which one more move leads from this one. It says whether there were no more than the bound.
-    #[tactic(none)]
     fn spread<F: StageFn>(
         &self,
         alloc: Global,
@@ -185,11 +158,7 @@ impl Program {
         bound: u32,
         trail: &mut Vec<Trace>,
         next: &mut Layer,
-    ) -> Result<bool, AllocError>
-        ensures spread { IfOk result (λ whole. whole ≡ true → IsSpread (meanings_of F.meaning functions.now) self.now entry.now next.old.entries.items next.new.entries.items) }
-        ensures led { IfOk result (λ whole. KeepsLed (meanings_of F.meaning functions.now) self.now trail.old.items trail.new.items next.old.entries.items next.new.entries.items entry.now) }
-        ensures longer { IfOk result (λ _. IsLonger trail.old.items trail.new.items) }
-    {
+    ) -> Result<bool, AllocError> {
         let moves = self.moves(alloc, &entry.situation)?;
         for by in &moves {
             if trail.len() >= bound as usize {
@@ -201,7 +170,6 @@ impl Program {
     }
 
     /// Adds the situation to which a move leads.
-    #[tactic(none)]
     fn add_move<F: StageFn>(
         &self,
         alloc: Global,
@@ -212,9 +180,6 @@ impl Program {
         next: &mut Layer,
     ) -> Result<(), AllocError>
         requires { vec_len trail.old < 4294967296 }
-        ensures weighs { IfOk result (λ _. (f : Situated → ℕ) → counted (weigh f next.new.entries.items) ≡ counted (weigh f next.old.entries.items + entry.now.orders * f (moved (meanings_of F.meaning functions.now) self.now entry.now.situation by))) }
-        ensures led { IfOk result (λ _. Contains (moves self.now entry.now.situation) by → KeepsLed (meanings_of F.meaning functions.now) self.now trail.old.items trail.new.items next.old.entries.items next.new.entries.items entry.now) }
-        ensures longer { IfOk result (λ _. IsLonger trail.old.items trail.new.items) }
     {
         let situation = self.moved(alloc, functions, &entry.situation, by)?;
         let number = trail.len() as u32;
@@ -231,7 +196,6 @@ impl Program {
     }
 
     /// Decides the conditions that aren't decided yet, as far as these situations decide them.
-    #[tactic(none)]
     fn decide(
         &self,
         alloc: Global,
@@ -239,19 +203,16 @@ impl Program {
         moves: u32,
         conditions: &[Condition],
         decisions: &mut [Option<Witness>],
-    ) -> Result<(), AllocError>
-        requires { length decisions.old ≡ length conditions.now }
-        ensures { IfOk result (λ _. AreUpdates self.now entries.now moves conditions.now decisions.old decisions.new (length conditions.now)) }
-    {
+    ) -> Result<(), AllocError> {
         for i in 0..conditions.len() {
-            let known = decisions[i];
-            decisions[i] = self.decision(alloc, entries, moves, &conditions[i], known)?;
+            if i < decisions.len() {
+                decisions[i] = self.decision(alloc, entries, moves, &conditions[i], decisions[i])?;
+            }
         }
         Ok(())
     }
 
     /// What is known of a condition already, or else the first of these situations that decides it, if one does.
-    #[tactic(none)]
     fn decision(
         &self,
         alloc: Global,
@@ -259,9 +220,7 @@ impl Program {
         moves: u32,
         condition: &Condition,
         known: Option<Witness>,
-    ) -> Result<Option<Witness>, AllocError>
-        ensures { IfOk result (λ new. IsUpdate self.now entries.now moves condition.now known new) }
-    {
+    ) -> Result<Option<Witness>, AllocError> {
         match known {
             Some(w) => Ok(Some(w)),
             None => self.first(alloc, entries, moves, condition),
@@ -269,16 +228,13 @@ impl Program {
     }
 
     /// The first of these situations that decides a condition, if one does.
-    #[tactic(none)]
     fn first(
         &self,
         alloc: Global,
         entries: &[Entry],
         moves: u32,
         condition: &Condition,
-    ) -> Result<Option<Witness>, AllocError>
-        ensures { IfOk result (λ found. IsFirst self.now entries.now moves condition.now found) }
-    {
+    ) -> Result<Option<Witness>, AllocError> {
         for entry in entries {
             if self.decides(alloc, condition, &entry.situation)? {
                 let number = entry.number;

@@ -4,7 +4,7 @@ ghost use Rattle.cf_model.specs.Events.{answered, claiming, finishing, ticking};
 ghost use Rattle.cf_model.specs.States.{outcome_at};
 ghost use Rattle.cf_explore.specs.declared.step.Step.TheVariants.{Join};
 ghost use Rattle.cf_explore.specs.Programs.{hand_at, place_at};
-ghost use Rattle.cf_explore.specs.Moves.{are_there, calling, claim_by, event_by, finish_by, hand_of, marked, next_moment, once_more, onward, stepped, takes, ticked};
+ghost use Rattle.cf_explore.specs.Moves.{are_there, calling, claim_answer, claim_by, event_by, finish_by, finished, hand_of, is_settled, marked, next_moment, once_more, onward, stepped, takes, ticked};
 
 use crate::situation::Situation;
 use crate::step::{Call, Hand, Place};
@@ -81,7 +81,7 @@ impl Situation {
 
     /// A worker, who is this caller, claims a stage.
     pub(crate) fn claim(&mut self, w: u8, who: u8, i: u16)
-        ensures { self.new ≡ claim_by self.old w i (claiming self.old.state who i) }
+        ensures { self.new ≡ claim_by self.old w i (claim_answer self.old.state who i) }
     {
         let answer = claim(&mut self.graph, who, i);
         put_hand(&mut self.hands, w as usize, hand_of(i, answer));
@@ -138,9 +138,9 @@ fn hand_of(i: u16, answer: Claimed) -> Hand
 
 /// Claims a stage, which isn't ready where it isn't there.
 fn claim(graph: &mut Plain, who: u8, i: u16) -> Claimed
-    ensures { (result, graph.new) ≡ claiming graph.old who i }
+    ensures { (result, graph.new) ≡ claim_answer graph.old who i }
 {
-    if graph.has(i) {
+    if i < graph.stages() {
         graph.claim(who, i)
     } else {
         Claimed::NotReady
@@ -149,9 +149,13 @@ fn claim(graph: &mut Plain, who: u8, i: u16) -> Claimed
 
 /// Whether a stage is settled. One that isn't there isn't.
 fn settled(graph: &Plain, i: u16) -> bool
-    ensures { result ≡ is_some (outcome_at graph.now i) }
+    ensures { result ≡ is_settled graph.now i }
 {
-    graph.has(i) && graph.outcome(i).is_some()
+    if i < graph.stages() {
+        graph.outcome(i).is_some()
+    } else {
+        false
+    }
 }
 
 /// It is the moment of the next unused limit.
@@ -181,12 +185,14 @@ fn finish(
     i: u16,
     given: Answer,
 ) -> Result<(), AllocError>
-    ensures { IfOk result (λ _. graph.new ≡ (finishing graph.old who i given).1) }
+    ensures { IfOk result (λ _. graph.new ≡ finished graph.old who i given) }
 {
-    if graph.has(i) {
+    if i < graph.stages() {
         let _finished = graph.finish(alloc, who, i, given)?;
+        Ok(())
+    } else {
+        Ok(())
     }
-    Ok(())
 }
 
 /// Whether a graph of so many stages takes a call.

@@ -1,9 +1,0 @@
-pub mod Counting
-pub mod Sums
-pub mod Trails
-pub mod Adding
-pub mod Moving
-pub mod Spreading
-pub mod Ending
-pub mod Tracing
-pub mod Searching

@@ -1,7 +1,0 @@
-use Rattle.cf_plan.specs.Meanings.{meanings_of}
-use Rattle.cf_explore.specs.Found.{IsSearch}
-use Rattle.cf_explore.proofs.program.Program.explore.Given as goal
-
--- it is true of the search so far
-abbrev pub invariant-loop-0 : goal.invariant-loop-0
-invariant-loop-0 g l = IsSearch (meanings_of g.F.StageFn.meaning l.functions) l.self l.conditions l.search
