@@ -3,16 +3,16 @@ mod attaching;
 mod changes;
 mod limits;
 
-ghost use Rattle.std.specs.Prelude.{◌≡◌, ◌<◌, ◌≤◌, ◌↔◌, IfOk, IsTrue, None, length, position, replicate, true};
-ghost use Rattle.cf_plan.specs.Plans.{has_place, with_room};
+ghost use Rattle.std.specs.Prelude.{◌≡◌, ◌<◌, ◌≤◌, ◌↔◌, IfOk, IsTrue, None, is_some, length, map, position, replicate, slice_get, true};
+ghost use Rattle.cf_plan.specs.Plans.{function_at, has_place, with_room};
 ghost use Rattle.cf_model.specs.declared.stage.Stage.TheVariants.{Pending};
-ghost use Rattle.cf_model.specs.States.{is_ready, lowest_ready_of, outcome_at, start};
+ghost use Rattle.cf_model.specs.States.{is_ready, lowest_ready_of, outcome_at, outcome_of, stage_at, start};
 
 use crate::plan::PlainPlan;
 use crate::stages::{new_stages, outcome};
 use cf_model::Stage;
 use cf_outcome::Outcome;
-use cf_plan::Plan;
+use cf_plan::{Limit, Plan};
 use std::alloc::{AllocError, Global};
 use std::marker::Model;
 
@@ -90,6 +90,73 @@ impl Plain {
         outcome(self.stages[i as usize])
     }
 
+    /// The state of a stage.
+    pub fn stage(&self, i: u16) -> Stage
+        requires { i < length self.now.plan.stages }
+        ensures { result ≡ stage_at self.now i }
+    {
+        self.stages[i as usize]
+    }
+
+    /// The outcomes of all stages. It fails only where there is no memory.
+    pub fn outcomes(&self, alloc: Global) -> Result<Vec<Option<Outcome>>, AllocError>
+        ensures { IfOk result (λ outcomes. outcomes.items ≡ map outcome_of self.now.stages) }
+    {
+        outcomes(alloc, &self.stages)
+    }
+
+    /// The number of a stage's function, if its form has one.
+    pub fn function(&self, i: u16) -> Option<u16>
+        requires { i < length self.now.plan.stages }
+        ensures { result ≡ function_at self.now.plan.stages i }
+    {
+        self.plan.function(i)
+    }
+
+    /// The first limit that isn't used.
+    pub fn next_limit(&self) -> Option<Limit>
+        ensures limit { result ≡ slice_get self.now.plan.limits self.now.used }
+        ensures left { IsTrue (is_some result) ↔ (self.now.used < length self.now.plan.limits) }
+    {
+        self.plan.limits().get(self.used).copied()
+    }
+
+    /// The last accepted moment.
+    pub fn moment(&self) -> u32
+        ensures { result ≡ self.now.moment }
+    {
+        self.moment
+    }
+
+    /// The same graph again. It fails only where there is no memory.
+    pub fn copy(&self, alloc: Global) -> Result<Plain, AllocError>
+        ensures { IfOk result (λ plain. plain ≡ self.now) }
+    {
+        let plan = self.plan.copy(alloc)?;
+        let stages = Vec::from_slice(alloc, &self.stages)?;
+        let claims = Vec::from_slice(alloc, &self.claims)?;
+        Ok(Plain {
+            plan,
+            stages,
+            claims,
+            moment: self.moment,
+            used: self.used,
+        })
+    }
+
+    /// Whether it is the same graph in the same state.
+    pub fn is_same(&self, other: &Plain) -> bool
+        ensures { result ≡ true → self.now ≡ other.now }
+    {
+        if self.moment != other.moment || self.used != other.used {
+            return false;
+        }
+        if !same_states(&self.stages, &other.stages) {
+            return false;
+        }
+        same_claims(&self.claims, &other.claims) && self.plan.is_same(&other.plan)
+    }
+
     /// The lowest ready stage, or none where no stage is ready.
     pub fn lowest_ready(&self) -> Option<u16>
         ensures { result ≡ lowest_ready_of self.now }
@@ -110,6 +177,54 @@ fn no_claims(alloc: Global, count: usize) -> Result<Vec<Option<u8>>, AllocError>
     ensures { IfOk result (λ claims. claims.items ≡ replicate count None) }
 {
     vec![in alloc; None; count]
+}
+
+/// Whether they are the same states.
+fn same_states(a: &[Stage], b: &[Stage]) -> bool
+    ensures { result ≡ true → a.now ≡ b.now }
+{
+    if a.len() != b.len() {
+        return false;
+    }
+    for i in 0..a.len() {
+        if !same_state(a[i], b[i]) {
+            return false;
+        }
+    }
+    true
+}
+
+/// Whether it is the same state.
+fn same_state(a: Stage, b: Stage) -> bool
+    ensures { result ≡ true → a ≡ b }
+{
+    a == b
+}
+
+/// Whether they are the same claims.
+fn same_claims(a: &[Option<u8>], b: &[Option<u8>]) -> bool
+    ensures { result ≡ true → a.now ≡ b.now }
+{
+    if a.len() != b.len() {
+        return false;
+    }
+    for i in 0..a.len() {
+        if a[i] != b[i] {
+            return false;
+        }
+    }
+    true
+}
+
+/// The outcomes of these stages.
+fn outcomes(alloc: Global, stages: &[Stage]) -> Result<Vec<Option<Outcome>>, AllocError>
+    ensures { IfOk result (λ outcomes. outcomes.items ≡ map outcome_of stages.now) }
+{
+    let mut outcomes = Vec::with_capacity(alloc, stages.len())?;
+    for stage in stages {
+        outcomes.push(outcome(*stage))?;
+    }
+    Ok(outcomes)
 }
 
 /// The lowest ready stage.

@@ -1,6 +1,6 @@
 //! A plan that grows, as a list of its stages.
 ghost use Rattle.std.specs.Prelude.{◌≡◌, ◌<◌, true, All, IfOk, OnErr, is_some, length};
-ghost use Rattle.cf_plan.specs.Plans.{IsGrowing, and_stage, attached_stage, fits_form, form_at, has_place, sources_at, sources_of, with_room};
+ghost use Rattle.cf_plan.specs.Plans.{IsGrowing, and_stage, attached_stage, fits_form, form_at, function_at, has_place, sources_at, sources_of, with_room};
 
 use cf_plan::{Form, Limit, Of, Plan};
 use std::alloc::{AllocError, Global};
@@ -91,11 +91,42 @@ impl PlainPlan {
         &self.stages[i as usize].sources
     }
 
+    /// The number of a stage's function, if its form has one.
+    pub fn function(&self, i: u16) -> Option<u16>
+        requires { i < length self.now.stages }
+        ensures { result ≡ function_at self.now.stages i }
+    {
+        self.stages[i as usize].function
+    }
+
+    /// The same plan again.
+    pub fn copy(&self, alloc: Global) -> Result<PlainPlan, AllocError>
+        ensures { IfOk result (λ plan. plan ≡ self.now) }
+    {
+        let opening = copied(&self.opening)?;
+        let stages = copied_stages(alloc, &self.stages)?;
+        Ok(PlainPlan {
+            opening,
+            stages,
+            room: self.room,
+        })
+    }
+
     /// The limits in firing order.
     pub fn limits(&self) -> &[Limit]
         ensures { result.now ≡ self.now.limits }
     {
         self.opening.limits()
+    }
+
+    /// Whether it is the same plan.
+    pub fn is_same(&self, other: &PlainPlan) -> bool
+        ensures { result ≡ true → self.now ≡ other.now }
+    {
+        self.room == other.room
+            && self.opening.stages() == other.opening.stages()
+            && same_limits(self.opening.limits(), other.opening.limits())
+            && same_stages(&self.stages, &other.stages)
     }
 
     /// Puts a stage behind the others.
@@ -117,6 +148,78 @@ impl PlainPlan {
         self.room -= 1;
         Ok(())
     }
+}
+
+/// The same plan again.
+fn copied(plan: &Plan) -> Result<Plan, AllocError>
+    ensures { IfOk result (λ copy. copy ≡ plan.now) }
+{
+    match plan.copy() {
+        Ok(copy) => Ok(copy),
+        Err(_) => Err(AllocError),
+    }
+}
+
+/// The same stages again.
+fn copied_stages(alloc: Global, stages: &[PlainStage]) -> Result<Vec<PlainStage>, AllocError>
+    ensures { IfOk result (λ copies. copies.items ≡ stages.now) }
+{
+    let mut copies = Vec::with_capacity(alloc, stages.len())?;
+    for i in 0..stages.len() {
+        copies.push(copied_stage(alloc, &stages[i])?)?;
+    }
+    Ok(copies)
+}
+
+/// The same stage again.
+fn copied_stage(alloc: Global, stage: &PlainStage) -> Result<PlainStage, AllocError>
+    ensures { IfOk result (λ copy. copy ≡ stage.now) }
+{
+    planned(alloc, stage.form, &stage.sources, stage.function)
+}
+
+/// Whether they are the same limits.
+fn same_limits(a: &[Limit], b: &[Limit]) -> bool
+    ensures { result ≡ true → a.now ≡ b.now }
+{
+    if a.len() != b.len() {
+        return false;
+    }
+    for i in 0..a.len() {
+        if !same_limit(a[i], b[i]) {
+            return false;
+        }
+    }
+    true
+}
+
+/// Whether they are the same limit.
+fn same_limit(a: Limit, b: Limit) -> bool
+    ensures { result ≡ true → a ≡ b }
+{
+    a.stage == b.stage && a.at == b.at && a.kind == b.kind
+}
+
+/// Whether they are the same stages.
+fn same_stages(a: &[PlainStage], b: &[PlainStage]) -> bool
+    ensures { result ≡ true → a.now ≡ b.now }
+{
+    if a.len() != b.len() {
+        return false;
+    }
+    for i in 0..a.len() {
+        if !same_stage(&a[i], &b[i]) {
+            return false;
+        }
+    }
+    true
+}
+
+/// Whether they are the same stage.
+fn same_stage(a: &PlainStage, b: &PlainStage) -> bool
+    ensures { result ≡ true → a.now ≡ b.now }
+{
+    a.form == b.form && a.function == b.function && a.sources.as_slice() == b.sources.as_slice()
 }
 
 /// The stages of a plan.

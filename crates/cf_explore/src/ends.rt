@@ -1,0 +1,118 @@
+//! The distinct ends.
+ghost use Rattle.std.specs.Prelude.{◌≡◌, ◌<◌, IfOk, IfSome, length, true};
+ghost use Rattle.cf_explore.specs.Situations.{outcomes_of};
+
+use crate::found::{End, Witness};
+use crate::layer::Entry;
+use crate::program::Program;
+use crate::situation::Situation;
+use cf_outcome::Outcome;
+use std::alloc::{AllocError, Global};
+
+impl Program {
+    /// Adds those of these situations that are ends.
+    pub(crate) fn add_ends(
+        &self,
+        alloc: Global,
+        entries: &[Entry],
+        moves: u32,
+        ends: &mut Vec<End>,
+    ) -> Result<(), AllocError> {
+        for entry in entries {
+            self.add_if_end(alloc, entry, moves, ends)?;
+        }
+        Ok(())
+    }
+
+    /// Adds a situation if it is an end.
+    fn add_if_end(
+        &self,
+        alloc: Global,
+        entry: &Entry,
+        moves: u32,
+        ends: &mut Vec<End>,
+    ) -> Result<(), AllocError> {
+        if self.is_end(alloc, &entry.situation)? {
+            let outcomes = entry.situation.outcomes(alloc)?;
+            let number = entry.number;
+            let _new = add_end(ends, outcomes, entry.orders, Witness { moves, number })?;
+            Ok(())
+        } else {
+            Ok(())
+        }
+    }
+}
+
+impl Situation {
+    /// The outcomes of all stages.
+    pub(crate) fn outcomes(&self, alloc: Global) -> Result<Vec<Option<Outcome>>, AllocError>
+        ensures { IfOk result (λ outcomes. outcomes.items ≡ outcomes_of self.now) }
+    {
+        self.graph.outcomes(alloc)
+    }
+}
+
+/// So many orders more lead to this end. The witness is kept where it is a new one, which it says.
+fn add_end(
+    ends: &mut Vec<End>,
+    outcomes: Vec<Option<Outcome>>,
+    orders: u128,
+    witness: Witness,
+) -> Result<bool, AllocError> {
+    match find_end(ends, &outcomes) {
+        Some(i) => {
+            more_orders(ends, i, orders);
+            Ok(false)
+        }
+        None => {
+            ends.push(End {
+                outcomes,
+                orders,
+                witness,
+            })?;
+            Ok(true)
+        }
+    }
+}
+
+/// The place of the end with these outcomes, if it is there.
+fn find_end(ends: &[End], outcomes: &[Option<Outcome>]) -> Option<usize>
+    ensures { IfSome result (λ i. i < length ends.now) }
+{
+    for i in 0..ends.len() {
+        if same_outcomes(&ends[i].outcomes, outcomes) {
+            return Some(i);
+        }
+    }
+    None
+}
+
+/// Whether they are the same outcomes.
+fn same_outcomes(a: &[Option<Outcome>], b: &[Option<Outcome>]) -> bool
+    ensures { result ≡ true → a.now ≡ b.now }
+{
+    if a.len() != b.len() {
+        return false;
+    }
+    for i in 0..a.len() {
+        if !same_outcome(a[i], b[i]) {
+            return false;
+        }
+    }
+    true
+}
+
+/// Whether it is the same outcome.
+fn same_outcome(a: Option<Outcome>, b: Option<Outcome>) -> bool
+    ensures { result ≡ true → a ≡ b }
+{
+    a == b
+}
+
+/// So many orders more lead to the end at this place.
+fn more_orders(ends: &mut [End], i: usize, orders: u128)
+    requires { i < length ends.old }
+{
+    let end = &mut ends[i];
+    end.orders = end.orders.saturating_add(orders);
+}

@@ -1,0 +1,143 @@
+//! The situations after so many moves.
+ghost use Rattle.std.specs.Prelude.{◌≡◌, ◌<◌, [], IfOk, IfSome, Some, length, slice_get, slice_set, true};
+ghost use Rattle.cf_explore.specs.Layers.{IsAdded, IsAt, more};
+
+use crate::hash::hash_of;
+use crate::situation::Situation;
+use std::alloc::{AllocError, Global};
+
+/// A situation with the number of orders that lead to it, counted up to 2^128 - 1, and its own number.
+#[derive(Drop)]
+pub struct Entry {
+    pub(crate) situation: Situation,
+    pub(crate) orders: u128,
+    pub(crate) number: u32,
+    pub(crate) hash: u64,
+}
+
+/// The situations after so many moves. The table has the places of entries, each behind 1, from the place of its hash on; 0 is
+/// none. What it leads to is compared, so nothing but time hangs on it.
+#[derive(Drop)]
+pub struct Layer {
+    pub(crate) entries: Vec<Entry>,
+    pub(crate) table: Vec<u32>,
+}
+
+impl Layer {
+    /// A layer without a situation.
+    pub(crate) fn new(alloc: Global) -> Layer
+        ensures { result.entries.items ≡ [] }
+    {
+        Layer {
+            entries: Vec::new(alloc),
+            table: Vec::new(alloc),
+        }
+    }
+
+    /// So many orders more lead to this situation, which gets this number where it is new. It says whether it is.
+    pub(crate) fn add(
+        &mut self,
+        situation: Situation,
+        orders: u128,
+        number: u32,
+    ) -> Result<bool, AllocError>
+        ensures { IfOk result (λ new. IsAdded self.old.entries.items self.new.entries.items situation orders number new) }
+    {
+        let hash = hash_of(&situation);
+        match find(&self.entries, &self.table, &situation, hash) {
+            Some(i) => {
+                more_orders(&mut self.entries, i, orders);
+                Ok(false)
+            }
+            None => {
+                self.entries.push(Entry {
+                    situation,
+                    orders,
+                    number,
+                    hash,
+                })?;
+                self.note(hash)?;
+                Ok(true)
+            }
+        }
+    }
+
+    /// Puts the last entry into the table, which grows with the entries.
+    fn note(&mut self, hash: u64) -> Result<(), AllocError>
+        ensures { self.new.entries ≡ self.old.entries }
+    {
+        let count = self.entries.len();
+        if count >= self.table.len() / 2 {
+            let alloc = *self.entries.allocator();
+            self.table = table_of(alloc, &self.entries)?;
+        } else {
+            put(&mut self.table, hash, count);
+        }
+        Ok(())
+    }
+}
+
+/// The place of an equal situation, if the table leads to one.
+fn find(entries: &[Entry], table: &[u32], situation: &Situation, hash: u64) -> Option<usize>
+    ensures { IfSome result (λ i. IsAt entries.now i situation.now) }
+{
+    let size = table.len();
+    if size == 0 {
+        return None;
+    }
+    for step in 0..size {
+        let slot = (hash.wrapping_add(step as u64) % size as u64) as usize;
+        let behind = table[slot] as usize;
+        if behind == 0 {
+            return None;
+        }
+        if is_there(entries, behind - 1, situation, hash) {
+            return Some(behind - 1);
+        }
+    }
+    None
+}
+
+/// Whether this situation stands at a place.
+fn is_there(entries: &[Entry], i: usize, situation: &Situation, hash: u64) -> bool
+    ensures { result ≡ true → IsAt entries.now i situation.now }
+{
+    match entries.get(i) {
+        None => false,
+        Some(entry) => entry.hash == hash && entry.situation.is_same(situation),
+    }
+}
+
+/// So many orders more lead to the situation at this place.
+fn more_orders(entries: &mut [Entry], i: usize, orders: u128)
+    requires { i < length entries.old }
+    ensures { (e : Entry) → slice_get entries.old i ≡ Some e → entries.new ≡ slice_set entries.old i (more e orders) }
+{
+    let entry = &mut entries[i];
+    entry.orders = entry.orders.saturating_add(orders);
+}
+
+/// A table of these entries, with room for as many more.
+fn table_of(alloc: Global, entries: &[Entry]) -> Result<Vec<u32>, AllocError> {
+    let size = entries.len().saturating_mul(4).max(16);
+    let mut table = vec![in alloc; 0u32; size]?;
+    for (i, entry) in entries.iter().enumerate() {
+        put(&mut table, entry.hash, i.saturating_add(1));
+    }
+    Ok(table)
+}
+
+/// Puts a place into the first free slot from that of the hash on.
+fn put(table: &mut [u32], hash: u64, behind: usize) {
+    let size = table.len();
+    if size == 0 || behind > 4_294_967_295 {
+        return;
+    }
+    for step in 0..size {
+        let slot = (hash.wrapping_add(step as u64) % size as u64) as usize;
+        if table[slot] == 0 {
+            table[slot] = behind as u32;
+            return;
+        }
+    }
+}

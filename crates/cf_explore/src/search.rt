@@ -1,0 +1,246 @@
+//! The search, layer by layer.
+ghost use Rattle.std.specs.Prelude.{◌<◌, vec_len};
+
+use crate::condition::Condition;
+use crate::found::{Found, Witness};
+use crate::layer::{Entry, Layer};
+use crate::program::Program;
+use crate::step::Move;
+use crate::trail::Trace;
+use cf_plan::StageFn;
+use std::alloc::{AllocError, Global};
+
+/// A search that goes on layer by layer.
+#[derive(Drop)]
+pub struct Search {
+    pub(crate) layer: Layer,
+    pub found: Found,
+    /// Whether it goes on: not all orders were seen, and the bound wasn't reached.
+    pub is_on: bool,
+}
+
+impl Program {
+    /// Searches all orders, up to so many situations. It fails only where there is no memory.
+    pub fn explore<F: StageFn>(
+        &self,
+        alloc: Global,
+        functions: &[F],
+        conditions: &[Condition],
+        bound: u32,
+    ) -> Result<Found, AllocError> {
+        let mut search = self.begin(alloc, conditions)?;
+        for _ in 0..bound {
+            if !search.is_on {
+                break;
+            }
+            self.go_on(alloc, functions, conditions, bound, &mut search)?;
+        }
+        Ok(search.found)
+    }
+
+    /// A search that has seen nothing yet.
+    pub fn begin(&self, alloc: Global, conditions: &[Condition]) -> Result<Search, AllocError> {
+        let mut layer = Layer::new(alloc);
+        let start = self.start(alloc)?;
+        let _new = layer.add(start, 1, 0)?;
+        let mut trail = Vec::new(alloc);
+        trail.push(Trace {
+            before: 0,
+            by: Move::Tick,
+        })?;
+        let decisions = vec![in alloc; None; conditions.len()]?;
+        Ok(Search {
+            layer,
+            found: Found {
+                ends: Vec::new(alloc),
+                decisions,
+                moves: 0,
+                whole: false,
+                trail,
+            },
+            is_on: true,
+        })
+    }
+
+    /// Sees all orders of one move more, unless there are more situations than the bound, where it stops.
+    pub fn go_on<F: StageFn>(
+        &self,
+        alloc: Global,
+        functions: &[F],
+        conditions: &[Condition],
+        bound: u32,
+        search: &mut Search,
+    ) -> Result<(), AllocError> {
+        if search.is_on && search.found.moves < u32::MAX {
+            self.look(alloc, conditions, search)?;
+            self.advance(alloc, functions, bound, search)
+        } else {
+            Ok(())
+        }
+    }
+
+    /// Looks at a layer's ends, and at what it decides.
+    fn look(
+        &self,
+        alloc: Global,
+        conditions: &[Condition],
+        search: &mut Search,
+    ) -> Result<(), AllocError>
+        requires few { search.old.found.moves < 4294967295 }
+    {
+        let moves = search.found.moves;
+        self.add_ends(alloc, &search.layer.entries, moves, &mut search.found.ends)?;
+        self.decide(
+            alloc,
+            &search.layer.entries,
+            moves,
+            conditions,
+            &mut search.found.decisions,
+        )?;
+        search.found.moves = moves + 1;
+        Ok(())
+    }
+
+    /// Goes on to the next layer, unless there would be more situations than the bound.
+    fn advance<F: StageFn>(
+        &self,
+        alloc: Global,
+        functions: &[F],
+        bound: u32,
+        search: &mut Search,
+    ) -> Result<(), AllocError> {
+        let next = self.next_layer(
+            alloc,
+            functions,
+            &search.layer.entries,
+            bound,
+            &mut search.found.trail,
+        )?;
+        match next {
+            None => {
+                search.is_on = false;
+                Ok(())
+            }
+            Some(layer) => {
+                let whole = layer.entries.is_empty();
+                search.found.whole = whole;
+                search.is_on = !whole;
+                search.layer = layer;
+                Ok(())
+            }
+        }
+    }
+
+    /// The situations after one more move, or none where there would be more than the bound.
+    fn next_layer<F: StageFn>(
+        &self,
+        alloc: Global,
+        functions: &[F],
+        entries: &[Entry],
+        bound: u32,
+        trail: &mut Vec<Trace>,
+    ) -> Result<Option<Layer>, AllocError> {
+        let mut next = Layer::new(alloc);
+        for entry in entries {
+            if !self.spread(alloc, functions, entry, bound, trail, &mut next)? {
+                return Ok(None);
+            }
+        }
+        Ok(Some(next))
+    }
+
+    /// Adds the situations to which one more move leads from this one. It says whether there were no more than the bound.
+    fn spread<F: StageFn>(
+        &self,
+        alloc: Global,
+        functions: &[F],
+        entry: &Entry,
+        bound: u32,
+        trail: &mut Vec<Trace>,
+        next: &mut Layer,
+    ) -> Result<bool, AllocError> {
+        let moves = self.moves(alloc, &entry.situation)?;
+        for by in &moves {
+            if trail.len() >= bound as usize {
+                return Ok(false);
+            }
+            self.add_move(alloc, functions, entry, *by, trail, next)?;
+        }
+        Ok(true)
+    }
+
+    /// Adds the situation to which a move leads.
+    fn add_move<F: StageFn>(
+        &self,
+        alloc: Global,
+        functions: &[F],
+        entry: &Entry,
+        by: Move,
+        trail: &mut Vec<Trace>,
+        next: &mut Layer,
+    ) -> Result<(), AllocError>
+        requires { vec_len trail.old < 4294967296 }
+    {
+        let situation = self.moved(alloc, functions, &entry.situation, by)?;
+        let number = trail.len() as u32;
+        let new = next.add(situation, entry.orders, number)?;
+        if new {
+            trail.push(Trace {
+                before: entry.number,
+                by,
+            })?;
+            Ok(())
+        } else {
+            Ok(())
+        }
+    }
+
+    /// Decides the conditions that aren't decided yet, as far as these situations decide them.
+    fn decide(
+        &self,
+        alloc: Global,
+        entries: &[Entry],
+        moves: u32,
+        conditions: &[Condition],
+        decisions: &mut [Option<Witness>],
+    ) -> Result<(), AllocError> {
+        for i in 0..conditions.len() {
+            if i < decisions.len() {
+                decisions[i] = self.decision(alloc, entries, moves, &conditions[i], decisions[i])?;
+            }
+        }
+        Ok(())
+    }
+
+    /// What is known of a condition already, or else the first of these situations that decides it, if one does.
+    fn decision(
+        &self,
+        alloc: Global,
+        entries: &[Entry],
+        moves: u32,
+        condition: &Condition,
+        known: Option<Witness>,
+    ) -> Result<Option<Witness>, AllocError> {
+        match known {
+            Some(w) => Ok(Some(w)),
+            None => self.first(alloc, entries, moves, condition),
+        }
+    }
+
+    /// The first of these situations that decides a condition, if one does.
+    fn first(
+        &self,
+        alloc: Global,
+        entries: &[Entry],
+        moves: u32,
+        condition: &Condition,
+    ) -> Result<Option<Witness>, AllocError> {
+        for entry in entries {
+            if self.decides(alloc, condition, &entry.situation)? {
+                let number = entry.number;
+                return Ok(Some(Witness { moves, number }));
+            }
+        }
+        Ok(None)
+    }
+}
