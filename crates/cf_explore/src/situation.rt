@@ -67,7 +67,7 @@ impl Situation {
     }
 
     /// A caller's place.
-    pub(crate) fn place(&self, c: u8) -> Place
+    pub fn place(&self, c: u8) -> Place
         ensures { result ≡ place_at self.now c }
     {
         match self.places.get(c as usize) {

@@ -1,12 +1,16 @@
 //! The words after the program's name.
-use anyhow::Result;
+use anyhow::{Result, anyhow};
+use cf_orders::Shape as OrderShape;
 use clap::{Arg, ArgAction, ArgMatches, Command, Error};
 use std::alloc::Global;
-use std::env;
-use std::rt::Env;
+use std::rt::{Env, Files};
+use std::{env, fs};
+
+/// A search sees at most so many situations, unless it is told otherwise.
+const STATES: u32 = 1_000_000;
 
 /// What is to be looked at.
-#[derive(Clone, Copy)]
+#[derive(Drop)]
 pub(crate) enum Look {
     /// A history, or one in each line.
     Check { lines: bool },
@@ -16,9 +20,36 @@ pub(crate) enum Look {
     Dot,
     /// An account or a script, for a tool or a browser.
     Show(Shape),
+    /// All orders in which the steps of a question's callers can come.
+    Explore(Exploring),
     /// Nothing: help was asked for, or the words are no command. What there is to say is said, and the program ends with
     /// this status.
     Nothing(u8),
+}
+
+/// How orders are searched, and what is told.
+#[derive(Drop)]
+pub(crate) struct Exploring {
+    /// As JSON.
+    pub(crate) json: bool,
+    /// At most so many situations.
+    pub(crate) states: u32,
+    /// Ends by the outcomes of these stages alone.
+    pub(crate) of: Option<Vec<u16>>,
+    /// The order of this number, in place of all that was found.
+    pub(crate) order: Option<(usize, OrderShape)>,
+    /// It goes on while this file is there.
+    pub(crate) file: Option<String>,
+}
+
+impl Exploring {
+    /// Whether the file that is to be there is gone.
+    pub(crate) fn is_over<R: Files>(&self, rt: &R) -> bool {
+        match &self.file {
+            None => false,
+            Some(path) => !fs::exists(rt, path).unwrap_or(true),
+        }
+    }
 }
 
 /// How an account or a script is shown.
@@ -36,8 +67,8 @@ pub(crate) enum Shape {
 pub(crate) fn read_words<R: Env + Print + Eprint + AllocGlobal>(rt: &R) -> Result<Look> {
     let words = words_of(rt)?;
     let command = command_of(rt.alloc())?;
-    match look_of(command, words.as_slice()) {
-        Ok(look) => Ok(look),
+    match command.try_get_matches_from(words.as_slice()) {
+        Ok(matches) => look_in(rt.alloc(), &matches),
         Err(error) => nothing(rt, error),
     }
 }
@@ -65,26 +96,81 @@ fn command_of<'a>(alloc: Global) -> Result<Command<'a>> {
 fn shown_too<'a>(alloc: Global, others: Command<'a>) -> Result<Command<'a>> {
     let trace = trace_command(alloc)?;
     let four = others.subcommand(page_command(alloc))?;
-    Ok(four.subcommand(trace)?)
+    let five = four.subcommand(trace)?;
+    searched_too(alloc, five)
 }
 
-/// What the command takes the words for.
-fn look_of<'a>(command: Command<'a>, words: &'a [String]) -> Result<Look, Error> {
-    let matches = command.try_get_matches_from(words)?;
-    Ok(look_in(&matches))
+/// These words, and the one that searches.
+fn searched_too<'a>(alloc: Global, others: Command<'a>) -> Result<Command<'a>> {
+    let explore = explore_command(alloc)?;
+    Ok(others.subcommand(explore)?)
 }
 
-fn look_in(matches: &ArgMatches<'_>) -> Look {
-    match matches.subcommand() {
+/// What the words ask for, once they are taken apart.
+fn look_in(alloc: Global, matches: &ArgMatches<'_>) -> Result<Look> {
+    Ok(match matches.subcommand() {
         Some(("explain", _)) => Look::Explain,
         Some(("dot", _)) => Look::Dot,
         Some(("page", _)) => Look::Show(Shape::Page),
         Some(("trace", inner)) => Look::Show(shape_of(inner.get_flag("spans"))),
+        Some(("explore", inner)) => Look::Explore(how_to_explore(alloc, inner)?),
         Some((_, inner)) => Look::Check {
             lines: inner.get_flag("lines"),
         },
         None => Look::Check { lines: false },
+    })
+}
+
+/// How orders are searched.
+fn how_to_explore(alloc: Global, matches: &ArgMatches<'_>) -> Result<Exploring> {
+    let of = match matches.get_str("of") {
+        None => None,
+        Some(text) => Some(stages_of(alloc, text)?),
+    };
+    let file = match matches.get_str("while") {
+        None => None,
+        Some(text) => Some(String::from_str(alloc, text)?),
+    };
+    Ok(Exploring {
+        json: matches.get_flag("json"),
+        states: number_of(matches.get_str("states"), "states")?.unwrap_or(STATES),
+        of,
+        order: order_of(matches)?,
+        file,
+    })
+}
+
+/// Which order is told, and as what.
+fn order_of(matches: &ArgMatches<'_>) -> Result<Option<(usize, OrderShape)>> {
+    let account = number_of(matches.get_str("account"), "account")?;
+    let script = number_of(matches.get_str("script"), "script")?;
+    Ok(match (account, script) {
+        (Some(number), _) => Some((number as usize, OrderShape::Account)),
+        (None, Some(number)) => Some((number as usize, OrderShape::Script)),
+        (None, None) => None,
+    })
+}
+
+fn number_of(text: Option<&str>, name: &str) -> Result<Option<u32>> {
+    match text {
+        None => Ok(None),
+        Some(text) => match text.parse() {
+            Ok(number) => Ok(Some(number)),
+            Err(_) => Err(anyhow!("--{name} wants a whole number of 32 bits")),
+        },
     }
+}
+
+/// Stages by their numbers, with commas between.
+fn stages_of(alloc: Global, text: &str) -> Result<Vec<u16>> {
+    let mut of = Vec::new(alloc);
+    for part in text.split(',') {
+        match part.parse() {
+            Ok(stage) => of.push(stage)?,
+            Err(_) => return Err(anyhow!("--of wants numbers of stages, with commas between")),
+        }
+    }
+    Ok(of)
 }
 
 /// As what a trace is written.
@@ -143,4 +229,43 @@ fn trace_command<'a>(alloc: Global) -> Result<Command<'a>> {
         .about("Write the account or script on standard input as a trace, for tools that show one")
         .arg(spans)?;
     Ok(trace)
+}
+
+/// `explore`
+fn explore_command<'a>(alloc: Global) -> Result<Command<'a>> {
+    let explore = Command::new(alloc, "explore")
+        .about("Search all orders in which the steps of the callers on standard input can come")
+        .arg(flag(
+            alloc,
+            "json",
+            "Write JSON, each order with its account and its script",
+        ))?;
+    let one = explore.arg(option(alloc, "states", "See at most so many situations (1000000)"))?;
+    let two = one.arg(option(
+        alloc,
+        "of",
+        "Tell ends by the outcomes of these stages alone: 0,3",
+    ))?;
+    let three = two.arg(option(alloc, "account", "Write this order alone, as an account"))?;
+    shown_orders(alloc, three)
+}
+
+/// The last of its options.
+fn shown_orders<'a>(alloc: Global, others: Command<'a>) -> Result<Command<'a>> {
+    let four = others.arg(option(alloc, "script", "Write this order alone, as a script"))?;
+    Ok(four.arg(option(alloc, "while", "Go on while this file is there"))?)
+}
+
+fn flag<'a>(alloc: Global, name: &'a str, help: &'a str) -> Arg<'a> {
+    Arg::new(alloc, name)
+        .long(name)
+        .action(ArgAction::SetTrue)
+        .help(help)
+}
+
+fn option<'a>(alloc: Global, name: &'a str, help: &'a str) -> Arg<'a> {
+    Arg::new(alloc, name)
+        .long(name)
+        .action(ArgAction::Set)
+        .help(help)
 }

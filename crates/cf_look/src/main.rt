@@ -17,6 +17,10 @@
 //! on which its events can be gone through; `cf_look trace` writes the same as a trace. They end with status 0, or with 1 where
 //! what is there is neither, for what `cf_look explain` says of it on standard error; and then nothing else is written.
 //!
+//! `cf_look explore` reads a question, which is a script with a list of steps for each of several callers, and searches all orders
+//! in which these can come. It ends with status 0 where all that must hold holds, 1 where something doesn't, 2 where the question
+//! has a fault, which is on standard error, and 3 where a bound ended it before all orders were seen.
+//!
 //! All end with 2 where the words or what is on standard input can't be read, and where standard output can't be written or
 //! memory is refused, which a line on standard error tells. The verdicts are those of `cf_history`, `cf_explain`,
 //! `cf_picture` and `cf_page`, which are proved; this program reads in and writes out.
@@ -25,6 +29,7 @@
 ghost use Rattle.std.specs.Prelude.{◌≡◌, ◌≢◌};
 
 mod args;
+mod explore;
 mod history;
 mod named;
 mod page;
@@ -37,12 +42,14 @@ use anyhow::Result;
 use args::{Look, Shape, read_words};
 use cf_explain::Verdict as Said;
 use cf_history::Verdict;
+use explore::{explore_one, fault_of, is_question};
 use history::judge;
 use page::{Known, read_in, text_of, write_refusal};
 use script::{Drawn, draw, explain_script, script_in};
+use serde_json::Value as Json;
 use show::line_of;
 use std::process::ExitCode;
-use std::rt::Env;
+use std::rt::{Clock, Env, Files};
 
 /// All histories fit.
 const FITS: u8 = 0;
@@ -76,12 +83,13 @@ fn main(rt: HostRuntime) -> ExitCode {
 }
 
 /// Does what the words ask for, and answers the status to end with, unless standard output fails or memory is refused.
-fn look<R: Env + Input + Print + Eprint + AllocGlobal>(rt: &R) -> Result<u8> {
+fn look<R: Env + Input + Print + Eprint + AllocGlobal + Clock + Files>(rt: &R) -> Result<u8> {
     match read_words(rt)? {
         Look::Nothing(status) => Ok(status),
         Look::Explain => explain_one(rt),
         Look::Dot => draw_one(rt),
         Look::Show(shape) => show_one(rt, shape),
+        Look::Explore(asked) => explore_one(rt, &asked),
         Look::Check { lines } => check_input(rt, lines),
     }
 }
@@ -105,7 +113,24 @@ fn explain_one<R: Input + Print + AllocGlobal>(rt: &R) -> Result<u8> {
         println!(rt; "unreadable: standard input")?;
         return Ok(UNREADABLE);
     };
-    Ok(status_of_script(explain_script(rt, bytes.as_slice())?))
+    match Json::from_slice(rt.alloc(), bytes.as_slice()) {
+        Ok(json) if is_question(&json) => explain_question(rt, &json),
+        _ => Ok(status_of_script(explain_script(rt, bytes.as_slice())?)),
+    }
+}
+
+/// Explains what is asked of all orders: that it is right, or the first fault in it.
+fn explain_question<R: Print + AllocGlobal>(rt: &R, json: &Json) -> Result<u8> {
+    match fault_of(rt.alloc(), json)? {
+        None => {
+            println!(rt; "right: a question for cf_look explore")?;
+            Ok(RIGHT)
+        }
+        Some(fault) => {
+            println!(rt; "refused: {fault}")?;
+            Ok(REFUSED)
+        }
+    }
 }
 
 /// Draws the script on standard input.

@@ -1,0 +1,197 @@
+//! What must hold.
+use crate::fault::{QuestionFault, Spot};
+use cf_explore::{Condition, Fact, How, Is, When};
+use cf_outcome::{Cause, Value};
+use cf_plan::Plan;
+use serde_json::Value as Json;
+use std::alloc::{AllocError, Global};
+
+/// What a fact may name.
+#[derive(Drop)]
+pub(crate) struct Known<'a> {
+    pub(crate) plan: &'a Plan,
+    /// How many stages there may ever be.
+    pub(crate) stages: usize,
+    /// How many steps each caller has.
+    pub(crate) steps: &'a [usize],
+}
+
+/// What must hold, with the text of each.
+#[derive(Drop)]
+pub(crate) struct Asked {
+    pub(crate) conditions: Vec<Condition>,
+    pub(crate) texts: Vec<String>,
+}
+
+/// The conditions of a question, in order.
+pub(crate) fn read_asked(
+    alloc: Global,
+    json: &Json,
+    known: &Known<'_>,
+) -> Result<Asked, QuestionFault> {
+    let mut asked = Asked {
+        conditions: Vec::new(alloc),
+        texts: Vec::new(alloc),
+    };
+    read_all(alloc, json, known, (How::Never, "never"), &mut asked)?;
+    read_all(alloc, json, known, (How::Always, "always"), &mut asked)?;
+    read_all(alloc, json, known, (How::Possible, "possible"), &mut asked)?;
+    Ok(asked)
+}
+
+/// The conditions of one kind.
+fn read_all(
+    alloc: Global,
+    json: &Json,
+    known: &Known<'_>,
+    how: (How, &'static str),
+    asked: &mut Asked,
+) -> Result<(), QuestionFault> {
+    let Some(said) = json.get(how.1) else {
+        return Ok(());
+    };
+    let Some(list) = said.as_array() else {
+        return Err(QuestionFault::At(Spot::Conditions(how.1)));
+    };
+    for (k, said) in list.iter().enumerate() {
+        let condition = read_one(alloc, said, known, how, k)?;
+        asked.texts.push(text_of(alloc, how.1, said)?)?;
+        asked.conditions.push(condition)?;
+    }
+    Ok(())
+}
+
+fn text_of(alloc: Global, how: &str, said: &Json) -> Result<String, AllocError> {
+    let mut text = String::new(alloc);
+    write!(text, "{how} {said}")?;
+    Ok(text)
+}
+
+/// One condition.
+fn read_one(
+    alloc: Global,
+    said: &Json,
+    known: &Known<'_>,
+    how: (How, &'static str),
+    k: usize,
+) -> Result<Condition, QuestionFault> {
+    let Some(list) = said.as_array() else {
+        return Err(QuestionFault::At(Spot::Condition(how.1, k)));
+    };
+    let mut when = When::End;
+    let mut facts = Vec::new(alloc);
+    for (n, said) in list.iter().enumerate() {
+        match part_of(known, said) {
+            Some(Part::Time(time)) if n == 0 => when = time,
+            Some(Part::Fact(fact)) => facts.push(fact)?,
+            _ => return Err(QuestionFault::At(Spot::Fact(how.1, k, n))),
+        }
+    }
+    Ok(Condition {
+        how: how.0,
+        when,
+        facts,
+    })
+}
+
+/// A part of a condition.
+#[derive(Drop)]
+enum Part {
+    Time(When),
+    Fact(Fact),
+}
+
+/// `["at",c,k]`, `["stage",i,what]`, `["called",i]`, `["notcalled",i]`, `["calls",i,n]` or `["callsatleast",i,n]`.
+fn part_of(known: &Known<'_>, said: &Json) -> Option<Part> {
+    let count = said.as_array()?.len();
+    let word = said.get(0usize)?.as_str()?;
+    let first = said.get(1usize)?.as_i64()?;
+    match word {
+        "at" if count == 3 => Some(Part::Time(time_of(known, first, said.get(2usize)?)?)),
+        "called" if count == 2 => Some(Part::Fact(Fact::Called(stage(known, first)?))),
+        "notcalled" if count == 2 => Some(Part::Fact(Fact::NotCalled(stage(known, first)?))),
+        "stage" if count == 3 => {
+            let what = what_of(said.get(2usize)?.as_str()?)?;
+            Some(Part::Fact(Fact::Stage(stage(known, first)?, what)))
+        }
+        "calls" | "callsatleast" if count == 3 => {
+            let number = function(known, first)?;
+            let times = small(said.get(2usize)?)?;
+            Some(Part::Fact(calls(word == "calls", number, times)))
+        }
+        _ => None,
+    }
+}
+
+fn calls(exactly: bool, number: u16, times: u16) -> Fact {
+    if exactly {
+        Fact::Exactly(number, times)
+    } else {
+        Fact::AtLeast(number, times)
+    }
+}
+
+/// When this step of this caller is its next one.
+fn time_of(known: &Known<'_>, c: i64, said: &Json) -> Option<When> {
+    let c = usize::try_from(c).ok()?;
+    let k = small(said)?;
+    if usize::from(k) < *known.steps.get(c)? {
+        Some(When::Before(u8::try_from(c).ok()?, k))
+    } else {
+        None
+    }
+}
+
+/// A stage that may be there.
+fn stage(known: &Known<'_>, i: i64) -> Option<u16> {
+    let i = u16::try_from(i).ok()?;
+    if usize::from(i) < known.stages {
+        Some(i)
+    } else {
+        None
+    }
+}
+
+/// The number of the function of a stage of the plan.
+fn function(known: &Known<'_>, i: i64) -> Option<u16> {
+    let i = u16::try_from(i).ok()?;
+    if i < known.plan.stages() {
+        known.plan.function(i)
+    } else {
+        None
+    }
+}
+
+fn small(said: &Json) -> Option<u16> {
+    u16::try_from(said.as_i64()?).ok()
+}
+
+/// What a stage is to be, by its text.
+fn what_of(text: &str) -> Option<Is> {
+    match text {
+        "pending" => Some(Is::Pending),
+        "settled" => Some(Is::Settled),
+        "value" => Some(Is::AnyValue),
+        "fault" => Some(Is::AnyFault),
+        "cancelled" => Some(Is::Cancelled),
+        _ => named(text),
+    }
+}
+
+fn named(text: &str) -> Option<Is> {
+    match text {
+        "value nil" => Some(Is::Value(Value::Nil)),
+        "fault cancelled" => Some(Is::Fault(Cause::Cancelled)),
+        "timeout" => Some(Is::Fault(Cause::TimedOut)),
+        "badanswer" => Some(Is::Fault(Cause::BadAnswer)),
+        _ => numbered(text),
+    }
+}
+
+fn numbered(text: &str) -> Option<Is> {
+    if let Some(digits) = text.strip_prefix("value ") {
+        return Some(Is::Value(Value::Int(digits.parse().ok()?)));
+    }
+    let digits = text.strip_prefix("thrown ")?;
+    Some(Is::Fault(Cause::Thrown(digits.parse().ok()?)))
+}

@@ -1,0 +1,262 @@
+//! An order, done again on a graph, and told as an account or as a script.
+use crate::ends::Grouped;
+use crate::question::Question;
+use cf_core::Graph;
+use cf_event::{encode, is_event};
+use cf_explore::{Found, Move, Situation, Step, Witness};
+use cf_model::{Ask, Event, Reply, Told};
+use cf_outcome::{Outcome, Value};
+use cf_plan::Answer;
+use cf_script::{write_reply, write_settled, write_told};
+use std::alloc::{AllocError, Global};
+
+/// As what an order is told.
+#[derive(Clone, Copy, Debug, PartialEq, Eq)]
+pub enum Shape {
+    /// What `cf_look check`, `page` and `trace` take.
+    Account,
+    /// What `cf run` does again.
+    Script,
+}
+
+/// The orders that are told, by their numbers: those of the ends, and then those that decide what must hold.
+pub fn witnesses(
+    alloc: Global,
+    found: &Found,
+    groups: &[Grouped],
+) -> Result<Vec<Witness>, AllocError> {
+    let mut all = Vec::new(alloc);
+    for group in groups {
+        all.push(group.witness)?;
+    }
+    for witness in found.decisions.iter().flatten() {
+        all.push(*witness)?;
+    }
+    Ok(all)
+}
+
+/// What is told of an order that is done again.
+#[derive(Drop)]
+struct Retold {
+    graph: Graph,
+    /// How many events there were.
+    place: usize,
+    words: String,
+    /// Each caller's records.
+    records: Vec<String>,
+    steps: String,
+}
+
+/// An order as an account or as a script, in one line.
+pub fn witness_of(
+    alloc: Global,
+    question: &Question,
+    found: &Found,
+    witness: Witness,
+    shape: Shape,
+) -> Result<String, AllocError> {
+    let order = found.order(alloc, witness)?;
+    let mut told = begin(alloc, question)?;
+    let mut s = question.program.start(alloc)?;
+    for by in order.iter() {
+        told.go_on(question, &s, *by)?;
+        s = question.program.moved(alloc, &question.functions, &s, *by)?;
+    }
+    match shape {
+        Shape::Account => told.account(alloc, question),
+        Shape::Script => told.script(alloc, question),
+    }
+}
+
+/// Nothing is done yet.
+fn begin(alloc: Global, question: &Question) -> Result<Retold, AllocError> {
+    let mut records = Vec::new(alloc);
+    for _ in 0..question.hands.saturating_add(1) {
+        records.push(String::new(alloc))?;
+    }
+    let plan = question.plan.copy().map_err(|_| AllocError)?;
+    if !plan.has_place(question.room) {
+        return Err(AllocError);
+    }
+    let graph = Graph::new_growing(alloc, plan, question.room).map_err(|_| AllocError)?;
+    Ok(Retold {
+        graph,
+        place: 0,
+        words: String::new(alloc),
+        records,
+        steps: String::new(alloc),
+    })
+}
+
+impl Retold {
+    /// One move more.
+    fn go_on(&mut self, question: &Question, s: &Situation, by: Move) -> Result<(), AllocError> {
+        match question.program.event(s, by) {
+            Some(event) => self.act(question, s, by, event),
+            None => self.look(question, s, by),
+        }
+    }
+
+    /// A move that is an event.
+    fn act(
+        &mut self,
+        question: &Question,
+        s: &Situation,
+        by: Move,
+        event: Event,
+    ) -> Result<(), AllocError> {
+        if !self.graph.takes(&event) || !is_event(&event) {
+            return Ok(());
+        }
+        let word = encode(&event);
+        let reply = self.graph.answer(&event);
+        self.place = self.place.saturating_add(1);
+        comma(&mut self.words)?;
+        write!(self.words, "\"{word}\"")?;
+        self.record(usize::from(event.who()), word, reply)?;
+        self.step(question, s, by, event)
+    }
+
+    /// The record of an event's caller.
+    fn record(&mut self, who: usize, word: u64, reply: Reply) -> Result<(), AllocError> {
+        let place = self.place;
+        if let Some(text) = self.records.get_mut(who) {
+            comma(text)?;
+            write!(text, "[\"did\",{place},\"{word}\",\"")?;
+            write_reply(text, reply)?;
+            write!(text, "\"]")?;
+        }
+        Ok(())
+    }
+
+    /// An event as a step of a script: a caller's as it was written.
+    fn step(
+        &mut self,
+        question: &Question,
+        s: &Situation,
+        by: Move,
+        event: Event,
+    ) -> Result<(), AllocError> {
+        comma(&mut self.steps)?;
+        match (by, event) {
+            (Move::Step(c), _) => self.own_step(question, s, c),
+            (_, Event::Claim { who, stage }) => write!(self.steps, "[\"claim\",{who},{stage}]"),
+            (_, Event::Finish { who, stage, answer }) => {
+                write!(self.steps, "[\"finish\",{who},{stage},")?;
+                write_answer(&mut self.steps, answer)?;
+                write!(self.steps, "]")
+            }
+            (_, Event::Tick { moment, .. }) => write!(self.steps, "[\"tick\",{moment}]"),
+            _ => write!(self.steps, "null"),
+        }
+    }
+
+    /// A caller's next step as it was written.
+    fn own_step(&mut self, question: &Question, s: &Situation, c: u8) -> Result<(), AllocError> {
+        let at = usize::from(s.place(c).at);
+        match question
+            .steps
+            .get(usize::from(c))
+            .and_then(|own| own.get(at))
+        {
+            Some(text) => self.steps.push_str(text),
+            None => self.steps.push_str("null"),
+        }
+    }
+
+    /// A move that is no event: a question, or nothing that a graph is told of.
+    fn look(&mut self, question: &Question, s: &Situation, by: Move) -> Result<(), AllocError> {
+        let Move::Step(c) = by else {
+            return Ok(());
+        };
+        let ask = match question.program.step(s, c) {
+            Some(Step::Look(ask)) => ask,
+            Some(Step::Join(stage, _)) => Ask::Outcome(stage),
+            _ => return Ok(()),
+        };
+        if !self.graph.has(asked(ask)) {
+            return Ok(());
+        }
+        comma(&mut self.steps)?;
+        self.own_step(question, s, c)?;
+        let told = self.graph.tell(ask);
+        self.saw(usize::from(c), ask, told)
+    }
+
+    /// The record of a question.
+    fn saw(&mut self, c: usize, ask: Ask, told: Told) -> Result<(), AllocError> {
+        let place = self.place;
+        if let Some(text) = self.records.get_mut(c) {
+            comma(text)?;
+            match ask {
+                Ask::Now(stage, Value::Nil) => write!(text, "[\"now\",{place},{stage},null,\"")?,
+                Ask::Now(stage, Value::Int(v)) => write!(text, "[\"now\",{place},{stage},{v},\"")?,
+                Ask::Outcome(stage) => write!(text, "[\"outcome\",{place},{stage},\"")?,
+            }
+            write_told(text, told)?;
+            write!(text, "\"]")?;
+        }
+        Ok(())
+    }
+
+    /// All of it as an account.
+    fn account(&mut self, alloc: Global, question: &Question) -> Result<String, AllocError> {
+        let mut text = String::new(alloc);
+        write!(text, "{{\"plan\":{{{}}}", question.head)?;
+        write!(text, ",\"functions\":{}", question.functions.len())?;
+        write!(text, ",\"events\":[{}],\"callers\":[", self.words)?;
+        for (c, records) in self.records.iter().enumerate() {
+            if c > 0 {
+                text.push(',')?;
+            }
+            write!(text, "[{records}]")?;
+        }
+        write!(text, "],\"outcomes\":[")?;
+        for i in 0..self.graph.stages() {
+            if i > 0 {
+                text.push(',')?;
+            }
+            text.push('"')?;
+            write_settled(&mut text, outcome(&mut self.graph, i))?;
+            text.push('"')?;
+        }
+        write!(text, "]}}")?;
+        Ok(text)
+    }
+
+    /// All of it as a script.
+    fn script(&mut self, alloc: Global, question: &Question) -> Result<String, AllocError> {
+        let mut text = String::new(alloc);
+        write!(text, "{{{},\"steps\":[{}]}}", question.head, self.steps)?;
+        Ok(text)
+    }
+}
+
+/// The outcome of a stage that is there.
+fn outcome(graph: &mut Graph, i: u16) -> Option<Outcome> {
+    if graph.has(i) { graph.outcome(i) } else { None }
+}
+
+fn asked(ask: Ask) -> u16 {
+    match ask {
+        Ask::Now(i, _) | Ask::Outcome(i) => i,
+    }
+}
+
+/// Adds a comma, but to nothing.
+pub(crate) fn comma(text: &mut String) -> Result<(), AllocError> {
+    if text.is_empty() {
+        Ok(())
+    } else {
+        text.push(',')
+    }
+}
+
+fn write_answer(text: &mut String, answer: Answer) -> Result<(), AllocError> {
+    match answer {
+        Answer::Give(Value::Nil) => write!(text, "{{\"give\":null}}"),
+        Answer::Give(Value::Int(v)) => write!(text, "{{\"give\":{v}}}"),
+        Answer::Throw(code) => write!(text, "{{\"throw\":{code}}}"),
+        Answer::Link(j) => write!(text, "{{\"link\":{j}}}"),
+    }
+}
