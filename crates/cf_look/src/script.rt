@@ -38,19 +38,30 @@ pub(crate) fn draw<R: Print + Eprint + AllocGlobal>(rt: &R, bytes: &[u8]) -> Res
         Ok(names) => names.as_slice(),
         Err(_) => &[],
     };
-    match (draw_script(rt.alloc(), bytes, known), &names) {
-        (Ok(text), Ok(_)) => {
+    match draw_script(rt.alloc(), bytes, known) {
+        Ok(text) => write_drawn(rt, &text, &names),
+        Err(ScriptFault::NoMemory) => Err(AllocError.into()),
+        Err(fault) => {
+            eprintln!(rt; "{fault}")?;
+            Ok(Drawn::Refused)
+        }
+    }
+}
+
+/// Writes a picture, unless a name is none.
+fn write_drawn<R: Print + Eprint>(
+    rt: &R,
+    text: &str,
+    names: &Result<Vec<String>>,
+) -> Result<Drawn> {
+    match names {
+        Ok(_) => {
             print!(rt; "{text}")?;
             Ok(Drawn::Whole)
         }
-        (Ok(_), Err(why)) => {
+        Err(why) => {
             eprintln!(rt; "unreadable: {why}")?;
             Ok(Drawn::NoName)
-        }
-        (Err(ScriptFault::NoMemory), _) => Err(AllocError.into()),
-        (Err(fault), _) => {
-            eprintln!(rt; "{fault}")?;
-            Ok(Drawn::Refused)
         }
     }
 }

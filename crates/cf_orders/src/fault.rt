@@ -1,4 +1,5 @@
 //! Why a text is no question.
+use cf_plan::PlanFault;
 use cf_reading::ReadingFault;
 use cf_script::ScriptFault;
 use std::alloc::{AllocError, AllocFailed};
@@ -36,6 +37,8 @@ pub enum QuestionFault {
     Script(ReadingFault),
     /// What only a question has.
     At(Spot),
+    /// Its plan with shared functions is refused.
+    Plan(PlanFault),
 }
 
 impl From<AllocError> for QuestionFault {
@@ -47,6 +50,15 @@ impl From<AllocError> for QuestionFault {
 impl<T: Drop> From<AllocFailed<T>> for QuestionFault {
     fn from(_refused: AllocFailed<T>) -> QuestionFault {
         QuestionFault::NoMemory
+    }
+}
+
+impl From<PlanFault> for QuestionFault {
+    fn from(fault: PlanFault) -> QuestionFault {
+        match fault {
+            PlanFault::NoMemory => QuestionFault::NoMemory,
+            _ => QuestionFault::Plan(fault),
+        }
     }
 }
 
@@ -92,6 +104,7 @@ impl fmt::Display for QuestionFault {
         match self {
             QuestionFault::NoMemory => write!(f, "no memory"),
             QuestionFault::Script(fault) => write!(f, "{}", ScriptFault::from(*fault)),
+            QuestionFault::Plan(fault) => write!(f, "plan: {fault}"),
             QuestionFault::At(spot) => write!(f, "{spot}: wanted {}", spot.wanted()),
         }
     }

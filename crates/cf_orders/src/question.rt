@@ -1,5 +1,6 @@
 //! A question.
-ghost use Rattle.std.specs.Prelude.{◌≡◌, ◌≤◌};
+ghost use Rattle.std.specs.Prelude.{◌≡◌, true};
+ghost use Rattle.cf_plan.specs.Plans.{has_place};
 
 use cf_explore::{Condition, Program};
 use cf_plan::Plan;
@@ -25,4 +26,5 @@ pub struct Question {
     pub(crate) head: String,
     /// Each caller's steps, as a script has them.
     pub(crate) steps: Vec<Vec<String>>,
+    pub ghost place: { has_place plan.stages room ≡ true },
 }

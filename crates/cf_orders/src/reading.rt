@@ -7,7 +7,7 @@ use crate::question::Question;
 use cf_explore::{Call, Caller, Program, Step};
 use cf_model::{Ask, Event};
 use cf_plan::Plan;
-use cf_reading::{ReadingFault, Script, Step as Said, script_of};
+use cf_reading::{Part, ReadingFault, Script, Step as Said, script_of};
 use serde_json::Value as Json;
 use std::alloc::{AllocError, Global};
 
@@ -42,7 +42,10 @@ fn question(
 ) -> Result<Question, QuestionFault> {
     let shared = shared_of(alloc, json)?;
     let (plan, room, functions, steps) = script.into_parts();
-    let plan = with_shared(alloc, &plan, shared.as_slice())?.ok_or(AllocError)?;
+    let plan = with_shared(alloc, &plan, shared.as_slice())?;
+    if !plan.has_place(room) {
+        return Err(QuestionFault::Script(ReadingFault::Shape(Part::Room)));
+    }
     let counts = counts_of(alloc, &joined)?;
     let known = Known {
         plan: &plan,
@@ -52,7 +55,7 @@ fn question(
     let Asked { conditions, texts } = read_asked(alloc, json, &known)?;
     let callers = callers_of(alloc, &joined, steps.as_slice())?;
     let count = callers.len() as u8;
-    let own = plan.copy().map_err(|_| AllocError)?;
+    let own = plan.copy()?;
     let program = program_of(own, room, callers, workers, free)?;
     let Joined {
         head,
@@ -90,14 +93,21 @@ fn program_of(
 /// The script of all callers' steps.
 fn script_in(alloc: Global, joined: &Joined) -> Result<Script, QuestionFault> {
     let text = joined.script(alloc)?;
-    let Ok(json) = Json::from_slice(alloc, text.as_bytes()) else {
-        return Err(QuestionFault::NoMemory);
-    };
+    let json = json_in(alloc, &text)?;
     match script_of(alloc, &json) {
         Ok(script) => Ok(script),
         Err(ReadingFault::NoMemory) => Err(QuestionFault::NoMemory),
         Err(ReadingFault::Step(k)) => Err(QuestionFault::At(joined.spot(k))),
         Err(fault) => Err(QuestionFault::Script(fault)),
+    }
+}
+
+/// The JSON of a script's text.
+fn json_in(alloc: Global, text: &str) -> Result<Json, QuestionFault> {
+    match Json::from_slice(alloc, text.as_bytes()) {
+        Ok(json) => Ok(json),
+        Err(error) if error.is_memory() => Err(QuestionFault::NoMemory),
+        Err(_) => Err(QuestionFault::Script(ReadingFault::NotJson)),
     }
 }
 

@@ -75,9 +75,6 @@ fn begin(alloc: Global, question: &Question) -> Result<Retold, AllocError> {
         records.push(String::new(alloc))?;
     }
     let plan = question.plan.copy().map_err(|_| AllocError)?;
-    if !plan.has_place(question.room) {
-        return Err(AllocError);
-    }
     let graph = Graph::new_growing(alloc, plan, question.room).map_err(|_| AllocError)?;
     Ok(Retold {
         graph,
