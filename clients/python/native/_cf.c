@@ -306,15 +306,21 @@ static void let_go(Stage *stage, Kept *first) {
   Py_CLEAR(stage->call); Py_CLEAR(stage->args); Py_CLEAR(stage->kwargs);
 }
 
-/* Hands a ready stage to whoever runs it. Where nobody will, it fails, and what comes of that is added to the news. */
-static int hand(Request *self, uint16_t i, News *news) {
-  Stage *stage = self->works ? stage_at(self, i) : NULL;
-  if (!stage) return PyErr_Occurred() ? -1 : 0;  /* (a request that is collected has nobody) */
+/* Puts a ready stage before those who run it, and says whether one will. An interrupt that comes meanwhile is raised once the stage is put:
+ * one that is put twice runs once, and one that isn't put never does. */
+static int put_stage(Request *self, Stage *stage, Kept *interrupt) {
   PyObject *is_taken = PyObject_CallMethodOneArg(self->works, put_name, (PyObject *)stage);
-  Py_DECREF(stage);
+  if (!is_taken) {
+    keep(interrupt);
+    is_taken = PyObject_CallMethodOneArg(self->works, put_name, (PyObject *)stage);
+  }
   int taken = is_taken ? PyObject_IsTrue(is_taken) : -1;
   Py_XDECREF(is_taken);
-  if (taken) return taken < 0 ? -1 : 0;
+  return taken;
+}
+
+/* Lets a stage fail that nobody will run. What comes of that is added to the news. */
+static int refuse(Request *self, uint16_t i, News *news) {
   PyObject *error = PyObject_CallMethodNoArgs(self->works, refusal_name);
   uint32_t number, code;
   cf_reply reply;
@@ -322,6 +328,17 @@ static int hand(Request *self, uint16_t i, News *news) {
   Py_DECREF(error);
   if ((code = apply(self, KIND(FAIL) | WHO(caller) | OF(i) | number, &reply, news))) { refused(code); return -1; }
   return 0;
+}
+
+/* Hands a ready stage to whoever runs it. Where nobody will, it fails. */
+static int hand(Request *self, uint16_t i, News *news) {
+  Stage *stage = self->works ? stage_at(self, i) : NULL;
+  if (!stage) return PyErr_Occurred() ? -1 : 0;  /* (a request that is collected has nobody) */
+  Kept first = {0};
+  int taken = put_stage(self, stage, &first);
+  Py_DECREF(stage);
+  if (taken < 0 || (!taken && refuse(self, i, news))) keep(&first);
+  return raise_kept(&first);
 }
 
 /* Tells what came of events: first those who wait, then the threads, then the callbacks. Where `following` is given, the first ready stage is
@@ -634,7 +651,7 @@ static PyObject *Request_run(Request *self, PyObject *const *args, Py_ssize_t n)
 static int answer(Request *self, int who, PyObject *given, cf_task *task) {
   uint16_t i = task->stage, following = NONE;
   uint8_t form = self->rows[i].form;
-  uint32_t number;
+  uint32_t number = 0;
   uint64_t low;
   if (!given) {
     PyObject *error = caught();
