@@ -1,11 +1,35 @@
--- A layer: situations with the number of orders that lead to each.
-use Rattle.std.specs.Prelude.{◌≡◌, ℕ, ◌+◌, ◌-◌, ◌^◌, ◌++◌, ◌∷◌, [], Bool, true, false, Option, Some, List, min, slice_get, slice_set}
+-- A layer: situations with the number of orders that lead to each, and how each was come to.
+use Rattle.std.specs.Prelude.{◌≡◌, ℕ, ◌+◌, ◌-◌, ◌*◌, ◌^◌, ◌≤◌, ◌<◌, ◌++◌, ◌∷◌, [], Bool, true, false, Option, Some, List, All, Contains, min, slice_get, slice_set, sum_by}
+use Rattle.std.proofs.Common.{zero, suc}
 use Rattle.cf_explore.specs.declared.layer.Entry.{Entry}
-use Rattle.cf_explore.specs.Programs.{Situated}
+use Rattle.cf_explore.specs.declared.trail.Trace.{Trace}
+use Rattle.cf_plan.specs.Meanings.{Meanings}
+use Rattle.cf_explore.specs.Programs.{Programmed, Situated, start_of}
+use Rattle.cf_explore.specs.Moves.{moved, moves}
+use Rattle.cf_explore.specs.Orders.{after, next}
 
 -- Numbers of orders are counted up to 2 ^ 128 - 1, which stands for itself and all above.
 abbrev pub counted : ℕ → ℕ
 counted n = min n (2 ^ 128 - 1)
+
+-- what f adds up to over the entries, for each as often as orders lead to it
+abbrev pub weight : (Situated → ℕ) → Entry → ℕ
+weight f e = e.orders * f e.situation
+
+abbrev pub weigh : (Situated → ℕ) → List Entry → ℕ
+weigh f entries = sum_by (weight f) entries
+
+-- The entries stand for these situations, each as often as it is there: whatever is added up over both comes to the same, as far as
+-- it is counted.
+abbrev pub StandFor : List Entry → List Situated → Type 0
+StandFor entries situations = (f : Situated → ℕ) → counted (weigh f entries) ≡ counted (sum_by f situations)
+
+-- An order of k moves leads to number n, which stands for situation s: each number has the number before it, and the move between them.
+abbrev pub LeadsTo : Meanings → Programmed → List Trace → ℕ → ℕ → Situated → Type 0
+LeadsTo m p trail zero n s = (n ≡ 0) × (s ≡ start_of p)
+LeadsTo m p trail (suc k) n s =
+    (trace : Trace) × (before : Situated) × (slice_get trail n ≡ Some trace) × LeadsTo m p trail k trace.before before
+    × Contains (moves p before) trace.by × (s ≡ moved m p before trace.by)
 
 -- situation s stands at place i
 abbrev pub IsAt : List Entry → ℕ → Situated → Type 0
@@ -21,3 +45,36 @@ IsAdded old new s orders number true =
     (e : Entry) × (e.situation ≡ s) × (e.orders ≡ orders) × (e.number ≡ number) × (new ≡ old ++ e ∷ [])
 IsAdded old new s orders number false =
     (i : ℕ) × (e : Entry) × (slice_get old i ≡ Some e) × (e.situation ≡ s) × (new ≡ slice_set old i (more e orders))
+
+-- an order of k moves leads to an entry
+abbrev pub IsLed : Meanings → Programmed → List Trace → ℕ → Entry → Type 0
+IsLed m p trail k e = LeadsTo m p trail k e.number e.situation
+
+-- The entries stand for the situations after k moves, and an order of k moves leads to each.
+pub record IsLayer (m : Meanings) (p : Programmed) (trail : List Trace) (k : ℕ) (entries : List Entry) : Type 0 where
+  pub stand : StandFor entries (after m p k)
+  pub led : All (IsLed m p trail k) entries
+
+-- what f adds up to over the situations after one more move
+abbrev pub over_next : Meanings → Programmed → (Situated → ℕ) → Situated → ℕ
+over_next m p f s = sum_by f (next m p s)
+
+-- one trail goes on where the other ends
+abbrev pub IsLonger : List Trace → List Trace → Type 0
+IsLonger old new = (later : List Trace) × (new ≡ old ++ later)
+
+-- What was made of one entry: the situations after one more move from it came to the others.
+pub record IsSpread (m : Meanings) (p : Programmed) (e : Entry) (old new : List Entry) : Type 0 where
+  pub weighs : (f : Situated → ℕ) → counted (weigh f new) ≡ counted (weigh f old + e.orders * over_next m p f e.situation)
+
+-- What was made of a layer: the situations after one more move.
+pub record IsNext (m : Meanings) (p : Programmed) (entries new : List Entry) : Type 0 where
+  pub weighs : (f : Situated → ℕ) → counted (weigh f new) ≡ counted (weigh (over_next m p f) entries)
+
+-- orders still lead to all entries, where they led to those before
+abbrev pub KeepsLed : Meanings → Programmed → List Trace → List Trace → List Entry → List Entry → Entry → Type 0
+KeepsLed m p trail longer old new e =
+    (k : ℕ) → IsLed m p trail k e → All (IsLed m p trail (suc k)) old → All (IsLed m p longer (suc k)) new
+
+abbrev pub LeadsOn : Meanings → Programmed → List Trace → List Trace → List Entry → List Entry → Type 0
+LeadsOn m p trail longer entries new = (k : ℕ) → All (IsLed m p trail k) entries → All (IsLed m p longer (suc k)) new

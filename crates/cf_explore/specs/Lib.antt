@@ -1,5 +1,7 @@
 pub mod Programs
 pub mod Moves
 pub mod Situations
+pub mod Orders
 pub mod Conditions
 pub mod Layers
+pub mod Found

@@ -1,5 +1,6 @@
 //! The distinct ends.
-ghost use Rattle.std.specs.Prelude.{◌≡◌, ◌<◌, IfOk, IfSome, length, true};
+ghost use Rattle.std.specs.Prelude.{◌≡◌, ◌<◌, ◌∷◌, [], IfOk, IfSome, Some, length, slice_get, slice_set, true};
+ghost use Rattle.cf_explore.specs.Found.{AreMoreEnds, HasOutcomes, IsEnded, more_ended};
 ghost use Rattle.cf_explore.specs.Situations.{outcomes_of};
 
 use crate::found::{End, Witness};
@@ -17,7 +18,9 @@ impl Program {
         entries: &[Entry],
         moves: u32,
         ends: &mut Vec<End>,
-    ) -> Result<(), AllocError> {
+    ) -> Result<(), AllocError>
+        ensures { IfOk result (λ _. AreMoreEnds self.now moves entries.now ends.old.items ends.new.items) }
+    {
         for entry in entries {
             self.add_if_end(alloc, entry, moves, ends)?;
         }
@@ -31,7 +34,9 @@ impl Program {
         entry: &Entry,
         moves: u32,
         ends: &mut Vec<End>,
-    ) -> Result<(), AllocError> {
+    ) -> Result<(), AllocError>
+        ensures { IfOk result (λ _. AreMoreEnds self.now moves (entry.now ∷ []) ends.old.items ends.new.items) }
+    {
         if self.is_end(alloc, &entry.situation)? {
             let outcomes = entry.situation.outcomes(alloc)?;
             let number = entry.number;
@@ -58,7 +63,9 @@ fn add_end(
     outcomes: Vec<Option<Outcome>>,
     orders: u128,
     witness: Witness,
-) -> Result<bool, AllocError> {
+) -> Result<bool, AllocError>
+    ensures { IfOk result (λ new. IsEnded ends.old.items ends.new.items outcomes.items orders witness new) }
+{
     match find_end(ends, &outcomes) {
         Some(i) => {
             more_orders(ends, i, orders);
@@ -77,14 +84,24 @@ fn add_end(
 
 /// The place of the end with these outcomes, if it is there.
 fn find_end(ends: &[End], outcomes: &[Option<Outcome>]) -> Option<usize>
-    ensures { IfSome result (λ i. i < length ends.now) }
+    ensures { IfSome result (λ i. HasOutcomes ends.now i outcomes.now) }
 {
     for i in 0..ends.len() {
-        if same_outcomes(&ends[i].outcomes, outcomes) {
+        if has_outcomes(ends, i, outcomes) {
             return Some(i);
         }
     }
     None
+}
+
+/// Whether the end with these outcomes stands at a place.
+fn has_outcomes(ends: &[End], i: usize, outcomes: &[Option<Outcome>]) -> bool
+    ensures { result ≡ true → HasOutcomes ends.now i outcomes.now }
+{
+    match ends.get(i) {
+        None => false,
+        Some(end) => same_outcomes(&end.outcomes, outcomes),
+    }
 }
 
 /// Whether they are the same outcomes.
@@ -112,6 +129,7 @@ fn same_outcome(a: Option<Outcome>, b: Option<Outcome>) -> bool
 /// So many orders more lead to the end at this place.
 fn more_orders(ends: &mut [End], i: usize, orders: u128)
     requires { i < length ends.old }
+    ensures { (e : End) → slice_get ends.old i ≡ Some e → ends.new ≡ slice_set ends.old i (more_ended e orders) }
 {
     let end = &mut ends[i];
     end.orders = end.orders.saturating_add(orders);

@@ -1,5 +1,10 @@
 //! The search, layer by layer.
-ghost use Rattle.std.specs.Prelude.{◌<◌, vec_len};
+ghost use Rattle.std.specs.Prelude.{◌≡◌, ◌+◌, ◌*◌, ◌<◌, ℕ, Contains, IfOk, IfSome, None, length, replicate, true, vec_len};
+ghost use Rattle.cf_plan.specs.Meanings.{Meanings, meanings_of};
+ghost use Rattle.cf_explore.specs.Programs.{Situated};
+ghost use Rattle.cf_explore.specs.Moves.{moved, moves};
+ghost use Rattle.cf_explore.specs.Layers.{IsLonger, IsNext, IsSpread, KeepsLed, LeadsOn, counted, weigh};
+ghost use Rattle.cf_explore.specs.Found.{AreUpdates, IsAdvance, IsFirst, IsFound, IsLook, IsSearch, IsUpdate};
 
 use crate::condition::Condition;
 use crate::found::{Found, Witness};
@@ -10,7 +15,7 @@ use crate::trail::Trace;
 use cf_plan::StageFn;
 use std::alloc::{AllocError, Global};
 
-/// A search that goes on layer by layer.
+/// A search that goes on layer by layer. `found` is true of all orders that were seen so far.
 #[derive(Drop)]
 pub struct Search {
     pub(crate) layer: Layer,
@@ -27,7 +32,9 @@ impl Program {
         functions: &[F],
         conditions: &[Condition],
         bound: u32,
-    ) -> Result<Found, AllocError> {
+    ) -> Result<Found, AllocError>
+        ensures { IfOk result (λ found. IsFound (meanings_of F.meaning functions.now) self.now conditions.now found) }
+    {
         let mut search = self.begin(alloc, conditions)?;
         for _ in 0..bound {
             if !search.is_on {
@@ -39,7 +46,9 @@ impl Program {
     }
 
     /// A search that has seen nothing yet.
-    pub fn begin(&self, alloc: Global, conditions: &[Condition]) -> Result<Search, AllocError> {
+    pub fn begin(&self, alloc: Global, conditions: &[Condition]) -> Result<Search, AllocError>
+        ensures { IfOk result (λ search. (m : Meanings) → IsSearch m self.now conditions.now search) }
+    {
         let mut layer = Layer::new(alloc);
         let start = self.start(alloc)?;
         let _new = layer.add(start, 1, 0)?;
@@ -48,7 +57,7 @@ impl Program {
             before: 0,
             by: Move::Tick,
         })?;
-        let decisions = vec![in alloc; None; conditions.len()]?;
+        let decisions = undecided(alloc, conditions.len())?;
         Ok(Search {
             layer,
             found: Found {
@@ -62,7 +71,8 @@ impl Program {
         })
     }
 
-    /// Sees all orders of one move more, unless there are more situations than the bound, where it stops.
+    /// Sees all orders of one move more, unless there are more situations than the bound, where it stops. The conditions are
+    /// those that the search began with.
     pub fn go_on<F: StageFn>(
         &self,
         alloc: Global,
@@ -70,8 +80,10 @@ impl Program {
         conditions: &[Condition],
         bound: u32,
         search: &mut Search,
-    ) -> Result<(), AllocError> {
-        if search.is_on && search.found.moves < u32::MAX {
+    ) -> Result<(), AllocError>
+        ensures { IsSearch (meanings_of F.meaning functions.now) self.now conditions.now search.old → IfOk result (λ _. IsSearch (meanings_of F.meaning functions.now) self.now conditions.now search.new) }
+    {
+        if search.is_on && search.found.moves < u32::MAX && search.found.decisions.len() == conditions.len() {
             self.look(alloc, conditions, search)?;
             self.advance(alloc, functions, bound, search)
         } else {
@@ -87,6 +99,8 @@ impl Program {
         search: &mut Search,
     ) -> Result<(), AllocError>
         requires few { search.old.found.moves < 4294967295 }
+        requires decisions { length search.old.found.decisions.items ≡ length conditions.now }
+        ensures { IfOk result (λ _. IsLook self.now conditions.now search.old search.new) }
     {
         let moves = search.found.moves;
         self.add_ends(alloc, &search.layer.entries, moves, &mut search.found.ends)?;
@@ -108,7 +122,9 @@ impl Program {
         functions: &[F],
         bound: u32,
         search: &mut Search,
-    ) -> Result<(), AllocError> {
+    ) -> Result<(), AllocError>
+        ensures { IfOk result (λ _. IsAdvance (meanings_of F.meaning functions.now) self.now search.old search.new) }
+    {
         let next = self.next_layer(
             alloc,
             functions,
@@ -139,10 +155,15 @@ impl Program {
         entries: &[Entry],
         bound: u32,
         trail: &mut Vec<Trace>,
-    ) -> Result<Option<Layer>, AllocError> {
+    ) -> Result<Option<Layer>, AllocError>
+        ensures next { IfOk result (λ made. IfSome made (λ layer. IsNext (meanings_of F.meaning functions.now) self.now entries.now layer.entries.items)) }
+        ensures led { IfOk result (λ made. IfSome made (λ layer. LeadsOn (meanings_of F.meaning functions.now) self.now trail.old.items trail.new.items entries.now layer.entries.items)) }
+        ensures longer { IfOk result (λ _. IsLonger trail.old.items trail.new.items) }
+    {
         let mut next = Layer::new(alloc);
         for entry in entries {
-            if !self.spread(alloc, functions, entry, bound, trail, &mut next)? {
+            let all = self.spread(alloc, functions, entry, bound, trail, &mut next)?;
+            if !all {
                 return Ok(None);
             }
         }
@@ -158,7 +179,11 @@ impl Program {
         bound: u32,
         trail: &mut Vec<Trace>,
         next: &mut Layer,
-    ) -> Result<bool, AllocError> {
+    ) -> Result<bool, AllocError>
+        ensures spread { IfOk result (λ whole. whole ≡ true → IsSpread (meanings_of F.meaning functions.now) self.now entry.now next.old.entries.items next.new.entries.items) }
+        ensures led { IfOk result (λ whole. KeepsLed (meanings_of F.meaning functions.now) self.now trail.old.items trail.new.items next.old.entries.items next.new.entries.items entry.now) }
+        ensures longer { IfOk result (λ _. IsLonger trail.old.items trail.new.items) }
+    {
         let moves = self.moves(alloc, &entry.situation)?;
         for by in &moves {
             if trail.len() >= bound as usize {
@@ -170,6 +195,7 @@ impl Program {
     }
 
     /// Adds the situation to which a move leads.
+    #[tactic(none)]
     fn add_move<F: StageFn>(
         &self,
         alloc: Global,
@@ -180,6 +206,9 @@ impl Program {
         next: &mut Layer,
     ) -> Result<(), AllocError>
         requires { vec_len trail.old < 4294967296 }
+        ensures weighs { IfOk result (λ _. (f : Situated → ℕ) → counted (weigh f next.new.entries.items) ≡ counted (weigh f next.old.entries.items + entry.now.orders * f (moved (meanings_of F.meaning functions.now) self.now entry.now.situation by))) }
+        ensures led { IfOk result (λ _. Contains (moves self.now entry.now.situation) by → KeepsLed (meanings_of F.meaning functions.now) self.now trail.old.items trail.new.items next.old.entries.items next.new.entries.items entry.now) }
+        ensures longer { IfOk result (λ _. IsLonger trail.old.items trail.new.items) }
     {
         let situation = self.moved(alloc, functions, &entry.situation, by)?;
         let number = trail.len() as u32;
@@ -203,11 +232,13 @@ impl Program {
         moves: u32,
         conditions: &[Condition],
         decisions: &mut [Option<Witness>],
-    ) -> Result<(), AllocError> {
+    ) -> Result<(), AllocError>
+        requires { length decisions.old ≡ length conditions.now }
+        ensures { IfOk result (λ _. AreUpdates self.now entries.now moves conditions.now decisions.old decisions.new (length conditions.now)) }
+    {
         for i in 0..conditions.len() {
-            if i < decisions.len() {
-                decisions[i] = self.decision(alloc, entries, moves, &conditions[i], decisions[i])?;
-            }
+            let known = decisions[i];
+            decisions[i] = self.decision(alloc, entries, moves, &conditions[i], known)?;
         }
         Ok(())
     }
@@ -220,7 +251,9 @@ impl Program {
         moves: u32,
         condition: &Condition,
         known: Option<Witness>,
-    ) -> Result<Option<Witness>, AllocError> {
+    ) -> Result<Option<Witness>, AllocError>
+        ensures { IfOk result (λ new. IsUpdate self.now entries.now moves condition.now known new) }
+    {
         match known {
             Some(w) => Ok(Some(w)),
             None => self.first(alloc, entries, moves, condition),
@@ -234,7 +267,9 @@ impl Program {
         entries: &[Entry],
         moves: u32,
         condition: &Condition,
-    ) -> Result<Option<Witness>, AllocError> {
+    ) -> Result<Option<Witness>, AllocError>
+        ensures { IfOk result (λ found. IsFirst self.now entries.now moves condition.now found) }
+    {
         for entry in entries {
             if self.decides(alloc, condition, &entry.situation)? {
                 let number = entry.number;
@@ -243,4 +278,11 @@ impl Program {
         }
         Ok(None)
     }
+}
+
+/// Nothing is decided of so many conditions.
+fn undecided(alloc: Global, count: usize) -> Result<Vec<Option<Witness>>, AllocError>
+    ensures { IfOk result (λ decisions. decisions.items ≡ replicate count None) }
+{
+    vec![in alloc; None; count]
 }

@@ -1,0 +1,10 @@
+pub mod Counting
+pub mod Sums
+pub mod Trails
+pub mod Adding
+pub mod Moving
+pub mod Spreading
+pub mod Ending
+pub mod Tracing
+pub mod Beginning
+pub mod Searching

@@ -1,0 +1,9 @@
+use Rattle.std.proofs.Common.{take}
+use Rattle.cf_plan.specs.Meanings.{meanings_of}
+use Rattle.cf_explore.proofs.Spreading.{NextUpTo}
+use Rattle.cf_explore.proofs.program.Program.next_layer.Given as goal
+
+-- what the entries so far lead to
+abbrev pub invariant-loop-entry : goal.invariant-loop-entry
+invariant-loop-entry g l =
+    NextUpTo (meanings_of g.F.StageFn.meaning l.functions) l.self (take l.entry-index l.entries) l.initial.trail.items l.next.entries.items l.trail.items
