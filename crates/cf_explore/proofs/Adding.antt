@@ -1,6 +1,6 @@
 -- What a layer gains.
-use Rattle.std.proofs.Common.{◌≡◌, ℕ, ◌+◌, ◌*◌, ◌-◌, ◌^◌, ◌<◌, ◌≤◌, Bool, true, false, List, [], ◌∷◌, ◌++◌, Some, None, All, length, get_or, set, ap, arith, refl, sym, ◌∙◌, zero, suc, subst}
-use Rattle.std.specs.Prelude.{slice_get, sum_by, Contains, min}
+use Rattle.std.proofs.Common.{◌≡◌, ℕ, ◌+◌, ◌*◌, ◌-◌, ◌^◌, ◌<◌, ◌≤◌, Bool, true, false, List, [], ◌∷◌, ◌++◌, Some, All, length, get_or, set, ap, arith, sym, ◌∙◌, zero, suc, subst}
+use Rattle.std.specs.Prelude.{slice_get, Contains, min}
 use Rattle.std.proofs.lemmas.Bool.{false≢true}
 use Rattle.std.proofs.lemmas.Option.{get_or_from_slice_get, slice_get_within}
 use Rattle.std.proofs.lemmas.List.Elements.{All-append, All-set}
@@ -84,4 +84,4 @@ move-led-new m p trail longer e old new s orders number by false wrong same numb
 move-led-new m p trail longer e old new s orders number by true right same numbered grown h can = λ k led all.
     let there : IsAdded old new (moved m p e.situation by) orders number true = subst (λ (t : Situated). IsAdded old new t orders number true) same h in
     subst (λ (t : List Trace). All (IsLed m p t (suc k)) new) (sym grown)
-        (added-led-new m p trail k old new e.situation orders number e.number by there led can numbered all)
+    (added-led-new m p trail k old new e.situation orders number e.number by there led can numbered all)

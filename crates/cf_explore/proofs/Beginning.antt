@@ -1,22 +1,19 @@
 -- A search that begins.
-use Rattle.std.proofs.Common.{◌≡◌, ℕ, ◌+◌, ◌*◌, ◌-◌, ◌^◌, ◌<◌, Bool, true, false, List, [], ◌∷◌, ◌++◌, Option, Some, None, All, length, ap, arith, refl, sym, ◌∙◌, zero, suc, subst}
+use Rattle.std.proofs.Common.{◌≡◌, ℕ, ◌<◌, Bool, true, false, List, [], ◌∷◌, Option, Some, None, All, length, ap, arith, refl, sym, ◌∙◌, zero, suc, subst}
 use Rattle.std.specs.Prelude.{slice_get, sum_by, replicate}
 use Rattle.std.proofs.lemmas.Bool.{false≢true}
 use Rattle.std.proofs.lemmas.List.{get_or-replicate, length-replicate}
 use Rattle.std.proofs.lemmas.List.Sums.{sum_by-cons}
 use Rattle.std.proofs.lemmas.Option.{get_or_from_slice_get, slice_get_within}
-use Rattle.cf_outcome.specs.declared.outcome.Outcome.{Outcome}
 use Rattle.cf_plan.specs.Meanings.{Meanings}
 use Rattle.cf_explore.specs.declared.condition.Condition.{Condition}
-use Rattle.cf_explore.specs.declared.found.End.{End}
 use Rattle.cf_explore.specs.declared.found.Witness.{Witness}
 use Rattle.cf_explore.specs.declared.layer.Entry.{Entry}
 use Rattle.cf_explore.specs.declared.search.Search.{Search}
 use Rattle.cf_explore.specs.declared.trail.Trace.{Trace}
 use Rattle.cf_explore.specs.Programs.{Programmed, Situated, start_of}
-use Rattle.cf_explore.specs.Orders.{after, ends_before}
-use Rattle.cf_explore.specs.Layers.{IsAdded, IsLayer, IsLed, StandFor, counted, weigh, weight}
-use Rattle.cf_explore.specs.Found.{AreDecisions, EndsStandFor, IsDecision, IsFound, IsSearch, IsShown}
+use Rattle.cf_explore.specs.Layers.{IsAdded, IsLayer, IsLed, counted, weigh, weight}
+use Rattle.cf_explore.specs.Found.{IsDecision, IsSearch}
 
 first-led : (m : Meanings) (p : Programmed) (trail : List Trace) (e : Entry) → e.situation ≡ start_of p → e.number ≡ 0 → All (IsLed m p trail 0) (e ∷ [])
 first-led m p trail e start first zero d l = (first, start)

@@ -1,6 +1,6 @@
 -- Ends that come to others.
-use Rattle.std.proofs.Common.{◌≡◌, ℕ, ◌+◌, ◌*◌, ◌-◌, ◌^◌, ◌<◌, ◌≤◌, Bool, true, false, List, [], ◌∷◌, ◌++◌, Option, Some, All, length, get_or, set, ap, arith, refl, sym, ◌∙◌, zero, suc, subst, take, add-one}
-use Rattle.std.specs.Prelude.{slice_get, sum_by, min, if◌then◌else◌}
+use Rattle.std.proofs.Common.{◌≡◌, ℕ, ◌+◌, ◌*◌, ◌-◌, ◌^◌, ◌<◌, ◌≤◌, Bool, true, false, List, [], ◌∷◌, ◌++◌, Option, All, length, get_or, set, ap, arith, refl, sym, ◌∙◌, zero, suc, subst, take, add-one}
+use Rattle.std.specs.Prelude.{min}
 use Rattle.std.proofs.Math.Seq.{take-suc}
 use Rattle.std.proofs.lemmas.Option.{get_or_from_slice_get, slice_get_within}
 use Rattle.std.proofs.lemmas.List.Elements.{All-append, All-set}

@@ -2,7 +2,6 @@ pub mod Counting
 pub mod Sums
 pub mod Trails
 pub mod Adding
-pub mod Moving
 pub mod Spreading
 pub mod Ending
 pub mod Tracing

@@ -1,11 +1,10 @@
 -- What a look and an advance keep.
-use Rattle.std.proofs.Common.{◌≡◌, ℕ, ◌+◌, ◌*◌, ◌-◌, ◌^◌, ◌<◌, ◌≤◌, Bool, true, false, List, [], ◌∷◌, ◌++◌, Option, Some, None, All, length, get_or, inl, inr, ap, arith, refl, sym, ◌∙◌, zero, suc, subst, add-one, lit<}
-use Rattle.std.specs.Prelude.{slice_get, sum_by, flat_map, map, min, ◌⊎◌, if◌then◌else◌}
+use Rattle.std.proofs.Common.{◌≡◌, ℕ, ◌+◌, ◌-◌, ◌^◌, ◌<◌, ◌≤◌, Bool, true, false, List, [], ◌∷◌, ◌++◌, Option, Some, None, All, length, get_or, inl, inr, ap, arith, refl, sym, ◌∙◌, zero, suc, subst, add-one, lit<}
+use Rattle.std.specs.Prelude.{sum_by, flat_map, ◌⊎◌, if◌then◌else◌}
 use Rattle.std.specs.List.{filter}
 use Rattle.std.proofs.Math.Nat.{eq-or-lt_of_le}
 use Rattle.std.proofs.lemmas.Option.{get_or_from_slice_get, slice_get-get_or, slice_get_within}
 use Rattle.std.proofs.lemmas.List.Sums.{sum_by-append, sum_by-cons}
-use Rattle.cf_outcome.specs.declared.outcome.Outcome.{Outcome}
 use Rattle.cf_plan.specs.Meanings.{Meanings}
 use Rattle.cf_explore.specs.declared.condition.Condition.{Condition}
 use Rattle.cf_explore.specs.declared.found.End.{End}
@@ -14,12 +13,12 @@ use Rattle.cf_explore.specs.declared.layer.Entry.{Entry}
 use Rattle.cf_explore.specs.declared.search.Search.{Search}
 use Rattle.cf_explore.specs.declared.trail.Trace.{Trace}
 use Rattle.cf_explore.specs.Programs.{Programmed, Situated}
-use Rattle.cf_explore.specs.Moves.{is_end, moved, moves}
+use Rattle.cf_explore.specs.Moves.{is_end}
 use Rattle.cf_explore.specs.Orders.{after, ends_before, next}
 use Rattle.cf_explore.specs.Conditions.{decides}
-use Rattle.cf_explore.specs.Layers.{IsLayer, IsLed, IsLonger, IsNext, LeadsOn, LeadsTo, StandFor, counted, over_next, weigh, weight}
+use Rattle.cf_explore.specs.Layers.{IsLayer, IsLed, IsNext, LeadsTo, StandFor, counted, over_next, weigh, weight}
 use Rattle.cf_explore.specs.Situations.{outcomes_of}
-use Rattle.cf_explore.specs.Found.{AreDecisions, AreMoreEnds, AreUpdates, EndsStandFor, IsAdvance, IsDecision, IsFirst, IsFound, IsLook, IsSearch, IsShown, IsUndecided, IsUpdate, over_end, weigh_ends}
+use Rattle.cf_explore.specs.Found.{AreDecisions, AreMoreEnds, AreUpdates, EndsStandFor, IsAdvance, IsDecision, IsFound, IsLook, IsSearch, IsShown, IsUndecided, IsUpdate, over_end, weigh_ends}
 use Rattle.cf_explore.proofs.Counting.{counted-both, counted-none}
 use Rattle.cf_explore.proofs.Sums.{sum_by-filtered, sum_by-joined}
 use Rattle.cf_explore.proofs.Spreading.{all-cons, rest-all}

@@ -1,6 +1,6 @@
 -- A layer that is made from another, entry by entry and move by move.
-use Rattle.std.proofs.Common.{◌≡◌, ℕ, ◌+◌, ◌*◌, ◌-◌, ◌^◌, ◌<◌, ◌≤◌, List, [], ◌∷◌, ◌++◌, Some, All, length, ap, arith, refl, sym, ◌∙◌, zero, suc, subst, append_assoc, add-one, get_or, take}
-use Rattle.std.specs.Prelude.{Contains, sum_by, map}
+use Rattle.std.proofs.Common.{◌≡◌, ℕ, ◌+◌, ◌*◌, ◌-◌, ◌^◌, ◌<◌, ◌≤◌, List, [], ◌∷◌, ◌++◌, All, length, ap, arith, refl, sym, ◌∙◌, zero, suc, subst, append_assoc, add-one, get_or, take}
+use Rattle.std.specs.Prelude.{Contains, sum_by}
 use Rattle.std.proofs.Math.Seq.{take-suc}
 use Rattle.std.proofs.lemmas.List.{take_all}
 use Rattle.std.proofs.lemmas.List.Elements.{Contains-get_or}
@@ -11,7 +11,6 @@ use Rattle.cf_explore.specs.declared.step.Move.{Move}
 use Rattle.cf_explore.specs.declared.trail.Trace.{Trace}
 use Rattle.cf_explore.specs.Programs.{Programmed, Situated}
 use Rattle.cf_explore.specs.Moves.{moved, moves}
-use Rattle.cf_explore.specs.Orders.{next}
 use Rattle.cf_explore.specs.Layers.{IsLed, IsLonger, IsNext, IsSpread, KeepsLed, LeadsOn, counted, over_next, weigh, weight}
 use Rattle.cf_explore.proofs.Counting.{counted-add, counted-more}
 use Rattle.cf_explore.proofs.Sums.{sum_by-mapped}

@@ -1,11 +1,11 @@
 -- An order that is read back from its end.
-use Rattle.std.proofs.Common.{◌≡◌, ℕ, ◌+◌, ◌-◌, ◌<◌, List, [], ◌∷◌, ◌++◌, Some, None, length, length-append, ap, arith, refl, sym, ◌∙◌, zero, suc, subst}
+use Rattle.std.proofs.Common.{◌≡◌, ℕ, ◌+◌, List, [], ◌∷◌, ◌++◌, Some, None, length, ap, arith, refl, sym, ◌∙◌, suc, subst}
 use Rattle.std.specs.Prelude.{Contains, reverse, slice_get}
 use Rattle.std.proofs.lemmas.List.{reverse-append}
 use Rattle.cf_plan.specs.Meanings.{Meanings}
 use Rattle.cf_explore.specs.declared.step.Move.{Move}
 use Rattle.cf_explore.specs.declared.trail.Trace.{Trace}
-use Rattle.cf_explore.specs.Programs.{Programmed, Situated, start_of}
+use Rattle.cf_explore.specs.Programs.{Programmed, Situated}
 use Rattle.cf_explore.specs.Moves.{moved, moves}
 use Rattle.cf_explore.specs.Orders.{AreMoves, IsOrder, led}
 use Rattle.cf_explore.specs.Layers.{LeadsTo}

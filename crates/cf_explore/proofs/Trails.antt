@@ -1,5 +1,5 @@
 -- Trails that grow.
-use Rattle.std.proofs.Common.{◌≡◌, ℕ, ◌<◌, List, [], ◌∷◌, ◌++◌, Some, None, All, length, refl, sym, ◌∙◌, zero, suc, subst}
+use Rattle.std.proofs.Common.{◌≡◌, ℕ, List, [], ◌∷◌, ◌++◌, Some, All, length, refl, zero, suc}
 use Rattle.std.specs.Prelude.{slice_get}
 use Rattle.cf_explore.specs.declared.layer.Entry.{Entry}
 use Rattle.cf_explore.specs.declared.trail.Trace.{Trace}

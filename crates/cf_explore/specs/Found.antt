@@ -1,5 +1,5 @@
 -- What a search has found.
-use Rattle.std.specs.Prelude.{◌≡◌, ℕ, ◌+◌, ◌*◌, ◌<◌, ◌≤◌, ◌⊎◌, ◌++◌, ◌∷◌, if◌then◌else◌, Bool, true, false, Option, Some, None, List, [], length, map, All, slice_get, slice_set, sum_by}
+use Rattle.std.specs.Prelude.{◌≡◌, ℕ, ◌+◌, ◌*◌, ◌<◌, ◌≤◌, ◌⊎◌, ◌++◌, ◌∷◌, if◌then◌else◌, Bool, true, false, Option, Some, None, List, [], length, All, slice_get, slice_set, sum_by}
 use Rattle.cf_outcome.specs.declared.outcome.Outcome.{Outcome}
 use Rattle.cf_explore.specs.declared.condition.Condition.{Condition}
 use Rattle.cf_explore.specs.declared.found.End.{End}

@@ -1,5 +1,5 @@
 -- A layer: situations with the number of orders that lead to each, and how each was come to.
-use Rattle.std.specs.Prelude.{◌≡◌, ℕ, ◌+◌, ◌-◌, ◌*◌, ◌^◌, ◌≤◌, ◌<◌, ◌++◌, ◌∷◌, [], Bool, true, false, Option, Some, List, All, Contains, min, slice_get, slice_set, sum_by}
+use Rattle.std.specs.Prelude.{◌≡◌, ℕ, ◌+◌, ◌-◌, ◌*◌, ◌^◌, ◌++◌, ◌∷◌, [], Bool, true, false, Some, List, All, Contains, min, slice_get, slice_set, sum_by}
 use Rattle.std.proofs.Common.{zero, suc}
 use Rattle.cf_explore.specs.declared.layer.Entry.{Entry}
 use Rattle.cf_explore.specs.declared.trail.Trace.{Trace}

@@ -83,7 +83,10 @@ impl Program {
     ) -> Result<(), AllocError>
         ensures { IsSearch (meanings_of F.meaning functions.now) self.now conditions.now search.old → IfOk result (λ _. IsSearch (meanings_of F.meaning functions.now) self.now conditions.now search.new) }
     {
-        if search.is_on && search.found.moves < u32::MAX && search.found.decisions.len() == conditions.len() {
+        if search.is_on
+            && search.found.moves < u32::MAX
+            && search.found.decisions.len() == conditions.len()
+        {
             self.look(alloc, conditions, search)?;
             self.advance(alloc, functions, bound, search)
         } else {

@@ -1,10 +1,10 @@
-use Rattle.std.proofs.Common.{◌≡◌, ◌+◌, ◌-◌, ◌≤◌, ◌<◌, ℕ, List, Some, None, arith, suc, ap, sym, ◌∙◌, subst, length, length-append, ◌∷◌, []}
+use Rattle.std.proofs.Common.{◌≡◌, ◌-◌, ◌≤◌, ℕ, List, Some, None, arith, suc, ap, sym, ◌∙◌, subst, length, length-append, ◌∷◌, []}
 use Rattle.std.specs.Prelude.{slice_get}
 use Rattle.std.proofs.lemmas.Bool.{ltb-false}
 use Rattle.std.proofs.lemmas.Option.{slice_get-get_or, slice_get_past}
 use Rattle.std.proofs.lemmas.List.{length-reverse}
 use Rattle.cf_explore.specs.declared.trail.Trace.{Trace}
-use Rattle.cf_explore.proofs.Tracing.{ReadUpTo, read-begin, read-done, read-none, read-on}
+use Rattle.cf_explore.proofs.Tracing.{read-begin, read-done, read-none, read-on}
 use Rattle.cf_explore.proofs.found.Found.order.Goals as goal
 
 pub loop-step-init : goal.loop-step-init
@@ -43,4 +43,4 @@ returns c = λ m p s h.
     let order = c.loop-step.order.items in
     let all : c.loop-step.step ≡ c.args.witness.moves = omega arith in
     read-done m p c.args.self.now.trail.items s c.args.witness.moves c.loop-step.number order c.reverse.new.self.items (c.loop-step.invariant.read 0 (omega arith) m p s h)
-        c.reverse.ensures.items (c.loop-step.invariant.so_many ∙ all) (ap length c.reverse.ensures.items ∙ length-reverse order)
+    c.reverse.ensures.items (c.loop-step.invariant.so_many ∙ all) (ap length c.reverse.ensures.items ∙ length-reverse order)

@@ -1,4 +1,3 @@
-use Rattle.std.proofs.Common.{◌≡◌}
 use Rattle.cf_explore.proofs.Ending.{ends-step}
 use Rattle.cf_explore.proofs.program.Program.add_ends.Goals as goal
 

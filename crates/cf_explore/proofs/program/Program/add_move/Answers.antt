@@ -1,4 +1,4 @@
-use Rattle.std.proofs.Common.{◌≡◌, ◌∷◌, [], arith, rules, refl}
+use Rattle.std.proofs.Common.{◌∷◌, [], arith, rules}
 use Rattle.cf_plan.specs.Meanings.{meanings_of}
 use Rattle.cf_explore.specs.declared.trail.Trace.{Trace}
 use Rattle.cf_explore.proofs.Adding.{move-weighs, move-led-old, move-led-new}

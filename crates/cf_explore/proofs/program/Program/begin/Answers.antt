@@ -1,4 +1,4 @@
-use Rattle.std.proofs.Common.{◌≡◌, List, true, false, refl, ap, ◌∙◌, subst, length, [], None}
+use Rattle.std.proofs.Common.{List, true, false, refl, ap, ◌∙◌, subst, length, [], None}
 use Rattle.std.proofs.lemmas.List.{length-replicate}
 use Rattle.cf_explore.specs.declared.layer.Entry.{Entry}
 use Rattle.cf_explore.specs.declared.search.Search.{Search}
@@ -16,4 +16,4 @@ returns c = λ m.
     let added : IsAdded [] c.add.new.self.entries.items c.in_ok-start.start 1 0 c.in_ok-_new._new =
     subst (λ (old : List Entry). IsAdded old c.add.new.self.entries.items c.in_ok-start.start 1 0 c.in_ok-_new._new) c.new-layer.ensures c.in_ok-_new.ensures in
     begun m c.args.self.now c.args.conditions.now search c.in_ok-start.start c.in_ok-_new._new added c.in_ok-start.ensures c.new.ensures.items
-        c.in_ok-decisions.ensures (ap length c.in_ok-decisions.ensures ∙ length-replicate (length c.args.conditions.now) None) refl refl
+    c.in_ok-decisions.ensures (ap length c.in_ok-decisions.ensures ∙ length-replicate (length c.args.conditions.now) None) refl refl

@@ -1,4 +1,4 @@
-use Rattle.std.proofs.Common.{◌≡◌, arith, rules, refl}
+use Rattle.std.proofs.Common.{arith, rules}
 use Rattle.std.proofs.lemmas.Result.{IfOk-weaker}
 use Rattle.cf_plan.specs.Meanings.{meanings_of}
 use Rattle.cf_explore.proofs.Searching.{go-on-keeps}

@@ -1,4 +1,4 @@
-use Rattle.std.proofs.Common.{◌≡◌, List, [], arith, rules, sym, ◌∙◌, subst, true}
+use Rattle.std.proofs.Common.{◌≡◌, List, [], arith, sym, subst, true}
 use Rattle.cf_plan.specs.Meanings.{meanings_of}
 use Rattle.cf_explore.specs.declared.layer.Entry.{Entry}
 use Rattle.cf_explore.proofs.Spreading.{NextUpTo, next-start, next-step, next-end}
