@@ -151,7 +151,7 @@ fn callers_of(
     let mut first = 0;
     for joins in joined.joins.iter() {
         callers.push(caller_of(alloc, joins.as_slice(), steps, first)?)?;
-        first += joins.len();
+        first = first.saturating_add(joins.len());
     }
     Ok(callers)
 }
