@@ -171,7 +171,7 @@ fn main() {
             }
             if let Some(program) = look.take() {
                 let page = history.page_by(&program).expect("a page");
-                assert!(page.starts_with("<!DOCTYPE html>") && page.contains(&format!("seed {seed}")), "{page}");
+                assert!(page.starts_with("<!doctype html>") && page.contains(&format!("seed {seed}")), "{page}");
             }
             println!("{}\n{}\n{}", history.account().trim_end(), history.script(), history.report().replace('\n', "\t"));
         }

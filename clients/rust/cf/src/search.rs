@@ -43,7 +43,12 @@ impl Board {
         held.0[number] = Player::Asks(until);
         self.changed.notify_all();
         while matches!(held.0[number], Player::Asks(_)) {
-            assert!(!held.1, "the search is given up");
+            if held.1 {
+                drop(held);
+                // What is dropped meanwhile goes on.
+                assert!(thread::panicking(), "the search is given up");
+                return;
+            }
             held = self.changed.wait(held).unwrap_or_else(PoisonError::into_inner);
         }
     }
@@ -165,12 +170,12 @@ pub(crate) fn search(world: impl Fn() -> (Vec<Play>, Box<dyn FnOnce()>)) -> usiz
 
 mod tests {
     use super::*;
-    use crate::{HandClock, Inline, Job, Request, Spawn, Stage};
+    use crate::{Error, HandClock, Inline, Job, Request, Spawn, Stage};
     use std::collections::VecDeque;
     use std::future::Future;
     use std::pin::Pin;
     use std::sync::atomic::{AtomicBool, Ordering};
-    use std::task::{Context, Wake, Waker};
+    use std::task::{Context, Poll, Wake, Waker};
     use std::time::Duration;
 
     #[derive(Default)]
@@ -264,6 +269,16 @@ mod tests {
         assert!(searched > 2, "{searched}");
     }
 
+    /// Nobody settles the stage, so a waker that is still kept is kept for good.
+    #[test]
+    fn a_handle_that_goes_takes_its_waker_along() {
+        let searched = search(|| {
+            let stage = promise();
+            (vec![goes(stage.clone(), 1), goes(stage.clone(), 2)], Box::new(move || assert!(!stage.is_settled())))
+        });
+        assert!(searched > 2, "{searched}");
+    }
+
     #[test]
     fn a_thread_waits_while_two_settle() {
         let searched = search(|| {
@@ -309,7 +324,7 @@ mod tests {
         assert!(searched > 2, "{searched}");
     }
 
-    /// Jobs wait until a worker of the search takes them.
+    /// Jobs, two at a time, wait until a worker of the search takes them.
     #[derive(Clone, Default)]
     struct Later(Arc<Mutex<(VecDeque<Job>, bool)>>);
 
@@ -317,6 +332,10 @@ mod tests {
         fn spawn(&self, job: Job) -> Result<(), Job> {
             self.0.lock().unwrap().0.push_back(job);
             Ok(())
+        }
+
+        fn parallelism(&self) -> usize {
+            2
         }
     }
 
@@ -361,6 +380,36 @@ mod tests {
         assert!(searched > 2, "{searched}");
     }
 
+    /// A future of two stages that goes on after it has looked at both.
+    struct Slow(Stage<i32>, Stage<i32>);
+
+    impl Future for Slow {
+        type Output = Result<i32, Error>;
+
+        fn poll(mut self: Pin<&mut Slow>, cx: &mut Context<'_>) -> Poll<Result<i32, Error>> {
+            let (first, second) = (Pin::new(&mut self.0).poll(cx), Pin::new(&mut self.1).poll(cx));
+            turn();
+            if first.is_ready() {
+                second
+            } else {
+                Poll::Pending
+            }
+        }
+    }
+
+    /// The second stage ends while the task, which the first one has woken, is polled again.
+    #[test]
+    fn a_task_is_woken_while_it_is_polled() {
+        let searched = search(|| {
+            let later = Later::default();
+            let (first, second) = (promise(), promise());
+            let outer = Request::new("tasks", later.clone()).spawn(Slow(first.clone(), second.clone()));
+            let complete: Play = Box::new(move || assert!(first.complete(1).is_ok() && second.complete(2).is_ok()));
+            (vec![later.work(), later.ends_with(&outer), complete], is_settled(&outer))
+        });
+        assert!(searched > 2, "{searched}");
+    }
+
     #[test]
     fn a_task_that_is_cancelled_ends() {
         let searched = search(|| {
@@ -391,6 +440,24 @@ mod tests {
             (vec![later.work(), later.ends_with(&outer), completes(&gate)], is_settled(&outer))
         });
         assert!(searched > 2, "{searched}");
+    }
+
+    /// The one function ends once the other has begun, so a job has to come for each.
+    #[test]
+    fn two_functions_run_at_once() {
+        let searched = search(|| {
+            let (later, begun) = (Later::default(), Arc::new(AtomicBool::new(false)));
+            let request = Request::new("both", later.clone());
+            let gate = request.promise::<i32>();
+            let (waits, begins) = (Arc::clone(&begun), begun);
+            let one = gate.clone().then(move |n| {
+                rest(move || waits.load(Ordering::SeqCst));
+                *n
+            });
+            drop(gate.clone().inspect(move |_| begins.store(true, Ordering::SeqCst)));
+            (vec![later.work(), later.work(), later.ends_with(&one), completes(&gate)], is_settled(&one))
+        });
+        assert!(searched > 1, "{searched}");
     }
 
     #[test]

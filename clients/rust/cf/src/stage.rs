@@ -183,6 +183,8 @@ impl<T> Stage<T> {
             if let Poll::Ready(told) = waiting.poll_value(&mut context) {
                 return Some(told);
             }
+            #[cfg(test)]
+            crate::search::turn();
             if self.helps(&waker) {
                 continue;
             }
