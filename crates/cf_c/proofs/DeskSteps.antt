@@ -19,15 +19,18 @@ use Rattle.cf_desk.specs.declared.calls.Call.TheVariants.{Claim, Finish}
 use Rattle.cf_desk.specs.Log.{state_from}
 use Rattle.cf_desk.specs.declared.faults.DeskFault.{DeskFault}
 use Rattle.cf_desk.specs.Results.{Answers, Refuses}
-use Rattle.cf_desk.specs.Views.{Acts, Desk, Follows, HoldsClaim, LooksOnce, Pass, state_of}
+use Rattle.cf_desk.specs.Views.{Acts, Desk, Follows, HoldsClaim, IsSamePass, LooksOnce, Pass, state_of}
 use Rattle.cf_desk.proofs.OpenClaims.{claims_stay_open}
 use Rattle.cf_ledger.specs.declared.step.Held.{Held}
-use Rattle.cf_c.specs.DeskTasks.{AreCompleted, Claims, Ends, Finishes, IsFinished, IsNotGranted, IsRow, StepsDesk, Takes, call_of, finish_number}
+use Rattle.cf_c.specs.DeskTasks.{AreCompleted, Claims, Ends, Finishes, IsFinished, CompletesMany, IsNotGranted, IsRow, StepsCaller, StepsDesk, Takes, call_of, finish_number}
+use Rattle.cf_c.specs.Desks.{IsSameCaller}
 use Rattle.cf_c.specs.Tasks.{held_by}
 use Rattle.cf_c.specs.Codes.{desk_code}
 use Rattle.cf_c.specs.declared.code.Code.{Code}
 use Rattle.cf_c.specs.declared.code.Code.TheVariants.{Lost, NoStage, NotHeld}
 use Rattle.cf_c.specs.declared.handle.object.Caller.{Caller as Caller'}
+use Rattle.cf_c.specs.declared.handle.object.Object.{Object}
+use Rattle.cf_c.specs.declared.handle.object.Object.TheVariants.{Caller}
 use Rattle.cf_c.specs.declared.values.CfGiven.{CfGiven}
 use Rattle.cf_c.specs.declared.values.task.CfTask.{CfTask}
 
@@ -117,3 +120,12 @@ step_done c now between had has told r finishes takes = inl (record { told = tol
 
 pub step_refused : (c now : Caller') (had : CfTask) (code : Code) → Finishes (arc_value c.desk) (held_by had) c.pass (Err code) now.pass → StepsDesk had had c (Err code) now
 step_refused c now had code finishes = inr (record { code = code; told = refl; finishes = finishes; task = refl })
+
+-- ---- behind the handle
+
+pub steps_at : (h : Object) (c d : Caller') (had has : CfTask) (r : Result (Unit {0}) Code) → h ≡ Caller c → IsSameCaller c d → StepsDesk had has c r d → StepsCaller had has h r (Caller d)
+steps_at h c d had has r is same steps = rw is (record { now = d; is = refl; same = same; asked = steps })
+
+pub many_at : (h : Object) (c d : Caller') (given : List CfGiven) (had has : ℕ) (r : Result (Unit {0}) Code) → h ≡ Caller c → d.desk ≡ c.desk → IsSamePass c.pass d.pass → IsRow (arc_value c.desk) given c.pass r d.pass has
+    → CompletesMany given h had r (Caller d) has
+many_at h c d given had has r is desk same row = rw is (record { now = d; is = refl; same = record { desk = desk; pass = same }; asked = row })

@@ -1,20 +1,24 @@
 -- Tasks that are finished, and then get stages, one after another.
-use Rattle.std.proofs.Common.{◌≡◌, ◌==◌, ℕ, ◌+◌, ◌<◌, ◌≤◌, Bool, true, false, cond, All, List, [], ◌∷◌, ◌++◌, Option, Some, None, get_or, length, take, sym, refl, ap, ◌∙◌, subst}
-use Rattle.std.specs.Prelude.{nat_lt}
-use Rattle.std.specs.Option.{option_map_or}
+use Rattle.std.proofs.Common.{◌≡◌, ◌≢◌, ◌==◌, ◌⊎◌, inl, inr, ℕ, ◌+◌, ◌<◌, ◌≤◌, Bool, true, false, cond, All, List, [], ◌∷◌, ◌++◌, Option, Some, None, Result, Ok, Err, get_or, length, slice_get, take, sym, refl, ap, ◌∙◌, subst, arith}
+use Rattle.std.specs.Prelude.{nat_lt, unwrap_or}
+use Rattle.std.specs.Option.{option_map, option_map_or}
+use Rattle.std.proofs.lemmas.Bool.{cases_lt}
 use Rattle.std.proofs.lemmas.List.{take_all, take_more}
 use Rattle.std.proofs.lemmas.List.Elements.{All-get_or, All-more}
-use Rattle.std.proofs.lemmas.Option.{slice_get-get_or}
+use Rattle.std.proofs.lemmas.Option.{slice_get-get_or, slice_get_past}
 use borrow.Author.Tests.{ltb-true}
 use Rattle.cf_model.specs.declared.events.Event.TheVariants.{Finish as Finishes}
+use Rattle.cf_model.specs.Graphs.{Graph as Graph'}
 use Rattle.cf_model.specs.States.{State, claim_at}
 use Rattle.cf_model.proofs.Shape.{answered-frame}
 use Rattle.cf_plan.specs.Plans.{Planned}
 use Rattle.cf_ledger.specs.declared.step.Held.{Held}
-use Rattle.cf_c.specs.Rounds.{IsFirstFault, IsThere, MayFinish, fault_of, finish_left, finished_all}
+use Rattle.cf_c.specs.Rounds.{AreClaimed, AreFinished, IsFirstFault, IsThere, MayFinish, Rounds, claimed_times, fault_of, finish_left, finished_all, round_told}
 use Rattle.cf_c.specs.Tasks.{held_by}
 use Rattle.cf_c.specs.declared.code.Code.{Code}
 use Rattle.cf_c.specs.declared.code.Code.TheVariants.{NoStage, NotHeld}
+use Rattle.cf_c.specs.declared.handle.object.Object.{Object}
+use Rattle.cf_c.specs.declared.handle.object.Object.TheVariants.{Graph}
 use Rattle.cf_c.specs.declared.values.task.CfTask.{CfTask}
 
 finished_push : (who : ℕ) (s : State) (xs : List CfTask) (x : CfTask) → finished_all who s (xs ++ x ∷ []) ≡ finish_left who (finished_all who s xs) (held_by x)
@@ -52,3 +56,49 @@ is_there who s (Some h) e = there_by who (length s.plan.stages) (nat_lt h.stage 
 
 pub may_at : (who : ℕ) (s : State) (tasks : List CfTask) (k : ℕ) (d : CfTask) → k < length tasks → All (MayFinish who s) tasks → fault_of who s (held_by (get_or tasks k d)) ≡ None
 may_at who s tasks k d l h = All-get_or (MayFinish who s) tasks k d l h
+
+-- ---- the loops
+
+none_of : (x : Option Code) → ((code : Code) → x ≢ Some code) → x ≡ None
+none_of None h = refl
+none_of (Some code) h = absurd (h code refl)
+
+-- no fault was found of this task
+pub no_fault : (who : ℕ) (s : State) (held by : Option Held) (x : Option Code) → by ≡ held → x ≡ fault_of who s by → ((code : Code) → x ≢ Some code) → fault_of who s held ≡ None
+no_fault who s held by x is told none = ap (fault_of who s) (sym is) ∙ sym told ∙ none_of x none
+
+same_at : (xs ys : List CfTask) (k : ℕ) (d : CfTask) → k < length xs → length ys ≡ length xs → slice_get ys k ≡ slice_get xs k → get_or ys k d ≡ get_or xs k d
+same_at xs ys k d l long e = ap (λ (o : Option CfTask). unwrap_or o d) (sym (slice_get-get_or ys k d (omega arith)) ∙ e ∙ slice_get-get_or xs k d l)
+
+pub finished_next : (who : ℕ) (start s t : State) (xs ys : List CfTask) (k : ℕ) (d : CfTask) (held : Option Held) → k < length xs → length ys ≡ length xs → slice_get ys k ≡ slice_get xs k → s ≡ finished_all who start (take k xs)
+    → held ≡ held_by (get_or ys k d) → t ≡ finish_left who s held → t ≡ finished_all who start (take (k + 1) xs)
+finished_next who start s t xs ys k d held l long kept state is left =
+    left ∙ ap (λ (h : Option Held). finish_left who s h) (is ∙ ap held_by (same_at xs ys k d l long kept)) ∙ ap (λ (u : State). finish_left who u (held_by (get_or xs k d))) state ∙ sym (finished_more who start xs k d l)
+
+pub plan_next : (who : ℕ) (s t : State) (held : Option Held) (plan : Planned) → s.plan ≡ plan → t ≡ finish_left who s held → t.plan ≡ plan
+plan_next who s t held plan same left = ap (λ (u : State). u.plan) left ∙ same_plan who s held ∙ same
+
+pub each_task : (f : ℕ → CfTask → CfTask) (n : ℕ) (xs ys : List CfTask) → length ys ≡ length xs → length xs ≤ n → ((k : ℕ) → k < n → slice_get ys k ≡ option_map (f k) (slice_get xs k))
+    → (k : ℕ) → slice_get ys k ≡ option_map (f k) (slice_get xs k)
+each_task f n xs ys long past given k = elim (cases_lt k (length xs)) [
+  | inl l ↦ given k (omega arith)
+  | inr m ↦ slice_get_past ys k (omega arith) ∙ sym (ap (option_map (f k)) (slice_get_past xs k (omega arith)))
+]
+
+-- ---- behind the handle
+
+pub round_done : (h : Object) (g mid now : Graph') (who : ℕ) (had between has : List CfTask) (r : Result (Unit {0}) Code) → h ≡ Graph g → All (MayFinish who g.state) had → mid.state ≡ finished_all who g.state had → AreFinished who g.state had between
+    → now.state ≡ claimed_times who mid.state (length between) → AreClaimed who mid.state between has → r ≡ round_told (slice_get has 0) → Rounds who h had r (Graph now) has
+round_done h g mid now who had between has r is may left finished state claimed told = rw is (inl (record {
+  may = may;
+  between = between;
+  finished = finished;
+  claimed = subst (λ (s : State). AreClaimed who s between has) left claimed;
+  now = now;
+  is = refl;
+  state = state ∙ ap (λ (n : ℕ). claimed_times who mid.state n) finished.all ∙ ap (λ (s : State). claimed_times who s (length had)) left;
+  told = told;
+}))
+
+pub round_refused : (h : Object) (g : Graph') (who : ℕ) (had : List CfTask) (code : Code) → h ≡ Graph g → IsFirstFault who g.state had code → Rounds who h had (Err code) (Graph g) had
+round_refused h g who had code is fault = rw is (inr (record { code = code; told = refl; why = fault; is = refl; tasks = refl }))

@@ -12,18 +12,21 @@ use cf_ledger::Held;
 use cf_model::{Claimed, Finished};
 
 /// Finishes what tasks hold, and gives each the stage that is then the lowest ready one, if each may be finished.
+#[tactic(auto, using(crate::proofs::Rounds::round_done, crate::proofs::Rounds::round_refused))]
 pub(crate) fn round(held: &mut Object, who: u8, tasks: &mut [CfTask]) -> Result<(), Code>
     ensures { Rounds who held.old tasks.old result held.new tasks.new }
 {
     let Object::Graph(graph) = held else {
         return Err(Code::WrongKind);
     };
-    if let Some(code) = first_fault(graph, who, tasks) {
-        return Err(code);
+    match first_fault(graph, who, tasks) {
+        Some(code) => Err(code),
+        None => {
+            finish_all(graph, who, tasks);
+            claim_all(graph, who, tasks);
+            round_told(tasks)
+        }
     }
-    finish_all(graph, who, tasks);
-    claim_all(graph, who, tasks);
-    round_told(tasks)
 }
 
 /// Why the first of these tasks that may not be finished may not, if there is one.
