@@ -126,6 +126,6 @@ step_refused c now had code finishes = inr (record { code = code; told = refl; f
 pub steps_at : (h : Object) (c d : Caller') (had has : CfTask) (r : Result (Unit {0}) Code) → h ≡ Caller c → IsSameCaller c d → StepsDesk had has c r d → StepsCaller had has h r (Caller d)
 steps_at h c d had has r is same steps = rw is (record { now = d; is = refl; same = same; asked = steps })
 
-pub many_at : (h : Object) (c d : Caller') (given : List CfGiven) (had has : ℕ) (r : Result (Unit {0}) Code) → h ≡ Caller c → d.desk ≡ c.desk → IsSamePass c.pass d.pass → IsRow (arc_value c.desk) given c.pass r d.pass has
+pub many_at : (h : Object) (c d : Caller') (desk : Desk) (given : List CfGiven) (had has : ℕ) (r : Result (Unit {0}) Code) → h ≡ Caller c → d.desk ≡ c.desk → desk ≡ arc_value c.desk → IsSamePass c.pass d.pass → IsRow desk given c.pass r d.pass has
     → CompletesMany given h had r (Caller d) has
-many_at h c d given had has r is desk same row = rw is (record { now = d; is = refl; same = record { desk = desk; pass = same }; asked = row })
+many_at h c d desk given had has r is shared at same row = rw is (record { now = d; is = refl; same = record { desk = shared; pass = same }; asked = subst (λ (x : Desk). IsRow x given c.pass r d.pass has) at row })

@@ -1,5 +1,5 @@
 -- Tasks that are finished, and then get stages, one after another.
-use Rattle.std.proofs.Common.{◌≡◌, ◌≢◌, ◌==◌, ◌⊎◌, inl, inr, ℕ, ◌+◌, ◌<◌, ◌≤◌, Bool, true, false, cond, All, List, [], ◌∷◌, ◌++◌, Option, Some, None, Result, Ok, Err, get_or, length, slice_get, take, sym, refl, ap, ◌∙◌, subst, arith}
+use Rattle.std.proofs.Common.{◌≡◌, ◌≢◌, ◌==◌, ◌⊎◌, inl, inr, ℕ, ◌+◌, ◌<◌, ◌≤◌, Bool, true, false, cond, All, List, [], ◌∷◌, ◌++◌, Option, Some, None, Result, Ok, Err, get_or, length, set, slice_get, take, sym, refl, ap, ◌∙◌, subst, arith}
 use Rattle.std.specs.Prelude.{nat_lt, unwrap_or}
 use Rattle.std.specs.Option.{option_map, option_map_or}
 use Rattle.std.proofs.lemmas.Bool.{cases_lt}
@@ -10,10 +10,12 @@ use borrow.Author.Tests.{ltb-true}
 use Rattle.cf_model.specs.declared.events.Event.TheVariants.{Finish as Finishes}
 use Rattle.cf_model.specs.Graphs.{Graph as Graph'}
 use Rattle.cf_model.specs.States.{State, claim_at}
+use Rattle.cf_core.proofs.Keeping.Marking.{get-set_same}
 use Rattle.cf_model.proofs.Shape.{answered-frame}
+use Rattle.cf_model.proofs.StateLemmas.{slice_get-set_other}
 use Rattle.cf_plan.specs.Plans.{Planned}
 use Rattle.cf_ledger.specs.declared.step.Held.{Held}
-use Rattle.cf_c.specs.Rounds.{AreClaimed, AreFinished, IsFirstFault, IsThere, MayFinish, Rounds, claimed_times, fault_of, finish_left, finished_all, round_told}
+use Rattle.cf_c.specs.Rounds.{AreClaimed, AreFinished, IsFirstFault, IsThere, MayFinish, Rounds, claimed_times, fault_of, finish_left, finished_all, finished_task, round_told}
 use Rattle.cf_c.specs.Tasks.{held_by}
 use Rattle.cf_c.specs.declared.code.Code.{Code}
 use Rattle.cf_c.specs.declared.code.Code.TheVariants.{NoStage, NotHeld}
@@ -77,6 +79,30 @@ finished_next who start s t xs ys k d held l long kept state is left =
 
 pub plan_next : (who : ℕ) (s t : State) (held : Option Held) (plan : Planned) → s.plan ≡ plan → t ≡ finish_left who s held → t.plan ≡ plan
 plan_next who s t held plan same left = ap (λ (u : State). u.plan) left ∙ same_plan who s held ∙ same
+
+pub there_at : (who : ℕ) (start s : State) (xs ys : List CfTask) (k : ℕ) (d : CfTask) → k < length xs → length ys ≡ length xs → slice_get ys k ≡ slice_get xs k → s.plan ≡ start.plan → All (MayFinish who start) xs
+    → IsThere (length s.plan.stages) (held_by (get_or ys k d))
+there_at who start s xs ys k d l long kept plan may =
+    subst (λ (t : CfTask). IsThere (length s.plan.stages) (held_by t)) (sym (same_at xs ys k d l long kept))
+    (subst (λ (p : Planned). IsThere (length p.stages) (held_by (get_or xs k d))) (sym plan) (is_there who start (held_by (get_or xs k d)) (may_at who start xs k d l may)))
+
+-- the task that is written is finished, and the others stay
+pub given_next : (who : ℕ) (start s : State) (xs ys : List CfTask) (k : ℕ) (y d : CfTask) → k < length xs → length ys ≡ length xs → slice_get ys k ≡ slice_get xs k → s ≡ finished_all who start (take k xs) → y ≡ finished_task who s (get_or ys k d)
+    → ((j : ℕ) → j < k → slice_get ys j ≡ option_map (λ (t : CfTask). finished_task who (finished_all who start (take j xs)) t) (slice_get xs j))
+    → (j : ℕ) → j < k + 1 → slice_get (set ys k y) j ≡ option_map (λ (t : CfTask). finished_task who (finished_all who start (take j xs)) t) (slice_get xs j)
+given_next who start s xs ys k y d l long kept state is given j below = elim (cases_lt j k) [
+  | inl m ↦ slice_get-set_other ys k j y (λ e. let no : ⊥ = omega arith in no) ∙ given j m
+  | inr m ↦
+    let same : j ≡ k = omega arith in
+    let wanted : CfTask = finished_task who (finished_all who start (take k xs)) (get_or xs k d) in
+    let written : y ≡ wanted = is ∙ ap (finished_task who s) (same_at xs ys k d l long kept) ∙ ap (λ (u : State). finished_task who u (get_or xs k d)) state in
+    let at_k : slice_get (set ys k y) k ≡ option_map (λ (t : CfTask). finished_task who (finished_all who start (take k xs)) t) (slice_get xs k) =
+        get-set_same ys k y (omega arith) ∙ ap (λ (t : CfTask). Some t) written ∙ sym (ap (option_map (λ (t : CfTask). finished_task who (finished_all who start (take k xs)) t)) (slice_get-get_or xs k d l)) in
+    subst (λ (n : ℕ). slice_get (set ys k y) n ≡ option_map (λ (t : CfTask). finished_task who (finished_all who start (take n xs)) t) (slice_get xs n)) (sym same) at_k
+]
+
+pub kept_next : (xs ys : List CfTask) (k : ℕ) (y : CfTask) → ((j : ℕ) → k ≤ j → slice_get ys j ≡ slice_get xs j) → (j : ℕ) → k + 1 ≤ j → slice_get (set ys k y) j ≡ slice_get xs j
+kept_next xs ys k y kept j l = slice_get-set_other ys k j y (λ e. let no : ⊥ = omega arith in no) ∙ kept j (omega arith)
 
 pub each_task : (f : ℕ → CfTask → CfTask) (n : ℕ) (xs ys : List CfTask) → length ys ≡ length xs → length xs ≤ n → ((k : ℕ) → k < n → slice_get ys k ≡ option_map (f k) (slice_get xs k))
     → (k : ℕ) → slice_get ys k ≡ option_map (f k) (slice_get xs k)

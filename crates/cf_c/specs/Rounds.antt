@@ -58,6 +58,10 @@ abbrev pub finish_left : ℕ → State → Option Held → State
 finish_left who s None = s
 finish_left who s (Some h) = (finishing s who h.stage h.answer).1
 
+-- the task then
+abbrev pub finished_task : ℕ → State → CfTask → CfTask
+finished_task who s t = record t { finished = finish_told who s (held_by t) }
+
 -- the state once what these tasks hold is finished, one after another
 abbrev pub finished_all : ℕ → State → List CfTask → State
 finished_all who s [] = s
@@ -66,7 +70,7 @@ finished_all who s (t ∷ ts) = finished_all who (finish_left who s (held_by t))
 -- each task tells how its finish went, behind those before it
 pub record AreFinished (who : ℕ) (s : State) (old new : List CfTask) : Type 0 where
   pub all : length new ≡ length old
-  pub each : (k : ℕ) → slice_get new k ≡ option_map (λ (t : CfTask). record t { finished = finish_told who (finished_all who s (take k old)) (held_by t) }) (slice_get old k)
+  pub each : (k : ℕ) → slice_get new k ≡ option_map (λ (t : CfTask). finished_task who (finished_all who s (take k old)) t) (slice_get old k)
 
 -- ---- what is claimed
 

@@ -1,7 +1,8 @@
 //! A round of several tasks of one caller of a graph: what they hold is finished, and ready stages are claimed for them.
 ghost use Rattle.std.specs.Prelude.{◌≡◌, All, MatchOption, length, slice_get};
 ghost use Rattle.cf_model.specs.States.{lowest_ready_of};
-ghost use Rattle.cf_c.specs.Rounds.{AreClaimed, AreFinished, IsFirstFault, IsThere, MayFinish, Rounds, claim_left, claimed_task, claimed_times, fault_of, finish_left, finish_number, finish_told, finished_all, round_told};
+ghost use Rattle.cf_c.specs.Tasks.{held_by};
+ghost use Rattle.cf_c.specs.Rounds.{AreClaimed, AreFinished, IsFirstFault, IsThere, MayFinish, Rounds, claim_left, claimed_task, claimed_times, fault_of, finish_left, finish_number, finish_told, finished_all, finished_task, round_told};
 
 use crate::code::Code;
 use crate::handle::object::Object;
@@ -65,26 +66,26 @@ fn finish_all(graph: &mut Graph, who: u8, tasks: &mut [CfTask])
     ensures tasks { AreFinished who graph.old.state tasks.old tasks.new }
 {
     'each: for k in 0..tasks.len() {
-        let finished = finish(graph, who, held_by(&tasks[k]));
-        tasks[k].finished = finished;
+        finish(graph, who, &mut tasks[k]);
     }
 }
 
-/// Finishes what is held, if anything is, and tells how it went.
+/// Finishes what a task holds, if anything, and the task tells how it went.
 #[inline(always)]
-fn finish(graph: &mut Graph, who: u8, held: Option<Held>) -> u32
-    requires { IsThere (length graph.old.state.plan.stages) held }
-    ensures told { result ≡ finish_told who graph.old.state held }
-    ensures left { graph.new.state ≡ finish_left who graph.old.state held }
+fn finish(graph: &mut Graph, who: u8, task: &mut CfTask)
+    requires { IsThere (length graph.old.state.plan.stages) (held_by task.old) }
+    ensures state { graph.new.state ≡ finish_left who graph.old.state (held_by task.old) }
+    ensures task { task.new ≡ finished_task who graph.old.state task.old }
 {
-    let Some(Held { stage, answer }) = held else {
-        return 0;
+    let Some(Held { stage, answer }) = held_by(task) else {
+        task.finished = 0;
+        return;
     };
-    match graph.finish(who, stage, answer) {
+    task.finished = match graph.finish(who, stage, answer) {
         Finished::Won => 0,
         Finished::Late => 1,
         Finished::NotYours => 2,
-    }
+    };
 }
 
 /// Gives each task the lowest ready stage in turn, or nothing.

@@ -1,7 +1,6 @@
 use Rattle.std.proofs.Common.{arith, rules, ℕ, true, ◌≡◌, ◌+◌, ◌∙◌, ap, length, subst, sym, ◌≤◌, ◌<◌}
 use Rattle.cf_model.specs.Graphs.{Graph}
 use Rattle.cf_plan.specs.Meanings.{meanings_of}
-use Rattle.cf_plan.proofs.PlanLemmas.{place_of}
 use Rattle.cf_plan.specs.Plans.{Planned, has_place, with_room}
 use Rattle.cf_pool.specs.Races.{AreSteps, IsRaced, log_words}
 use Rattle.cf_reading.specs.Functions.{func_answer}
@@ -14,7 +13,7 @@ pub race-requires-clause-room : goal.race-requires-clause-room
 race-requires-clause-room g c κs within =
     let s = c.args.script in
     let parts = c.into_parts-plan.ensures in
-    let place = place_of s.plan.stages s.room parts.said.few_stages parts.said.few_edges in
+    let place = parts.said.place in
     subst (λ (n : ℕ). has_place c.into_parts-plan.result.0.stages n ≡ true) (sym parts.room) (subst (λ (p : Planned). has_place p.stages s.room ≡ true) (sym parts.plan) place)
 
 pub race-requires-clause-steps : goal.race-requires-clause-steps
