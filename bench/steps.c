@@ -4,20 +4,20 @@
  *
  *   from scratch ..   a plan built, a graph of it opened, and settled by cf_work; a stage
  *   per request ..    a graph that is there restarted, its source completed, and settled: the lowest ready stage asked for, claimed and
- *                     finished, a call each; by cf_next; by cf_work, which calls the function. The product does it by one call of
- *                     work. An allOf is settled by the completions of its sources. A stage
+ *                     finished, a call each; by cf_next; by cf_work, which calls the function; by cf_round, so many tasks at once. The
+ *                     product does it by one call of work. An allOf is settled by the completions of its sources. A stage
  *   ledger ..         a ledger that is there started again, its source completed, and settled: the next ready stage asked for, claimed and
  *                     finished by a word each; by cf_ledger_step; or its row of words done again by one call. A stage
  *   ledger            a ledger of a chain of 16 opened of a plan that is there, and freed; or one that is there started again; all of it
  *   word              a word of that chain, of which all are known: by cf_ledger_apply to a new ledger, or to one that was started again; by
  *                     cf_apply to a graph
- *   desk chain        a chain on a new desk settled by its one caller: ready, claim and finish; a stage
+ *   desk chain        a chain on a new desk settled by its one caller: by ready, claim and finish, or by cf_desk_next; a stage
  *   desk 1            a desk of one caller opened of a plan that is there, its chain of 16 settled so, and closed; all of it
- *   race 1            a stage of 4,095 completed by a desk's one caller */
+ *   race 1            a stage of 4,095 completed by a desk's one caller: by a call each, or by cf_desk_complete_many */
 #define _POSIX_C_SOURCE 200809L
 #include "times.h"
 
-enum { STAGES = 512, RACED = 4095, SMALL = 16, SMALL_ROOM = 64 };
+enum { STAGES = 512, RACED = 4095, SMALL = 16, SMALL_ROOM = 64, TASKS = 16 };
 enum { ROUNDS = 300, SETTLED_ROUNDS = 2000, SMALL_ROUNDS = MOST_ROUNDS };
 
 /* ---- Graphs ---- */
@@ -51,13 +51,21 @@ static void by_work(cf_handle *graph) {
   must_be(calls == STAGES - 1, "the calls of functions");
 }
 
-enum { WAYS = 3 };
-static void (*const ways[WAYS])(cf_handle *graph) = {by_three, by_next, by_work};
+static void by_round(cf_handle *graph) {
+  cf_task tasks[TASKS] = {{0}};
+  while (cf_round(graph, ME, tasks, TASKS) == CF_OK)
+    for (int at = 0; at < TASKS && tasks[at].held; at++) tasks[at].answer = answer(&tasks[at].args);
+  must_be(!tasks[0].held && tasks[0].finished == CF_WON, "a finish");
+}
+
+enum { WAYS = 4 };
+static void (*const ways[WAYS])(cf_handle *graph) = {by_three, by_next, by_work, by_round};
 
 static struct times chain[WAYS] = {{.name = "per request chain 512"}, {.name = "per request chain 512, by cf_next"},
-                                   {.name = "per request chain 512, by cf_work"}};
+                                   {.name = "per request chain 512, by cf_work"}, {.name = "per request chain 512, by cf_round"}};
 static struct times fan_out[WAYS] = {{.name = "per request fan-out 512"}, {.name = "per request fan-out 512, by cf_next"},
-                                     {.name = "per request fan-out 512, by cf_work"}};
+                                     {.name = "per request fan-out 512, by cf_work"},
+                                     {.name = "per request fan-out 512, by cf_round"}};
 static struct times all_of = {.name = "per request allOf 512"};
 
 static void must_hold(cf_handle *graph, uint16_t stage, uint32_t kind, int32_t number) {
@@ -236,7 +244,10 @@ static void time_small_ledgers(void) {
 
 /* ---- Desks ---- */
 
-static struct times desk_chain = {.name = "desk chain 512"}, small = {.name = "desk 1"}, race = {.name = "race 1"};
+enum { DESK_WAYS = 2 };
+static struct times desk_chain[DESK_WAYS] = {{.name = "desk chain 512"}, {.name = "desk chain 512, by cf_desk_next"}},
+                    small[DESK_WAYS] = {{.name = "desk 1"}, {.name = "desk 1, by cf_desk_next"}},
+                    race[DESK_WAYS] = {{.name = "race 1"}, {.name = "race 1, by cf_desk_complete_many"}};
 
 static void desk_by_three(cf_handle *caller) {
   cf_reply reply = {0};
@@ -249,50 +260,66 @@ static void desk_by_three(cf_handle *caller) {
   must_be(reply.answer == CF_WON, "a finish");
 }
 
-static void time_desk_chain(cf_handle *plan) {
+static void desk_by_next(cf_handle *caller) {
+  cf_task task = {0};
+  while (cf_desk_next(caller, &task) == CF_OK) task.answer = answer(&task.args);
+  must_be(!task.held && task.finished == CF_WON, "a finish");
+}
+
+static void (*const desk_ways[DESK_WAYS])(cf_handle *caller) = {desk_by_three, desk_by_next};
+
+static void time_desk_chain(cf_handle *plan, int way) {
   cf_handle caller = {0};
   cf_reply reply;
   uint16_t events;
   MUST(cf_desk_open(plan, &caller, 1, 3 * STAGES, 3 * STAGES));
   uint64_t since = moment();
   MUST(cf_desk_complete(&caller, 0, number(1), &reply));
-  desk_by_three(&caller);
-  add(&desk_chain, since);
+  desk_ways[way](&caller);
+  add(&desk_chain[way], since);
   MUST(cf_desk_seen(&caller, &events));
   must_be(events == 2 * STAGES - 1, "the events of a desk");
   cf_free(&caller);
 }
 
-static void time_small(cf_handle *plan) {
+static void time_small(cf_handle *plan, int way) {
   cf_handle desk = {0};
   cf_reply reply;
   uint16_t events;
   uint64_t since = moment();
   MUST(cf_desk_open(plan, &desk, 1, SMALL_ROOM, SMALL_ROOM));
   MUST(cf_desk_complete(&desk, 0, number(0), &reply));
-  desk_by_three(&desk);
+  desk_ways[way](&desk);
   MUST(cf_close_begin(&desk));
   MUST(cf_close_end(&desk));
   MUST(cf_closed_events(&desk, &events));
   cf_free(&desk);
-  add(&small, since);
+  add(&small[way], since);
   must_be(events == 2 * SMALL - 1, "the events of a desk");
 }
 
-static void time_race(cf_handle *plan) {
+static void time_race(cf_handle *plan, int way) {
+  static cf_given given[RACED];
   cf_handle caller = {0};
   cf_reply reply = {0};
-  MUST(cf_desk_open(plan, &caller, 1, RACED, RACED));
+  cf_outcome last;
+  size_t done;
+  for (uint16_t i = 0; i < RACED; i++) given[i] = (cf_given){.stage = i, .value = number(i)};
+  MUST(cf_desk_open(plan, &caller, 1, RACED, RACED + 1));
   uint64_t since = moment();
-  for (uint16_t i = 0; i < RACED; i++) MUST(cf_desk_complete(&caller, i, number(i), &reply));
-  add(&race, since);
-  must_be(reply.answer == 1, "a completion");
+  if (way == 0)
+    for (uint16_t i = 0; i < RACED; i++) MUST(cf_desk_complete(&caller, i, number(i), &reply));
+  else
+    MUST(cf_desk_complete_many(&caller, given, RACED, &done));
+  add(&race[way], since);
+  MUST(cf_desk_read(&caller, RACED - 1, &last));
+  must_be(last.kind == CF_VALUE && last.value.number == RACED - 1, "a completion");
   cf_free(&caller);
 }
 
-static void time_rounds(void (*round)(cf_handle *plan), enum shape shape, uint16_t stages, int rounds) {
+static void time_rounds(void (*round)(cf_handle *plan, int way), enum shape shape, uint16_t stages, int rounds) {
   cf_handle plan = plan_of(shape, stages);
-  for (int i = 0; i < rounds; i++) round(&plan);
+  for (int i = 0; i < rounds; i++) round(&plan, i % DESK_WAYS);
   cf_free(&plan);
 }
 
@@ -308,9 +335,9 @@ int main(void) {
   time_all_of();
   time_ledgers();
   time_small_ledgers();
-  time_rounds(time_desk_chain, CHAIN, STAGES, ROUNDS);
+  time_rounds(time_desk_chain, CHAIN, STAGES, DESK_WAYS * ROUNDS);
   time_rounds(time_small, CHAIN, SMALL, SMALL_ROUNDS);
-  time_rounds(time_race, SOURCES, RACED, ROUNDS);
+  time_rounds(time_race, SOURCES, RACED, DESK_WAYS * ROUNDS);
   show(&scratch_chain, STAGES);
   show(&scratch_fan_out, STAGES);
   show_all(chain, WAYS, STAGES);
@@ -322,8 +349,8 @@ int main(void) {
   show(&new_word, SMALL_WORDS);
   show(&next_word, SMALL_WORDS);
   show(&graph_word, SMALL_WORDS);
-  show(&desk_chain, STAGES);
-  show(&small, 1);
-  show(&race, RACED);
+  show_all(desk_chain, DESK_WAYS, STAGES);
+  show_all(small, DESK_WAYS, 1);
+  show_all(race, DESK_WAYS, RACED);
   return 0;
 }

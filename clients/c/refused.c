@@ -66,6 +66,7 @@ static void graph_calls(cf_handle *h, uint32_t wanted) {
   ROW(cf_claim(h, 0, TWICE, &out.reply), wanted);
   ROW(cf_finish_with(h, 0, TWICE, &given, &out.reply), wanted);
   ROW(cf_next(h, 0, &out.task), wanted);
+  ROW(cf_round(h, 0, &out.task, 1), wanted);
   ROW(cf_work(h, 0, NULL, 0, NULL, &out.calls), wanted);
   ROW(cf_tick(h, 1, &out.reply), wanted);
   ROW(cf_attach(h, CF_APPLY, &of, 1, 0, &out.reply), wanted);
@@ -105,6 +106,8 @@ static void caller_calls(cf_handle *h, uint32_t wanted) {
   ROW(cf_desk_finish_with(h, TWICE, &given, &out.reply), wanted);
   ROW(cf_desk_tick(h, 1, &out.reply), wanted);
   ROW(cf_desk_attach(h, CF_APPLY, &of, 1, 0, &out.reply), wanted);
+  ROW(cf_desk_complete_many(h, &first, 1, &out.n), wanted);
+  ROW(cf_desk_next(h, &out.task), wanted);
   ROW(cf_desk_read(h, SOURCE, &out.outcome), wanted);
   ROW(cf_desk_read_now(h, SOURCE, value, &out.now), wanted);
   ROW(cf_desk_join(h, SOURCE, 1, &out.now), wanted);
@@ -227,6 +230,7 @@ static void by_pointers(void) {
   ROW(cf_finish_with(graph, 0, TWICE, NULL, &out.reply), CF_NULL);
   ROW(cf_finish_with(graph, 0, TWICE, &given, NULL), CF_NULL);
   ROW(cf_next(graph, 0, NULL), CF_NULL);
+  ROW(cf_round(graph, 0, NULL, 1), CF_NULL);
   ROW(cf_work(graph, 0, NULL, 1, NULL, &out.calls), CF_NULL);
   ROW(cf_work(graph, 0, NULL, 0, NULL, NULL), CF_NULL);
   ROW(cf_tick(graph, 1, NULL), CF_NULL);
@@ -267,6 +271,9 @@ static void by_pointers(void) {
   ROW(cf_desk_tick(caller, 1, NULL), CF_NULL);
   ROW(cf_desk_attach(caller, CF_APPLY, NULL, 1, 0, &out.reply), CF_NULL);
   ROW(cf_desk_attach(caller, CF_APPLY, &of, 1, 0, NULL), CF_NULL);
+  ROW(cf_desk_complete_many(caller, NULL, 1, &out.n), CF_NULL);
+  ROW(cf_desk_complete_many(caller, &first, 1, NULL), CF_NULL);
+  ROW(cf_desk_next(caller, NULL), CF_NULL);
   ROW(cf_desk_read(caller, SOURCE, NULL), CF_NULL);
   ROW(cf_desk_read_now(caller, SOURCE, value, NULL), CF_NULL);
   ROW(cf_desk_join(caller, SOURCE, 1, NULL), CF_NULL);
@@ -311,6 +318,7 @@ static void by_numbers(uint16_t stage) {
   ROW(cf_claim(graph, 0, stage, &out.reply), CF_NO_STAGE);
   ROW(cf_finish_with(graph, 0, stage, &given, &out.reply), CF_NO_STAGE);
   ROW(cf_next(graph, 0, &task), CF_NO_STAGE);
+  ROW(cf_round(graph, 0, &task, 1), CF_NO_STAGE);
   ROW(cf_attach(graph, CF_APPLY, &stage, 1, 0, &out.reply), CF_NO_STAGE);
   ROW(cf_get(graph, stage, &out.outcome), CF_NO_STAGE);
   ROW(cf_get_now(graph, stage, value, &out.now), CF_NO_STAGE);
@@ -326,6 +334,7 @@ static void by_numbers(uint16_t stage) {
   ROW(cf_desk_claim(caller, stage, &out.reply), CF_NO_STAGE);
   ROW(cf_desk_finish_with(caller, stage, &given, &out.reply), CF_NO_STAGE);
   ROW(cf_desk_attach(caller, CF_APPLY, &stage, 1, 0, &out.reply), CF_NO_STAGE);
+  ROW(cf_desk_next(caller, &task), CF_NO_STAGE);
   ROW(cf_desk_read(caller, stage, &out.outcome), CF_NO_STAGE);
   ROW(cf_desk_read_now(caller, stage, value, &out.now), CF_NO_STAGE);
   ROW(cf_desk_join(caller, stage, 1, &out.now), CF_NO_STAGE);
@@ -373,6 +382,8 @@ static void by_other_numbers(void) {
   ROW(cf_desk_attach(caller, CF_COMBINE, &of, 1, 0, &out.reply), CF_BAD_ATTACH);
   ROW(cf_desk_attach(caller, CF_APPLY, &of, 1, 1, &out.reply), CF_BAD_ATTACH);
   ROW(cf_next(graph, 0, &task), CF_NOT_HELD);
+  ROW(cf_round(graph, 0, &task, 1), CF_NOT_HELD);
+  ROW(cf_desk_next(caller, &task), CF_NOT_HELD);
   ROW(cf_ledger_step(ledger, &step, &task, out.news, 2, &out.n), CF_NO_WORD);
   step.who = 0;
   ROW(cf_ledger_step(ledger, &step, &task, out.news, 2, &out.n), CF_NOT_HELD);

@@ -16,8 +16,9 @@
  * A null pointer is answered CF_NULL, unless a count or a room follows it that is 0; cf_free of one does nothing.
  *
  * Each call answers a cf_code: 0 where it did what it was asked. What it tells goes through its last pointer then; after any other
- * code that is left as it was, and so is what stands behind the handle, but as cf_build, cf_ledger_of, cf_ledger_step and
- * cf_ledger_apply_all say, and a desk's caller may have looked. Every call on an empty handle answers CF_EMPTY, and one on a handle of another kind CF_WRONG_KIND; neither changes anything.
+ * code that is left as it was, and so is what stands behind the handle, but as cf_build, cf_next, cf_round, cf_desk_next,
+ * cf_desk_complete_many, cf_ledger_of, cf_ledger_step and cf_ledger_apply_all say, and a desk's caller may have looked. Every call on an
+ * empty handle answers CF_EMPTY, and one on a handle of another kind CF_WRONG_KIND; neither changes anything.
  *
  * A function in this header stands for the call before it, which takes by pointer what the function takes by value.
  *
@@ -67,6 +68,7 @@ typedef enum {
   CF_STILL_SHARED = 28,       /* all callers were given back, and the desk is held all the same */
   CF_NOT_HELD = 29,           /* the caller hasn't claimed the stage that its task holds */
   CF_NO_ROOM = 30,            /* a ledger has no room for the stage that a word attaches */
+  CF_LOST = 31,               /* another caller of the desk was first to claim the stage */
   CF_NULL = 255               /* a pointer is null that may not be; nothing was done */
 } cf_code;
 
@@ -138,7 +140,7 @@ enum { CF_AT = 0, CF_STAGES_FULL = 1 };
 typedef struct { uint32_t answer; uint32_t number; cf_args args; } cf_reply;
 
 /* What a caller has to do: where `held` isn't 0, the stage that it has claimed, with the number of its function and what that is to be
- * called with. `answer` is for what the function answered; cf_next and cf_ledger_step leave it alone. `finished` is what the finish in the
+ * called with. `answer` is for what the function answered; the calls that fill the task leave it alone. `finished` is what the finish in the
  * last step was answered: CF_WON, also where nothing was held, or CF_LATE. All bytes 0 is a task that holds nothing. */
 typedef struct { uint32_t held; uint16_t stage; uint16_t function; cf_args args; cf_answer answer; uint32_t finished; } cf_task;
 
@@ -193,6 +195,12 @@ static inline uint32_t cf_finish(cf_handle *graph, uint8_t who, uint16_t stage, 
  * stage isn't there, and CF_NOT_HELD where this caller hasn't claimed it, or has finished it already: nothing is changed then, the task
  * neither. */
 uint32_t cf_next(cf_handle *graph, uint8_t who, cf_task *task);
+
+/* A step for several tasks of one caller: finishes what they hold, one after another, and then each in turn gets the lowest ready stage,
+ * claimed, or holds nothing. `finished` of each tells how its finish went: CF_NOT_YOURS where a task before it held the same stage.
+ * CF_NOTHING where no task holds a stage then. CF_NO_STAGE and CF_NOT_HELD as of cf_next, of the first task that can't be finished: nothing
+ * is changed then, no task either. `tasks` may be null where n is 0. */
+uint32_t cf_round(cf_handle *graph, uint8_t who, cf_task *tasks, size_t n);
 
 /* The whole loop for the caller `who`: as long as a stage is ready it claims the lowest, calls the function that stands at its number among
  * these n, with the context, which may be null, and the task, and finishes it with the answer, which is CF_GIVE of CF_NIL unless the
@@ -263,6 +271,17 @@ static inline uint32_t cf_desk_finish(cf_handle *caller, uint16_t stage, cf_answ
 }
 uint32_t cf_desk_tick(cf_handle *caller, uint32_t now, cf_reply *reply);
 uint32_t cf_desk_attach(cf_handle *caller, uint32_t form, const uint16_t *of, size_t n, uint32_t function, cf_reply *reply);
+
+/* Completes stages one after another, as cf_desk_complete does each, up to the first that is refused, and tells how many were answered, also
+ * with the code of the one that is refused: CF_NO_STAGE, CF_PASS_FULL, CF_LOG_FULL. */
+uint32_t cf_desk_complete_many(cf_handle *caller, const cf_given *given, size_t n, size_t *done);
+
+/* One step of a caller's loop, as cf_next does it: finishes the stage that the task holds, looks as cf_desk_ready does, claims the lowest
+ * stage that is ready then, and writes it into the task. CF_NOTHING where none is ready then, and CF_LOST where another caller was first:
+ * ask again. The finish and the claim take a record and a place of the log each: CF_PASS_FULL and CF_LOG_FULL where there is none. After
+ * each of these codes a task that holds nothing is finished, and one that holds a stage is as it was, and so is its claim. CF_NO_STAGE and
+ * CF_NOT_HELD, where the task's stage isn't there or this caller has no open claim of it, in what it has seen: nothing is changed then. */
+uint32_t cf_desk_next(cf_handle *caller, cf_task *task);
 
 /* One look at all that is there, and what it tells of the stage, as cf_get and cf_get_now; recorded. CF_NO_STAGE, CF_PASS_FULL. */
 uint32_t cf_desk_read(cf_handle *caller, uint16_t stage, cf_outcome *outcome);
@@ -425,10 +444,10 @@ uint32_t cf_code_text(uint32_t code, uint8_t *text, size_t room, size_t *length)
 
 /* The version of this header. A library of a later one with the same first number has all that stands here, and as it stands here. */
 #define CF_VERSION_MAJOR 1
-#define CF_VERSION_MINOR 1
+#define CF_VERSION_MINOR 2
 #define CF_VERSION_PATCH 0
 
-/* The library's version ("1.1.0"); whether a program that was written for this version of the header runs with the library; the name of a
+/* The library's version ("1.2.0"); whether a program that was written for this version of the header runs with the library; the name of a
  * code as cf_code_text has it ("NoStage"), or null where a number is no code's; of a struct ("cf_reply") its size, and of a field of one
  * ("cf_reply.args") its offset, in bytes, or SIZE_MAX where there is none of this name or it is null. The texts are static and end in a
  * zero byte. None of these calls answers a cf_code. */

@@ -3,6 +3,7 @@ pub mod Building
 pub mod Closed
 pub mod Closings
 pub mod Codes
+pub mod DeskTasks
 pub mod Desks
 pub mod EventWords
 pub mod Graphs
@@ -13,6 +14,7 @@ pub mod Opening
 pub mod Plans
 pub mod Records
 pub mod Replies
+pub mod Rounds
 pub mod Restarts
 pub mod Scripts
 pub mod Seals

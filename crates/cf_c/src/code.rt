@@ -62,6 +62,8 @@ pub enum Code {
     NotHeld,
     /// 30: a ledger has no room for the stage that a word attaches.
     NoRoom,
+    /// 31: another caller was first to claim the stage.
+    Lost,
 }
 
 impl Code {
@@ -109,6 +111,7 @@ pub(crate) fn text_of(number: u32) -> Option<&'static str>
         28 => Some("StillShared"),
         29 => Some("NotHeld"),
         30 => Some("NoRoom"),
+        31 => Some("Lost"),
         255 => Some("Null"),
         _ => None,
     }

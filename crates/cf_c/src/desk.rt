@@ -3,19 +3,25 @@ ghost use Rattle.std.specs.Prelude.{◌≡◌, Ok};
 ghost use Rattle.cf_model.specs.declared.asks.Ask.TheVariants.{Now as AsksNow, Outcome as AsksOutcome};
 ghost use Rattle.cf_desk.specs.declared.calls.Call.TheVariants.{Complete as Completes, Fail as Fails, Cancel as Cancels, Claim as Claims, Finish as Finishes, Tick as Ticks};
 ghost use Rattle.cf_c.specs.Answers.{Does, Tells};
+ghost use Rattle.cf_c.specs.DeskTasks.{CompletesMany, StepsCaller};
 ghost use Rattle.cf_c.specs.Desks.{Acts, ByCaller, FindsReady, IsLeft, Joins, Knows, Reads, call_with, function_known, number_told, seen_told, told_now, told_outcome};
+ghost use Rattle.cf_c.specs.Ledgers.{Writes};
 ghost use Rattle.cf_c.specs.Meetings.{AreOfOne, MeetsBehind};
 ghost use Rattle.cf_c.specs.Plans.{parts_of};
+ghost use Rattle.cf_c.specs.Tasks.{Nexts};
 ghost use Rattle.cf_c.specs.Values.{answer_of, value_of};
 
 pub(crate) mod caller;
+mod completing;
 mod opening;
+mod stepping;
 
 use crate::code::Code;
 use crate::handle::CfHandle;
 use crate::handle::with_handle::{ask, code_of, give, tell};
 use crate::values::attaching::attach_call;
-use crate::values::{CfAnswer, CfNow, CfOutcome, CfReply, CfValue, answer_of, value_of};
+use crate::values::task::CfTask;
+use crate::values::{CfAnswer, CfGiven, CfNow, CfOutcome, CfReply, CfValue, answer_of, value_of};
 use cf_desk::Call;
 use std::alloc::Global;
 
@@ -32,6 +38,19 @@ pub extern "C" fn cf_desk_complete(
 {
     let call = Call::Complete(stage, value_of(value));
     tell!(alloc, h, reply, held => caller::act(&mut held, Ok(call)))
+}
+
+/// Completes stages with values, and tells how many.
+#[unsafe(no_mangle)]
+pub extern "C" fn cf_desk_complete_many(
+    alloc: Global,
+    h: &mut CfHandle,
+    given: &[CfGiven],
+    done: &mut usize,
+) -> u32
+    ensures { Writes (CompletesMany given.now) h.old.inner.held h.new.inner.held result done.old done.new }
+{
+    ask!(alloc, h, held => completing::complete_many(&mut held, given, done))
 }
 
 /// Fails a stage with a code.
@@ -90,6 +109,14 @@ pub extern "C" fn cf_desk_finish_with(
 {
     let call = Call::Finish(stage, answer_of(*answer));
     tell!(alloc, h, reply, held => caller::act(&mut held, Ok(call)))
+}
+
+/// Finishes what a task holds with the answer in it, and gives it the lowest ready stage after a look, claimed.
+#[unsafe(no_mangle)]
+pub extern "C" fn cf_desk_next(alloc: Global, h: &mut CfHandle, task: &mut CfTask) -> u32
+    ensures { Nexts StepsCaller h.old.inner.held h.new.inner.held result task.old task.new }
+{
+    ask!(alloc, h, held => stepping::step(&mut held, task))
 }
 
 /// Lets it be this moment.

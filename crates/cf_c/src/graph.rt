@@ -6,12 +6,15 @@ ghost use Rattle.cf_c.specs.Building.{GraphOf, Opens};
 ghost use Rattle.cf_c.specs.EventWords.{event_at};
 ghost use Rattle.cf_c.specs.Graphs.{Answers, Asked, Restarts, RestsAlways, RestsAt, RestsAtReady, function_told, now_told, outcome_told, ready_told, stages_told, turns_told};
 ghost use Rattle.cf_c.specs.Plans.{attach_event};
+ghost use Rattle.cf_c.specs.Ledgers.{Writes};
 ghost use Rattle.cf_c.specs.Restarts.{PlanOf, RestartsWith};
+ghost use Rattle.cf_c.specs.Rounds.{Rounds};
 ghost use Rattle.cf_c.specs.Tasks.{Nexts, Steps};
 ghost use Rattle.cf_c.specs.Values.{answer_of, value_of};
 
 mod asking;
 mod restarting;
+mod rounds;
 mod stepping;
 
 use crate::code::{Code, plan_code};
@@ -133,6 +136,14 @@ pub extern "C" fn cf_next(alloc: Global, h: &mut CfHandle, who: u8, task: &mut C
     ensures { Nexts (Steps who) h.old.inner.held h.new.inner.held result task.old task.new }
 {
     ask!(alloc, h, held => stepping::step(&mut held, who, task))
+}
+
+/// Finishes what tasks hold with the answers in them, and gives each a ready stage, claimed.
+#[unsafe(no_mangle)]
+pub extern "C" fn cf_round(alloc: Global, h: &mut CfHandle, who: u8, tasks: &mut [CfTask]) -> u32
+    ensures { Writes (Rounds who) h.old.inner.held h.new.inner.held result tasks.old tasks.new }
+{
+    ask!(alloc, h, held => rounds::round(&mut held, who, tasks))
 }
 
 /// Lets it be this moment.

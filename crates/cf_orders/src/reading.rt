@@ -54,7 +54,7 @@ fn question(
     };
     let Asked { conditions, texts } = read_asked(alloc, json, &known)?;
     let callers = callers_of(alloc, &joined, steps.as_slice())?;
-    let count = callers.len() as u8;
+    let count = u8::try_from(callers.len()).unwrap_or(u8::MAX);
     let own = plan.copy()?;
     let program = program_of(own, room, callers, workers, free)?;
     let Joined {

@@ -171,12 +171,11 @@ impl Retold {
             Some(Step::Join(stage, _)) => Ask::Outcome(stage),
             _ => return Ok(()),
         };
-        if !self.graph.has(asked(ask)) {
+        let Some(told) = told(&mut self.graph, ask) else {
             return Ok(());
-        }
+        };
         comma(&mut self.steps)?;
         self.own_step(question, s, c)?;
-        let told = self.graph.tell(ask);
         self.saw(usize::from(c), ask, told)
     }
 
@@ -234,9 +233,12 @@ fn outcome(graph: &mut Graph, i: u16) -> Option<Outcome> {
     if graph.has(i) { graph.outcome(i) } else { None }
 }
 
-fn asked(ask: Ask) -> u16 {
+/// What a question about a stage that is there is told.
+fn told(graph: &mut Graph, ask: Ask) -> Option<Told> {
     match ask {
-        Ask::Now(i, _) | Ask::Outcome(i) => i,
+        Ask::Now(i, absent) if graph.has(i) => Some(Told::Now(graph.now(i, absent))),
+        Ask::Outcome(i) if graph.has(i) => Some(Told::Outcome(graph.outcome(i))),
+        _ => None,
     }
 }
 
