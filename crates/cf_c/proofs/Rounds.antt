@@ -93,12 +93,12 @@ pub given_next : (who : ℕ) (start s : State) (xs ys : List CfTask) (k : ℕ) (
 given_next who start s xs ys k y d l long kept state is given j below = elim (cases_lt j k) [
   | inl m ↦ slice_get-set_other ys k j y (λ e. let no : ⊥ = omega arith in no) ∙ given j m
   | inr m ↦
-    let same : j ≡ k = omega arith in
-    let wanted : CfTask = finished_task who (finished_all who start (take k xs)) (get_or xs k d) in
-    let written : y ≡ wanted = is ∙ ap (finished_task who s) (same_at xs ys k d l long kept) ∙ ap (λ (u : State). finished_task who u (get_or xs k d)) state in
-    let at_k : slice_get (set ys k y) k ≡ option_map (λ (t : CfTask). finished_task who (finished_all who start (take k xs)) t) (slice_get xs k) =
-        get-set_same ys k y (omega arith) ∙ ap (λ (t : CfTask). Some t) written ∙ sym (ap (option_map (λ (t : CfTask). finished_task who (finished_all who start (take k xs)) t)) (slice_get-get_or xs k d l)) in
-    subst (λ (n : ℕ). slice_get (set ys k y) n ≡ option_map (λ (t : CfTask). finished_task who (finished_all who start (take n xs)) t) (slice_get xs n)) (sym same) at_k
+      let same : j ≡ k = omega arith in
+      let wanted : CfTask = finished_task who (finished_all who start (take k xs)) (get_or xs k d) in
+      let written : y ≡ wanted = is ∙ ap (finished_task who s) (same_at xs ys k d l long kept) ∙ ap (λ (u : State). finished_task who u (get_or xs k d)) state in
+      let at_k : slice_get (set ys k y) k ≡ option_map (λ (t : CfTask). finished_task who (finished_all who start (take k xs)) t) (slice_get xs k) =
+      get-set_same ys k y (omega arith) ∙ ap (λ (t : CfTask). Some t) written ∙ sym (ap (option_map (λ (t : CfTask). finished_task who (finished_all who start (take k xs)) t)) (slice_get-get_or xs k d l)) in
+      subst (λ (n : ℕ). slice_get (set ys k y) n ≡ option_map (λ (t : CfTask). finished_task who (finished_all who start (take n xs)) t) (slice_get xs n)) (sym same) at_k
 ]
 
 pub kept_next : (xs ys : List CfTask) (k : ℕ) (y : CfTask) → ((j : ℕ) → k ≤ j → slice_get ys j ≡ slice_get xs j) → (j : ℕ) → k + 1 ≤ j → slice_get (set ys k y) j ≡ slice_get xs j

@@ -11,15 +11,15 @@ finish-requires c = there_at c.args.who c.args.graph.now.state c.each.graph.stat
 
 pub each-preserved : goal.each-preserved
 each-preserved c =
-  let within : c.each.k < length c.args.tasks.now = (let t = c.each-test.true in let e = c.each.auto.k-end in let r = c.each.invariant.reach in omega arith) in
-  let here = c.each.invariant.kept c.each.k (omega arith) in
-  record {
-    state = finished_next c.args.who c.args.graph.now.state c.each.graph.state c.finish.new.graph.state c.args.tasks.now c.each.tasks c.each.k _ _ within c.each.invariant.reach here c.each.invariant.state refl c.finish.ensures.state;
-    plan = plan_next c.args.who c.each.graph.state c.finish.new.graph.state _ c.args.graph.now.state.plan c.each.invariant.plan c.finish.ensures.state;
-    reach = search rules;
-    given = given_next c.args.who c.args.graph.now.state c.each.graph.state c.args.tasks.now c.each.tasks c.each.k c.finish.new.task _ within c.each.invariant.reach here c.each.invariant.state c.finish.ensures.task c.each.invariant.given;
-    kept = kept_next c.args.tasks.now c.each.tasks c.each.k c.finish.new.task c.each.invariant.kept;
-  }
+    let within : c.each.k < length c.args.tasks.now = (let t = c.each-test.true in let e = c.each.auto.k-end in let r = c.each.invariant.reach in omega arith) in
+    let here = c.each.invariant.kept c.each.k (omega arith) in
+    record {
+      state = finished_next c.args.who c.args.graph.now.state c.each.graph.state c.finish.new.graph.state c.args.tasks.now c.each.tasks c.each.k _ _ within c.each.invariant.reach here c.each.invariant.state refl c.finish.ensures.state;
+      plan = plan_next c.args.who c.each.graph.state c.finish.new.graph.state _ c.args.graph.now.state.plan c.each.invariant.plan c.finish.ensures.state;
+      reach = search rules;
+      given = given_next c.args.who c.args.graph.now.state c.each.graph.state c.args.tasks.now c.each.tasks c.each.k c.finish.new.task _ within c.each.invariant.reach here c.each.invariant.state c.finish.ensures.task c.each.invariant.given;
+      kept = kept_next c.args.tasks.now c.each.tasks c.each.k c.finish.new.task c.each.invariant.kept;
+    }
 
 pub returns-clause-tasks : goal.returns-clause-tasks
 returns-clause-tasks c = record {
