@@ -1,0 +1,219 @@
+-- A caller's next step, and what is still to be told to a caller.
+use Rattle.std.proofs.Common.{◌≡◌, ℕ, zero, suc, ◌+◌, ◌-◌, ◌<◌, ◌≤◌, Bool, true, false, cond, eqb, eq-eqb, Some, None, Option, List, [], ◌∷◌, ◌++◌, inl, inr, length, get_or, set, take, ap, arith, refl, sym, ◌∙◌, subst}
+use Rattle.std.specs.Prelude.{Contains, ◌⊎◌, ◌&&◌, ◌==◌, if◌then◌else◌, is_some, map, nat_lt, slice_get, unwrap_or, option_and_then}
+use Rattle.std.specs.List.{All, filter}
+use Rattle.std.proofs.lemmas.Bool.{eqb-true, lt-ltb}
+use Rattle.std.proofs.Math.Nat.{eq-or-lt_of_le}
+use Rattle.std.proofs.Math.Seq.{take-append_seam}
+use Rattle.std.proofs.lemmas.List.{get_or-set_other, get_or-set_same}
+use Rattle.std.proofs.lemmas.List.Elements.{All-head, All-tail, Contains-append_left, Contains-append_right}
+use Rattle.std.proofs.lemmas.Option.{unwrap_or-slice_get}
+use Rattle.cf_plan.specs.Meanings.{Meanings}
+use Rattle.cf_plan.specs.Plans.{Planned, sources_of}
+use Rattle.cf_plan.specs.declared.forms.Of.{Of}
+use Rattle.cf_plan.specs.declared.forms.Of.TheVariants.{None as NoSource, One, Two}
+use Rattle.cf_model.specs.declared.events.Event.{Event}
+use Rattle.cf_model.specs.declared.events.Event.TheVariants.{Complete as Completes, Fail as Fails, Cancel as Cancels, Claim as Claims, Finish as Finishes, Tick as Ticks, Attach as Attaches}
+use Rattle.cf_model.specs.declared.events.Reply.{Reply}
+use Rattle.cf_model.specs.Calls.{who_of}
+use Rattle.cf_model.specs.Ranges.{EventFits}
+use Rattle.cf_model.specs.States.{State, start}
+use Rattle.cf_model.specs.Events.{answered, state_after, state_at}
+use Rattle.cf_event.specs.declared.record.Record.{Record}
+use Rattle.cf_event.specs.declared.record.Record.TheVariants.{Did, Saw}
+use Rattle.cf_event.specs.Events.{placed}
+use Rattle.cf_event.specs.Histories.{InOrder, IsAnswered, dids}
+use Rattle.cf_explore.specs.declared.step.Move.{Move}
+use Rattle.cf_explore.specs.declared.step.Move.TheVariants as moving
+use Rattle.cf_explore.specs.declared.step.Place.{Place}
+use Rattle.cf_explore.specs.declared.step.Step.{Step}
+use Rattle.cf_explore.specs.declared.step.Step.TheVariants as steps
+use Rattle.cf_explore.specs.Programs.{Programmed, Situated, place_at, step_of}
+use Rattle.cf_explore.specs.Moves.{are_there, call_event, caller_moves, calling, carried_out, event_by, event_of, moved, moves, onward, own_moves, step_moves, stepped, takes, worker_moves}
+use Rattle.cf_covers.specs.Tellings.{call_of, step_for}
+use Rattle.cf_covers.proofs.Lists.{contains-first, same-first, slice_get-behind, slice_get-mapped}
+
+-- ---- the move of a caller
+
+pub same_number : (d c : ℕ) → (d ≡ c) ⊎ (d ≡ c → ⊥)
+same_number d c = split (eqb d c) refl
+  where
+    split : (b : Bool) → eqb d c ≡ b → (d ≡ c) ⊎ (d ≡ c → ⊥)
+    split true e = inl (eqb-true d c e)
+    split false e = inr (λ is. (let never : true ≡ false = sym (eq-eqb d c is) ∙ e in cc))
+
+step-moves : (c : ℕ) (o : Option Step) (step : Step) → o ≡ Some step → Contains (step_moves c o) (moving.Step c)
+step-moves c None step e = absurd (let impossible : ⊥ = cc in impossible)
+step-moves c (Some one) step e = contains-first (moving.Step c) []
+
+caller-moves : (p : Programmed) (s : Situated) (c : ℕ) (step : Step) → step_of p s c ≡ Some step → (n : ℕ) → c < n → Contains (caller_moves p s n) (moving.Step c)
+caller-moves p s c step e zero l = absurd (omega arith)
+caller-moves p s c step e (suc n) l = split (eq-or-lt_of_le (let le : c ≤ n = omega arith in le)) (caller-moves p s c step e n)
+  where
+    split : (c ≡ n) ⊎ (c < n) → (c < n → Contains (caller_moves p s n) (moving.Step c)) → Contains (caller_moves p s n ++ step_moves n (step_of p s n)) (moving.Step c)
+    split (inl is) rest = Contains-append_right (caller_moves p s n) (step_moves n (step_of p s n)) (moving.Step c)
+        (subst (λ (k : ℕ). Contains (step_moves k (step_of p s k)) (moving.Step c)) is (step-moves c (step_of p s c) step e))
+    split (inr less) rest = Contains-append_left (caller_moves p s n) (step_moves n (step_of p s n)) (moving.Step c) (rest less)
+
+-- a caller that has a step goes on
+pub may-step : (p : Programmed) (s : Situated) (c : ℕ) (step : Step) → step_of p s c ≡ Some step → c < length p.callers → Contains (moves p s) (moving.Step c)
+unfolding moves own_moves
+may-step p s c step e l =
+    Contains-append_left (own_moves p s) _ (moving.Step c)
+    (Contains-append_left (caller_moves p s (length p.callers)) (worker_moves s p.workers) (moving.Step c) (caller-moves p s c step e (length p.callers) l))
+
+-- nobody goes on where no caller has a step
+none-moves : (p : Programmed) (s : Situated) (n : ℕ) → ((c : ℕ) → c < n → step_of p s c ≡ None) → caller_moves p s n ≡ []
+none-moves p s zero h = refl
+none-moves p s (suc n) h =
+    let last : step_of p s n ≡ None = h n (omega arith) in
+    ap (λ l. l ++ step_moves n (step_of p s n)) (none-moves p s n (λ c l. h c (omega arith))) ∙ ap (step_moves n) last
+
+none-work : (s : Situated) (n : ℕ) → n ≡ 0 → worker_moves s n ≡ []
+none-work s zero e = refl
+none-work s (suc n) e = absurd (omega arith)
+
+pub none-goes_on : (p : Programmed) (s : Situated) → p.workers ≡ 0 → ((c : ℕ) → c < length p.callers → step_of p s c ≡ None) → length (own_moves p s) == 0 ≡ true
+unfolding own_moves
+none-goes_on p s none h =
+    let callers = none-moves p s (length p.callers) h in
+    let workers = none-work s p.workers none in
+    rw (callers, workers) refl
+
+-- where a step leads
+pub moved-step : (m : Meanings) (p : Programmed) (s : Situated) (c : ℕ) (step : Step) → step_of p s c ≡ Some step → moved m p s (moving.Step c) ≡ stepped s c step
+unfolding moved
+moved-step m p s c step e = rw e refl
+
+-- ---- its place
+
+pub onward-self : (s : Situated) (c : ℕ) → c < length s.places → (place_at (onward s c) c).at ≡ (place_at s c).at + 1
+onward-self s c l =
+    let new : Place = record { at = (place_at s c).at + 1; looks = 0 } in
+    let none : Place = record { at = 0; looks = 0 } in
+    ap (λ (q : Place). q.at) (unwrap_or-slice_get (set s.places c new) c none ∙ get_or-set_same s.places c new none l)
+
+pub onward-other : (s : Situated) (c d : ℕ) → (d ≡ c → ⊥) → place_at (onward s c) d ≡ place_at s d
+onward-other s c d other =
+    let new : Place = record { at = (place_at s c).at + 1; looks = 0 } in
+    let none : Place = record { at = 0; looks = 0 } in
+    unwrap_or-slice_get (set s.places c new) d none ∙ get_or-set_other s.places c d new none other ∙ sym (unwrap_or-slice_get s.places d none)
+
+-- ---- what its calls are
+
+pub call-is : (e : Event) → event_by (who_of e) (call_of e) ≡ e
+call-is (Completes who i v) = refl
+call-is (Fails who i code) = refl
+call-is (Cancels who i) = refl
+call-is (Claims who i) = refl
+call-is (Finishes who i answer) = refl
+call-is (Ticks who now) = refl
+call-is (Attaches who form of function) = refl
+
+is-below : (i n : ℕ) → i < n → nat_lt i n ≡ true
+is-below i n l = lt-ltb i n l
+
+are-there : (n : ℕ) (of : Of) → All (λ j. j < n) (sources_of of) → are_there n of ≡ true
+are-there n NoSource h = refl
+are-there n (One a) h = is-below a n (All-head (λ j. j < n) a [] h)
+are-there n (Two a b) h =
+    let one = is-below a n (All-head (λ j. j < n) a (b ∷ []) h) in
+    let other = is-below b n (All-head (λ j. j < n) b [] (All-tail (λ j. j < n) a (b ∷ []) h)) in
+    rw one other
+
+pub call-taken : (n : ℕ) (e : Event) → EventFits n e → takes n (call_of e) ≡ true
+call-taken n (Completes who i v) h = is-below i n h
+call-taken n (Fails who i code) h = is-below i n h
+call-taken n (Cancels who i) h = is-below i n h
+call-taken n (Claims who i) h = is-below i n h
+call-taken n (Finishes who i answer) h = is-below i n h
+call-taken n (Ticks who now) h = refl
+call-taken n (Attaches who form of function) h = (let there = are-there n of h.1 in rw h.0 there)
+
+-- ---- what is still to be told
+
+abbrev pub mine : ℕ → ℕ × Event → Bool
+mine c e = eqb (who_of e.1) c
+
+-- no question is left to be told at this place
+abbrev pub IsPast : ℕ → List Record → Type 0
+IsPast k [] = Unit {0}
+IsPast k (Did place event reply ∷ left) = Unit {0}
+IsPast k (Saw place ask answer ∷ left) = k < place
+
+pub at-done : (plan : Planned) (done rest history : List Event) (k : ℕ) → done ++ rest ≡ history → length done ≡ k → state_at plan history k ≡ state_after (start plan) done
+at-done plan done rest history k whole so_many =
+    ap (state_after (start plan)) (ap (λ (h : List Event). take k h) (sym whole) ∙ ap (λ (n : ℕ). take n (done ++ rest)) (sym so_many) ∙ take-append_seam done rest)
+
+pub after-push : (s : State) (xs : List Event) (e : Event) → state_after s (xs ++ e ∷ []) ≡ (answered (state_after s xs) e).1
+after-push s [] e = refl
+after-push s (x ∷ xs) e = after-push ((answered s x).1) xs e
+
+-- the changing calls that are left stand behind the place
+pub dids-later : (last : ℕ) (records : List Record) (q : ℕ) (e : Event) (xs : List (ℕ × Event)) → InOrder last records → dids records ≡ (q, e) ∷ xs → last < q
+dids-later last [] q e xs h is = absurd (let impossible : ⊥ = cc in impossible)
+dids-later last (Did place event reply ∷ records) q e xs h is =
+    let same : place ≡ q = ap (λ (x : ℕ × Event). x.0) (same-first (place, event) (q, e) (dids records) xs is) in
+    let l = h.0 in
+    omega arith
+dids-later last (Saw place ask answer ∷ records) q e xs h is = (let less = dids-later place records q e xs h.1 is in let l = h.0 in omega arith)
+
+-- those of a list with places
+pub placed-later : (c n : ℕ) (rest : List Event) (q : ℕ) (e : Event) (xs : List (ℕ × Event)) → (q, e) ∷ xs ≡ filter (mine c) (placed n rest) → n < q
+placed-later c n [] q e xs is = absurd (let impossible : ⊥ = cc in impossible)
+placed-later c n (x ∷ rest) q e xs is = split (eqb (who_of x) c) is (placed-later c (suc n) rest q e xs)
+  where
+    split : (b : Bool) → (q, e) ∷ xs ≡ cond b ((suc n, x) ∷ filter (mine c) (placed (suc n) rest)) (filter (mine c) (placed (suc n) rest)) → ((q, e) ∷ xs ≡ filter (mine c) (placed (suc n) rest) → suc n < q) → n < q
+    split true same later = (let first : q ≡ suc n = ap (λ (y : ℕ × Event). y.0) (same-first (q, e) (suc n, x) xs (filter (mine c) (placed (suc n) rest)) same) in omega arith)
+    split false same later = (let less = later same in omega arith)
+
+-- another's event comes: what is left is told behind it
+pub order-later : (d k : ℕ) (rest : List Event) (left : List Record) → InOrder k left → IsPast k left → dids left ≡ filter (mine d) (placed (suc k) rest) → InOrder (suc k) left
+order-later d k rest [] order past is = tt
+order-later d k rest (Did place event reply ∷ left) order past is = (placed-later d (suc k) rest place event (dids left) is, order.1)
+order-later d k rest (Saw place ask answer ∷ left) order past is = (omega arith, order.1)
+
+-- its own event comes: it is what is told next
+pub record IsNextDid (k : ℕ) (e : Event) (left : List Record) : Type 0 where
+  pub reply : Reply
+  pub more : List Record
+  pub here : left ≡ Did (suc k) e reply ∷ more
+
+pub next-did : (k : ℕ) (xs : List (ℕ × Event)) (e : Event) (left : List Record) → InOrder k left → IsPast k left → dids left ≡ (suc k, e) ∷ xs → IsNextDid k e left
+next-did k xs e [] order past is = absurd (let impossible : ⊥ = cc in impossible)
+next-did k xs e (Did place event reply ∷ left) order past is =
+    let both = same-first (place, event) (suc k, e) (dids left) xs is in
+    record { reply = reply; more = left; here = ap (λ (x : ℕ × Event). Did x.0 x.1 reply ∷ left) both }
+next-did k xs e (Saw place ask answer ∷ left) order past is =
+    absurd (let less = dids-later place left (suc k) e xs order.1 is in omega arith)
+
+pub other-number : (a b : ℕ) → (b ≡ a → ⊥) → eqb a b ≡ false
+other-number a b other = split (eqb a b) refl
+  where
+    split : (x : Bool) → eqb a b ≡ x → x ≡ false
+    split true e = absurd (other (sym (eqb-true a b e)))
+    split false e = refl
+
+-- the step of a record
+pub next-step : (p : Programmed) (s : Situated) (c : ℕ) (so_far more : List Record) (r : Record) → slice_get p.callers c ≡ Some (map step_for (so_far ++ r ∷ more)) → (place_at s c).at ≡ length so_far →
+    step_of p s c ≡ Some (step_for r)
+next-step p s c so_far more r steps at =
+    ap (option_and_then (λ (list : List Step). slice_get list (place_at s c).at)) steps
+    ∙ ap (slice_get (map step_for (so_far ++ r ∷ more))) at
+    ∙ slice_get-mapped step_for so_far r more
+
+pub no-step : (p : Programmed) (s : Situated) (c : ℕ) (so_far : List Record) → slice_get p.callers c ≡ Some (map step_for so_far) → (place_at s c).at ≡ length so_far → step_of p s c ≡ None
+no-step p s c so_far steps at =
+    ap (option_and_then (λ (list : List Step). slice_get list (place_at s c).at)) steps
+    ∙ ap (slice_get (map step_for so_far)) at
+    ∙ slice_get-behind step_for so_far
+
+-- a call that fits is carried out, and is its event
+pub calling-is : (s : Situated) (e : Event) → EventFits (length s.state.plan.stages) e → calling s (who_of e) (call_of e) ≡ carried_out s e (answered s.state e)
+calling-is s e fits =
+    ap (λ (b : Bool). if b then carried_out s (event_by (who_of e) (call_of e)) (answered s.state (event_by (who_of e) (call_of e))) else s) (call-taken (length s.state.plan.stages) e fits)
+    ∙ ap (λ (x : Event). carried_out s x (answered s.state x)) (call-is e)
+
+pub event-is : (n : ℕ) (e : Event) → EventFits n e → call_event (call_of e) n (who_of e) ≡ Some e
+event-is n e fits =
+    ap (λ (b : Bool). if b then Some (event_by (who_of e) (call_of e)) else None) (call-taken n e fits) ∙ ap (λ (x : Event). Some x) (call-is e)

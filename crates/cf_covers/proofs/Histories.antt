@@ -1,0 +1,136 @@
+-- A history is an order, and a whole search tells its outcomes.
+use Rattle.std.proofs.Common.{◌≡◌, ℕ, zero, suc, ◌+◌, ◌-◌, ◌<◌, ◌≤◌, Bool, true, false, Some, None, Option, List, [], ◌∷◌, ◌++◌, inl, inr, length, get_or, ap, arith, refl, sym, ◌∙◌, subst, append_assoc, append-nil, length-append}
+use Rattle.std.specs.Prelude.{Contains, ◌==◌, map, slice_get, replicate}
+use Rattle.std.specs.List.{All, filter}
+use Rattle.std.proofs.lemmas.List.{get_or-replicate, length-replicate}
+use Rattle.std.proofs.lemmas.List.Elements.{All-contains, All-head}
+use Rattle.std.proofs.lemmas.Option.{slice_get-get_or, slice_get_within, unwrap_or-slice_get}
+use Rattle.cf_outcome.specs.declared.outcome.Outcome.{Outcome}
+use Rattle.cf_plan.specs.Meanings.{Meanings}
+use Rattle.cf_plan.specs.Plans.{Planned}
+use Rattle.cf_model.specs.declared.events.Event.{Event}
+use Rattle.cf_model.specs.States.{State, outcome_of, start}
+use Rattle.cf_model.specs.Events.{answered, state_after}
+use Rattle.cf_event.specs.declared.record.Record.{Record}
+use Rattle.cf_event.specs.declared.record.Record.TheVariants.{Did, Saw}
+use Rattle.cf_event.specs.Events.{AreEventsOf, placed}
+use Rattle.cf_event.specs.Histories.{AreRecordsOf, AreRecordsOfOne, IsAnswered, IsOneHistory, dids}
+use Rattle.cf_explore.specs.declared.step.Move.{Move}
+use Rattle.cf_explore.specs.declared.step.Place.{Place}
+use Rattle.cf_explore.specs.declared.step.Step.{Step}
+use Rattle.cf_explore.specs.Programs.{Programmed, Situated, place_at, start_of, step_of}
+use Rattle.cf_covers.specs.Tellings.{AreToldSteps, IsOrderOf, IsProgramOf, TellsCaller, TellsEach, step_for}
+use Rattle.cf_covers.specs.Laws.{HistoriesAreOrders, SearchesCoverHistories}
+use Rattle.cf_covers.proofs.Callers.{IsPast, after-push, mine, no-step, none-goes_on}
+use Rattle.cf_covers.proofs.Ends.{end-told}
+use Rattle.cf_covers.proofs.Walks.{Asked, Comes, Each, HasStand, Stands, Walk, asked, one-event}
+
+-- where each caller stands at the start
+start-at : (w : Walk) (functions : ℕ) → IsOneHistory w.plan functions w.history w.callers → (d : ℕ) (steps : List Step) → d < length w.program.callers →
+    slice_get w.program.callers d ≡ Some steps → AreToldSteps w.callers d steps → HasStand w 0 0 w.history [] d (place_at (start_of w.program) d)
+start-at w functions one d steps l there told =
+    let records = told.0 in
+    let fits : AreRecordsOf w.plan d w.history records = All-contains (AreRecordsOfOne w.plan w.history) w.callers (d, records) one.each told.1 in
+    let none : Place = record { at = 0; looks = 0 } in
+    let place : place_at (start_of w.program) d ≡ none =
+    unwrap_or-slice_get (replicate (length w.program.callers) none) d none ∙ get_or-replicate (length w.program.callers) d none none l in
+    (records, record {
+      so_far = [];
+      owner = told.1;
+      steps = there ∙ ap (λ (x : List Step). Some x) told.2;
+      at = ap (λ (q : Place). q.at) place;
+      answers = fits.answers;
+      in_order = fits.order;
+      changes = fits.did;
+      past = λ less. absurd (omega arith);
+      tells = λ j r e. absurd (let impossible : ⊥ = cc in impossible);
+    })
+
+starts : (w : Walk) (functions : ℕ) → IsOneHistory w.plan functions w.history w.callers → IsProgramOf w.plan w.callers w.program → Each w 0 0 w.history [] (start_of w.program)
+starts w functions one is = λ d l.
+    let steps = get_or w.program.callers d [] in
+    let there = slice_get-get_or w.program.callers d [] l in
+    start-at w functions one d steps l there (is.each d steps there)
+
+begins : (w : Walk) → w.program.plan ≡ w.plan → Comes w 0 [] [] (start_of w.program)
+begins w same = record {
+  can_be = tt;
+  leads = refl;
+  events = refl;
+  so_many = refl;
+  state = ap start same;
+  places = length-replicate (length w.program.callers) _;
+}
+
+-- one event after another
+walked : (w : Walk) (callers functions k : ℕ) (done rest : List Event) → done ++ rest ≡ w.history → callers ≡ length w.program.callers → AreEventsOf callers functions (state_after (start w.plan) done) rest →
+    Asked w k 0 done rest → Asked w (length w.history) (length w.program.callers) w.history []
+walked w callers functions k done [] whole all events h = 
+    let n = length w.program.callers in
+    let last = asked w k done [] whole h.order h.s h.comes h.each n (omega arith) in
+    let is : done ≡ w.history = sym (append-nil done) ∙ whole in
+    let so_many : k ≡ length w.history = sym h.comes.so_many ∙ ap length is in
+    subst (λ (x : ℕ). Asked w x n w.history []) so_many (subst (λ (x : List Event). Asked w k n x []) is last)
+walked w callers functions k done (e ∷ rest) whole all events h =
+    let n = length w.program.callers in
+    let ready = asked w k done (e ∷ rest) whole h.order h.s h.comes h.each n (omega arith) in
+    let next = one-event w k done e rest whole (omega (arith, events.0.caller)) events.0.fits ready in
+    let after_it : AreEventsOf callers functions (state_after (start w.plan) (done ++ e ∷ [])) rest =
+    subst (λ (x : State). AreEventsOf callers functions x rest) (sym (after-push (start w.plan) done e)) events.1 in
+    walked w callers functions (suc k) (done ++ e ∷ []) rest (append_assoc done (e ∷ []) rest ∙ whole) all after_it next
+
+-- behind the last event nothing is left
+none-left : (plan : Planned) (history : List Event) (c : ℕ) (left : List Record) → All (IsAnswered plan history) left → dids left ≡ [] → IsPast (length history) left → left ≡ []
+none-left plan history c [] answers changes past = refl
+none-left plan history c (Did place event reply ∷ left) answers changes past = absurd (let impossible : ⊥ = cc in impossible)
+none-left plan history c (Saw place ask answer ∷ left) answers changes past =
+    absurd (let within = (All-head (IsAnswered plan history) (Saw place ask answer) left answers).0 in omega arith)
+
+-- so each caller was told all
+record AllTold (w : Walk) (order : List Move) (c : ℕ) (place : Place) : Type 0 where
+  records : List Record
+  owner : Contains w.callers (c, records)
+  steps : slice_get w.program.callers c ≡ Some (map step_for records)
+  at : place.at ≡ length records
+  tells : TellsEach w.meanings w.program order c records
+
+all-told : (w : Walk) (order : List Move) (c : ℕ) (place : Place) → c < length w.program.callers → HasStand w (length w.history) (length w.program.callers) [] order c place → AllTold w order c place
+all-told w order c place l (left, h) =
+    let none : left ≡ [] = none-left w.plan w.history c left h.answers h.changes (h.past l) in
+    let whole : h.so_far ++ left ≡ h.so_far = ap (λ (x : List Record). h.so_far ++ x) none ∙ append-nil h.so_far in
+    record {
+      records = h.so_far;
+      owner = subst (λ (x : List Record). Contains w.callers (c, x)) whole h.owner;
+      steps = h.steps ∙ ap (λ (x : List Record). Some (map step_for x)) whole;
+      at = h.at;
+      tells = h.tells;
+    }
+
+pub histories_are_orders : HistoriesAreOrders
+histories_are_orders m plan functions history callers p one is =
+    let w : Walk = record { meanings = m; plan = plan; history = history; callers = callers; program = p } in
+    let first : Asked w 0 0 [] history = record { order = []; s = start_of p; comes = begins w is.same_plan; each = starts w functions one is } in
+    let last = walked w (length callers) functions 0 [] history refl (sym is.all) one.taken first in
+    let s = last.s in
+    let told : (c : ℕ) (l : c < length p.callers) → AllTold w last.order c (place_at s c) = λ c l. all-told w last.order c (place_at s c) l (last.each c l) in
+    (last.order, s, record {
+      can_come = record { can_be = last.comes.can_be; leads = last.comes.leads; size = refl };
+      events = last.comes.events;
+      state = last.comes.state ∙ ap (λ (x : Planned). state_after (start x) history) (sym is.same_plan);
+      end = none-goes_on p s is.workers (λ c l. (let one = told c l in no-step p s c one.records one.steps one.at));
+      tells = λ c steps there.
+          let all = told c (slice_get_within p.callers c steps there) in
+          let some : Some steps ≡ Some (map step_for all.records) = sym there ∙ all.steps in
+          let same : steps ≡ map step_for all.records = cc in
+          (all.records, all.owner, same, all.tells);
+    })
+
+pub searches_cover_histories : SearchesCoverHistories
+searches_cover_histories m plan functions history callers p conditions found one is h whole =
+    let all = histories_are_orders m plan functions history callers p one is in
+    let order = all.0 in
+    let s = all.1 in
+    let of = all.2 in
+    let e = end-told m p conditions found (length order) order s h whole of.can_come of.end in
+    let state : s.state ≡ state_after (start plan) history = of.state ∙ ap (λ (x : Planned). state_after (start x) history) is.same_plan in
+    (e.0, e.1, e.2 ∙ ap (λ (x : State). map outcome_of x.stages) state, e.3)

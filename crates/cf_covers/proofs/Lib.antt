@@ -1,0 +1,7 @@
+pub mod Lists
+pub mod Orders
+pub mod Sames
+pub mod Ends
+pub mod Callers
+pub mod Walks
+pub mod Histories

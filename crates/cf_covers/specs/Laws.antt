@@ -1,0 +1,51 @@
+-- That a search of all orders covers what callers of a desk were told.
+use Rattle.std.specs.Prelude.{◌≡◌, ℕ, ◌<◌, ◌≤◌, Bool, true, false, Option, Some, None, List, Contains, length, map, slice_get}
+use Rattle.cf_plan.specs.Meanings.{Meanings}
+use Rattle.cf_plan.specs.Plans.{Planned}
+use Rattle.cf_model.specs.declared.events.Event.{Event}
+use Rattle.cf_model.specs.States.{outcome_of, start}
+use Rattle.cf_model.specs.Events.{state_after}
+use Rattle.cf_event.specs.declared.record.Record.{Record}
+use Rattle.cf_event.specs.Histories.{IsOneHistory}
+use Rattle.cf_explore.specs.declared.condition.Condition.{Condition}
+use Rattle.cf_explore.specs.declared.found.End.{End}
+use Rattle.cf_explore.specs.declared.found.Found.{Found}
+use Rattle.cf_explore.specs.declared.found.Witness.{Witness}
+use Rattle.cf_explore.specs.declared.step.Move.{Move}
+use Rattle.cf_explore.specs.Programs.{Programmed, Situated}
+use Rattle.cf_explore.specs.Orders.{IsOrder}
+use Rattle.cf_explore.specs.Conditions.{decides}
+use Rattle.cf_explore.specs.Found.{IsFound}
+use Rattle.cf_covers.specs.Tellings.{IsOrderOf, IsProgramOf}
+
+-- there is an order that is this history
+abbrev pub HasOrder : Meanings → Programmed → List Event → List (ℕ × List Record) → Type 0
+HasOrder m p history callers = (order : List Move) × (s : Situated) × IsOrderOf m p history callers order s
+
+-- Where what callers were told is one history, it is an order of each program whose callers make the same calls.
+abbrev pub HistoriesAreOrders : Type 0
+HistoriesAreOrders =
+    (m : Meanings) (plan : Planned) (functions : ℕ) (history : List Event) (callers : List (ℕ × List Record)) (p : Programmed) →
+    IsOneHistory plan functions history callers → IsProgramOf plan callers p → HasOrder m p history callers
+
+-- the outcomes that a history leaves are among these ends, with an order at least
+abbrev pub IsAmong : Planned → List Event → List End → Type 0
+IsAmong plan history ends =
+    (e : End) × Contains ends e × (e.outcomes.items ≡ map outcome_of (state_after (start plan) history).stages) × (0 < e.orders)
+
+-- So a search that saw all orders tells its outcomes.
+abbrev pub SearchesCoverHistories : Type 0
+SearchesCoverHistories =
+    (m : Meanings) (plan : Planned) (functions : ℕ) (history : List Event) (callers : List (ℕ × List Record)) (p : Programmed) (conditions : List Condition) (found : Found) →
+    IsOneHistory plan functions history callers → IsProgramOf plan callers p → IsFound m p conditions found → found.whole ≡ true → IsAmong plan history found.ends.items
+
+-- A condition that no order of a whole search decides is decided nowhere, at no situation of any order.
+abbrev pub IsOpen : List Condition → List (Option Witness) → Condition → Type 0
+IsOpen conditions decisions condition =
+    (i : ℕ) × (slice_get conditions i ≡ Some condition) × (slice_get decisions i ≡ Some None)
+
+abbrev pub WholeSearchesDecide : Type 0
+WholeSearchesDecide =
+    (m : Meanings) (p : Programmed) (conditions : List Condition) (found : Found) (condition : Condition) (k : ℕ) (order : List Move) (s : Situated) →
+    IsFound m p conditions found → found.whole ≡ true → IsOpen conditions found.decisions.items condition → IsOrder m p k order s →
+    decides p condition s ≡ false

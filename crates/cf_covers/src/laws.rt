@@ -1,0 +1,18 @@
+//! The contract of each function is the statement, and its body is empty.
+ghost use Rattle.cf_covers.specs.Laws.{HistoriesAreOrders, SearchesCoverHistories, WholeSearchesDecide};
+
+/// What callers were told, where it is one history, is an order of each program whose callers make the same calls. In it
+/// each is told what it was told, and it ends with the state that the history leaves.
+pub fn histories_are_orders()
+    ensures { HistoriesAreOrders }
+{}
+
+/// The outcomes that it leaves are those of an end that a search tells which saw all orders.
+pub fn searches_cover_histories()
+    ensures { SearchesCoverHistories }
+{}
+
+/// Where such a search finds no order that decides a condition, no situation of any order does.
+pub fn whole_searches_decide()
+    ensures { WholeSearchesDecide }
+{}

@@ -1,0 +1,12 @@
+//! That a search of all orders covers what callers of a desk were told.
+//!
+//! A closed desk of `cf_desk` promises that what its callers were told is one history (`IsOneHistory` of `cf_event`).
+//! `cf_explore` searches all orders of a program's steps. The laws here tie the two: where a program's callers make just the
+//! calls that the desk's callers made, that history is one of its orders, in which each caller is told what it was told. So
+//! a search that saw all orders tells the outcomes that the desk closed with, and where it finds no order that decides a
+//! condition, no such desk comes to a situation that does.
+//!
+//! `specs/Tellings` says what such a program and such an order are.
+#![tactic(auto)]
+
+pub mod laws;
