@@ -1,6 +1,6 @@
 -- A caller's next step, and what is still to be told to a caller.
-use Rattle.std.proofs.Common.{◌≡◌, ℕ, zero, suc, ◌+◌, ◌-◌, ◌<◌, ◌≤◌, Bool, true, false, cond, eqb, eq-eqb, Some, None, Option, List, [], ◌∷◌, ◌++◌, inl, inr, length, get_or, set, take, ap, arith, refl, sym, ◌∙◌, subst}
-use Rattle.std.specs.Prelude.{Contains, ◌⊎◌, ◌&&◌, ◌==◌, if◌then◌else◌, is_some, map, nat_lt, slice_get, unwrap_or, option_and_then}
+use Rattle.std.proofs.Common.{◌≡◌, ℕ, zero, suc, ◌+◌, ◌<◌, ◌≤◌, Bool, true, false, cond, eqb, eq-eqb, Some, None, Option, List, [], ◌∷◌, ◌++◌, inl, inr, length, set, take, ap, arith, refl, sym, ◌∙◌, subst}
+use Rattle.std.specs.Prelude.{Contains, ◌⊎◌, ◌==◌, if◌then◌else◌, map, nat_lt, slice_get, option_and_then}
 use Rattle.std.specs.List.{All, filter}
 use Rattle.std.proofs.lemmas.Bool.{eqb-true, lt-ltb}
 use Rattle.std.proofs.Math.Nat.{eq-or-lt_of_le}
@@ -22,14 +22,12 @@ use Rattle.cf_model.specs.Events.{answered, state_after, state_at}
 use Rattle.cf_event.specs.declared.record.Record.{Record}
 use Rattle.cf_event.specs.declared.record.Record.TheVariants.{Did, Saw}
 use Rattle.cf_event.specs.Events.{placed}
-use Rattle.cf_event.specs.Histories.{InOrder, IsAnswered, dids}
-use Rattle.cf_explore.specs.declared.step.Move.{Move}
+use Rattle.cf_event.specs.Histories.{InOrder, dids}
 use Rattle.cf_explore.specs.declared.step.Move.TheVariants as moving
 use Rattle.cf_explore.specs.declared.step.Place.{Place}
 use Rattle.cf_explore.specs.declared.step.Step.{Step}
-use Rattle.cf_explore.specs.declared.step.Step.TheVariants as steps
 use Rattle.cf_explore.specs.Programs.{Programmed, Situated, place_at, step_of}
-use Rattle.cf_explore.specs.Moves.{are_there, call_event, caller_moves, calling, carried_out, event_by, event_of, moved, moves, onward, own_moves, step_moves, stepped, takes, worker_moves}
+use Rattle.cf_explore.specs.Moves.{are_there, call_event, caller_moves, calling, carried_out, event_by, moved, moves, onward, own_moves, step_moves, stepped, takes, worker_moves}
 use Rattle.cf_covers.specs.Tellings.{call_of, step_for}
 use Rattle.cf_covers.proofs.Lists.{contains-first, same-first, slice_get-behind, slice_get-mapped}
 

@@ -1,7 +1,7 @@
 -- What a whole search has found of the situation to which an order leads.
-use Rattle.std.proofs.Common.{◌≡◌, ℕ, zero, suc, ◌+◌, ◌-◌, ◌*◌, ◌^◌, ◌<◌, ◌≤◌, Bool, true, false, Some, None, Option, List, [], ◌∷◌, ◌++◌, inl, inr, length, ap, arith, refl, sym, ◌∙◌, subst, lit<}
-use Rattle.std.specs.Prelude.{Contains, ◌⊎◌, if◌then◌else◌, map, min, slice_get, sum_by}
-use Rattle.std.specs.List.{All, filter}
+use Rattle.std.proofs.Common.{◌≡◌, ℕ, zero, suc, ◌-◌, ◌*◌, ◌^◌, ◌<◌, ◌≤◌, Bool, true, false, None, Option, List, ◌++◌, inl, inr, arith, refl, sym, subst, lit<}
+use Rattle.std.specs.Prelude.{Contains, ◌⊎◌, if◌then◌else◌, sum_by}
+use Rattle.std.specs.List.{filter}
 use Rattle.std.proofs.Math.Nat.{eq-or-lt_of_le}
 use Rattle.std.proofs.lemmas.Bool.{cases_lt}
 use Rattle.std.proofs.lemmas.List.Elements.{All-contains, Contains-append_left, Contains-append_right}
@@ -19,7 +19,7 @@ use Rattle.cf_explore.specs.Conditions.{decides}
 use Rattle.cf_explore.specs.Layers.{counted}
 use Rattle.cf_explore.specs.Found.{IsDecision, IsFound, end_weight, weigh_ends}
 use Rattle.cf_explore.proofs.Counting.{counted-none}
-use Rattle.cf_covers.specs.Laws.{IsOpen, WholeSearchesDecide}
+use Rattle.cf_covers.specs.Laws.{IsUndecidedBy}
 use Rattle.cf_covers.proofs.Lists.{contains-filtered, contains-none, some-sum, sum-some}
 use Rattle.cf_covers.proofs.Orders.{order-after}
 use Rattle.cf_covers.proofs.Sames.{are_same, same_decides}
@@ -93,8 +93,10 @@ end-told m p conditions found k order s h is one end =
     let e = one_end.0 in
     (e, one_end.1, sym (one-same (outcomes_of s) e.outcomes.items (second-some e.orders (f e.outcomes.items) one_end.2)), first-some e.orders (f e.outcomes.items) one_end.2)
 
-pub whole_searches_decide : WholeSearchesDecide
-whole_searches_decide m p conditions found condition k order s h is none one =
+-- and it decides no condition that no order of it decides
+pub order-undecided : (m : Meanings) (p : Programmed) (conditions : List Condition) (found : Found) (condition : Condition) (k : ℕ) (order : List Move) (s : Situated) →
+    IsFound m p conditions found → found.whole ≡ true → IsUndecidedBy conditions found.decisions.items condition → IsOrder m p k order s → decides p condition s ≡ false
+order-undecided m p conditions found condition k order s h is none one =
     let undecided : IsDecision m p found.trail.items found.moves condition None = h.decisions none.0 condition None none.1 none.2 in
     let less : k < found.moves = order-fewer m p conditions found k order s h is one in
     All-contains (λ (t : Situated). decides p condition t ≡ false) (after m p k) s (undecided k less) (order-after m p k order s one)

@@ -1,29 +1,29 @@
 -- A history is an order, and a whole search tells its outcomes.
-use Rattle.std.proofs.Common.{◌≡◌, ℕ, zero, suc, ◌+◌, ◌-◌, ◌<◌, ◌≤◌, Bool, true, false, Some, None, Option, List, [], ◌∷◌, ◌++◌, inl, inr, length, get_or, ap, arith, refl, sym, ◌∙◌, subst, append_assoc, append-nil, length-append}
-use Rattle.std.specs.Prelude.{Contains, ◌==◌, map, slice_get, replicate}
-use Rattle.std.specs.List.{All, filter}
+use Rattle.std.proofs.Common.{◌≡◌, ℕ, suc, ◌<◌, Some, List, [], ◌∷◌, ◌++◌, length, get_or, ap, arith, refl, sym, ◌∙◌, subst, append_assoc, append-nil}
+use Rattle.std.specs.Prelude.{Contains, map, slice_get, replicate}
+use Rattle.std.specs.List.{All}
 use Rattle.std.proofs.lemmas.List.{get_or-replicate, length-replicate}
 use Rattle.std.proofs.lemmas.List.Elements.{All-contains, All-head}
 use Rattle.std.proofs.lemmas.Option.{slice_get-get_or, slice_get_within, unwrap_or-slice_get}
-use Rattle.cf_outcome.specs.declared.outcome.Outcome.{Outcome}
-use Rattle.cf_plan.specs.Meanings.{Meanings}
 use Rattle.cf_plan.specs.Plans.{Planned}
 use Rattle.cf_model.specs.declared.events.Event.{Event}
 use Rattle.cf_model.specs.States.{State, outcome_of, start}
-use Rattle.cf_model.specs.Events.{answered, state_after}
+use Rattle.cf_model.specs.Events.{state_after}
 use Rattle.cf_event.specs.declared.record.Record.{Record}
 use Rattle.cf_event.specs.declared.record.Record.TheVariants.{Did, Saw}
-use Rattle.cf_event.specs.Events.{AreEventsOf, placed}
+use Rattle.cf_event.specs.Events.{AreEventsOf}
 use Rattle.cf_event.specs.Histories.{AreRecordsOf, AreRecordsOfOne, IsAnswered, IsOneHistory, dids}
 use Rattle.cf_explore.specs.declared.step.Move.{Move}
 use Rattle.cf_explore.specs.declared.step.Place.{Place}
 use Rattle.cf_explore.specs.declared.step.Step.{Step}
-use Rattle.cf_explore.specs.Programs.{Programmed, Situated, place_at, start_of, step_of}
-use Rattle.cf_covers.specs.Tellings.{AreToldSteps, IsOrderOf, IsProgramOf, TellsCaller, TellsEach, step_for}
-use Rattle.cf_covers.specs.Laws.{HistoriesAreOrders, SearchesCoverHistories}
-use Rattle.cf_covers.proofs.Callers.{IsPast, after-push, mine, no-step, none-goes_on}
-use Rattle.cf_covers.proofs.Ends.{end-told}
-use Rattle.cf_covers.proofs.Walks.{Asked, Comes, Each, HasStand, Stands, Walk, asked, one-event}
+use Rattle.cf_explore.specs.Programs.{place_at, start_of}
+use Rattle.cf_explore.specs.Orders.{AreMoves, IsOrder, led}
+use Rattle.cf_covers.specs.Tellings.{AreToldSteps, IsProgramOf, TellsEach, step_for}
+use Rattle.cf_covers.specs.Laws.{HistoriesAreOrders, SearchesCoverHistories, SearchesJudgeHistories}
+use Rattle.cf_covers.proofs.Callers.{IsPast, after-push, no-step, none-goes_on}
+use Rattle.cf_covers.proofs.Ends.{end-told, order-undecided}
+use Rattle.cf_covers.proofs.Orders.{moves-front}
+use Rattle.cf_covers.proofs.Walks.{Asked, Comes, Each, HasStand, Walk, asked, one-event}
 
 -- where each caller stands at the start
 start-at : (w : Walk) (functions : ℕ) → IsOneHistory w.plan functions w.history w.callers → (d : ℕ) (steps : List Step) → d < length w.program.callers →
@@ -134,3 +134,13 @@ searches_cover_histories m plan functions history callers p conditions found one
     let e = end-told m p conditions found (length order) order s h whole of.can_come of.end in
     let state : s.state ≡ state_after (start plan) history = of.state ∙ ap (λ (x : Planned). state_after (start x) history) is.same_plan in
     (e.0, e.1, e.2 ∙ ap (λ (x : State). map outcome_of x.stages) state, e.3)
+
+pub searches_judge_histories : SearchesJudgeHistories
+searches_judge_histories m plan functions history callers p conditions found condition one is h whole none =
+    let all = histories_are_orders m plan functions history callers p one is in
+    let order = all.0 in
+    let of = all.2 in
+    (order, all.1, of, λ before later e.
+        let front = moves-front m p (start_of p) before later (subst (λ (o : List Move). AreMoves m p (start_of p) o) e of.can_come.can_be) in
+        let first : IsOrder m p (length before) before (led m p (start_of p) before) = record { can_be = front; leads = refl; size = refl } in
+        order-undecided m p conditions found condition (length before) before (led m p (start_of p) before) h whole none first)

@@ -1,5 +1,5 @@
 -- Elements of lists that are mapped, joined and filtered, and sums that aren't 0.
-use Rattle.std.proofs.Common.{◌≡◌, ℕ, zero, suc, ◌+◌, ◌<◌, ◌≤◌, Bool, true, false, cond, Some, None, List, [], ◌∷◌, ◌++◌, inl, inr, length, get_or, ap, arith, refl, sym, ◌∙◌, subst}
+use Rattle.std.proofs.Common.{◌≡◌, ℕ, zero, suc, ◌<◌, Bool, true, false, cond, Some, None, List, [], ◌∷◌, ◌++◌, inl, inr, length, get_or, ap, arith, refl, sym, ◌∙◌, subst}
 use Rattle.std.specs.Prelude.{Contains, ◌⊎◌, flat_map, map, slice_get, sum_by}
 use Rattle.std.specs.List.{filter}
 use Rattle.std.proofs.lemmas.List.Elements.{Contains-append_left, Contains-append_right}

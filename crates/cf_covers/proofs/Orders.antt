@@ -1,5 +1,5 @@
 -- Orders with one move more, and the situations to which they lead.
-use Rattle.std.proofs.Common.{◌≡◌, ℕ, zero, suc, ◌+◌, Some, None, Option, List, [], ◌∷◌, ◌++◌, length, ap, arith, refl, sym, ◌∙◌, subst}
+use Rattle.std.proofs.Common.{◌≡◌, ℕ, suc, ◌+◌, Some, None, Option, List, [], ◌∷◌, ◌++◌, length, ap, arith, refl, ◌∙◌, subst}
 use Rattle.std.specs.Prelude.{Contains}
 use Rattle.cf_plan.specs.Meanings.{Meanings}
 use Rattle.cf_model.specs.declared.events.Event.{Event}
@@ -27,6 +27,11 @@ events-push m p s [] by = refl
 events-push m p s (x ∷ xs) by =
     ap (and_event (event_of p s x)) (events-push m p (moved m p s x) xs by)
     ∙ and-push (event_of p s x) (events_by m p (moved m p s x) xs) (and_event (event_of p (led m p (moved m p s x) xs) by) [])
+
+-- its first moves can be made
+pub moves-front : (m : Meanings) (p : Programmed) (s : Situated) (xs ys : List Move) → AreMoves m p s (xs ++ ys) → AreMoves m p s xs
+moves-front m p s [] ys h = tt
+moves-front m p s (x ∷ xs) ys h = (h.0, moves-front m p (moved m p s x) xs ys h.1)
 
 -- the situation to which an order leads is one of those after as many moves
 after-led : (m : Meanings) (p : Programmed) (k : ℕ) (s : Situated) (order : List Move) → Contains (after m p k) s → AreMoves m p s order → Contains (after m p (k + length order)) (led m p s order)

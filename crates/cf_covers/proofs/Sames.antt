@@ -1,6 +1,6 @@
 -- Whether two lists of outcomes are the same.
-use Rattle.std.proofs.Common.{◌≡◌, Bool, true, false, Some, None, Option, List, ap, ap₂, refl, ◌∙◌, sym}
-use Rattle.std.specs.Prelude.{◌&&◌, ◌==◌}
+use Rattle.std.proofs.Common.{◌≡◌, Bool, true, false, Some, None, Option, List, ap, ap₂, refl}
+use Rattle.std.specs.Prelude.{◌&&◌}
 use Rattle.std.specs.Bool.{Decides, beq}
 use Rattle.std.specs.Cmp.{signed_Decides, unsigned_Decides, booleans_Decides}
 use Rattle.std.specs.Cmp.Lexicographic.{pointwise, pointwise_decides}

@@ -1,5 +1,5 @@
 -- A walk over a history: the order so far, and where each caller stands.
-use Rattle.std.proofs.Common.{◌≡◌, ℕ, zero, suc, ◌+◌, ◌-◌, ◌<◌, ◌≤◌, Bool, true, false, cond, eqb, eq-eqb, Some, None, Option, List, [], ◌∷◌, ◌++◌, inl, inr, length, set, ap, ap₂, arith, refl, sym, ◌∙◌, subst, append_assoc, append-nil, length-append}
+use Rattle.std.proofs.Common.{◌≡◌, ℕ, zero, suc, ◌+◌, ◌-◌, ◌<◌, ◌≤◌, Bool, cond, eq-eqb, Some, None, Option, List, [], ◌∷◌, ◌++◌, inl, inr, length, ap, arith, refl, sym, ◌∙◌, subst, append_assoc, append-nil, length-append}
 use Rattle.std.specs.Prelude.{Contains, ◌⊎◌, map, slice_get}
 use Rattle.std.specs.List.{All, filter}
 use Rattle.std.proofs.Math.Nat.{eq-or-lt_of_le}

@@ -1,5 +1,5 @@
 -- That a search of all orders covers what callers of a desk were told.
-use Rattle.std.specs.Prelude.{◌≡◌, ℕ, ◌<◌, ◌≤◌, Bool, true, false, Option, Some, None, List, Contains, length, map, slice_get}
+use Rattle.std.specs.Prelude.{◌≡◌, ℕ, ◌<◌, ◌++◌, true, false, Option, Some, None, List, Contains, map, slice_get}
 use Rattle.cf_plan.specs.Meanings.{Meanings}
 use Rattle.cf_plan.specs.Plans.{Planned}
 use Rattle.cf_model.specs.declared.events.Event.{Event}
@@ -12,8 +12,8 @@ use Rattle.cf_explore.specs.declared.found.End.{End}
 use Rattle.cf_explore.specs.declared.found.Found.{Found}
 use Rattle.cf_explore.specs.declared.found.Witness.{Witness}
 use Rattle.cf_explore.specs.declared.step.Move.{Move}
-use Rattle.cf_explore.specs.Programs.{Programmed, Situated}
-use Rattle.cf_explore.specs.Orders.{IsOrder}
+use Rattle.cf_explore.specs.Programs.{Programmed, Situated, start_of}
+use Rattle.cf_explore.specs.Orders.{led}
 use Rattle.cf_explore.specs.Conditions.{decides}
 use Rattle.cf_explore.specs.Found.{IsFound}
 use Rattle.cf_covers.specs.Tellings.{IsOrderOf, IsProgramOf}
@@ -39,13 +39,19 @@ SearchesCoverHistories =
     (m : Meanings) (plan : Planned) (functions : ℕ) (history : List Event) (callers : List (ℕ × List Record)) (p : Programmed) (conditions : List Condition) (found : Found) →
     IsOneHistory plan functions history callers → IsProgramOf plan callers p → IsFound m p conditions found → found.whole ≡ true → IsAmong plan history found.ends.items
 
--- A condition that no order of a whole search decides is decided nowhere, at no situation of any order.
-abbrev pub IsOpen : List Condition → List (Option Witness) → Condition → Type 0
-IsOpen conditions decisions condition =
+-- the search finds no order that decides this condition
+abbrev pub IsUndecidedBy : List Condition → List (Option Witness) → Condition → Type 0
+IsUndecidedBy conditions decisions condition =
     (i : ℕ) × (slice_get conditions i ≡ Some condition) × (slice_get decisions i ≡ Some None)
 
-abbrev pub WholeSearchesDecide : Type 0
-WholeSearchesDecide =
-    (m : Meanings) (p : Programmed) (conditions : List Condition) (found : Found) (condition : Condition) (k : ℕ) (order : List Move) (s : Situated) →
-    IsFound m p conditions found → found.whole ≡ true → IsOpen conditions found.decisions.items condition → IsOrder m p k order s →
-    decides p condition s ≡ false
+-- none of the situations of an order decides it
+abbrev pub DecidesNowhere : Meanings → Programmed → Condition → List Move → Type 0
+DecidesNowhere m p condition order =
+    (before later : List Move) → order ≡ before ++ later → decides p condition (led m p (start_of p) before) ≡ false
+
+-- And a condition that it finds no order to decide is decided in no situation of that order.
+abbrev pub SearchesJudgeHistories : Type 0
+SearchesJudgeHistories =
+    (m : Meanings) (plan : Planned) (functions : ℕ) (history : List Event) (callers : List (ℕ × List Record)) (p : Programmed) (conditions : List Condition) (found : Found) (condition : Condition) →
+    IsOneHistory plan functions history callers → IsProgramOf plan callers p → IsFound m p conditions found → found.whole ≡ true → IsUndecidedBy conditions found.decisions.items condition →
+    (order : List Move) × (s : Situated) × IsOrderOf m p history callers order s × DecidesNowhere m p condition order

@@ -1,5 +1,5 @@
 //! The contract of each function is the statement, and its body is empty.
-ghost use Rattle.cf_covers.specs.Laws.{HistoriesAreOrders, SearchesCoverHistories, WholeSearchesDecide};
+ghost use Rattle.cf_covers.specs.Laws.{HistoriesAreOrders, SearchesCoverHistories, SearchesJudgeHistories};
 
 /// What callers were told, where it is one history, is an order of each program whose callers make the same calls. In it
 /// each is told what it was told, and it ends with the state that the history leaves.
@@ -12,7 +12,7 @@ pub fn searches_cover_histories()
     ensures { SearchesCoverHistories }
 {}
 
-/// Where such a search finds no order that decides a condition, no situation of any order does.
-pub fn whole_searches_decide()
-    ensures { WholeSearchesDecide }
+/// Where such a search finds no order that decides a condition, no situation of that order does, from its start to its end.
+pub fn searches_judge_histories()
+    ensures { SearchesJudgeHistories }
 {}
