@@ -50,7 +50,7 @@ class Closed(Handle):
 
     def __init__(self, handle: CHandle, callers: int) -> None:
         super().__init__(handle)
-        self.callers = callers
+        self.callers: int = callers
 
     def words(self) -> List[int]:
         """The words of all events, in the one order in which they came."""

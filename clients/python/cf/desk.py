@@ -85,7 +85,8 @@ class SharedFuture:
     which records them, until it has found the stage settled; from then on it needs none."""
 
     def __init__(self, caller: Caller, stage: int) -> None:
-        self._caller, self.stage = caller, stage
+        self._caller = caller
+        self.stage: int = stage
         self._known: Optional[Outcome] = None
 
     def done(self) -> bool:

@@ -18,7 +18,7 @@ class Graph(Calls):
 
     def __init__(self, plan: Plan, room: int = 0, who: int = 0) -> None:
         super().__init__()
-        self.who = who
+        self.who: int = who
         plan.build()._call("cf_graph_new", room, self._at)
 
     @classmethod
@@ -65,7 +65,8 @@ class Future:
     """A view of a stage: as much of `concurrent.futures.Future` as a graph of one thread has. Nothing waits."""
 
     def __init__(self, graph: Graph, stage: int) -> None:
-        self._graph, self.stage = graph, stage
+        self._graph = graph
+        self.stage: int = stage
 
     def done(self) -> bool:
         """Whether the stage is settled."""

@@ -61,7 +61,7 @@ class Misfit(Refused):
 
     def __init__(self, code: int, place: int) -> None:
         super().__init__(code)
-        self.place = place
+        self.place: int = place
 
 
 class Ledger(Handle):

@@ -13,7 +13,7 @@ class BadScript(Refused):
 
     def __init__(self, line: str) -> None:
         super().__init__(Code.BAD_SCRIPT)
-        self.line = line
+        self.line: str = line
         self.args = (line,)
 
 

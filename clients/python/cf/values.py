@@ -32,7 +32,7 @@ class Refused(Exception):
     """A call was refused, and changed nothing."""
 
     def __init__(self, code: int) -> None:
-        self.code = Code(code)
+        self.code: Code = Code(code)
         super().__init__(self.code.name.lower().replace("_", " "))
 
 
@@ -54,7 +54,7 @@ class Thrown(Fault):
     """A stage was failed, or its function threw, with a code. Raised by a function, it is what the function throws."""
 
     def __init__(self, code: int) -> None:
-        self.code = code
+        self.code: int = code
         super().__init__(f"thrown {code}")
 
 

@@ -3,15 +3,15 @@
 
     mypy --strict clients/python/cf clients/python/tests/typed.py
 
-It is read and not run. `python3 clients/python/tests/typed.py` says which public function, method or attribute has a type left out, which
-mypy may guess and pyright reports.
+It is read and not run. `python3 clients/python/tests/typed.py` says which public function or method, and which attribute of a class that
+cf, cf.service or cf.shared exports, has its type left out, which mypy may guess and pyright reports.
 """
 import ast
 import asyncio
 import concurrent.futures
 import sys
 from pathlib import Path
-from typing import TYPE_CHECKING, Any, Iterator, List, Optional, Tuple
+from typing import TYPE_CHECKING, Any, Iterator, List, Optional, Set, Tuple
 
 if TYPE_CHECKING:
     import cf
@@ -87,9 +87,31 @@ def left_out(tree: ast.AST, name: str) -> Iterator[str]:
                     yield f"{name}.{node.name}: {', '.join(bare) or 'what it gives'}"
 
 
+def undeclared(cls: ast.ClassDef) -> Iterator[str]:
+    """The public attributes that a class sets, whose type is neither told nor that of a constant. What exceptions have is their own."""
+    told = {node.target.attr for node in ast.walk(cls) if isinstance(node, ast.AnnAssign) and isinstance(node.target, ast.Attribute)} | {"args"}
+    for node in ast.walk(cls):
+        if isinstance(node, ast.Assign) and not isinstance(node.value, ast.Constant):
+            for it in [it for target in node.targets for it in getattr(target, "elts", [target])]:
+                if isinstance(it, ast.Attribute) and isinstance(it.value, ast.Name) and it.value.id == "self" and it.attr not in told and it.attr[0] != "_":
+                    yield it.attr
+
+
+def exported(package: Path) -> Set[str]:
+    """What the packages name as theirs."""
+    assigned = [node for file in package.rglob("__init__.py") for node in ast.parse(file.read_text()).body if isinstance(node, ast.Assign)]
+    return {name for node in assigned if isinstance(node.targets[0], ast.Name) and node.targets[0].id == "__all__" for name in ast.literal_eval(node.value)}
+
+
 def main() -> int:
     package = Path(__file__).resolve().parent.parent / "cf"
-    found = [line for file in sorted(package.rglob("*.py")) for line in left_out(ast.parse(file.read_text()), ".".join(file.relative_to(package.parent).with_suffix("").parts))]
+    names = exported(package)
+    found: List[str] = []
+    for file in sorted(package.rglob("*.py")):
+        tree, module = ast.parse(file.read_text()), ".".join(file.relative_to(package.parent).with_suffix("").parts)
+        found += left_out(tree, module)
+        classes = [node for node in tree.body if isinstance(node, ast.ClassDef) and node.name in names]
+        found += [f"{module}.{node.name}.{attribute}" for node in classes for attribute in undeclared(node)]
     print(*found, sep="\n", end="\n" if found else "")
     print(f"{len(found)} public names without a type")
     return 1 if found else 0

@@ -23,7 +23,8 @@ class Step(Generic[T]):
     request of the flow."""
 
     def __init__(self, flow: "Flow", number: int) -> None:
-        self.flow, self.number = flow, number
+        self.flow: "Flow" = flow
+        self.number: int = number
 
     @property
     def name(self) -> str:
@@ -102,7 +103,7 @@ class Flow:
     has at most 4,096 steps, else `RequestFull`."""
 
     def __init__(self, name: str = "flow") -> None:
-        self.name = name
+        self.name: str = name
         self._rows: List[Tuple[int, Tuple[int, ...], Optional[Callable[..., Any]], str]] = []
         self._promises: List[int] = []
         self._plan: Optional[PlanCore] = None

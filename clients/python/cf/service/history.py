@@ -45,10 +45,13 @@ class History:
     `cf_look check` judges, `page()` what a browser shows of it, `script()` what `cf run` does again and `cf_look dot` draws."""
 
     def __init__(self, name: str, plan: "Optional[PlanCore]", facts: Tuple[Any, Any, Any, Any, List[str], List[Any], List[BaseException]]) -> None:
-        words, times, replies, told, self.names, self.values, self.errors = facts
-        self.name = name
+        words, times, replies, told, names, values, errors = facts
+        self.name: str = name
+        self.names: List[str] = names
+        self.values: List[Any] = values
+        self.errors: List[BaseException] = errors
         self.words: List[int] = _numbers("Q", words)
-        self.planned = [] if plan is None else [(form, of, call is not None) for form, of, call, _ in plan.rows]
+        self.planned: List[Tuple[int, Tuple[int, ...], bool]] = [] if plan is None else [(form, of, call is not None) for form, of, call, _ in plan.rows]
         self._times, self._replies = _numbers("q", times), _numbers("I", replies)
         self._told: Dict[int, List[Tuple[int, Told]]] = {}
         self._entries: Optional[List[Entry]] = None

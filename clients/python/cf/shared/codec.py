@@ -14,7 +14,8 @@ class RemoteError(RuntimeError):
 
     def __init__(self, kind: str, text: str) -> None:
         super().__init__(kind, text)
-        self.kind, self.text = kind, text
+        self.kind: str = kind
+        self.text: str = text
 
     def __str__(self) -> str:
         return f"{self.kind}: {self.text}"

@@ -82,20 +82,25 @@ class Desk:
     `patience` is for how many seconds an engine may be silent."""
 
     def __init__(self, store: Store, opened: Opened, session: int, patience: float = 60, note: Optional[Callable[..., None]] = None) -> None:
-        self.store, self.name, self.session, self.opened = store, opened.name, session, opened
-        self.plan = SharedPlan(opened.plan, opened.name)
+        self.store: Store = store
+        self.name: str = opened.name
+        self.session: int = session
+        self.opened: Opened = opened
+        self.plan: SharedPlan = SharedPlan(opened.plan, opened.name)
         self._room = min(ROOM, MOST_STAGES - len(self.plan.rows))
         self._ledger = self._made()
         self.forms: List[Tuple[int, Tuple[int, ...]]] = [(form, of) for form, of, _, _ in self.plan.rows]
-        self.kinds = [kind for kind, _ in self.plan.core.start]
-        self.told = [Told(*told) for _, told in self.plan.core.start]
-        self.places = [0] * len(self.forms)  # where each was settled
+        self.kinds: List[int] = [kind for kind, _ in self.plan.core.start]
+        self.told: List[Told] = [Told(*told) for _, told in self.plan.core.start]
+        self.places: List[int] = [0] * len(self.forms)  # where each was settled
         self.attached: Dict[int, int] = {}  # the place of the word that attached a stage
         self.links: Dict[int, int] = {}  # the promises that composing stages were linked to, with the places of those words
         self.claims: Dict[int, int] = {}  # the session whose claim of a stage is open
         self.ready: Set[int] = {number for number, kind in enumerate(self.kinds) if kind == IS_READY}
-        self.words, self._replies, self._sessions = array("Q"), bytearray(), array("Q")
-        self.who, self.lost, self.unknown = -1, 0, 0
+        self.words: "array[int]" = array("Q")
+        self._replies, self._sessions = bytearray(), array("Q")
+        self.who: int = -1
+        self.lost = self.unknown = 0
         self._numbers: Dict[int, int] = {}
         self._landed, self._patience = False, patience
         self._count = int.from_bytes(os.urandom(3), "big") % COUNTS  # by chance: where two have one session, their tokens differ all the same

@@ -39,7 +39,8 @@ class Stage(_Future[T]):
 
     def __init__(self, request: "Request", number: int) -> None:
         super().__init__()
-        self.request, self.number = request, number
+        self.request: "Request" = request
+        self.number: int = number
 
     @property
     def name(self) -> str:
@@ -144,7 +145,8 @@ class Request:
     """A request in a store. A service opens it. Any thread may use it, and processes share it."""
 
     def __init__(self, service: "DurableService", desk: Desk) -> None:
-        self._service, self._desk, self.name = service, desk, desk.name
+        self._service, self._desk = service, desk
+        self.name: str = desk.name
         self._lock = threading.RLock()
         self._stages: Dict[int, Stage[Any]] = {}
         self.is_queued = self.is_leaving = False

@@ -26,7 +26,9 @@ class Broken(StoreError):
 
     def __init__(self, request: str, place: int, why: str) -> None:
         super().__init__(f"request {request!r}, place {place}: {why}")
-        self.request, self.place, self.why = request, place, why
+        self.request: str = request
+        self.place: int = place
+        self.why: str = why
 
 
 class Put(NamedTuple):
@@ -303,7 +305,7 @@ class Grouped(Store):
 
     def __init__(self, store: Store, most: int = 64) -> None:
         self._store, self._most = store, most
-        self.is_transactional = store.is_transactional
+        self.is_transactional: bool = store.is_transactional
         self._waiting: List[Tuple[Put, "_Slot"]] = []
         self._change = threading.Condition()
         self._is_closed = False
@@ -333,7 +335,8 @@ class Grouped(Store):
                 for _, slot in now:
                     slot.set(None, error)
                 continue
-            self.commits, self.puts = self.commits + 1, self.puts + len(now)
+            self.commits += 1
+            self.puts += len(now)
             for (_, slot), stands in zip(now, told):
                 slot.set(stands, None)
 

@@ -76,9 +76,10 @@ class DurableService(concurrent.futures.Executor):
         workers = min(32, (os.cpu_count() or 1) + 4) if max_workers is None else max_workers
         if workers < 0:
             raise ValueError("max_workers must not be below 0")
-        self.store = Grouped(store) if groups else store
-        self.codec, self.session = codec or Json(), new_session()
-        self.functions = Functions()
+        self.store: Store = Grouped(store) if groups else store
+        self.codec: Json = codec or Json()
+        self.session: int = new_session()
+        self.functions: Functions = Functions()
         if functions is not None:
             self.functions.add(functions)
         self._workers, self._takes_all, self._lease, self._note = workers, takes_all, lease, note
