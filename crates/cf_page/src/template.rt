@@ -35,18 +35,18 @@ pub(crate) const HEAD: &str = r##"<!doctype html>
   body { margin: 0; font: 14px/1.45 system-ui, sans-serif; color: var(--text); background: var(--page); height: 100vh; display: grid; grid-template-rows: auto auto 1fr auto; overflow: hidden }
   h1 { font-size: 17px; margin: 0; overflow: hidden; text-overflow: ellipsis; white-space: nowrap }
   h2 { font-size: 13px; margin: 0 }
-  header { display: flex; gap: 6px 14px; align-items: center; padding: 8px 12px 4px; flex-wrap: wrap }
+  header { display: flex; gap: 6px 12px; align-items: center; padding: 8px 12px 4px; flex-wrap: wrap }
   .tools { margin-left: auto; display: flex; gap: 6px }
   button, input[type=search] { font: inherit; color: inherit; background: var(--page); border: 1px solid var(--edge); border-radius: 6px; padding: 3px 9px; min-height: 28px }
   button { cursor: pointer }
   button:hover { background: var(--panel) }
   button[aria-pressed=true] { background: var(--accent); border-color: var(--accent); color: var(--onaccent) }
   :focus-visible { outline: 2px solid var(--accent); outline-offset: 2px }
-  .chips { display: flex; gap: 5px; flex-wrap: wrap }
-  .chip { border-radius: 12px; padding: 0 9px; min-height: 24px; font-size: 12.5px; border-width: 1.5px; white-space: nowrap }
+  .chips { display: flex; gap: 4px; flex-wrap: wrap; flex: 1 1 0; min-width: min(100%, 330px) }
+  .chip { border-radius: 12px; padding: 0 8px; min-height: 24px; font-size: 12.5px; border-width: 1.5px; white-space: nowrap }
   .chip:hover { filter: brightness(.96) }
   .chip[aria-pressed=true] { outline: 2px solid var(--text); outline-offset: 1px }
-  .chip.none { opacity: .55 }
+  
   #verdict { padding: 1px 10px; border-radius: 6px; border: 1.5px solid var(--value-s); background: var(--value); font-weight: 600; overflow-wrap: anywhere }
   #verdict.not { border: 3px double var(--failed-s); background: var(--failed) }
   .stage.cause > rect { stroke-width: 4.5 } .edge.cause { stroke: var(--failed-s); stroke-width: 4; opacity: 1 }
@@ -70,7 +70,7 @@ pub(crate) const HEAD: &str = r##"<!doctype html>
   #find input { flex: 1; min-width: 60px }
   #count { font-size: 12.5px; color: var(--soft); white-space: nowrap }
   #events { contain: strict; list-style: none; margin: 0; padding: 0; overflow: auto; border-top: 1px solid var(--line) }
-  #events li { padding: 2px 8px 2px 6px; border-left: 4px solid transparent; cursor: pointer; display: grid; grid-template-columns: 74px 1fr; gap: 0 8px }
+  #events li { padding: 2px 8px 2px 6px; border-left: 4px solid transparent; cursor: pointer; display: grid; grid-template-columns: var(--when, 74px) 1fr; gap: 0 8px }
   #events time { text-align: right; color: var(--soft); font-variant-numeric: tabular-nums; font-size: 12.5px; padding-top: 1px }
   #events .later { color: var(--soft) }
   #events .now { background: var(--running); border-left-color: var(--accent); color: var(--text) }
@@ -101,6 +101,8 @@ pub(crate) const HEAD: &str = r##"<!doctype html>
   .stage.s6 > rect { stroke-dasharray: 4 3 } .stage.s7 > rect { stroke-dasharray: 2 3 }
   .chip { background: var(--f); border-color: var(--c); color: var(--text) }
   .chip i { font-style: normal; font-weight: 700; color: var(--c) }
+  .chip span { display: inline-block; text-align: left; font-variant-numeric: tabular-nums }
+  .chip.none { background: none; border-color: var(--line); color: var(--soft) }
   .absent { opacity: .16 }
   .dim { opacity: .22 }
   .stage.changed > rect { filter: drop-shadow(0 0 4px var(--c)) }
@@ -126,7 +128,11 @@ pub(crate) const HEAD: &str = r##"<!doctype html>
   dialog table { border-spacing: 10px 3px; text-align: left }
   kbd { border: 1px solid var(--edge); border-radius: 4px; padding: 0 5px; font: 12.5px ui-monospace, monospace; background: var(--panel) }
   .hidden { position: absolute; width: 1px; height: 1px; overflow: hidden; clip-path: inset(50%) }
-  @media (max-width: 820px) { body { height: auto; overflow: auto; grid-template-rows: auto auto auto auto } main { grid-template-columns: 1fr } #split { display: none } #view { height: 56vh } #side { border-left: 0; height: 70vh } }
+  @media (max-width: 820px) {
+    body { height: auto; overflow: auto; grid-template: auto auto auto auto / minmax(0, 1fr) } main, #bar { grid-template-columns: minmax(0, 1fr) }
+    #split, .tools kbd { display: none } .chips { order: 1 } #bar .keys { flex-wrap: wrap } #where { width: auto; text-align: left } #said { white-space: normal; height: 42px }
+    #view { height: 56vh } #side { border-left: 0; height: 70vh }
+  }
   @media print {
     * { print-color-adjust: exact; -webkit-print-color-adjust: exact }
     body { display: block; height: auto; overflow: visible } #bar .keys, #track, .tools, .zoom, #find, #split, #scale, dialog { display: none !important }
@@ -188,7 +194,13 @@ const make = (name, attrs, parent, text) => { const it = document.createElementN
 const html = (name, props, ...kids) => { const it = Object.assign(document.createElement(name), props); it.append(...kids); return it };
 // What there is to say of a state behind its word.
 const rest = (s, t) => t === WORDS[s] || !t ? "" : t.startsWith(WORDS[s] + ", ") ? t.slice(WORDS[s].length) : ", " + t;
-const cut = (t, most) => t.length > most ? t.slice(0, most - 1) + "…" : t;
+// A text that is cut where it is wider than so many points in this font.
+const pen = document.createElement("canvas").getContext("2d"), family = getComputedStyle(document.body).fontFamily;
+const cut = (t, wide, font = "12px") => {
+  pen.font = font + " " + family; if (pen.measureText(t).width <= wide) return t;
+  let a = 0, b = t.length; while (a < b) { const m = a + b + 1 >> 1; pen.measureText(t.slice(0, m) + "…").width <= wide ? a = m : b = m - 1 }
+  return t.slice(0, a).replace(/[\ud800-\udbff]$/, "") + "…";
+};
 const clamp = (v, a, b) => Math.max(a, Math.min(b, v));
 const caller = who => D.lanes[who] || "caller " + who;
 const name = n => n + " " + S[n][0];
@@ -211,7 +223,8 @@ const plan = el("plan"), world = make("g", {}, plan), edgeLayer = make("g", {cla
 const edges = D.edges.map(([a, b, place]) => {
   const [ax, ay] = [S[a][3], S[a][4]], [bx, by] = [S[b][3], S[b][4]];
   let d;
-  if (bx <= ax + W / 2) {                       // upwards, downwards, or to the next line
+  if (a === b) d = `M${ax + W},${ay + 10}c28,-14 28,${H + 8} 0,${H - 20}`;
+  else if (bx <= ax + W / 2) {                       // upwards, downwards, or to the next line
     const up = by < ay, y = ay + (up ? 0 : H), v = by + (up ? H : 0), bend = Math.max(24, Math.abs(v - y) / 2);
     d = Math.abs(bx - ax) < 8 ? `M${ax + W / 2},${y}C${ax + W / 2},${y + (up ? -bend : bend)} ${bx + W / 2},${v + (up ? bend : -bend)} ${bx + W / 2},${v}`
       : `M${ax + W},${ay + H / 2}C${ax + W + 60},${ay + H / 2} ${ax + W + 20},${(y + v) / 2} ${(ax + bx + W) / 2},${(y + v) / 2}S${bx - 60},${by + H / 2} ${bx},${by + H / 2}`;
@@ -232,7 +245,7 @@ const dressed = S.map(() => false);
 const dress = n => {
   const s = S[n], g = boxes[n]; if (dressed[n]) return; dressed[n] = true;
   const pad = shape(s[1]) > 14 ? 14 : 8;
-  make("text", {x: pad, y: 16, class: "name"}, g, cut(name(n), pad > 8 ? 17 : 19));
+  make("text", {x: pad, y: 16, class: "name"}, g, cut(name(n), W - pad - 7, "600 12px"));
   make("text", {x: pad, y: 32, class: "glyph"}, g); make("text", {x: pad + 17, y: 32}, g);
   make("rect", {x: -4, y: -4, width: W + 8, height: H + 8, rx: shape(s[1]) + 4, class: "ring"}, g); make("text", {x: W / 2, y: 29, class: "big"}, g, n); make("text", {x: W / 2, y: 26, class: "wide"}, g); make("title", {}, g);
   shown[n] = null; paint(n, place, new Set(glow));
@@ -278,14 +291,15 @@ const lanes = () => {
   runs.textContent = ""; ends = D.timed && N ? Math.max(1, E[N - 1][5]) : 1;
   const wide = runsWide = runs.clientWidth || 900, high = lanesHigh + 24;
   runs.setAttribute("viewBox", `0 0 ${wide} ${high}`); runs.style.height = high + "px";
-  for (let k = 0; k <= 5; k++) { const x = 104 + (wide - 118) * k / 5; make("line", {x1: x, x2: x, y1: 0, y2: high - 18, class: "grid"}, runs); make("text", {x, y: high - 5, "text-anchor": k ? k < 5 ? "middle" : "end" : "start", class: "soft"}, runs, byTime ? time(Math.round(ends * k / 5)) : Math.round((N + 1) * k / 5)) }
-  seen.forEach((who, k) => { make("line", {x1: 0, x2: wide, y1: tops[k + 1] ?? lanesHigh, y2: tops[k + 1] ?? lanesHigh, class: "grid"}, runs); make("text", {x: 12, y: tops[k] + 15}, runs, cut(caller(who), 13)) });
+  const marks = clamp(Math.min((wide - 118) / 70 | 0, byTime ? ends : N), 1, 5);
+  for (let k = 0; k <= marks; k++) { const m = Math.round((byTime ? ends : N) * k / marks), x = byTime ? 104 + (wide - 118) * m / ends : X(m); make("line", {x1: x, x2: x, y1: 0, y2: high - 18, class: "grid"}, runs); make("text", {x, y: high - 5, "text-anchor": k ? x < wide - 24 ? "middle" : "end" : "start", class: "soft"}, runs, byTime ? time(m) : m) }
+  seen.forEach((who, k) => { make("line", {x1: 0, x2: wide, y1: tops[k + 1] ?? lanesHigh, y2: tops[k + 1] ?? lanesHigh, class: "grid"}, runs); make("text", {x: 12, y: tops[k] + 15}, runs, cut(caller(who), 88)) });
   const lane = new Map(seen.map((who, k) => [who, tops[k]]));
   D.runs.forEach((r, k) => {
     const [who, n, from, to, late] = r, x = X(from), w = Math.max(X(to ?? N) - x, 2.5), last = to ? E[to - 1][4].find(c => c[0] === n) : null;
     const s = late ? 2 : !to ? 5 : last ? last[1] : 0, g = make("g", {class: "run s" + s, "data-k": from}, runs);
     const y = lane.get(who) + line[k] * LANE; make("rect", {x, y: y + 3, width: w, height: LANE - 6, rx: 3, "stroke-dasharray": late ? "4 2" : ""}, g);
-    if (w > 34) make("text", {x: x + 4, y: y + 15}, g, cut(name(n), w / 7 | 0));
+    if (w > 34) make("text", {x: x + 4, y: y + 15}, g, cut(name(n), w - 8));
     make("title", {}, g, `${caller(who)} ran ${name(n)}` + (!to ? ", not finished" : D.timed ? " for " + time(at(to) - at(from)) : "") + (late ? ", too late" : ""));
     g.onclick = () => { choose(n); go(from) }; r.g = g; r.off = false;
   });
@@ -301,7 +315,7 @@ const lanes = () => {
 el("scale").onclick = () => { byTime = !byTime; lanes(); show() };
 
 // ---- The list ----
-const list = el("events"), items = [], MOST = 400; let from = 0, till = 0, listing = null;
+const list = el("events"), items = [], MOST = 400; if (!D.timed) list.style.setProperty("--when", "38px"); let from = 0, till = 0, listing = null;
 const item = k => {
   if (items[k]) return items[k]; const e = E[k];
   const li = html("li", {onclick: () => { choose(e[1]); go(k + 1) }}, html("time", {textContent: D.timed ? time(e[5]) : k + 1}), html("span", {textContent: e[2]}));
@@ -354,7 +368,7 @@ const paint = (n, k, changed) => {
   const cls = `stage s${c}${now ? "" : " absent"}${changed.has(n) ? " changed" : ""}${n === chosen ? " chosen" : ""}${chain.length > 1 && chain.includes(n) ? " cause" : ""}${dim ? " dim" : ""}`, text = now ? c < 4 ? now[2] : c === 7 || c === 6 ? now[2] || WORDS[c] : WORDS[c] : "";
   const key = cls + "|" + text; if (shown[n] === key) return; shown[n] = key;
   const said = `${name(n)}, ${s[1]}, ${now ? WORDS[c] + (text && text !== WORDS[c] ? ": " + text : "") : "not there yet"}`; box.setAttribute("class", cls); box.setAttribute("aria-label", said); if (!dressed[n]) return;
-  box.children[2].textContent = now ? GLYPHS[c] : ""; box.children[5].textContent = n + (now ? " " + GLYPHS[c] : ""); box.children[6].textContent = cut((now ? GLYPHS[c] + " " : "") + name(n), 12); box.children[3].textContent = cut(text, s[1] === "source" ? 15 : 18);
+  box.children[2].textContent = now ? GLYPHS[c] : ""; box.children[5].textContent = n + (now ? " " + GLYPHS[c] : ""); box.children[6].textContent = cut((now ? GLYPHS[c] + " " : "") + name(n), W - 12, "600 18px"); box.children[3].textContent = cut(text, W - (s[1] === "source" ? 42 : 32));
   box.lastChild.textContent = said;
 };
 const keepInSight = k => { const li = k ? items[k - 1] : null; if (li && li.isConnected) { const t = li.offsetTop - list.offsetTop; if (t < list.scrollTop || t + li.offsetHeight > list.scrollTop + list.clientHeight) list.scrollTop = t - list.clientHeight / 2 } else if (!k) list.scrollTop = 0 };
@@ -377,7 +391,7 @@ const show = () => {
   el("said").textContent = ""; if (e) { el("said").append(e[2]); const ended = e[4].filter(c => c[1] < 4); if (ended.length) el("said").append(html("small", {textContent: " → " + ended.slice(0, 3).map(c => `${name(c[0])}: ${c[1] ? WORDS[c[1]] + rest(c[1], c[2]) : c[2]}`).join("; ") + (ended.length > 3 ? ` and ${ended.length - 3} more` : "")})) }
   const x = X(k); hand.setAttribute("x1", x); hand.setAttribute("x2", x);
   D.runs.forEach(r => { const off = r[2] > k; if (r.off !== off) r.g.classList.toggle("off", r.off = off) });
-  if (counted !== (counted = counts + "|" + only)) [...el("chips").children].forEach((b, s) => { b.lastChild.textContent = ` ${WORDS[s]} ${counts[s]}`; b.classList.toggle("none", !counts[s]); b.setAttribute("aria-pressed", only === s) });
+  if (counted !== (counted = counts + "|" + only)) [...el("chips").children].forEach((b, s) => { b.lastChild.textContent = counts[s]; b.classList.toggle("none", !counts[s]); b.setAttribute("aria-pressed", only === s) });
   about(); clearTimeout(noted); noted = setTimeout(() => history.replaceState(null, "", `#event=${k}` + (chosen === null ? "" : `&stage=${chosen}`)), 120);
 };
 let speaks;
@@ -393,7 +407,7 @@ document.querySelectorAll("[data-go]").forEach(b => b.onclick = () => { const g 
 el("at").max = N; el("at").oninput = () => go(+el("at").value);
 el("in").onclick = () => zoom(1.3); el("out").onclick = () => zoom(1 / 1.3); el("fit").onclick = fit;
 const setFollow = on => { follow = on; el("follow").setAttribute("aria-pressed", on) }; el("follow").onclick = () => setFollow(!follow);
-WORDS.forEach((w, s) => el("chips").append(html("button", {className: "chip s" + s, onclick: () => { only = only === s ? null : s; show() }}, html("i", {textContent: GLYPHS[s]}), w)));
+WORDS.forEach((w, s) => el("chips").append(html("button", {className: "chip s" + s, onclick: () => { only = only === s ? null : s; show() }}, html("i", {textContent: GLYPHS[s]}), ` ${w} `, html("span", {style: `min-width: ${String(S.length).length}ch`}))));
 
 // ---- Search ----
 const search = () => {
