@@ -103,8 +103,7 @@ def _drop(store: Store, at: argparse.Namespace) -> List[str]:
     before, dropped = store.now() - at.days * 86400, 0
     for it in store.listing():
         if it.closed is not None and it.closed <= before and (not at.names or it.name in at.names):
-            store.drop(it.name)
-            dropped += 1
+            dropped += store.drop(it.name, it.words)  # (unless it goes on meanwhile)
     return [f"{dropped} dropped"]
 
 

@@ -35,7 +35,11 @@ class Json:
 
     def write(self, value: Any) -> bytes:
         """The bytes of a value."""
-        return json.dumps(value, separators=(",", ":"), ensure_ascii=False).encode()
+        text = json.dumps(value, separators=(",", ":"), ensure_ascii=False)
+        try:
+            return text.encode()
+        except UnicodeEncodeError:  # half of a pair, as in the name of a file that isn't UTF-8
+            return json.dumps(value, separators=(",", ":")).encode()
 
     def read(self, given: bytes) -> Any:
         """The value of some bytes."""
@@ -45,10 +49,17 @@ class Json:
         """The bytes of an exception."""
         if isinstance(error, RemoteError):
             return self.write({"error": error.kind, "text": error.text})
-        said: Dict[str, Any] = {"error": type(error).__name__, "text": str(error)}
         try:
-            return self.write({**said, "args": list(error.args)})
-        except (TypeError, ValueError):
+            text = str(error)
+        except Exception:
+            text = "(it can't be shown)"
+        said: Dict[str, Any] = {"error": type(error).__name__, "text": text}
+        args = list(error.args)
+        if isinstance(error, OSError) and error.filename is not None and len(args) == 2:
+            args.append(error.filename)  # (which its arguments leave out)
+        try:
+            return self.write({**said, "args": args})
+        except Exception:
             return self.write(said)
 
     def read_error(self, given: bytes) -> BaseException:

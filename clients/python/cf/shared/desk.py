@@ -4,7 +4,7 @@ import json
 import os
 import time
 from array import array
-from typing import Any, Callable, Dict, List, NamedTuple, Optional, Sequence, Set, Tuple
+from typing import Any, Callable, Dict, List, NamedTuple, Optional, Sequence, Set, Tuple, TypeVar
 
 from .. import values
 from .._library import CNews
@@ -12,14 +12,15 @@ from ..service._plain import PlanCore, _grow, _Ledger, _told
 from ..service.history import History, Told
 from ..service.words import ANSWER, ATTACH, CLAIM, FINISH, IS_CLAIMED, IS_READY, IS_SETTLED, LINKS, MOST_STAGES, NUMBER, PENDING, RequestFull
 from .codec import Json
-from .plans import SharedPlan
-from .rows import COUNT_BITS, Broken, Opened, Put, Store, Unknown
+from .plans import SharedPlan, said_in
+from .rows import COUNT_BITS, Broken, Opened, Put, Store, Unknown, gone, sure
 
 CALLERS = int(os.environ.get("CF_CALLERS", "64"))  # fewer, for tests of sessions that share a number
 COUNTS = 1 << COUNT_BITS
 ROOM = 8  # stages that may be attached at first
 LONG_GONE = 100  # leases
 NOT_YET = Told(PENDING, 0, 0, 0, 0)
+T = TypeVar("T")
 Wanted = Sequence[Tuple[int, Optional[bytes]]]  # words, each with its payload
 
 
@@ -107,6 +108,9 @@ class Desk:
         self._note = note or (lambda *_: None)
         self._behind: Dict[int, List[int]] = {}
         self._own: Dict[int, bytes] = {}  # the payloads that this desk put
+        self._said: Dict[int, Dict[str, Any]] = {}
+        self._doubt: Set[int] = set()  # the tokens of words of which it isn't known whether they stand
+        self.found: Dict[int, Done] = {}  # claims of this session's that were granted, as it found when it read them
         for number, (_, of) in enumerate(self.forms):
             self._follow(number, of)
 
@@ -124,9 +128,9 @@ class Desk:
         """Whether a stage is settled, by what is seen."""
         return self.kinds[stage] == IS_SETTLED
 
-    def is_done(self) -> bool:
-        """Whether all stages are settled, and no claim is open."""
-        return not self.claims and all(kind == IS_SETTLED for kind in self.kinds)
+    def is_done(self, is_gone: Callable[[int], bool] = lambda session: False) -> bool:
+        """Whether all stages are settled, and no claim is open, but for those of sessions that are gone."""
+        return all(kind == IS_SETTLED for kind in self.kinds) and all(is_gone(session) for session in list(self.claims.values()))
 
     def behind(self, stage: int) -> List[int]:
         """The stages that have it as a source."""
@@ -153,13 +157,22 @@ class Desk:
                 stands = self.store.append(put)
             except Unknown:
                 self.unknown += 1
-                stands = self.sure(lambda: self.store.append(put))
+                stands = self._put_again(put)
+            if stands == []:
+                raise gone(self.name)
             if stands is None or stands[0][1] == put.entries[0][1]:  # the second: its token stands, so it had landed
                 done = self.landed(put)
                 others += [self._take(*entry) for entry in (stands or [])[len(put.entries):]]
                 return done, others
             self.lost += 1
             others += [self._take(*entry) for entry in stands]
+
+    def _put_again(self, put: Put) -> Optional[List[Tuple[int, int]]]:
+        try:
+            return self.sure(lambda: self.store.append(put))  # type: ignore[no-any-return]
+        except Unknown:
+            self._doubt.update(token for _, token in put.entries)
+            raise
 
     def put_of(self, wanted: Wanted) -> Put:
         """A put of these words behind what is seen, with new tokens."""
@@ -178,16 +191,10 @@ class Desk:
 
     def sure(self, call: Callable[[], Any]) -> Any:
         """What a call is answered that may be made again, whatever became of it before."""
-        until, pause = time.monotonic() + self._patience, 0.01
-        while True:
-            try:
-                return call()
-            except Unknown as error:
-                self.unknown += 1
-                if time.monotonic() > until:
-                    raise Unknown(f"request {self.name!r}, place {self.place}: the store doesn't answer: {error}") from error
-                time.sleep(pause)
-                pause = min(pause * 2, 0.5)
+        return sure(call, self.name, self.place, self._patience, self._count_unknown)
+
+    def _count_unknown(self) -> None:
+        self.unknown += 1
 
     def _free_number(self) -> int:
         return next((who for who in range(CALLERS) if who not in self._numbers), self.session % CALLERS)
@@ -215,7 +222,18 @@ class Desk:
             self.claims.pop(stage, None)
             if word >> 32 & 0xF == LINKS and not reply[ANSWER]:
                 self.links[word & 0xFFF] = place
-        return Done(place, word, token, reply, self._changed(self._ledger.news[:self._ledger.changed.value], place))
+        done = Done(place, word, token, reply, self._changed(self._ledger.news[:self._ledger.changed.value], place))
+        if token in self._doubt:
+            self._find(done, who)
+        return done
+
+    def _find(self, done: Done, who: int) -> None:
+        """A word of this desk's stands, of which it wasn't told: its number is this desk's, and what it claimed is for this desk to run."""
+        self._doubt.discard(done.token)
+        self._landed, self.who = True, who
+        self._note("did", self.name, done.place, done.word, done.reply)
+        if done.word >> 56 == CLAIM and not done.reply[ANSWER]:
+            self.found[done.word >> 36 & 0xFFF] = done
 
     def _add(self, number: int, word: int, place: int) -> None:
         low = word & 0xFFFFFFFF
@@ -282,14 +300,17 @@ class Desk:
         """What the plan, or the payload of the word that attached it, says of a stage: its name, and its function's name and version."""
         if stage < len(self.plan.said):
             return self.plan.said[stage]
-        place = self.attached[stage]
+        if stage not in self._said:
+            self._said[stage] = self.read(self.attached[stage], lambda given: said_in(json.loads(given.decode())))
+        return self._said[stage]
+
+    def read(self, place: int, reader: Callable[[bytes], T]) -> T:
+        """What a payload says. `Broken` where it can't be read."""
+        given = self.payload(place)
         try:
-            read = json.loads(self.payload(place).decode())
-        except ValueError as error:
-            raise Broken(self.name, place, f"its payload can't be read: {error}") from None
-        if not isinstance(read, dict):
-            raise Broken(self.name, place, "its payload names no function")
-        return read
+            return reader(given)
+        except Exception as error:
+            raise Broken(self.name, place, f"its payload can't be read: {error!r}") from None
 
     def payload(self, place: int) -> bytes:
         """The payload of a word. `Broken` where there is none."""
@@ -312,10 +333,13 @@ class Desk:
         errors: List[BaseException] = [RuntimeError("no payload")] * self.place
         for place, given in found.items():
             is_error = self.words[place - 1] >> 56 == 2 or self.words[place - 1] >> 32 & 0xF == 2
-            if is_error:
-                errors[place] = codec.read_error(given)
-            else:
-                values_[place] = codec.read(given)
+            try:
+                if is_error:
+                    errors[place] = codec.read_error(given)
+                else:
+                    values_[place] = codec.read(given)
+            except Exception as error:
+                raise Broken(self.name, place, f"its payload can't be read: {error!r}") from None
         told = array("I")
         for number, it in enumerate(self.told):
             told.extend((self.places[number], number, *it[:4], it.number % 2**32))
@@ -335,27 +359,30 @@ def _names(word: int) -> bool:
 
 
 class Watcher:
-    """Which sessions are gone, by this process's own clock: those whose beat stood still for some seconds in which the engine answered."""
+    """Which sessions are gone, by this process's own clock: those whose beat stood still for some seconds in which the engine answered. A
+    pause between two looks counts for half of these seconds at most: this process stood still then, or the machine, and others did, too."""
 
     def __init__(self, store: Store, seconds: float) -> None:
         self._store, self._seconds = store, seconds
         self._seen: Dict[int, Tuple[Optional[int], float]] = {}
+        self._time, self._last = 0.0, time.monotonic()
 
     def look(self) -> None:
         """Reads all beats."""
+        now = time.monotonic()
+        self._time, self._last = self._time + min(now - self._last, self._seconds / 2), now
         try:
             beats = self._store.beats()
         except Unknown:
             self._seen.clear()  # while the engine was away nobody could beat
             return
-        now = time.monotonic()
         for session, count in beats.items():
             if self._seen.get(session, (None, 0))[0] != count:
-                self._seen[session] = (count, now)
+                self._seen[session] = (count, self._time)
 
     def forget(self) -> None:
         """Drops the beats of sessions that are long gone: nobody needs them, and one that comes back beats anew."""
-        until = time.monotonic() - LONG_GONE * self._seconds
+        until = self._time - LONG_GONE * self._seconds
         for session, (count, since) in list(self._seen.items()):
             if count is not None and since < until:
                 self._store.drop_beat(session)
@@ -365,7 +392,7 @@ class Watcher:
         """Whether a session's beat stood still for so long."""
         known = self._seen.get(session)
         if known is None:
-            self._seen[session] = (None, time.monotonic())  # one that never beat counts from now on
+            self._seen[session] = (None, self._time)  # one that never beat counts from now on
             return False
-        return time.monotonic() - known[1] > self._seconds
+        return self._time - known[1] > self._seconds
 

@@ -9,7 +9,7 @@ import weakref
 from typing import Any, Dict, List, Optional, Sequence, Tuple
 from urllib.parse import quote, unquote
 
-from .rows import Entry, Listed, Opened, Put, Store, StoreError, Timer, Unknown
+from .rows import Entry, Listed, Opened, Put, Store, StoreError, Timer, Unknown, gone, in_a_row
 
 MOST_ENTRIES = 40  # in a put: a transaction of etcd has 128 operations at most by default
 SECONDS = 3  # for an answer
@@ -22,6 +22,7 @@ class Etcd(Store):
     def __init__(self, addresses: str) -> None:
         self._addresses, self._local = addresses.split(","), threading.local()
         self._turn = 0
+        self._born: Dict[str, str] = {}  # the revisions in which requests were opened, which tell one from another of its name
         self._made: "weakref.WeakSet[http.client.HTTPConnection]" = weakref.WeakSet()
         self._get(b"cf/r/", keys_only=True)  # whether a majority answers
 
@@ -39,6 +40,8 @@ class Etcd(Store):
             told = answer.read()
             if answer.status == 200:
                 return json.loads(told)
+            if answer.status == 400:  # it is too large, say: asked again it is refused again
+                raise StoreError(f"etcd refuses it: {told[:200]!r}")
             why = f"{answer.status} {told[:200]!r}"
         except (OSError, http.client.HTTPException, ValueError) as lost:
             why = repr(lost)
@@ -63,11 +66,18 @@ class Etcd(Store):
         return found
 
     def find(self, name: str) -> Optional[Opened]:
-        found = self._get(_key("r", name))
+        found = self._post("/v3/kv/range", _range(_key("r", name))).get("kvs", [])
         if not found:
             return None
-        said = json.loads(found[0][1])
+        said = json.loads(base64.b64decode(found[0]["value"]))
+        self._born[name] = found[0]["create_revision"]
         return Opened(name, said["plan"], said["opened"])
+
+    def _is_there(self, name: str) -> Any:
+        """Compares whether a request is the one that was opened."""
+        if name not in self._born and self.find(name) is None:
+            raise gone(name)
+        return {"key": _b64(_key("r", name)), "target": "CREATE", "create_revision": self._born[name]}
 
     def ends(self) -> Dict[str, int]:
         return {_name(key): int(value) for key, value in self._get(b"cf/o/", b"cf/o0", serializable=True)}
@@ -97,12 +107,15 @@ class Etcd(Store):
         many = len(self.read(name))
         self._txn([_absent(_key("o", name))], [_put(_key("o", name), b"%d" % many)])
 
-    def drop(self, name: str) -> None:
-        for kind in ("w", "p", "t"):
-            key = _key(kind, name) + b"/"
-            self._post("/v3/kv/deleterange", _range(key, _after(key)))
-        for kind in ("r", "o", "c"):
-            self._post("/v3/kv/deleterange", {"key": _b64(_key(kind, name))})
+    def drop(self, name: str, at: Optional[int] = None) -> bool:
+        ranges = [_range(key, _after(key)) for key in (_key(kind, name) + b"/" for kind in "wpt")] + [_range(_key(kind, name)) for kind in "roc"]
+        is_so = [] if at is None else [_absent(_key("o", name)), _absent(_place("w", name, at))]
+        if at:
+            is_so.append({"key": _b64(_place("w", name, at - 1)), "target": "VERSION", "result": "GREATER", "version": 0})
+        told = self._txn([self._is_there(name), *is_so], [{"request_delete_range": it} for it in ranges])
+        if told.get("succeeded"):
+            self._born.pop(name, None)
+        return bool(told.get("succeeded"))
 
     # Words.
 
@@ -116,14 +129,17 @@ class Etcd(Store):
         puts = [_put(_place("w", put.request, put.at + k), b"%x %x" % entry) for k, entry in enumerate(put.entries)]
         puts += [_put(_place("p", put.request, place), payload) for place, payload in put.payloads.items()]
         puts.append(_put(_key("o", put.request), b"%d" % (put.at + len(put.entries))))
-        told = self._txn([_absent(key)], puts, [{"request_range": _range(key, end)}])
+        told = self._txn([_absent(key), self._is_there(put.request)], puts, [{"request_range": _range(key, end)}])
         if told.get("succeeded"):
             return None
-        return [_entry(base64.b64decode(it["value"])) for it in told["responses"][0]["response_range"]["kvs"]]
+        stands = told["responses"][0]["response_range"].get("kvs", [])
+        if not stands:
+            raise gone(put.request)
+        return _entries(put.request, put.at, [(base64.b64decode(it["key"]), base64.b64decode(it["value"])) for it in stands])
 
     def read(self, name: str, at: int = 0) -> List[Entry]:
         # Any member's answer will do: a stale one is a shorter prefix.
-        return [_entry(value) for _, value in self._get(_place("w", name, at), _after(_key("w", name) + b"/"), serializable=True)]
+        return _entries(name, at, self._get(_place("w", name, at), _after(_key("w", name) + b"/"), serializable=True))
 
     def payloads(self, name: str, places: Sequence[int]) -> Dict[int, bytes]:
         if len(places) > 8:
@@ -228,6 +244,13 @@ def _absent(key: bytes) -> Any:
     return {"key": _b64(key), "target": "VERSION", "version": 0}
 
 
-def _entry(value: bytes) -> Entry:
-    word, token = value.split()
-    return int(word, 16), int(token, 16)
+def _entries(name: str, at: int, pairs: Sequence[Tuple[bytes, bytes]]) -> List[Entry]:
+    return in_a_row(name, at, [(int(key[-6:]), *_entry(value)) for key, value in pairs])
+
+
+def _entry(value: bytes) -> Tuple[Any, Any]:
+    try:
+        word, token = value.split()
+        return int(word, 16), int(token, 16)
+    except ValueError:
+        return repr(value), "nothing"

@@ -22,7 +22,7 @@ class SharedPlan:
             if read["cf"] != FORMAT:
                 raise ValueError(f"it is of version {read['cf']}")
             self.flow = str(read["flow"])
-            self.said: List[Dict[str, Any]] = list(read["stages"])
+            self.said: List[Dict[str, Any]] = [said_in(it) for it in read["stages"]]
             forms = [FORMS.index(it["form"]) for it in self.said]
             rows = [(form, tuple(it.get("of", [])), None if form in HAS_NO_FUNCTION else _nobody, str(it["name"]))
                     for form, it in zip(forms, self.said)]
@@ -34,6 +34,14 @@ class SharedPlan:
     def rows(self) -> List[Tuple[int, Tuple[int, ...], Any, str]]:
         """Form, sources, function or None, and name of each stage."""
         return self.core.rows
+
+
+def said_in(read: Any) -> Dict[str, Any]:
+    """What was read of a stage, if it is something of the kind: its name, and its function's name, version and arguments."""
+    kinds = {"name": str, "fn": str, "version": int, "args": list, "kwargs": dict, "again": int, "to": int}
+    if not isinstance(read, dict) or "name" not in read or any(name in read and not isinstance(read[name], kind) for name, kind in kinds.items()):
+        raise ValueError(f"it says nothing of a stage: {str(read)[:80]}")
+    return read
 
 
 def _nobody(*_: Any) -> None:

@@ -7,7 +7,7 @@ from typing import Any, Dict, Generator, Iterator, List, Optional, Sequence, Tup
 
 import psycopg2  # type: ignore[import]
 
-from .rows import Entry, Listed, Opened, Put, Store, StoreError, Timer, Transaction, Unknown
+from .rows import Entry, Listed, Opened, Put, Store, StoreError, Timer, Transaction, Unknown, gone, in_a_row
 
 SCHEMA = """
     create table if not exists cf_request (id bigserial primary key, name text not null unique, plan text not null,
@@ -25,9 +25,11 @@ NOW = "extract(epoch from clock_timestamp())::double precision"
 MARK = "select pg_snapshot_xmin(pg_current_snapshot())::text::bigint"
 SET_UP = 6_318_042  # the number of the lock under which tables are made
 PREPARED = """
-    prepare cf_put(bigint, int, bigint, bigint, bytea) as insert into cf_word values ($1, $2, $3, $4, $5) on conflict do nothing;
-    prepare cf_read(bigint, int) as select word, token from cf_word where request = $1 and at >= $2 order by at;
+    prepare cf_put(bigint, int, bigint, bigint, bytea) as insert into cf_word select id, $2, $3, $4, $5 from cf_request where id = $1
+        on conflict do nothing;
+    prepare cf_read(bigint, int) as select at, word, token from cf_word where request = $1 and at >= $2 order by at;
 """
+PUT_ALL = "insert into cf_word select id, at, word, token, payload from (values %s) as v(request, at, word, token, payload) join cf_request on id = request"
 SAFE = {"fsync": ("on",), "full_page_writes": ("on",), "transaction_read_only": ("off",)}
 LEAST_BETWEEN = 0.01  # seconds between two notices: the first goes at once
 
@@ -36,7 +38,8 @@ class Postgres(Store):
     """A database. Each connection sets `synchronous_commit` to on, where the server hasn't more; a server without `fsync` or
     `full_page_writes`, or one that can only be read, is refused. With `is_unsafe` it answers before it has written.
 
-    Waiters are woken by NOTIFY of a connection of its own, behind the commit: within the put it takes a lock of the whole database."""
+    Waiters are woken by NOTIFY of a connection of its own, behind the commit: within the put it takes a lock of the whole database. That
+    connection doesn't wait for the disk, since a notice that a crash has lost was for nobody."""
 
     is_transactional = True
 
@@ -67,7 +70,7 @@ class Postgres(Store):
                 found = cursor.fetchone()[0]
                 if found not in wanted:
                     db.close()
-                    raise StoreError(f"{self._address}: {name} is {found}, with which words are lost or can't be put")
+                    raise StoreError(f"{db.info.host}:{db.info.port}: {name} is {found}, with which words are lost or can't be put")
             cursor.execute("show synchronous_commit")
             if self._is_unsafe or cursor.fetchone()[0] in ("off", "local"):
                 cursor.execute(f"set synchronous_commit = {'off' if self._is_unsafe else 'on'}")
@@ -77,8 +80,10 @@ class Postgres(Store):
     def _telling(self) -> Iterator[None]:
         try:
             yield
-        except (psycopg2.OperationalError, psycopg2.InterfaceError) as lost:
-            raise Unknown(str(lost).strip()) from None
+        except psycopg2.errors.UniqueViolation:
+            raise
+        except psycopg2.Error as error:
+            raise (Unknown if _is_lost(error) else StoreError)(str(error).strip()) from None
 
     @contextlib.contextmanager
     def _connection(self) -> Iterator[Any]:
@@ -86,22 +91,28 @@ class Postgres(Store):
         with self._telling():
             with self._lock:
                 db = self._free.pop() if self._free else None
-            if db is None:
-                db = self._connected()
-                with db.cursor() as cursor:
-                    cursor.execute(PREPARED)
             try:
+                if db is None:
+                    db = self._connected()
+                    with db.cursor() as cursor:
+                        cursor.execute(PREPARED)
                 with db.cursor() as cursor:
                     yield cursor
-            except (psycopg2.OperationalError, psycopg2.InterfaceError):
-                with contextlib.suppress(psycopg2.Error):
-                    db.close()
+            except psycopg2.Error as error:
+                if db is not None and _is_lost(error):
+                    with contextlib.suppress(psycopg2.Error):
+                        db.close()
                 raise
-            if db.closed or self._is_closed:
-                db.close()
-                return
-            with self._lock:
+            finally:
+                if db is not None and not db.closed:
+                    self._keep(db)
+
+    def _keep(self, db: Any) -> None:
+        with self._lock:
+            if not self._is_closed:
                 self._free.append(db)
+                return
+        db.close()
 
     def _ask(self, statement: str, *values: Any) -> List[Tuple[Any, ...]]:
         with self._connection() as cursor:
@@ -114,7 +125,7 @@ class Postgres(Store):
         if found is None:
             rows = self._ask("select id from cf_request where name = %s", name)
             if not rows:
-                raise StoreError(f"{self._address} has no request {name!r}")
+                raise gone(name)
             found = self._ids[name] = int(rows[0][0])
         return found
 
@@ -167,11 +178,17 @@ class Postgres(Store):
     def reopen(self, name: str) -> None:
         self._ask("update cf_request set closed = null, made_by = pg_current_xact_id() where name = %s and closed is not null", name)
 
-    def drop(self, name: str) -> None:
-        number = self._id(name)
-        self._ask("with words as (delete from cf_word where request = %s), timers as (delete from cf_timer where request = %s) "
-                  "delete from cf_request where id = %s", number, number, number)
-        self._ids.pop(name, None)
+    def drop(self, name: str, at: Optional[int] = None) -> bool:
+        is_so = "" if at is None else " and closed is not null and (select count(*) from cf_word where request = id) = %s"
+        with self._connection() as cursor:
+            cursor.execute(f"with gone as (delete from cf_request where id = %s{is_so} returning id), "
+                           "words as (delete from cf_word where request in (select id from gone)), "
+                           "timers as (delete from cf_timer where request in (select id from gone)) select id from gone",
+                           (self._id(name), *(() if at is None else (at,))))
+            dropped = bool(cursor.fetchall())
+        if dropped:
+            self._ids.pop(name, None)
+        return dropped
 
     # Words.
 
@@ -191,22 +208,30 @@ class Postgres(Store):
         with self._connection() as cursor:
             cursor.execute("execute cf_put(%s, %s, %s, %s, %s)", row)
             landed = cursor.rowcount == 1
-        return None if landed else self.read(put.request, put.at)
+        return None if landed else self._stands(put)
+
+    def _stands(self, put: Put) -> List[Entry]:
+        stands = self.read(put.request, put.at)
+        if not stands:
+            raise gone(put.request)
+        return stands
 
     def _append_all(self, puts: Sequence[Put], rows: Sequence[Tuple[Any, ...]]) -> List[Optional[List[Entry]]]:
         """All or none: where one place is taken nothing of the statement stands, and each is put by itself."""
         try:
-            self._ask("insert into cf_word values " + ",".join(["(%s,%s,%s,%s,%s)"] * len(rows)), *[it for row in rows for it in row])
-            return [None] * len(puts)
+            with self._connection() as cursor:
+                cursor.execute(PUT_ALL % ",".join(["(%s,%s,%s,%s,%s::bytea)"] * len(rows)), [it for row in rows for it in row])
+                if cursor.rowcount == len(rows):
+                    return [None] * len(puts)
         except psycopg2.errors.UniqueViolation:
-            if len(puts) == 1:
-                return [self.read(puts[0].request, puts[0].at)]
-            return [self._append_all([put], [(self._id(put.request), put.at + k, *entry, put.payloads.get(put.at + 1 + k))
-                                             for k, entry in enumerate(put.entries)])[0] for put in puts]
+            pass
+        if len(puts) == 1:
+            return [self._stands(puts[0])]
+        return [self._append_all([put], [(self._id(put.request), put.at + k, *entry, put.payloads.get(put.at + 1 + k))
+                                         for k, entry in enumerate(put.entries)])[0] for put in puts]
 
     def read(self, name: str, at: int = 0) -> List[Entry]:
-        number = self._id(name)
-        return [(int(word), int(token)) for word, token in self._ask("execute cf_read(%s, %s)", number, at)]
+        return in_a_row(name, at, self._ask("execute cf_read(%s, %s)", self._id(name), at))
 
     def payloads(self, name: str, places: Sequence[int]) -> Dict[int, bytes]:
         rows = self._ask("select at + 1, payload from cf_word where request = %s and at = any(%s) and payload is not null", self._id(name),
@@ -224,14 +249,20 @@ class Postgres(Store):
                     self._notifier.start()
 
     def _run_notifier(self) -> None:
+        db = None
         while True:
             self._changes.wait()
             if self._is_closed:
-                return
+                break
             self._changes.clear()
-            with contextlib.suppress(Unknown):
-                self._ask("notify cf")
+            with contextlib.suppress(Unknown), self._telling():
+                if db is None or db.closed:
+                    db = self._connected()
+                with db.cursor() as cursor:
+                    cursor.execute("set synchronous_commit = off; notify cf")
             time.sleep(LEAST_BETWEEN)
+        if db is not None:
+            db.close()
 
     def changed(self, seconds: float) -> None:
         with self._telling():
@@ -246,7 +277,7 @@ class Postgres(Store):
                     select.select([db], [], [], seconds)
                     db.poll()
                 db.notifies.clear()
-            except (psycopg2.OperationalError, psycopg2.InterfaceError):
+            except psycopg2.Error:
                 self._local.listens = None
                 raise
 
@@ -297,6 +328,11 @@ class Postgres(Store):
             self._free.clear()
 
 
+def _is_lost(error: psycopg2.Error) -> bool:
+    """Whether it isn't known what became of a statement: a cut connection may come as a `DatabaseError` without a kind."""
+    return isinstance(error, (psycopg2.OperationalError, psycopg2.InterfaceError)) or type(error) is psycopg2.DatabaseError
+
+
 class _Transaction(Transaction):
     def __init__(self, store: Postgres, db: Any, cursor: Any) -> None:
         self.connection, self._store, self._db = cursor, store, db
@@ -309,8 +345,8 @@ class _Transaction(Transaction):
         number = self._store._id(put.request)
         with self._store._telling():
             for k, entry in enumerate(put.entries):
-                self.connection.execute("insert into cf_word values (%s, %s, %s, %s, %s) on conflict do nothing",
-                                        (number, put.at + k, *entry, put.payloads.get(put.at + 1 + k)))
+                self.connection.execute("insert into cf_word select id, %s, %s, %s, %s from cf_request where id = %s on conflict do nothing",
+                                        (put.at + k, *entry, put.payloads.get(put.at + 1 + k), number))
                 if self.connection.rowcount != 1:
                     return False
         return True

@@ -209,7 +209,7 @@ class Request:
     def end(self) -> None:
         """Closes it: nothing is left to do in it, and workers look at it no more. A flow's request does so by itself."""
         self._catch_up()
-        self._service.store.end(self.name, self.seen)
+        self._desk.sure(lambda: self._service.store.end(self.name, self.seen))
 
     # Acting on the row.
 
@@ -256,7 +256,7 @@ class Request:
         """The last of the stages that were attached."""
         assert done is not None
         if self._desk.plan.rows:
-            self._service.store.reopen(self.name)
+            self._desk.sure(lambda: self._service.store.reopen(self.name))
             self._service._requests.setdefault(self.name, self)
         self._service._serve(self)
         return self._stage(done[-1].reply[NUMBER])
@@ -265,7 +265,7 @@ class Request:
         """Settles the promises of stages that composed as the stages are that their functions gave, where those are settled."""
         desk = self._desk
         for promise, place in list(desk.links.items()):
-            given = int(json.loads(desk.payload(place))["stage"]) if not desk.is_settled(promise) else promise
+            given = desk.read(place, lambda said: int(json.loads(said)["stage"])) if not desk.is_settled(promise) else promise
             if given == promise:
                 desk.links.pop(promise, None)
             elif desk.is_settled(given):
@@ -341,10 +341,18 @@ class Request:
     def _stands(self, stage: int) -> bool:
         """Whether this session's claim of a stage was finished."""
         self._catch_up()
-        return self._desk.claims.get(stage) != self._service.session
+        return not self._is_held(stage)
+
+    def _is_held(self, stage: int) -> bool:
+        """Whether this session has a claim of a stage that isn't finished, by what is seen."""
+        return self._desk.claims.get(stage) == self._service.session
+
+    def _is_over(self) -> bool:
+        """Whether it is a flow's, and nothing is left to do."""
+        return bool(self._desk.plan.rows) and self._desk.is_done(self._service._is_gone)
 
     def _end_if_done(self) -> None:
-        if self._desk.plan.rows and self._desk.is_done():
+        if self._is_over():
             self._service.store.end(self.name, self.seen)
 
     def _cancel_all(self) -> None:
@@ -394,8 +402,8 @@ class Request:
         if told.kind == VALUE:
             return self._value(told.some, told.number), None
         if told.kind == THROWN:
-            return None, self._service.codec.read_error(self._desk.payload(told.code))
+            return None, self._desk.read(told.code, self._service.codec.read_error)
         return None, CancelledError() if told.kind == CANCELLED else TimeoutError() if told.kind != PENDING + 5 else BadAnswer()
 
     def _value(self, some: int, place: int) -> Any:
-        return self._service.codec.read(self._desk.payload(place)) if some else None
+        return self._desk.read(place, self._service.codec.read) if some else None

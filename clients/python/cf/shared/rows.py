@@ -7,8 +7,9 @@ place, counted from 1: no word names what isn't there.
 import abc
 import threading
 import time
-from typing import Any, ContextManager, Dict, List, Mapping, NamedTuple, Optional, Sequence, Tuple
+from typing import Any, Callable, ContextManager, Dict, Iterable, List, Mapping, NamedTuple, Optional, Sequence, Tuple, TypeVar
 
+T = TypeVar("T")
 Entry = Tuple[int, int]  # a word and its token
 COUNT_BITS = 23  # of a token
 
@@ -29,6 +30,41 @@ class Broken(StoreError):
         self.request: str = request
         self.place: int = place
         self.why: str = why
+
+
+def in_a_row(name: str, at: int, rows: Iterable[Tuple[Any, Any, Any]]) -> List[Entry]:
+    """The entries of rows of a place, a word and a token, which stand behind so many words without a gap; `Broken` else."""
+    told: List[Entry] = []
+    for place, word, token in rows:
+        if place != at + len(told):
+            raise Broken(name, at + len(told) + 1, f"no word stands there, and one stands at {place + 1}")
+        try:
+            entry = (int(word), int(token))
+        except (TypeError, ValueError):
+            entry = (-1, -1)
+        if not (0 <= entry[0] < 2**64 and 0 <= entry[1] < 2**63):
+            raise Broken(name, place + 1, f"{str(word)[:40]} with {str(token)[:40]} is no word with its token")
+        told.append(entry)
+    return told
+
+
+def gone(name: str) -> Broken:
+    """What a request is told that isn't in the store, or not any more."""
+    return Broken(name, 0, "the store has no such request")
+
+
+def sure(call: Callable[[], T], name: str, place: int, patience: float, note: Callable[[], None] = lambda: None) -> T:
+    """What a call is answered that may be made again, whatever became of it before. `note` is told of each time without an answer."""
+    until, pause = time.monotonic() + patience, 0.01
+    while True:
+        try:
+            return call()
+        except Unknown as error:
+            note()
+            if time.monotonic() > until:
+                raise Unknown(f"request {name!r}, place {place}: the store doesn't answer: {error}") from error
+            time.sleep(pause)
+            pause = min(pause * 2, 0.5)
 
 
 class Put(NamedTuple):
@@ -101,7 +137,7 @@ class Store(abc.ABC):
     @abc.abstractmethod
     def append_groups(self, puts: Sequence[Put]) -> List[Optional[List[Entry]]]:
         """Puts a group for each of some requests, each all or none, in one commit if none is in another's way. For each None where it
-        stands now, else the entries that stand from its first place on."""
+        stands now, else the entries that stand from its first place on. `Broken` where a request isn't there; the others' may stand then."""
 
     @abc.abstractmethod
     def read(self, name: str, at: int = 0) -> List[Entry]:
@@ -137,8 +173,8 @@ class Store(abc.ABC):
         """Takes that back."""
 
     @abc.abstractmethod
-    def drop(self, name: str) -> None:
-        """Forgets a request with all its words."""
+    def drop(self, name: str, at: Optional[int] = None) -> bool:
+        """Forgets a request with all its words, at once, and says whether it did. With `at` only where it is closed and has so many."""
 
     @abc.abstractmethod
     def beat(self, session: int) -> None:
@@ -225,6 +261,8 @@ class Memory(Store):
         return told
 
     def _append(self, put: Put) -> Optional[List[Entry]]:
+        if put.request not in self._opened:
+            raise gone(put.request)
         row = self._rows.setdefault(put.request, [])
         if len(row) > put.at:
             return row[put.at:]
@@ -265,12 +303,15 @@ class Memory(Store):
         with self._change:
             self._closed.pop(name, None)
 
-    def drop(self, name: str) -> None:
+    def drop(self, name: str, at: Optional[int] = None) -> bool:
         with self._change:
+            if name not in self._opened or at is not None and (name not in self._closed or len(self._rows.get(name, [])) != at):
+                return False
             for kept in (self._opened, self._closed, self._rows):
                 kept.pop(name, None)  # type: ignore[attr-defined]
             self._payloads = {key: it for key, it in self._payloads.items() if key[0] != name}
             self._timers = {key: it for key, it in self._timers.items() if key[0] != name}
+            return True
 
     def beat(self, session: int) -> None:
         with self._change:
@@ -329,16 +370,24 @@ class Grouped(Store):
                 if not self._waiting:
                     return
                 now, self._waiting = _one_each(self._waiting, self._most)
-            try:
-                told = self._store.append_groups([put for put, _ in now])
-            except BaseException as error:
-                for _, slot in now:
-                    slot.set(None, error)
-                continue
-            self.commits += 1
-            self.puts += len(now)
-            for (_, slot), stands in zip(now, told):
-                slot.set(stands, None)
+            if not self._put(now) and len(now) > 1:  # one of them is refused: what landed is known by its token
+                for it in now:
+                    self._put([it])
+
+    def _put(self, now: List[Tuple[Put, "_Slot"]]) -> bool:
+        """Puts all in one commit, and tells each; or says that they have to go one by one."""
+        try:
+            told = self._store.append_groups([put for put, _ in now])
+        except BaseException as error:
+            if len(now) > 1 and not isinstance(error, Unknown):
+                return False
+            for _, slot in now:
+                slot.set(None, error)
+            return True
+        self.commits, self.puts = self.commits + 1, self.puts + len(now)
+        for (_, slot), stands in zip(now, told):
+            slot.set(stands, None)
+        return True
 
     def close(self) -> None:
         with self._change:
@@ -377,8 +426,8 @@ class Grouped(Store):
     def reopen(self, name: str) -> None:
         self._store.reopen(name)
 
-    def drop(self, name: str) -> None:
-        self._store.drop(name)
+    def drop(self, name: str, at: Optional[int] = None) -> bool:
+        return self._store.drop(name, at)
 
     def beat(self, session: int) -> None:
         self._store.beat(session)

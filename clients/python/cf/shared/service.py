@@ -18,10 +18,11 @@ from .desk import Desk, Done, Watcher, new_session
 from .functions import F, Functions, Known
 from .plans import text_of, tried_again
 from .request import Request, Stage
-from .rows import Broken, Grouped, Store, StoreError, Timer, Unknown
+from .rows import Broken, Grouped, Store, StoreError, Timer, Unknown, sure
 
 T = TypeVar("T")
 LOGGER = logging.getLogger("cf.shared")
+PATIENCE = 60  # seconds
 ONLY_FAULT = (int(Form.EXCEPTIONALLY), int(Form.EXCEPTIONALLY_COMPOSE))
 GOES_ON = {  # the forms that a finish which gives or throws makes ready, where it is their only source
     GIVES: (int(Form.APPLY), int(Form.HANDLE), int(Form.WHEN_COMPLETE)),
@@ -119,10 +120,10 @@ class DurableService(concurrent.futures.Executor):
 
     def open(self, name: str) -> Request:
         """A request that stands in the store. `KeyError` where there is none."""
-        found = self.store.find(name)
+        found = sure(lambda: self.store.find(name), name, 0, PATIENCE)
         if found is None:
             raise KeyError(name)
-        return self._kept(Request(self, Desk(self.store, found, self.session, note=self._note)))
+        return self._kept(Request(self, Desk(self.store, found, self.session, PATIENCE, self._note)))
 
     def submit(self, fn: Callable[..., T], /, *args: Any, **kwargs: Any) -> "Stage[T]":
         """Calls a registered function: a request of one stage, which is closed once that is settled."""
@@ -132,7 +133,7 @@ class DurableService(concurrent.futures.Executor):
 
     def resume(self) -> List[Request]:
         """Goes on with all requests that are open in the store, and gives them."""
-        resumed = [self._taken(name) for name in self.store.ends()]
+        resumed = [self._taken(name) for name in sure(self.store.ends, "", 0, PATIENCE)]
         for request in resumed:
             if request is not None:
                 self._serve(request)
@@ -159,10 +160,10 @@ class DurableService(concurrent.futures.Executor):
             raise RuntimeError("a child of fork can't use its parent's service")
         if self._stops.is_set():
             raise RuntimeError("cannot schedule new futures after shutdown")
-        found = self.store.open(name, plan)
+        found = sure(lambda: self.store.open(name, plan), name, 0, PATIENCE)
         if same and found.plan != plan:
             raise Broken(name, 0, "it was begun with another plan")
-        return self._kept(Request(self, Desk(self.store, found, self.session, note=self._note)))
+        return self._kept(Request(self, Desk(self.store, found, self.session, PATIENCE, self._note)))
 
     def _kept(self, request: Request) -> Request:
         with self._lock:
@@ -209,13 +210,7 @@ class DurableService(concurrent.futures.Executor):
                 self._stops.wait(0.2)
 
     def _round(self) -> None:
-        now = time.monotonic()
-        looks = now >= self._next_beat
-        if looks:
-            self._next_beat = now + self._lease / 5
-            self.store.beat(self.session)
-            self._watcher.look()
-            self._watcher.forget()
+        now, looks = time.monotonic(), self._beat()
         if now >= self._next_look:
             self._next_look = now + 0.02
             for timer in self.store.due(self.store.now()):
@@ -232,12 +227,28 @@ class DurableService(concurrent.futures.Executor):
             taken = self._taken(name) if self._takes_all else self._requests.get(name)
             if taken is not None and (end > taken.seen or (looks or not end) and self._needs(taken)):
                 self._serve(taken)
+            self._beat()  # (rows that are read for the first time may be many and long)
         self._mark = mark
+
+    def _beat(self) -> bool:
+        """Says that this session is there, and looks who else is, if it is time to; whether it was."""
+        now = time.monotonic()
+        if now < self._next_beat:
+            return False
+        self._next_beat = now + self._lease / 5
+        self.store.beat(self.session)
+        self._watcher.look()
+        self._watcher.forget()
+        return True
 
     def _needs(self, request: Request) -> bool:
         """Whether something is to do in a request without a new word."""
-        gone = [self._watcher.is_gone(session) for session in request._desk.open_claims().values() if session != self.session]
-        return bool(request._desk.ready or request._desk.links or request._unshown) or any(gone)
+        desk = request._desk
+        gone = [self._is_gone(session) for session in desk.open_claims().values()]
+        return bool(desk.ready or desk.links or desk.found or request._unshown) or any(gone) or request._is_over()
+
+    def _is_gone(self, session: int) -> bool:
+        return session != self.session and self._watcher.is_gone(session)
 
     def _let_go(self, request: Request) -> None:
         """Forgets a request that is closed, once all is told."""
@@ -286,16 +297,16 @@ class DurableService(concurrent.futures.Executor):
         request._catch_up()
         self._abandon(request)
         request._relay()
-        claimed = self._next(request, None)
+        claimed = self._found(request) or self._next(request, None)
         while claimed is not None:
-            claimed = self._run(request, claimed)
+            claimed = self._run(request, claimed) or self._found(request)
         request._relay()
         request._end_if_done()
 
     def _abandon(self, request: Request) -> None:
         """Fails the stages whose session is gone. If it isn't, the row says who was first."""
         for stage, session in list(request._desk.open_claims().items()):
-            if session != self.session and self._watcher.is_gone(session):
+            if self._is_gone(session):
                 said = f"the worker that ran {request._desk.said(stage)['name']} is gone, and it may have run"
                 payload = self.codec.write_error(Abandoned(said))
 
@@ -306,22 +317,47 @@ class DurableService(concurrent.futures.Executor):
                 request._act(decide)
 
     def _next(self, request: Request, finish: Optional[Finish]) -> Optional[Claimed]:
-        """Puts a finish, and with it the claim of the next stage, if there is one; what was claimed."""
+        """Puts a finish, and with it the claim of the next stage, if there is one; what was claimed. While the store is away a finish is put
+        again and again: its function has run."""
         chosen: List[int] = []
 
         def decide(desk: Desk) -> Any:
-            made = [] if finish is None else [finish.word(desk)]
+            made = [finish.word(desk)] if finish is not None and request._is_held(finish.stage) else []
             chosen[:] = self._choice(request, desk, finish)
             return made + [(CLAIM << 56 | desk.who << 48 | stage << 36, None) for stage in chosen[:1]]
-        done = request._act(decide)
+        while True:
+            try:
+                done = request._act(decide)
+                break
+            except Unknown as error:
+                if finish is None or self._stops.is_set():
+                    raise
+                LOGGER.warning("%s", error)
+            except Broken:
+                raise
+            except StoreError as error:  # the engine refuses it: it is too large, say
+                if finish is None or finish.kind == THROWS:
+                    raise
+                finish = Finish(finish.stage, THROWS, self.codec.write_error(error))
         if len(chosen) > 1:
             self._serve(request)
         if done and chosen and not done[-1].reply[ANSWER]:
             return self._claimed(request, chosen[0], done[-1])
         return None
 
+    def _found(self, request: Request) -> Optional[Claimed]:
+        """A claim of this session's that was granted without its being told."""
+        found = request._desk.found
+        while found and not self._stops.is_set():
+            with contextlib.suppress(KeyError):  # (another thread may have taken it)
+                stage, done = found.popitem()
+                if request._is_held(stage) and not request._desk.is_settled(stage):
+                    return self._claimed(request, stage, done)
+                self._next(request, Finish(stage, GIVES, None))  # late: it does nothing
+        return None
+
     def _choice(self, request: Request, desk: Desk, finish: Optional[Finish]) -> List[int]:
-        """Which stages this session could claim: those that are ready, or that the finish makes ready."""
+        """Up to two stages that this session could claim: those that are ready, or that the finish makes ready."""
         if self._stops.is_set() or not self._workers:
             return []
         ready = sorted(desk.ready)
@@ -329,7 +365,7 @@ class DurableService(concurrent.futures.Executor):
             kind = THROWS if finish.kind == THROWS else GIVES
             ready += [it for it in desk.behind(finish.stage)
                       if not desk.is_settled(it) and desk.forms[it][0] in GOES_ON[kind] and len(desk.forms[it][1]) == 1]
-        return [stage for stage in ready[:64] if self._known(request, stage) is not None]
+        return list(itertools.islice((stage for stage in ready if self._known(request, stage) is not None), 2))
 
     def _known(self, request: Request, stage: int) -> Optional[Known]:
         """The function of a stage, or None where it isn't registered here: others may have it."""
@@ -343,7 +379,14 @@ class DurableService(concurrent.futures.Executor):
             LOGGER.warning("request %r, stage %d: function %s, version %s isn't known here", request.name, stage, said.get("fn"), said.get("version"))
         return known
 
-    def _claimed(self, request: Request, stage: int, done: Done) -> Optional[Claimed]:
+    def _claimed(self, request: Request, stage: int, done: Done) -> Claimed:
+        try:
+            return self._with_args(request, stage, done)
+        except Unknown:
+            request._desk.found[stage] = done
+            raise
+
+    def _with_args(self, request: Request, stage: int, done: Done) -> Claimed:
         desk, known = request._desk, self._known(request, stage)
         assert known is not None
         said, args = desk.said(stage), self._args(request, stage, done.reply)
@@ -407,10 +450,11 @@ class DurableService(concurrent.futures.Executor):
         """The function's effect and the word of its finish stand or fall together. Where the finish's place was taken meanwhile, or the
         connection is lost, all of it is done again, unless it stands."""
         while True:
-            request._catch_up()
-            if request._desk.is_settled(claimed.stage):
-                return self._next(request, Finish(claimed.stage, GIVES, None))  # late: it does nothing
             try:
+                if request._stands(claimed.stage):
+                    return self._next(request, None)
+                if request._desk.is_settled(claimed.stage):
+                    return self._next(request, Finish(claimed.stage, GIVES, None))  # late: it does nothing
                 with self.store.transaction() as transaction:
                     finish = self._called(claimed, transaction.connection)
                     if finish.kind == THROWS and transaction.is_lost:
@@ -420,9 +464,14 @@ class DurableService(concurrent.futures.Executor):
                     if request._act_within(transaction, finish):
                         return self._next(request, None)
             except Unknown as error:
+                if self._stops.is_set():
+                    raise
                 LOGGER.warning("request %r, stage %d: %s", request.name, claimed.stage, error)
                 time.sleep(0.05)
-                if request._stands(claimed.stage):
-                    return self._next(request, None)
+            except Broken:
+                raise
+            except StoreError as error:  # what the function did to the connection lets no word be put
+                finish = Finish(claimed.stage, THROWS, self.codec.write_error(error))
+                break
         return self._next(request, finish)
 

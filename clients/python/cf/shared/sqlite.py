@@ -7,7 +7,7 @@ import threading
 import time
 from typing import Any, Callable, Dict, Generator, Iterator, List, Optional, Sequence, Tuple, TypeVar
 
-from .rows import Entry, Listed, Opened, Put, Store, StoreError, Timer, Transaction, Unknown
+from .rows import Broken, Entry, Listed, Opened, Put, Store, StoreError, Timer, Transaction, Unknown, gone, in_a_row
 
 T = TypeVar("T")
 SCHEMA = """
@@ -22,7 +22,7 @@ SCHEMA = """
     create index if not exists cf_timer_due on cf_timer (due);
     create index if not exists cf_request_open on cf_request (id) where closed is null
 """
-PUT = "insert or ignore into cf_word (request, at, word, token, payload) values (?, ?, ?, ?, ?)"
+PUT = "insert or ignore into cf_word (request, at, word, token, payload) select id, ?, ?, ?, ? from cf_request where id = ?"
 SMALL = 512  # bytes: a larger payload would make the words' own pages large
 BETWEEN_LOOKS = 0.001  # seconds between two looks at the file's version
 
@@ -92,6 +92,8 @@ class SQLite(Store):
             yield
         except sqlite3.OperationalError as error:  # the disk is full, or can't be written
             raise Unknown(f"{self._path}: {error}") from None
+        except sqlite3.DatabaseError as error:
+            raise StoreError(f"{self._path}: {error}") from None
 
     def _in_turn(self, act: Callable[[sqlite3.Connection], T]) -> T:
         """Acts in a transaction."""
@@ -116,7 +118,7 @@ class SQLite(Store):
         if found is None:
             rows = self._ask("select id from cf_request where name = ?", name)
             if not rows:
-                raise StoreError(f"{self._path} has no request {name!r}")
+                raise gone(name)
             found = self._ids[name] = int(rows[0][0])
         return found
 
@@ -165,15 +167,20 @@ class SQLite(Store):
     def reopen(self, name: str) -> None:
         self._in_turn(lambda db: db.execute("update cf_request set closed = null where name = ? and closed is not null", (name,)))
 
-    def drop(self, name: str) -> None:
+    def drop(self, name: str, at: Optional[int] = None) -> bool:
         number = self._id(name)
 
-        def act(db: sqlite3.Connection) -> None:
+        def act(db: sqlite3.Connection) -> bool:
+            is_so = "select 1 from cf_request where id = ? and closed is not null and (select count(*) from cf_word where request = id) = ?"
+            if at is not None and not db.execute(is_so, (number, at)).fetchall():
+                return False
             for table in ("cf_word", "cf_large", "cf_timer"):
                 db.execute(f"delete from {table} where request = ?", (number,))
-            db.execute("delete from cf_request where id = ?", (number,))
-        self._in_turn(act)
-        self._ids.pop(name, None)
+            return db.execute("delete from cf_request where id = ?", (number,)).rowcount == 1
+        dropped = self._in_turn(act)
+        if dropped:
+            self._ids.pop(name, None)
+        return dropped
 
     # Words.
 
@@ -182,14 +189,19 @@ class SQLite(Store):
         if len(puts) == 1 and len(puts[0].entries) == 1 and all(len(it) <= SMALL for it in puts[0].payloads.values()):
             put = puts[0]
             with self._in_line():
-                landed = [self._db.execute(PUT, (ids[0], put.at, *put.entries[0], put.payloads.get(put.at + 1))).rowcount == 1]
+                landed = [self._db.execute(PUT, (put.at, *put.entries[0], put.payloads.get(put.at + 1), ids[0])).rowcount == 1]
         else:
             landed = self._in_turn(lambda db: [_put(db, number, put) for number, put in zip(ids, puts)])
-        return [None if it else self.read(put.request, put.at) for it, put in zip(landed, puts)]
+        return [None if it else self._stands(put) for it, put in zip(landed, puts)]
+
+    def _stands(self, put: Put) -> List[Entry]:
+        stands = self.read(put.request, put.at)
+        if not stands:
+            raise gone(put.request)
+        return stands
 
     def read(self, name: str, at: int = 0) -> List[Entry]:
-        return [(int(word), int(token)) for word, token in self._ask(
-            "select word, token from cf_word where request = ? and at >= ? order by at", self._id(name), at)]
+        return in_a_row(name, at, self._ask("select at, word, token from cf_word where request = ? and at >= ? order by at", self._id(name), at))
 
     def payloads(self, name: str, places: Sequence[int]) -> Dict[int, bytes]:
         number, told = self._id(name), {}
@@ -198,7 +210,7 @@ class SQLite(Store):
             if rows and rows[0][0] is None:
                 rows = self._ask("select payload from cf_large where request = ? and place = ?", number, place)
             if rows:
-                told[place] = bytes(rows[0][0])
+                told[place] = rows[0][0] if isinstance(rows[0][0], bytes) else str(rows[0][0]).encode()
         return told
 
     def changed(self, seconds: float) -> None:
@@ -279,7 +291,9 @@ def _put(db: sqlite3.Connection, request: int, put: Put) -> bool:
     for k, entry in enumerate(put.entries):
         payload = put.payloads.get(put.at + 1 + k)
         large = payload is not None and len(payload) > SMALL
-        if not db.execute(PUT, (request, put.at + k, *entry, None if large else payload)).rowcount:
+        if not db.execute(PUT, (put.at + k, *entry, None if large else payload, request)).rowcount:
+            if k:
+                raise Broken(put.request, put.at + k, "a word stands behind it, and none stood there")
             return False  # the first: a row has no holes, so none of the group was put
         if large:
             db.execute("insert into cf_large values (?, ?, ?)", (request, put.at + 1 + k, payload))

@@ -1,7 +1,7 @@
 """Stores by their addresses."""
 from urllib.parse import parse_qs, urlsplit
 
-from .rows import Memory, Store
+from .rows import Memory, Store, StoreError
 
 
 def connect(address: str) -> Store:
@@ -24,7 +24,10 @@ def connect(address: str) -> Store:
 
         return SQLite(parts.path[1:], is_unsafe)
     if parts.scheme in ("postgresql", "postgres"):
-        from .postgres import Postgres
+        try:
+            from .postgres import Postgres
+        except ImportError as error:
+            raise StoreError(f"PostgreSQL takes psycopg2: {error}") from None
 
         return Postgres(address.split("?")[0] if is_unsafe else address, is_unsafe)
     if parts.scheme == "etcd" and parts.netloc:
