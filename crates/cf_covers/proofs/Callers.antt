@@ -1,8 +1,8 @@
 -- A caller's next step, and what is still to be told to a caller.
-use Rattle.std.proofs.Common.{◌≡◌, ℕ, zero, suc, ◌+◌, ◌<◌, ◌≤◌, Bool, true, false, cond, eqb, eq-eqb, Some, None, Option, List, [], ◌∷◌, ◌++◌, inl, inr, length, set, take, ap, arith, refl, sym, ◌∙◌, subst}
-use Rattle.std.specs.Prelude.{Contains, ◌⊎◌, ◌==◌, if◌then◌else◌, map, nat_lt, slice_get, option_and_then}
+use Rattle.std.proofs.Common.{◌≡◌, ℕ, zero, suc, ◌+◌, ◌<◌, ◌≤◌, Bool, true, false, cond, eqb, eq-eqb, Some, None, Option, List, [], ◌∷◌, ◌++◌, inl, inr, length, set, take, ap, arith, refl, sym, ◌∙◌, subst, append-nil}
+use Rattle.std.specs.Prelude.{Contains, ◌⊎◌, ◌==◌, if◌then◌else◌, map, nat_lt, slice_get, option_and_then, not, ◌&&◌}
 use Rattle.std.specs.List.{All, filter}
-use Rattle.std.proofs.lemmas.Bool.{eqb-true, lt-ltb}
+use Rattle.std.proofs.lemmas.Bool.{eqb-true, lt-leb, lt-ltb}
 use Rattle.std.proofs.Math.Nat.{eq-or-lt_of_le}
 use Rattle.std.proofs.Math.Seq.{take-append_seam}
 use Rattle.std.proofs.lemmas.List.{get_or-set_other, get_or-set_same}
@@ -28,7 +28,7 @@ use Rattle.cf_explore.specs.declared.step.Place.{Place}
 use Rattle.cf_explore.specs.declared.step.Step.{Step}
 use Rattle.cf_explore.specs.Programs.{Programmed, Situated, place_at, step_of}
 use Rattle.cf_explore.specs.Moves.{are_there, call_event, caller_moves, calling, carried_out, event_by, moved, moves, onward, own_moves, step_moves, stepped, takes, worker_moves}
-use Rattle.cf_covers.specs.Tellings.{call_of, step_for}
+use Rattle.cf_covers.specs.Tellings.{but_vain, call_of, grants, is_vain, step_for}
 use Rattle.cf_covers.proofs.Lists.{contains-first, same-first, slice_get-behind, slice_get-mapped}
 
 -- ---- the move of a caller
@@ -67,16 +67,9 @@ none-moves p s (suc n) h =
     let last : step_of p s n ≡ None = h n (omega arith) in
     ap (λ l. l ++ step_moves n (step_of p s n)) (none-moves p s n (λ c l. h c (omega arith))) ∙ ap (step_moves n) last
 
-none-work : (s : Situated) (n : ℕ) → n ≡ 0 → worker_moves s n ≡ []
-none-work s zero e = refl
-none-work s (suc n) e = absurd (omega arith)
-
-pub none-goes_on : (p : Programmed) (s : Situated) → p.workers ≡ 0 → ((c : ℕ) → c < length p.callers → step_of p s c ≡ None) → length (own_moves p s) == 0 ≡ true
+pub none-goes_on : (p : Programmed) (s : Situated) → worker_moves s p.workers ≡ [] → ((c : ℕ) → c < length p.callers → step_of p s c ≡ None) → length (own_moves p s) == 0 ≡ true
 unfolding own_moves
-none-goes_on p s none h =
-    let callers = none-moves p s (length p.callers) h in
-    let workers = none-work s p.workers none in
-    rw (callers, workers) refl
+none-goes_on p s workers h = (let callers = none-moves p s (length p.callers) h in rw (callers, workers) refl)
 
 -- where a step leads
 pub moved-step : (m : Meanings) (p : Programmed) (s : Situated) (c : ℕ) (step : Step) → step_of p s c ≡ Some step → moved m p s (moving.Step c) ≡ stepped s c step
@@ -139,13 +132,44 @@ IsPast k [] = Unit {0}
 IsPast k (Did place event reply ∷ left) = Unit {0}
 IsPast k (Saw place ask answer ∷ left) = k < place
 
+pub taken-done : (done rest history : List Event) (k : ℕ) → done ++ rest ≡ history → length done ≡ k → take k history ≡ done
+taken-done done rest history k whole so_many =
+    ap (λ (h : List Event). take k h) (sym whole) ∙ ap (λ (n : ℕ). take n (done ++ rest)) (sym so_many) ∙ take-append_seam done rest
+
 pub at-done : (plan : Planned) (done rest history : List Event) (k : ℕ) → done ++ rest ≡ history → length done ≡ k → state_at plan history k ≡ state_after (start plan) done
-at-done plan done rest history k whole so_many =
-    ap (state_after (start plan)) (ap (λ (h : List Event). take k h) (sym whole) ∙ ap (λ (n : ℕ). take n (done ++ rest)) (sym so_many) ∙ take-append_seam done rest)
+at-done plan done rest history k whole so_many = ap (state_after (start plan)) (taken-done done rest history k whole so_many)
 
 pub after-push : (s : State) (xs : List Event) (e : Event) → state_after s (xs ++ e ∷ []) ≡ (answered (state_after s xs) e).1
 after-push s [] e = refl
 after-push s (x ∷ xs) e = after-push ((answered s x).1) xs e
+
+-- an event that is taken up, and one in vain
+but_vain-push : (n : ℕ) (s : State) (xs : List Event) (e : Event) →
+    but_vain n s (xs ++ e ∷ []) ≡ but_vain n s xs ++ (if is_vain n e (answered (state_after s xs) e).0 then [] else e ∷ [])
+but_vain-push n s [] e = refl
+but_vain-push n s (x ∷ xs) e = split (is_vain n x (answered s x).0) (but_vain-push n ((answered s x).1) xs e)
+  where
+    split : (b : Bool) → but_vain n ((answered s x).1) (xs ++ e ∷ []) ≡ but_vain n ((answered s x).1) xs ++ (if is_vain n e (answered (state_after ((answered s x).1) xs) e).0 then [] else e ∷ []) →
+        (if b then but_vain n ((answered s x).1) (xs ++ e ∷ []) else x ∷ but_vain n ((answered s x).1) (xs ++ e ∷ []))
+        ≡ (if b then but_vain n ((answered s x).1) xs else x ∷ but_vain n ((answered s x).1) xs) ++ (if is_vain n e (answered (state_after ((answered s x).1) xs) e).0 then [] else e ∷ [])
+    split true h = h
+    split false h = ap (λ (l : List Event). x ∷ l) h
+
+pub but_vain-took : (n : ℕ) (s : State) (xs : List Event) (e : Event) → is_vain n e (answered (state_after s xs) e).0 ≡ false → but_vain n s (xs ++ e ∷ []) ≡ but_vain n s xs ++ e ∷ []
+but_vain-took n s xs e is = but_vain-push n s xs e ∙ ap (λ (b : Bool). but_vain n s xs ++ (if b then [] else e ∷ [])) is
+
+pub but_vain-left : (n : ℕ) (s : State) (xs : List Event) (e : Event) → is_vain n e (answered (state_after s xs) e).0 ≡ true → but_vain n s (xs ++ e ∷ []) ≡ but_vain n s xs
+but_vain-left n s xs e is = but_vain-push n s xs e ∙ ap (λ (b : Bool). but_vain n s xs ++ (if b then [] else e ∷ [])) is ∙ append-nil (but_vain n s xs)
+
+-- a caller's event is taken up
+pub caller-took : (n : ℕ) (e : Event) (reply : Reply) → who_of e < n → is_vain n e reply ≡ false
+caller-took n (Completes who i v) reply l = refl
+caller-took n (Fails who i code) reply l = refl
+caller-took n (Cancels who i) reply l = refl
+caller-took n (Claims who i) reply l = ap (λ (b : Bool). b && not (grants reply)) (lt-leb n who l)
+caller-took n (Finishes who i answer) reply l = refl
+caller-took n (Ticks who now) reply l = refl
+caller-took n (Attaches who form of function) reply l = refl
 
 -- the changing calls that are left stand behind the place
 pub dids-later : (last : ℕ) (records : List Record) (q : ℕ) (e : Event) (xs : List (ℕ × Event)) → InOrder last records → dids records ≡ (q, e) ∷ xs → last < q

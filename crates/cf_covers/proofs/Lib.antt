@@ -4,4 +4,5 @@ pub mod Sames
 pub mod Ends
 pub mod Callers
 pub mod Walks
+pub mod Workers
 pub mod Histories

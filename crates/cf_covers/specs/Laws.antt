@@ -22,11 +22,12 @@ use Rattle.cf_covers.specs.Tellings.{IsOrderOf, IsProgramOf}
 abbrev pub HasOrder : Meanings → Programmed → List Event → List (ℕ × List Record) → Type 0
 HasOrder m p history callers = (order : List Move) × (s : Situated) × IsOrderOf m p history callers order s
 
--- Where what callers were told is one history, it is an order of each program whose callers make the same calls.
+-- Where what callers were told is one history, it is an order of each program whose callers make the same calls, and with as many workers
+-- as there are other callers, who have worked.
 abbrev pub HistoriesAreOrders : Type 0
 HistoriesAreOrders =
     (m : Meanings) (plan : Planned) (functions : ℕ) (history : List Event) (callers : List (ℕ × List Record)) (p : Programmed) →
-    IsOneHistory plan functions history callers → IsProgramOf plan callers p → HasOrder m p history callers
+    IsOneHistory plan functions history callers → IsProgramOf m plan history callers p → HasOrder m p history callers
 
 -- the outcomes that a history leaves are among these ends, with an order at least
 abbrev pub IsAmong : Planned → List Event → List End → Type 0
@@ -37,7 +38,7 @@ IsAmong plan history ends =
 abbrev pub SearchesCoverHistories : Type 0
 SearchesCoverHistories =
     (m : Meanings) (plan : Planned) (functions : ℕ) (history : List Event) (callers : List (ℕ × List Record)) (p : Programmed) (conditions : List Condition) (found : Found) →
-    IsOneHistory plan functions history callers → IsProgramOf plan callers p → IsFound m p conditions found → found.whole ≡ true → IsAmong plan history found.ends.items
+    IsOneHistory plan functions history callers → IsProgramOf m plan history callers p → IsFound m p conditions found → found.whole ≡ true → IsAmong plan history found.ends.items
 
 -- the search finds no order that decides this condition
 abbrev pub IsUndecidedBy : List Condition → List (Option Witness) → Condition → Type 0
@@ -53,5 +54,5 @@ DecidesNowhere m p condition order =
 abbrev pub SearchesJudgeHistories : Type 0
 SearchesJudgeHistories =
     (m : Meanings) (plan : Planned) (functions : ℕ) (history : List Event) (callers : List (ℕ × List Record)) (p : Programmed) (conditions : List Condition) (found : Found) (condition : Condition) →
-    IsOneHistory plan functions history callers → IsProgramOf plan callers p → IsFound m p conditions found → found.whole ≡ true → IsUndecidedBy conditions found.decisions.items condition →
+    IsOneHistory plan functions history callers → IsProgramOf m plan history callers p → IsFound m p conditions found → found.whole ≡ true → IsUndecidedBy conditions found.decisions.items condition →
     (order : List Move) × (s : Situated) × IsOrderOf m p history callers order s × DecidesNowhere m p condition order

@@ -1,8 +1,9 @@
 //! The contract of each function is the statement, and its body is empty.
 ghost use Rattle.cf_covers.specs.Laws.{HistoriesAreOrders, SearchesCoverHistories, SearchesJudgeHistories};
 
-/// What callers were told, where it is one history, is an order of each program whose callers make the same calls. In it
-/// each is told what it was told, and it ends with the state that the history leaves.
+/// What callers were told, where it is one history, is an order of each program whose callers make the same calls, with
+/// a worker for each other caller, which worked until nothing was ready. In it each is told what it was told, and it ends with
+/// the state that the history leaves.
 pub fn histories_are_orders()
     ensures { HistoriesAreOrders }
 {}
