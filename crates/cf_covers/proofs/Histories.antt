@@ -5,7 +5,7 @@ use Rattle.std.specs.List.{All}
 use Rattle.std.proofs.lemmas.Bool.{cases_lt}
 use Rattle.std.proofs.lemmas.List.{get_or-replicate, length-replicate}
 use Rattle.std.proofs.lemmas.List.Elements.{All-contains, All-head}
-use Rattle.std.proofs.lemmas.Option.{slice_get-get_or, slice_get_within, unwrap_or-slice_get}
+use Rattle.std.proofs.lemmas.Option.{slice_get-get_or, unwrap_or-slice_get}
 use Rattle.cf_plan.specs.Meanings.{Meanings}
 use Rattle.cf_plan.specs.Plans.{Planned}
 use Rattle.cf_model.specs.declared.events.Event.{Event}
@@ -28,6 +28,7 @@ use Rattle.cf_covers.specs.Tellings.{AreToldSteps, AreWork, IsProgramOf, TellsEa
 use Rattle.cf_covers.specs.Laws.{HasOrder, HistoriesAreOrders, SearchesCoverHistories, SearchesJudgeHistories}
 use Rattle.cf_covers.proofs.Callers.{IsPast, after-push, caller-took, no-step, none-goes_on}
 use Rattle.cf_covers.proofs.Ends.{end-told, order-undecided}
+use Rattle.cf_covers.proofs.Numbers.{once}
 use Rattle.cf_covers.proofs.Orders.{moves-front}
 use Rattle.cf_covers.proofs.Walks.{Asked, Comes, Each, HasStand, Walk, Working, asked, one-event}
 use Rattle.cf_covers.proofs.Workers.{no-work, one-work}
@@ -71,6 +72,20 @@ begins-work w functions one is = λ v l.
     let idle : hand_at (start_of w.program) v ≡ hands.Idle =
     unwrap_or-slice_get (replicate w.program.workers hands.Idle) v hands.Idle ∙ get_or-replicate w.program.workers v hands.Idle hands.Idle l in
     (records, fits.did, subst (λ (x : Hand). AreWork w.meanings w.program.plan w.history x records) (sym idle) told.2, fits.answers)
+
+-- each number below the list's length is one of them
+everyone_by : (w : Walk) → IsProgramOf w.meanings w.program.plan w.history w.callers w.program → (d : ℕ) → d < length w.program.callers + w.program.workers →
+    (d < length w.program.callers) ⊎ (length w.program.callers ≤ d) → (records : List Record) × Contains w.callers (d, records)
+everyone_by w is d all (inl l) =
+    let told = is.each d (get_or w.program.callers d []) (slice_get-get_or w.program.callers d [] l) in
+    (told.0, told.1)
+everyone_by w is d all (inr l) =
+    let v : ℕ = d - length w.program.callers in
+    let told = is.workers v (omega arith) in
+    (told.0, subst (λ (x : ℕ). Contains w.callers (x, told.0)) (let same : length w.program.callers + v ≡ d = omega arith in same) told.1)
+
+everyone : (w : Walk) → IsProgramOf w.meanings w.program.plan w.history w.callers w.program → (d : ℕ) → d < length w.callers → (records : List Record) × Contains w.callers (d, records)
+everyone w is d l = everyone_by w is d (let all = is.all in omega arith) (cases_lt d (length w.program.callers))
 
 begins : (w : Walk) → Comes w 0 [] [] (start_of w.program)
 begins w = record {
@@ -160,11 +175,8 @@ orders-of m functions history callers p one is =
         all_events = λ none. last.comes.events ∙ none-vain (length callers) functions (length p.callers) (start p.plan) history one.taken (let all = is.all in omega arith);
         state = last.comes.state;
         end = none-goes_on p s workers (λ c l. (let one = told c l in no-step p s c one.records one.steps one.at));
-        tells = λ c steps there.
-            let all = told c (slice_get_within p.callers c steps there) in
-            let some : Some steps ≡ Some (map step_for all.records) = sym there ∙ all.steps in
-            let same : steps ≡ map step_for all.records = cc in
-            (all.records, all.owner, same, all.tells);
+        tells = λ c records l there. (let one = told c l in
+            subst (λ (x : List Record). TellsEach m p history last.order c x) (once callers (everyone w is) c one.records records one.owner there) one.tells);
       },
     )
 

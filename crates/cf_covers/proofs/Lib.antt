@@ -1,4 +1,5 @@
 pub mod Lists
+pub mod Numbers
 pub mod Orders
 pub mod Sames
 pub mod Ends
@@ -6,3 +7,4 @@ pub mod Callers
 pub mod Walks
 pub mod Workers
 pub mod Histories
+pub mod Programs

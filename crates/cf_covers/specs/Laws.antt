@@ -16,7 +16,12 @@ use Rattle.cf_explore.specs.Programs.{Programmed, Situated, start_of}
 use Rattle.cf_explore.specs.Orders.{led}
 use Rattle.cf_explore.specs.Conditions.{decides}
 use Rattle.cf_explore.specs.Found.{IsFound}
-use Rattle.cf_covers.specs.Tellings.{IsOrderOf, IsProgramOf}
+use Rattle.cf_covers.specs.Tellings.{AreNumbered, IsOrderOf, IsProgramOf, program_of}
+
+-- There is a program of whatever callers were told, without workers.
+abbrev pub ProgramsAreThere : Type 0
+ProgramsAreThere =
+    (m : Meanings) (plan : Planned) (history : List Event) (callers : List (ℕ × List Record)) → AreNumbered callers → IsProgramOf m plan history callers (program_of plan callers)
 
 -- there is an order that is this history
 abbrev pub HasOrder : Meanings → Programmed → List Event → List (ℕ × List Record) → Type 0

@@ -79,6 +79,17 @@ pub record IsProgramOf (m : Meanings) (plan : Planned) (history : List Event) (c
   pub each : (c : ℕ) (steps : List Step) → slice_get p.callers c ≡ Some steps → AreToldSteps callers c steps
   pub workers : (w : ℕ) → w < p.workers → HasWorked m plan history callers (length p.callers + w)
 
+-- each caller stands in the list at its number's place
+abbrev pub AreNumbered : List (ℕ × List Record) → Type 0
+AreNumbered callers = (c : ℕ) (k : ℕ × List Record) → slice_get callers c ≡ Some k → k.0 ≡ c
+
+-- the program of these callers alone
+abbrev pub steps_for : ℕ × List Record → List Step
+steps_for k = map step_for k.1
+
+abbrev pub program_of : Planned → List (ℕ × List Record) → Programmed
+program_of plan callers = record { plan = plan; callers = map steps_for callers; workers = 0; free = false }
+
 -- ---- orders
 
 -- the events that these moves are, one after another
@@ -127,11 +138,6 @@ pub record IsToldBy (m : Meanings) (p : Programmed) (history : List Event) (orde
 abbrev pub TellsEach : Meanings → Programmed → List Event → List Move → ℕ → List Record → Type 0
 TellsEach m p history order c records = (j : ℕ) (r : Record) → slice_get records j ≡ Some r → IsToldBy m p history order c j r
 
--- an order tells caller c what one of these callers, of this number and with these steps, was told
-abbrev pub TellsCaller : Meanings → Programmed → List Event → List (ℕ × List Record) → List Move → ℕ → List Step → Type 0
-TellsCaller m p history callers order c steps =
-    (records : List Record) × Contains callers (c, records) × (steps ≡ map step_for records) × TellsEach m p history order c records
-
 -- An order that is this history: its moves are these events, one after another, but for what workers claimed in vain, and it leads to
 -- an end with the state that they leave. Each caller is told in it what it was told.
 pub record IsOrderOf (m : Meanings) (p : Programmed) (history : List Event) (callers : List (ℕ × List Record)) (order : List Move) (s : Situated) : Type 0 where
@@ -140,4 +146,4 @@ pub record IsOrderOf (m : Meanings) (p : Programmed) (history : List Event) (cal
   pub all_events : p.workers ≡ 0 → events_by m p (start_of p) order ≡ history
   pub state : s.state ≡ state_after (start p.plan) history
   pub end : is_end p s ≡ true
-  pub tells : (c : ℕ) (steps : List Step) → slice_get p.callers c ≡ Some steps → TellsCaller m p history callers order c steps
+  pub tells : (c : ℕ) (records : List Record) → c < length p.callers → Contains callers (c, records) → TellsEach m p history order c records

@@ -1,5 +1,11 @@
 //! The contract of each function is the statement, and its body is empty.
-ghost use Rattle.cf_covers.specs.Laws.{HistoriesAreOrders, SearchesCoverHistories, SearchesJudgeHistories};
+ghost use Rattle.cf_covers.specs.Laws.{HistoriesAreOrders, ProgramsAreThere, SearchesCoverHistories, SearchesJudgeHistories};
+
+/// There is a program whose callers make the calls that callers were told of: that of their own records, where they stand in
+/// the order of their numbers.
+pub fn programs_are_there()
+    ensures { ProgramsAreThere }
+{}
 
 /// What callers were told, where it is one history, is an order of each program whose callers make the same calls, with
 /// a worker for each other caller, which worked until nothing was ready. In it each is told what it was told, and it ends with
