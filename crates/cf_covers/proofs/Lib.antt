@@ -8,3 +8,4 @@ pub mod Walks
 pub mod Workers
 pub mod Histories
 pub mod Programs
+pub mod LeftOut

@@ -16,7 +16,14 @@ use Rattle.cf_explore.specs.Programs.{Programmed, Situated, start_of}
 use Rattle.cf_explore.specs.Orders.{led}
 use Rattle.cf_explore.specs.Conditions.{decides}
 use Rattle.cf_explore.specs.Found.{IsFound}
+use Rattle.cf_covers.specs.Reads.{AreCallersBut}
 use Rattle.cf_covers.specs.Tellings.{AreNumbered, IsOrderOf, IsProgramOf, program_of}
+
+-- Where what callers were told is one history, so is what is left of it without some reads: a program needn't have all of them.
+abbrev pub ReadsMayBeLeftOut : Type 0
+ReadsMayBeLeftOut =
+    (plan : Planned) (functions : ℕ) (history : List Event) (callers fewer : List (ℕ × List Record)) →
+    IsOneHistory plan functions history callers → AreCallersBut fewer callers → IsOneHistory plan functions history fewer
 
 -- There is a program of whatever callers were told, without workers.
 abbrev pub ProgramsAreThere : Type 0

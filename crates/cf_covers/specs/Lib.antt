@@ -1,2 +1,3 @@
 pub mod Tellings
+pub mod Reads
 pub mod Laws

@@ -1,10 +1,16 @@
 //! The contract of each function is the statement, and its body is empty.
-ghost use Rattle.cf_covers.specs.Laws.{HistoriesAreOrders, ProgramsAreThere, SearchesCoverHistories, SearchesJudgeHistories};
+ghost use Rattle.cf_covers.specs.Laws.{HistoriesAreOrders, ProgramsAreThere, ReadsMayBeLeftOut, SearchesCoverHistories, SearchesJudgeHistories};
 
 /// There is a program whose callers make the calls that callers were told of: that of their own records, where they stand in
 /// the order of their numbers.
 pub fn programs_are_there()
     ensures { ProgramsAreThere }
+{}
+
+/// What callers were told, where it is one history, is one without some of their reads, too: so a program needn't have each
+/// read that a caller of the desk made.
+pub fn reads_may_be_left_out()
+    ensures { ReadsMayBeLeftOut }
 {}
 
 /// What callers were told, where it is one history, is an order of each program whose callers make the same calls, with
