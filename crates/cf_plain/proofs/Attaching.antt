@@ -1,9 +1,10 @@
 -- Plans whose stages are listed, and one more stage of them.
 use Rattle.std.proofs.Common.{◌≡◌, ℕ, ◌+◌, ◌<◌, ◌∷◌, ◌++◌, [], List, All, Option, None, true, length, length-append, ap, add-one, arith, refl, suc, sym, take, zero, ◌∙◌}
 use Rattle.std.specs.Prelude.{is_some}
+use Rattle.std.proofs.lemmas.List.{take_all}
 use Rattle.cf_plan.specs.declared.forms.Form.{Form}
 use Rattle.cf_plan.specs.declared.forms.Of.{Of}
-use Rattle.cf_plan.specs.Plans.{Planned, PlannedStage, and_stage, attached_stage, fits_form, form_at, function_at, sources_at, sources_of}
+use Rattle.cf_plan.specs.Plans.{Planned, PlannedStage, and_stage, attached_stage, fits_form, form_at, function_at, plan_of, sources_at, sources_of}
 use Rattle.cf_model.specs.declared.stage.Stage.{Stage}
 use Rattle.cf_model.specs.declared.stage.Stage.TheVariants.{Pending}
 use Rattle.cf_plan.proofs.GrowingLemmas.{growing-and_stage}
@@ -16,9 +17,24 @@ take_next [] i l = absurd (omega arith)
 take_next (p ∷ plan) zero l = refl
 take_next (p ∷ plan) (suc i) l = ap (λ r. p ∷ r) (take_next plan i (omega arith))
 
-pub take_more : (plan listed : List PlannedStage) (i : ℕ) (new : PlannedStage) → i < length plan → listed ≡ take i plan →
-    new ≡ record { form = form_at plan i; sources = sources_at plan i; function = function_at plan i } → listed ++ new ∷ [] ≡ take (i + 1) plan
-take_more plan listed i new l so_far is = rw (add-one, so_far, is) (take_next plan i l)
+-- the same stage behind the same stages
+both_more : (xs ys : List PlannedStage) (f g : Form) (s t : List ℕ) (m n : Option ℕ) → xs ≡ ys → f ≡ g → s ≡ t → m ≡ n →
+    xs ++ record { form = f; sources = s; function = m } ∷ [] ≡ ys ++ record { form = g; sources = t; function = n } ∷ []
+both_more xs ys f g s t m n before form sources function = rw (before, form, sources, function) refl
+
+-- two plans have one stage more in common
+pub same_more : (a b : List PlannedStage) (i : ℕ) → i < length a → i < length b → take i a ≡ take i b → form_at a i ≡ form_at b i → sources_at a i ≡ sources_at b i →
+    function_at a i ≡ function_at b i → take (i + 1) a ≡ take (i + 1) b
+same_more a b i in_a in_b before form sources function =
+    let more = both_more (take i a) (take i b) (form_at a i) (form_at b i) (sources_at a i) (sources_at b i) (function_at a i) (function_at b i) before form sources function in
+    rw add-one (sym (take_next a i in_a) ∙ more ∙ take_next b i in_b)
+
+-- two plans that were built have the same stages and limits
+pub same_built : (a b : Planned) (n : ℕ) → a ≡ plan_of a.stages a.limits → b ≡ plan_of b.stages b.limits → n ≡ length a.stages → n ≡ length b.stages →
+    take n a.stages ≡ take n b.stages → a.limits ≡ b.limits → a ≡ b
+same_built a b n first other so_many as_many stages limits =
+    let all : a.stages ≡ b.stages = sym (take_all n a.stages (omega arith)) ∙ stages ∙ take_all n b.stages (omega arith) in
+    first ∙ ap (λ xs. plan_of xs a.limits) all ∙ ap (λ ls. plan_of b.stages ls) limits ∙ sym other
 
 -- two lists of one length, each with one more
 both_longer : {A B : Type 0} (xs : List A) (ys : List B) (x : A) (y : B) → length xs ≡ length ys → length (xs ++ x ∷ []) ≡ length (ys ++ y ∷ [])

@@ -1,11 +1,12 @@
 -- The plain graph.
-use Rattle.std.specs.Prelude.{◌≡◌, ◌≤◌, ℕ, Option, List, length}
+use Rattle.std.specs.Prelude.{◌≡◌, ◌≤◌, ◌++◌, ℕ, Option, List, length}
 use Rattle.cf_plan.specs.Plans.{IsGrowing, Planned, PlannedStage}
 use Rattle.cf_model.specs.declared.stage.Stage.{Stage}
 
--- the plan of an opening once it has these stages, and room for so many more
+-- the plan of an opening once these stages are attached, with room for so many more
 abbrev pub grown : Planned → List PlannedStage → ℕ → Planned
-grown opening stages room = record { stages = stages; limits = opening.limits; opened = length opening.stages; room = room }
+grown opening attached room =
+    record { stages = opening.stages ++ attached; limits = opening.limits; opened = length opening.stages; room = room }
 
 -- the plan is one that grows; there is a stage, and a claim or none, for each of its stages; no more limits are used than there are
 pub record IsInStep (plan : Planned) (stages : List Stage) (claims : List (Option ℕ)) (used : ℕ) : Type 0 where

@@ -1,4 +1,4 @@
-//! A plan that grows, as a list of its stages.
+//! A plan that grows: the one that it was opened with, and a list of the stages that were attached.
 ghost use Rattle.std.specs.Prelude.{◌≡◌, ◌<◌, true, All, IfOk, OnErr, is_some, length};
 ghost use Rattle.cf_plan.specs.Plans.{IsGrowing, and_stage, attached_stage, fits_form, form_at, function_at, has_place, sources_at, sources_of, with_room};
 
@@ -22,11 +22,12 @@ impl Model for PlainStage {
     ghost view = { λ s. record { form = s.form; sources = s.sources.items; function = s.function } };
 }
 
-/// A plan with room for stages that are attached later. A contract sees it as it does a plan.
+/// A plan with room for stages that are attached later. A contract sees it as it does a plan. Its copies share the memory of the
+/// opening.
 #[derive(Drop)]
 pub struct PlainPlan {
     opening: Plan,
-    stages: Vec<PlainStage>,
+    attached: Vec<PlainStage>,
     room: u16,
 }
 
@@ -38,9 +39,9 @@ impl Model for PlainPlan {
     ghost use Rattle.cf_plan.specs.Plans.{IsGrowing};
     ghost use Rattle.cf_plain.specs.Plains.{grown};
 
-    ghost view = { λ p. grown p.opening p.stages.items p.room };
+    ghost view = { λ p. grown p.opening p.attached.items p.room };
 
-    ghost invariant = { λ p. IsGrowing (grown p.opening p.stages.items p.room) };
+    ghost invariant = { λ p. IsGrowing (grown p.opening p.attached.items p.room) };
 }
 
 impl PlainPlan {
@@ -49,12 +50,11 @@ impl PlainPlan {
         requires place { has_place opening.stages room ≡ true }
         ensures { IfOk result (λ plan. plan ≡ with_room opening room) }
     {
-        let stages = stages_of(alloc, &opening)?;
         // A plan that was built is within its bounds, and opened with all its stages.
         let _stages = opening.stages();
         Ok(PlainPlan {
             opening,
-            stages,
+            attached: Vec::new(alloc),
             room,
         })
     }
@@ -64,7 +64,7 @@ impl PlainPlan {
         ensures count { result ≡ length self.now.stages }
         ensures growing { IsGrowing self.now }
     {
-        self.stages.len() as u16
+        self.opening.stages() + self.attached.len() as u16
     }
 
     /// How many stages may still be attached.
@@ -79,7 +79,12 @@ impl PlainPlan {
         requires { i < length self.now.stages }
         ensures { result ≡ form_at self.now.stages i }
     {
-        self.stages[i as usize].form
+        let opened = self.opening.stages();
+        if i < opened {
+            self.opening.form(i)
+        } else {
+            self.attached[(i - opened) as usize].form
+        }
     }
 
     /// The sources of a stage, which are lower.
@@ -88,7 +93,12 @@ impl PlainPlan {
         ensures sources { result.now ≡ sources_at self.now.stages i }
         ensures lower { All (λ j. j < i) result.now }
     {
-        &self.stages[i as usize].sources
+        let opened = self.opening.stages();
+        if i < opened {
+            self.opening.sources(i)
+        } else {
+            &self.attached[(i - opened) as usize].sources
+        }
     }
 
     /// The number of a stage's function, if its form has one.
@@ -96,7 +106,12 @@ impl PlainPlan {
         requires { i < length self.now.stages }
         ensures { result ≡ function_at self.now.stages i }
     {
-        self.stages[i as usize].function
+        let opened = self.opening.stages();
+        if i < opened {
+            self.opening.function(i)
+        } else {
+            self.attached[(i - opened) as usize].function
+        }
     }
 
     /// The same plan again.
@@ -104,10 +119,10 @@ impl PlainPlan {
         ensures { IfOk result (λ plan. plan ≡ self.now) }
     {
         let opening = copied(&self.opening)?;
-        let stages = copied_stages(alloc, &self.stages)?;
+        let attached = copied_stages(alloc, &self.attached)?;
         Ok(PlainPlan {
             opening,
-            stages,
+            attached,
             room: self.room,
         })
     }
@@ -124,9 +139,8 @@ impl PlainPlan {
         ensures { result ≡ true → self.now ≡ other.now }
     {
         self.room == other.room
-            && self.opening.stages() == other.opening.stages()
-            && same_limits(self.opening.limits(), other.opening.limits())
-            && same_stages(&self.stages, &other.stages)
+            && same_plans(&self.opening, &other.opening)
+            && same_stages(&self.attached, &other.attached)
     }
 
     /// Puts a stage behind the others.
@@ -144,7 +158,7 @@ impl PlainPlan {
         ensures unchanged { OnErr result (self.new ≡ self.old) }
     {
         let stage = attached(alloc, form, of, function)?;
-        self.stages.push(stage)?;
+        self.attached.push(stage)?;
         self.room -= 1;
         Ok(())
     }
@@ -176,6 +190,32 @@ fn copied_stage(alloc: Global, stage: &PlainStage) -> Result<PlainStage, AllocEr
     ensures { IfOk result (λ copy. copy ≡ stage.now) }
 {
     planned(alloc, stage.form, &stage.sources, stage.function)
+}
+
+/// Whether it is the same plan.
+fn same_plans(a: &Plan, b: &Plan) -> bool
+    ensures { result ≡ true → a.now ≡ b.now }
+{
+    if a.stages() != b.stages() || !same_limits(a.limits(), b.limits()) {
+        return false;
+    }
+    for i in 0..a.stages() {
+        if !same_planned(a, b, i) {
+            return false;
+        }
+    }
+    true
+}
+
+/// Whether both have the same stage at a place.
+fn same_planned(a: &Plan, b: &Plan, i: u16) -> bool
+    requires first { i < length a.now.stages }
+    requires other { i < length b.now.stages }
+    ensures form { result ≡ true → form_at a.now.stages i ≡ form_at b.now.stages i }
+    ensures sources { result ≡ true → sources_at a.now.stages i ≡ sources_at b.now.stages i }
+    ensures function { result ≡ true → function_at a.now.stages i ≡ function_at b.now.stages i }
+{
+    a.form(i) == b.form(i) && a.function(i) == b.function(i) && a.sources(i) == b.sources(i)
 }
 
 /// Whether they are the same limits.
@@ -220,18 +260,6 @@ fn same_stage(a: &PlainStage, b: &PlainStage) -> bool
     ensures { result ≡ true → a.now ≡ b.now }
 {
     a.form == b.form && a.function == b.function && a.sources.as_slice() == b.sources.as_slice()
-}
-
-/// The stages of a plan.
-fn stages_of(alloc: Global, plan: &Plan) -> Result<Vec<PlainStage>, AllocError>
-    ensures { IfOk result (λ stages. stages.items ≡ plan.now.stages) }
-{
-    let mut stages = Vec::new(alloc);
-    for i in 0..plan.stages() {
-        let stage = planned(alloc, plan.form(i), plan.sources(i), plan.function(i))?;
-        stages.push(stage)?;
-    }
-    Ok(stages)
 }
 
 /// An attached stage.
