@@ -52,6 +52,7 @@ begun m p conditions search s is added start ends decisions so_many moves whole 
   found = record {
     ends = rw (ends, moves) (λ f. refl);
     shown = rw ends (λ i d l. absurd (omega arith));
+    apart = rw ends (λ i j e g first other same. absurd (let never : i < 0 = slice_get_within [] i e first in omega arith));
     all_decisions = so_many;
     decisions = λ i c d ec ed.
         let there : slice_get (replicate (length conditions) None) i ≡ Some d = subst (λ (ds : List (Option Witness)). slice_get ds i ≡ Some d) decisions ed in

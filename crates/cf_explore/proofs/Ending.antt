@@ -15,7 +15,7 @@ use Rattle.cf_explore.specs.Programs.{Programmed, Situated}
 use Rattle.cf_explore.specs.Moves.{is_end}
 use Rattle.cf_explore.specs.Layers.{IsLed, LeadsTo, counted, weigh, weight}
 use Rattle.cf_explore.specs.Situations.{outcomes_of}
-use Rattle.cf_explore.specs.Found.{AreMoreEnds, IsEnded, IsShown, end_weight, more_ended, over_end, weigh_ends}
+use Rattle.cf_explore.specs.Found.{AreApart, AreMoreEnds, IsEnded, IsShown, end_weight, more_ended, over_end, weigh_ends}
 use Rattle.cf_explore.proofs.Counting.{counted-add, counted-merge}
 use Rattle.cf_explore.proofs.Spreading.{all-front, all-last}
 
@@ -27,6 +27,7 @@ pub ends-start : (p : Programmed) (k : ℕ) (old : List End) → AreMoreEnds p k
 ends-start p k old = record {
   weighs = λ f. ap counted (let same : weigh_ends f old ≡ weigh_ends f old + 0 = omega arith in same);
   shown = λ m trail led all. all;
+  apart = λ h. h;
 }
 
 pub ends-on : (p : Programmed) (k : ℕ) (entries : List Entry) (e : Entry) (old new newer : List End) → AreMoreEnds p k entries old new → AreMoreEnds p k (e ∷ []) new newer →
@@ -39,6 +40,7 @@ ends-on p k entries e old new newer h one = record {
       one.weighs f ∙ more ∙ ap counted total;
   shown = λ m trail led all.
       one.shown m trail (all-alone (IsLed m p trail k) e (all-last (IsLed m p trail k) entries e led)) (h.shown m trail (all-front (IsLed m p trail k) entries e led) all);
+  apart = λ a. one.apart (h.apart a);
 }
 
 -- one that isn't an end
@@ -49,6 +51,7 @@ ends-none p k e old is = record {
       let weightless : weight (over_end p f) e ≡ 0 = rw none (omega arith) in
       ap counted (let same : weigh_ends f old ≡ weigh_ends f old + weigh (over_end p f) (e ∷ []) = omega (arith, weightless) in same);
   shown = λ m trail led all. all;
+  apart = λ a. a;
 }
 
 ended-weighs : (f : List (Option Outcome) → ℕ) (old new : List End) (outcomes : List (Option Outcome)) (orders : ℕ) (w : Witness) (is : Bool) →
@@ -89,8 +92,9 @@ ended-shown m p trail old new s outcomes orders w false h leads ends same all =
 
 -- one that is an end
 pub ends-one : (p : Programmed) (k : ℕ) (e : Entry) (old new : List End) (outcomes : List (Option Outcome)) (w : Witness) (is : Bool) → is_end p e.situation ≡ true →
-    outcomes ≡ outcomes_of e.situation → w.moves ≡ k → w.number ≡ e.number → IsEnded old new outcomes e.orders w is → AreMoreEnds p k (e ∷ []) old new
-ends-one p k e old new outcomes w is ends same at number h = record {
+    outcomes ≡ outcomes_of e.situation → w.moves ≡ k → w.number ≡ e.number → IsEnded old new outcomes e.orders w is →
+    (AreApart old → AreApart new) → AreMoreEnds p k (e ∷ []) old new
+ends-one p k e old new outcomes w is ends same at number h apart = record {
   weighs = λ f.
       let weighed = ended-weighs f old new outcomes e.orders w is h in
       let one : over_end p f e.situation ≡ f outcomes = rw ends (ap f (sym same)) in
@@ -100,6 +104,7 @@ ends-one p k e old new outcomes w is ends same at number h = record {
       let here : IsLed m p trail k e = all-last (IsLed m p trail k) [] e led in
       let leads : LeadsTo m p trail w.moves w.number e.situation = rw (at, number) here in
       ended-shown m p trail old new e.situation outcomes e.orders w is h leads ends same all;
+  apart = apart;
 }
 
 -- one entry more of a layer

@@ -2,6 +2,7 @@ pub mod Counting
 pub mod Sums
 pub mod Trails
 pub mod Adding
+pub mod Apart
 pub mod Spreading
 pub mod Ending
 pub mod Tracing

@@ -139,6 +139,7 @@ look-keeps m p conditions old new found layer look =
     record {
       ends = subst (λ (n : ℕ). EndsStandFor new.found.ends.items (ends_before m p n)) (sym later) ends;
       shown = subst (λ (t : List Trace). All (IsShown m p t) new.found.ends.items) (sym same) shown;
+      apart = look.ends.apart found.apart;
       all_decisions = look.decisions.so_many ∙ found.all_decisions;
       decisions = subst (λ (n : ℕ). AreDecisions m p new.found.trail.items n conditions new.found.decisions.items) (sym look.moves) (subst (λ (t : List Trace). AreDecisions m p t (k + 1) conditions new.found.decisions.items) (sym same) decisions);
       whole = λ is n le. found.whole (sym look.whole ∙ is) n (omega (arith, look.moves));
@@ -163,6 +164,7 @@ advance-keeps m p conditions k old new found at layer h =
       found = record {
         ends = rw (ends, h.moves) found.ends;
         shown = rw (ends, longer) (shown-longer m p trail later old.found.ends.items found.shown);
+        apart = rw ends found.apart;
         all_decisions = ap length decisions ∙ found.all_decisions;
         decisions = rw (decisions, longer, h.moves) (λ i c d ec ed. decision-longer m p trail later old.found.moves c d (found.decisions i c d ec ed));
         whole = λ is n le.

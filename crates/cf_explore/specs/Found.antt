@@ -45,10 +45,15 @@ abbrev pub AreDecisions : Meanings → Programmed → List Trace → ℕ → Lis
 AreDecisions m p trail k conditions decisions =
     (i : ℕ) (c : Condition) (d : Option Witness) → slice_get conditions i ≡ Some c → slice_get decisions i ≡ Some d → IsDecision m p trail k c d
 
+-- no two of these ends have the same outcomes
+abbrev pub AreApart : List End → Type 0
+AreApart ends = (i j : ℕ) (e g : End) → slice_get ends i ≡ Some e → slice_get ends j ≡ Some g → e.outcomes.items ≡ g.outcomes.items → i ≡ j
+
 -- What is found is true of all orders of fewer moves than it says, and of all orders where it says that they are all.
 pub record IsFound (m : Meanings) (p : Programmed) (conditions : List Condition) (found : Found) : Type 0 where
   pub ends : EndsStandFor found.ends.items (ends_before m p found.moves)
   pub shown : All (IsShown m p found.trail.items) found.ends.items
+  pub apart : AreApart found.ends.items
   pub all_decisions : length found.decisions.items ≡ length conditions
   pub decisions : AreDecisions m p found.trail.items found.moves conditions found.decisions.items
   pub whole : found.whole ≡ true → (k : ℕ) → found.moves ≤ k → after m p k ≡ []
@@ -57,6 +62,10 @@ pub record IsFound (m : Meanings) (p : Programmed) (conditions : List Condition)
 pub record IsSearch (m : Meanings) (p : Programmed) (conditions : List Condition) (search : Search) : Type 0 where
   pub found : IsFound m p conditions search.found
   pub layer : search.is_on ≡ true → IsLayer m p search.found.trail.items search.found.moves search.layer.entries.items
+
+-- a search that is over has seen all orders, or as many situations as the bound
+abbrev pub IsOver : ℕ → Search → Type 0
+IsOver bound search = search.is_on ≡ false → (search.found.whole ≡ true) ⊎ (bound ≤ length search.found.trail.items)
 
 -- What one layer brings. Of these situations the first that decides a condition, if one does.
 abbrev pub IsFirst : Programmed → List Entry → ℕ → Condition → Option Witness → Type 0
@@ -86,6 +95,10 @@ more_ended e orders = record e { orders = counted (e.orders + orders) }
 abbrev pub HasOutcomes : List End → ℕ → List (Option Outcome) → Type 0
 HasOutcomes ends i outcomes = (e : End) × (slice_get ends i ≡ Some e) × (e.outcomes.items ≡ outcomes)
 
+-- none of these ends has these outcomes
+abbrev pub AreOthers : List End → List (Option Outcome) → Type 0
+AreOthers ends outcomes = (i : ℕ) → HasOutcomes ends i outcomes → ⊥
+
 abbrev pub IsEnded : List End → List End → List (Option Outcome) → ℕ → Witness → Bool → Type 0
 IsEnded old new outcomes orders w true =
     (e : End) × (e.outcomes.items ≡ outcomes) × (e.orders ≡ orders) × (e.witness ≡ w) × (new ≡ old ++ e ∷ [])
@@ -96,6 +109,7 @@ IsEnded old new outcomes orders w false =
 pub record AreMoreEnds (p : Programmed) (k : ℕ) (entries : List Entry) (old new : List End) : Type 0 where
   pub weighs : (f : List (Option Outcome) → ℕ) → counted (weigh_ends f new) ≡ counted (weigh_ends f old + weigh (over_end p f) entries)
   pub shown : (m : Meanings) (trail : List Trace) → All (IsLed m p trail k) entries → All (IsShown m p trail) old → All (IsShown m p trail) new
+  pub apart : AreApart old → AreApart new
 
 -- a look at a layer
 pub record IsLook (p : Programmed) (conditions : List Condition) (old new : Search) : Type 0 where

@@ -1,6 +1,6 @@
 //! The distinct ends.
-ghost use Rattle.std.specs.Prelude.{◌≡◌, ◌<◌, ◌∷◌, [], IfOk, IfSome, Some, length, slice_get, slice_set, true};
-ghost use Rattle.cf_explore.specs.Found.{AreMoreEnds, HasOutcomes, IsEnded, more_ended};
+ghost use Rattle.std.specs.Prelude.{◌≡◌, ◌<◌, ◌∷◌, [], IfNone, IfOk, IfSome, Some, length, slice_get, slice_set, true};
+ghost use Rattle.cf_explore.specs.Found.{AreApart, AreMoreEnds, AreOthers, HasOutcomes, IsEnded, more_ended};
 ghost use Rattle.cf_explore.specs.Situations.{outcomes_of};
 
 use crate::found::{End, Witness};
@@ -64,7 +64,8 @@ fn add_end(
     orders: u128,
     witness: Witness,
 ) -> Result<bool, AllocError>
-    ensures { IfOk result (λ new. IsEnded ends.old.items ends.new.items outcomes.items orders witness new) }
+    ensures ended { IfOk result (λ new. IsEnded ends.old.items ends.new.items outcomes.items orders witness new) }
+    ensures apart { IfOk result (λ _. AreApart ends.old.items → AreApart ends.new.items) }
 {
     match find_end(ends, &outcomes) {
         Some(i) => {
@@ -84,7 +85,8 @@ fn add_end(
 
 /// The place of the end with these outcomes, if it is there.
 fn find_end(ends: &[End], outcomes: &[Option<Outcome>]) -> Option<usize>
-    ensures { IfSome result (λ i. HasOutcomes ends.now i outcomes.now) }
+    ensures there { IfSome result (λ i. HasOutcomes ends.now i outcomes.now) }
+    ensures others { IfNone result (AreOthers ends.now outcomes.now) }
 {
     for i in 0..ends.len() {
         if has_outcomes(ends, i, outcomes) {
@@ -96,7 +98,8 @@ fn find_end(ends: &[End], outcomes: &[Option<Outcome>]) -> Option<usize>
 
 /// Whether the end with these outcomes stands at a place.
 fn has_outcomes(ends: &[End], i: usize, outcomes: &[Option<Outcome>]) -> bool
-    ensures { result ≡ true → HasOutcomes ends.now i outcomes.now }
+    ensures there { result ≡ true → HasOutcomes ends.now i outcomes.now }
+    ensures other { HasOutcomes ends.now i outcomes.now → result ≡ true }
 {
     match ends.get(i) {
         None => false,
@@ -106,7 +109,8 @@ fn has_outcomes(ends: &[End], i: usize, outcomes: &[Option<Outcome>]) -> bool
 
 /// Whether they are the same outcomes.
 fn same_outcomes(a: &[Option<Outcome>], b: &[Option<Outcome>]) -> bool
-    ensures { result ≡ true → a.now ≡ b.now }
+    ensures same { result ≡ true → a.now ≡ b.now }
+    ensures other { a.now ≡ b.now → result ≡ true }
 {
     if a.len() != b.len() {
         return false;
@@ -121,7 +125,8 @@ fn same_outcomes(a: &[Option<Outcome>], b: &[Option<Outcome>]) -> bool
 
 /// Whether it is the same outcome.
 fn same_outcome(a: Option<Outcome>, b: Option<Outcome>) -> bool
-    ensures { result ≡ true → a ≡ b }
+    ensures same { result ≡ true → a ≡ b }
+    ensures other { a ≡ b → result ≡ true }
 {
     a == b
 }

@@ -1,10 +1,10 @@
 //! The search, layer by layer.
-ghost use Rattle.std.specs.Prelude.{◌≡◌, ◌+◌, ◌*◌, ◌<◌, ℕ, Contains, IfOk, IfSome, None, length, replicate, true, vec_len};
+ghost use Rattle.std.specs.Prelude.{◌≡◌, ◌+◌, ◌*◌, ◌<◌, ◌≤◌, ℕ, Contains, IfNone, IfOk, IfSome, None, false, length, replicate, true, vec_len};
 ghost use Rattle.cf_plan.specs.Meanings.{Meanings, meanings_of};
 ghost use Rattle.cf_explore.specs.Programs.{Situated};
 ghost use Rattle.cf_explore.specs.Moves.{moved, moves};
 ghost use Rattle.cf_explore.specs.Layers.{IsLonger, IsNext, IsSpread, KeepsLed, LeadsOn, counted, weigh};
-ghost use Rattle.cf_explore.specs.Found.{AreUpdates, IsAdvance, IsFirst, IsFound, IsLook, IsSearch, IsUpdate};
+ghost use Rattle.cf_explore.specs.Found.{AreUpdates, IsAdvance, IsFirst, IsFound, IsLook, IsOver, IsSearch, IsUpdate};
 
 use crate::condition::Condition;
 use crate::found::{Found, Witness};
@@ -47,7 +47,8 @@ impl Program {
 
     /// A search that has seen nothing yet.
     pub fn begin(&self, alloc: Global, conditions: &[Condition]) -> Result<Search, AllocError>
-        ensures { IfOk result (λ search. (m : Meanings) → IsSearch m self.now conditions.now search) }
+        ensures search { IfOk result (λ search. (m : Meanings) → IsSearch m self.now conditions.now search) }
+        ensures over { IfOk result (λ search. (bound : ℕ) → IsOver bound search) }
     {
         let mut layer = Layer::new(alloc);
         let start = self.start(alloc)?;
@@ -72,7 +73,7 @@ impl Program {
     }
 
     /// Sees all orders of one move more, unless there are more situations than the bound, where it stops. The conditions are
-    /// those that the search began with.
+    /// those that the search began with. It fails only where there is no memory, and the search isn't to be used any more then.
     pub fn go_on<F: StageFn>(
         &self,
         alloc: Global,
@@ -81,7 +82,8 @@ impl Program {
         bound: u32,
         search: &mut Search,
     ) -> Result<(), AllocError>
-        ensures { IsSearch (meanings_of F.meaning functions.now) self.now conditions.now search.old → IfOk result (λ _. IsSearch (meanings_of F.meaning functions.now) self.now conditions.now search.new) }
+        ensures search { IsSearch (meanings_of F.meaning functions.now) self.now conditions.now search.old → IfOk result (λ _. IsSearch (meanings_of F.meaning functions.now) self.now conditions.now search.new) }
+        ensures over { IsOver bound search.old → IfOk result (λ _. IsOver bound search.new) }
     {
         if search.is_on
             && search.found.moves < u32::MAX
@@ -126,7 +128,8 @@ impl Program {
         bound: u32,
         search: &mut Search,
     ) -> Result<(), AllocError>
-        ensures { IfOk result (λ _. IsAdvance (meanings_of F.meaning functions.now) self.now search.old search.new) }
+        ensures advance { IfOk result (λ _. IsAdvance (meanings_of F.meaning functions.now) self.now search.old search.new) }
+        ensures over { IfOk result (λ _. IsOver bound search.new) }
     {
         let next = self.next_layer(
             alloc,
@@ -162,6 +165,7 @@ impl Program {
         ensures next { IfOk result (λ made. IfSome made (λ layer. IsNext (meanings_of F.meaning functions.now) self.now entries.now layer.entries.items)) }
         ensures led { IfOk result (λ made. IfSome made (λ layer. LeadsOn (meanings_of F.meaning functions.now) self.now trail.old.items trail.new.items entries.now layer.entries.items)) }
         ensures longer { IfOk result (λ _. IsLonger trail.old.items trail.new.items) }
+        ensures full { IfOk result (λ made. IfNone made (bound ≤ length trail.new.items)) }
     {
         let mut next = Layer::new(alloc);
         for entry in entries {
@@ -186,6 +190,7 @@ impl Program {
         ensures spread { IfOk result (λ whole. whole ≡ true → IsSpread (meanings_of F.meaning functions.now) self.now entry.now next.old.entries.items next.new.entries.items) }
         ensures led { IfOk result (λ whole. KeepsLed (meanings_of F.meaning functions.now) self.now trail.old.items trail.new.items next.old.entries.items next.new.entries.items entry.now) }
         ensures longer { IfOk result (λ _. IsLonger trail.old.items trail.new.items) }
+        ensures full { IfOk result (λ whole. whole ≡ false → bound ≤ length trail.new.items) }
     {
         let moves = self.moves(alloc, &entry.situation)?;
         for by in &moves {

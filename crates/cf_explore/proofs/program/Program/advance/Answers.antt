@@ -17,8 +17,8 @@ no-entries (e ∷ entries) h = absurd (omega arith)
 some-of : (P : Layer → Type 0) (made : Option Layer) (layer : Layer) → made ≡ Some layer → IfSome made P → P layer
 some-of P made layer is h = (let there : IfSome (Some layer) P = subst (λ (x : Option Layer). IfSome x P) is h in there)
 
-pub returns-in-None : goal.returns-in-None
-returns-in-None g c = record {
+pub returns-in-None-clause-advance : goal.returns-in-None-clause-advance
+returns-in-None-clause-advance g c = record {
   ends = refl;
   decisions = refl;
   moves = refl;
@@ -28,8 +28,8 @@ returns-in-None g c = record {
   whole = λ w. inl w;
 }
 
-pub returns-in-Some : goal.returns-in-Some
-returns-in-Some g c =
+pub returns-in-Some-clause-advance : goal.returns-in-Some-clause-advance
+returns-in-Some-clause-advance g c =
     let m = meanings_of g.F.StageFn.meaning c.args.functions.now in
     let p = c.args.self.now in
     let old = c.args.search.now in

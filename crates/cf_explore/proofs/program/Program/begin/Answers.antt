@@ -6,8 +6,8 @@ use Rattle.cf_explore.specs.Layers.{IsAdded}
 use Rattle.cf_explore.proofs.Beginning.{begun}
 use Rattle.cf_explore.proofs.program.Program.begin.Goals as goal
 
-pub returns : goal.returns
-returns c = λ m.
+pub returns-clause-search : goal.returns-clause-search
+returns-clause-search c = λ m.
     let search : Search = record {
       layer = c.add.new.self;
       found = record { ends = c.new.result; decisions = c.in_ok-decisions.decisions; moves = 0; whole = false; trail = c.push.new.self };

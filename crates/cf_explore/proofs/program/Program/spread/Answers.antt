@@ -1,4 +1,4 @@
-use Rattle.std.proofs.Common.{◌≡◌, arith}
+use Rattle.std.proofs.Common.{◌≡◌, arith, sym}
 use Rattle.std.proofs.lemmas.Bool.{false≢true}
 use Rattle.cf_plan.specs.Meanings.{meanings_of}
 use Rattle.cf_explore.specs.Moves.{moves}
@@ -16,6 +16,12 @@ returns-then-len-bound-clause-led g c = c.loop-by.invariant.led
 
 pub returns-then-len-bound-clause-longer : goal.returns-then-len-bound-clause-longer
 returns-then-len-bound-clause-longer g c = c.loop-by.invariant.grows
+
+pub returns-then-len-bound-clause-full : goal.returns-then-len-bound-clause-full
+returns-then-len-bound-clause-full g c = λ stopped. omega (arith, c.args.trail.now.ok.0)
+
+pub returns-clause-full : goal.returns-clause-full
+returns-clause-full g c = λ wrong. absurd (false≢true (sym wrong))
 
 pub add_move-requires : goal.add_move-requires
 add_move-requires g c = omega arith
