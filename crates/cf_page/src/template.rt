@@ -49,7 +49,7 @@ pub(crate) const HEAD: &str = r##"<!doctype html>
   
   #verdict { padding: 1px 10px; border-radius: 6px; border: 1.5px solid var(--value-s); background: var(--value); font-weight: 600; overflow-wrap: anywhere }
   #verdict.not { border: 3px double var(--failed-s); background: var(--failed) }
-  .stage.cause > rect { stroke-width: 4.5 } .edge.cause { stroke: var(--failed-s); stroke-width: 4; opacity: 1 }
+  .stage.cause > rect { stroke-width: 4.5 }
   #about ol { margin: 0; padding-left: 20px }
   #bar { display: grid; grid-template-columns: auto 1fr auto; gap: 4px 10px; align-items: center; padding: 4px 12px 8px; border-bottom: 1px solid var(--line) }
   #bar .keys { display: flex; gap: 4px }
@@ -61,7 +61,9 @@ pub(crate) const HEAD: &str = r##"<!doctype html>
   #said small { color: var(--soft); font-size: inherit }
   main { display: grid; grid-template-columns: minmax(0, 1fr) 6px var(--side, 390px); min-height: 0 }
   #view { contain: strict; position: relative; min-width: 0; min-height: 0; overflow: hidden; background: var(--panel) }
-  #plan { position: absolute; inset: 0; width: 100%; height: 100%; cursor: grab; touch-action: none }
+  #plan, #wires { position: absolute; inset: 0; width: 100%; height: 100% }
+  #plan { cursor: grab; touch-action: none }
+  #wires { transform: translateZ(0); pointer-events: none } /* a layer of its own, which isn't drawn anew where boxes change */
   #plan.drag { cursor: grabbing }
   .zoom { position: absolute; right: 10px; top: 10px; display: flex; gap: 4px }
   #side { display: grid; grid-template-rows: auto minmax(80px, 1fr) minmax(120px, 36%); min-height: 0; contain: strict; border-left: 1px solid var(--line) }
@@ -103,8 +105,8 @@ pub(crate) const HEAD: &str = r##"<!doctype html>
   .chip i { font-style: normal; font-weight: 700; color: var(--c) }
   .chip span { display: inline-block; text-align: left; font-variant-numeric: tabular-nums }
   .chip.none { background: none; border-color: var(--line); color: var(--soft) }
-  .absent { opacity: .16 }
-  .dim { opacity: .22 }
+  .absent { fill-opacity: .16; stroke-opacity: .16 }
+  .dim { fill-opacity: .22; stroke-opacity: .22 }
   .stage.changed > rect { filter: drop-shadow(0 0 4px var(--c)) }
   .stage .ring { fill: none; stroke: none }
   .stage.chosen .ring { stroke: var(--text); stroke-width: 2.5 }
@@ -112,15 +114,16 @@ pub(crate) const HEAD: &str = r##"<!doctype html>
   .stage .big, .stage .wide { display: none; font-size: 25px; font-weight: 700; text-anchor: middle }
   .stage .wide { font-size: 18px; font-weight: 600 }
   .wide text, .mid text, .far text { display: none } .mid .stage .big, .wide .stage .wide { display: inline }
-  .far .s1 > rect, .far .s2 > rect, .far .s3 > rect { fill: var(--c) }
+  .far .s1 > rect, .far .s2 > rect, .far .s3 > rect { fill: var(--c) } .far .stage > rect { stroke-dasharray: none; rx: 0; shape-rendering: crispEdges }
   .edge { fill: none; stroke: var(--edge); stroke-width: 1.3 }
   .edge.isLink { stroke: var(--linked-s); stroke-dasharray: 5 4; stroke-width: 1.8 }
-  .many .edge { opacity: .38 }
-  .edge.near { stroke: var(--text); stroke-width: 2.4; opacity: 1 }
-  .edge.gone { opacity: .07 }
+  .many .edge { stroke-opacity: .38 }
+  .edge.near { stroke: var(--text); stroke-width: 2.4; stroke-opacity: 1 }
+  .edge.cause { stroke: var(--failed-s); stroke-width: 4; stroke-opacity: 1 }
+  .edge.gone { stroke-opacity: .07 }
   .run { cursor: pointer }
   .run rect { fill: var(--f); stroke: var(--c) }
-  .run.off { opacity: .3 }
+  .run.off { fill-opacity: .3; stroke-opacity: .3 }
   .tick { stroke: var(--c); stroke-width: 2 }
   #hand { stroke: var(--accent); stroke-width: 2 }
   .grid { stroke: var(--line) }
@@ -159,6 +162,7 @@ pub(crate) const HEAD: &str = r##"<!doctype html>
 </div>
 <main>
   <div id="view">
+    <svg id="wires" aria-hidden="true"></svg>
     <svg id="plan" role="group" aria-label="The plan. Tab enters it, arrows go from stage to stage, Enter chooses."></svg>
     <div class="zoom"><button id="follow" aria-pressed="true" title="Keep what changes in sight (f)">Follow</button><button id="in" aria-label="Larger">+</button><button id="out" aria-label="Smaller">−</button><button id="fit" aria-label="The whole plan">Fit</button></div>
   </div>
@@ -219,7 +223,7 @@ const searched = E.map(e => (e[2] + " " + e[4].map(c => name(c[0]) + " " + WORDS
 const stageText = S.map((s, n) => (name(n) + " " + s[1]).toLowerCase());
 
 // ---- The plan ----
-const plan = el("plan"), world = make("g", {}, plan), edgeLayer = make("g", {class: D.edges.length > 150 ? "many" : ""}, world), boxLayer = make("g", {class: S.length > 400 ? "far" : ""}, world);
+const plan = el("plan"), wires = el("wires"), world = make("g", {}, plan), edgeLayer = make("g", {class: D.edges.length > 150 ? "many" : ""}, wires), boxLayer = make("g", {class: S.length > 400 ? "far" : ""}, world);
 const edges = D.edges.map(([a, b, place]) => {
   const [ax, ay] = [S[a][3], S[a][4]], [bx, by] = [S[b][3], S[b][4]];
   let d;
@@ -254,7 +258,7 @@ const LARGE = S.length > 700;
 const dressAll = () => { if (LARGE && view.k < .2) return; const [w, h] = room(); S.forEach((s, n) => { const x = s[3] * view.k + view.x, y = s[4] * view.k + view.y; if (!dressed[n] && (!LARGE || (x > -300 && y > -200 && x < w + 200 && y < h + 200))) dress(n) }) };
 let view = {x: 0, y: 0, k: 1}, chosen = null, only = null, place = N, follow = true, playing = 0, hits = [], found = new Set();
 const sizeOf = k => k < .2 ? "far" : k < .4 ? "mid" : k < .62 ? "wide" : "";
-const draw = () => { world.setAttribute("transform", `translate(${view.x},${view.y}) scale(${view.k})`); boxLayer.setAttribute("class", sizeOf(view.k)); if (ready) dressAll() };
+const draw = () => { [world, edgeLayer].forEach(g => g.setAttribute("transform", `translate(${view.x},${view.y}) scale(${view.k})`)); boxLayer.setAttribute("class", sizeOf(view.k)); if (ready) dressAll() };
 let ready = false, sized; const room = () => { if (!sized) { const r = plan.getBoundingClientRect(); sized = [r.width || 900, r.height || 500] } return sized };
 new ResizeObserver(() => { sized = null; if (fitted) fit(); keepInSight(place) }).observe(plan);
 let fitted = true;
@@ -332,6 +336,10 @@ const listRound = k => {
   const part = []; for (let m = from; m < till; m++) part.push(mark(item(listing ? listing[m] - 1 : m), listing ? listing[m] - 1 : m)); list.replaceChildren(...part);
 };
 
+// The same, but where jump follows jump, as while the slider is dragged: then once that rests.
+let relisting, hurry = -1e9;
+const relist = k => { const now = performance.now(); clearTimeout(relisting); if (now - hurry > 150) listRound(k); else relisting = setTimeout(() => { listRound(place); keepInSight(place) }, 150); hurry = now };
+
 // ---- The chosen stage ----
 const stageLink = n => html("button", {className: "link", textContent: name(n), onclick: () => { choose(n); reveal(n, true) }});
 const chainOf = n => { const list = []; if (n === null) return list; const now = is(n, place); if (!now || now[1] > 3) return list; for (let m = n; m !== null && list.length < 4096 && !list.includes(m); m = S[m][6]) list.push(m); return list };
@@ -383,7 +391,7 @@ const show = () => {
   if (grown) edges.forEach(e => { const cls = "edge" + (e.place ? " isLink" : "") + (e.a === chosen || e.b === chosen ? " near" : "") + (pairs.has(e.a + ">" + e.b) ? " cause" : "") + (S[e.b][5] > k || e.place > k ? " gone" : ""); if (e.cls !== cls) e.path.setAttribute("class", e.cls = cls) });
   painted = k; stale = false; drawn = mood; glow = [...changed];
   const spot = listing ? listing.indexOf(k) : k - 1;
-  if (first || (k && spot >= 0 && (spot < from || spot >= till)) || Math.abs(k - listed) > MOST) listRound(k); else for (let n = Math.max(0, Math.min(k, listed) - 1); n < Math.min(N, Math.max(k, listed) + 1); n++) if (items[n]) mark(items[n], n);
+  if (first || (k && spot >= 0 && (spot < from || spot >= till)) || Math.abs(k - listed) > MOST) relist(k); else for (let n = Math.max(0, Math.min(k, listed) - 1); n < Math.min(N, Math.max(k, listed) + 1); n++) if (items[n]) mark(items[n], n);
   if (listed !== k || first) keepInSight(k);
   listed = k; first = false;
   el("at").value = k; el("at").setAttribute("aria-valuetext", e ? `${k} of ${N}: ${e[2]}` : "before the first event");
@@ -455,10 +463,10 @@ const strip = () => {
 // ---- On paper: the whole plan, and the list round the event ----
 addEventListener("beforeprint", () => {
   const k = Math.min(1, 700 / PW); if (!LARGE) S.forEach((_, n) => dress(n));
-  world.removeAttribute("transform"); plan.setAttribute("viewBox", `-8 -8 ${PW + 16} ${PH + 16}`); boxLayer.setAttribute("class", sizeOf(k));
+  [world, edgeLayer].forEach(g => g.removeAttribute("transform")); [plan, wires].forEach(it => it.setAttribute("viewBox", `-8 -8 ${PW + 16} ${PH + 16}`)); boxLayer.setAttribute("class", sizeOf(k));
   if (N <= 1500) list.replaceChildren(...E.map((_, k) => mark(item(k), k)));
 });
-addEventListener("afterprint", () => { plan.removeAttribute("viewBox"); draw(); listRound(place) });
+addEventListener("afterprint", () => { [plan, wires].forEach(it => it.removeAttribute("viewBox")); draw(); listRound(place) });
 addEventListener("resize", () => { lanes(); strip(); if (fitted) fit(); show() });
 const hash = k => +(location.hash.match(new RegExp(k + "=(\\d+)")) || [0, NaN])[1];
 place = clamp(isNaN(hash("event")) ? N : hash("event"), 0, N); chosen = hash("stage") < S.length ? hash("stage") : null;
