@@ -349,7 +349,7 @@ const about = () => {
   if (chosen === null) { box.append(html("p", {style: "margin:0;color:var(--soft)", textContent: "Choose a stage in the plan, or an event in the list."})); return }
   const n = chosen, s = S[n], now = is(n, place), dl = html("dl", {}), row = (k, ...v) => dl.append(html("dt", {textContent: k}), html("dd", {}, ...v));
   const joined = ns => ns.flatMap((m, k) => k ? [", ", stageLink(m)] : [stageLink(m)]);
-  row("now", html("span", {className: "chip s" + (now ? now[1] : 7)}, html("i", {textContent: now ? GLYPHS[now[1]] : ""}), now ? " " + WORDS[now[1]] : "not there yet"), now ? rest(now[1], now[2]) : "");
+  row("now", html("span", {className: "chip s" + (now ? now[1] : 7)}, html("i", {textContent: now ? GLYPHS[now[1]] : ""}), now ? " " + WORDS[now[1]] : "not there yet"), now ? rest(now[1], now[2]).replace(/^, /, " ") : "");
   row("form", s[1]);
   if (s[2].length) row("takes from", ...joined([...new Set(s[2])]));
   const links = near[n].filter(e => e.place && e.b === n).map(e => e.a), behind = [...new Set(near[n].filter(e => e.a === n).map(e => e.b))];
