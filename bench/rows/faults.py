@@ -138,7 +138,7 @@ class Run:
         last = max((int(it.name) for it in sure(lambda: connect(self.judged).listing()) if it.name.isdigit()), default=0) + self.many + 1
         Path(self.folder, "stop-").write_text(str(last))
         os.rename(f"{self.folder}/stop-", f"{self.folder}/stop")
-        until = time.monotonic() + 400
+        until = time.monotonic() + 1800  # (on a busy machine they get little of it)
         for it in workers:
             it.wait(max(1, until - time.monotonic()))
             self.done["workers that died by themselves"] += it.returncode != 0

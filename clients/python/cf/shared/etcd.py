@@ -75,9 +75,16 @@ class Etcd(Store):
 
     def _is_there(self, name: str) -> Any:
         """Compares whether a request is the one that was opened."""
+        return {"key": _b64(_key("r", name)), "target": "CREATE", "create_revision": self._revision(name)}
+
+    def _revision(self, name: str) -> str:
         if name not in self._born and self.find(name) is None:
             raise gone(name)
-        return {"key": _b64(_key("r", name)), "target": "CREATE", "create_revision": self._born[name]}
+        return self._born[name]
+
+    def _row(self, kind: str, name: str) -> bytes:
+        """What the keys of a request's words or payloads begin with: another request of the same name has others."""
+        return _key(kind, name) + f"/{self._revision(name)}/".encode()
 
     def ends(self) -> Dict[str, int]:
         return {_name(key): int(value) for key, value in self._get(b"cf/o/", b"cf/o0", serializable=True)}
@@ -109,9 +116,10 @@ class Etcd(Store):
 
     def drop(self, name: str, at: Optional[int] = None) -> bool:
         ranges = [_range(key, _after(key)) for key in (_key(kind, name) + b"/" for kind in "wpt")] + [_range(_key(kind, name)) for kind in "roc"]
-        is_so = [] if at is None else [_absent(_key("o", name)), _absent(_place("w", name, at))]
+        row = self._row("w", name)
+        is_so = [] if at is None else [_absent(_key("o", name)), _absent(_place(row, at))]
         if at:
-            is_so.append({"key": _b64(_place("w", name, at - 1)), "target": "VERSION", "result": "GREATER", "version": 0})
+            is_so.append({"key": _b64(_place(row, at - 1)), "target": "VERSION", "result": "GREATER", "version": 0})
         told = self._txn([self._is_there(name), *is_so], [{"request_delete_range": it} for it in ranges])
         if told.get("succeeded"):
             self._born.pop(name, None)
@@ -125,9 +133,10 @@ class Etcd(Store):
     def _append(self, put: Put) -> Optional[List[Entry]]:
         if len(put.entries) > MOST_ENTRIES:
             raise StoreError(f"etcd takes {MOST_ENTRIES} words in a put, not {len(put.entries)}")
-        key, end = _place("w", put.request, put.at), _after(_key("w", put.request) + b"/")
-        puts = [_put(_place("w", put.request, put.at + k), b"%x %x" % entry) for k, entry in enumerate(put.entries)]
-        puts += [_put(_place("p", put.request, place), payload) for place, payload in put.payloads.items()]
+        row, payloads = self._row("w", put.request), self._row("p", put.request)
+        key, end = _place(row, put.at), _after(row)
+        puts = [_put(_place(row, put.at + k), b"%x %x" % entry) for k, entry in enumerate(put.entries)]
+        puts += [_put(_place(payloads, place), payload) for place, payload in put.payloads.items()]
         puts.append(_put(_key("o", put.request), b"%d" % (put.at + len(put.entries))))
         told = self._txn([_absent(key), self._is_there(put.request)], puts, [{"request_range": _range(key, end)}])
         if told.get("succeeded"):
@@ -139,14 +148,15 @@ class Etcd(Store):
 
     def read(self, name: str, at: int = 0) -> List[Entry]:
         # Any member's answer will do: a stale one is a shorter prefix.
-        return _entries(name, at, self._get(_place("w", name, at), _after(_key("w", name) + b"/"), serializable=True))
+        row = self._row("w", name)
+        return _entries(name, at, self._get(_place(row, at), _after(row), serializable=True))
 
     def payloads(self, name: str, places: Sequence[int]) -> Dict[int, bytes]:
+        row = self._row("p", name)
         if len(places) > 8:
-            key = _key("p", name) + b"/"
-            told = {int(key[-6:]): value for key, value in self._get(key, _after(key))}
+            told = {int(key[-6:]): value for key, value in self._get(row, _after(row))}
             return {place: told[place] for place in places if place in told}
-        return {place: found[0][1] for place in places for found in [self._get(_place("p", name, place))] if found}
+        return {place: found[0][1] for place in places for found in [self._get(_place(row, place))] if found}
 
     def changed(self, seconds: float) -> None:
         """By a watch of this thread's own, a stream that stays open."""
@@ -196,7 +206,7 @@ class Etcd(Store):
 
     def set_timer(self, timer: Timer) -> None:
         value = json.dumps([timer.due, _b64(timer.payload)]).encode()
-        self._post("/v3/kv/put", {"key": _b64(_place("t", timer.request, timer.stage)), "value": _b64(value)})
+        self._post("/v3/kv/put", {"key": _b64(_place(_key("t", timer.request) + b"/", timer.stage)), "value": _b64(value)})
 
     def due(self, now: float) -> List[Timer]:
         told = []
@@ -207,7 +217,7 @@ class Etcd(Store):
         return sorted(told, key=lambda timer: timer.due)
 
     def drop_timer(self, request: str, stage: int) -> None:
-        self._post("/v3/kv/deleterange", {"key": _b64(_place("t", request, stage))})
+        self._post("/v3/kv/deleterange", {"key": _b64(_place(_key("t", request) + b"/", stage))})
 
 
 def _b64(data: bytes) -> str:
@@ -222,9 +232,9 @@ def _name(key: bytes) -> str:
     return unquote(key[5:].decode())
 
 
-def _place(kind: str, name: str, at: int) -> bytes:
+def _place(row: bytes, at: int) -> bytes:
     """A key in fixed width, so that a range is in order."""
-    return _key(kind, name) + b"/%06d" % at
+    return row + b"%06d" % at
 
 
 def _after(prefix: bytes) -> bytes:

@@ -32,7 +32,7 @@ class Broken(StoreError):
         self.why: str = why
 
 
-def in_a_row(name: str, at: int, rows: Iterable[Tuple[Any, Any, Any]]) -> List[Entry]:
+def in_a_row(name: str, at: int, rows: Iterable[Tuple[Any, ...]]) -> List[Entry]:
     """The entries of rows of a place, a word and a token, which stand behind so many words without a gap; `Broken` else."""
     told: List[Entry] = []
     for place, word, token in rows:
