@@ -96,7 +96,7 @@ class Run:
         if self.engine == "sqlite":  # half of the kills wait until it is writing
             until = time.monotonic() + (1 if self.done["kills"] % 2 else 0)
             while time.monotonic() < until and not in_write(workers[k].pid):
-                pass
+                time.sleep(0.0002)
             self.done["killed in a write"] += in_write(workers[k].pid) is not None
         paused.pop(workers[k], None)
         workers[k].kill()
