@@ -5,7 +5,7 @@ import os
 import sqlite3
 import threading
 import time
-from typing import Any, Callable, Dict, Generator, Iterator, List, Optional, Sequence, Tuple, TypeVar
+from typing import Any, Callable, Dict, Generator, List, Optional, Sequence, Tuple, TypeVar
 
 from .rows import Broken, Entry, Listed, Opened, Put, Store, StoreError, Timer, Transaction, Unknown, gone, in_a_row
 
@@ -23,6 +23,8 @@ SCHEMA = """
     create index if not exists cf_request_open on cf_request (id) where closed is null
 """
 PUT = "insert or ignore into cf_word (request, at, word, token, payload) select id, ?, ?, ?, ? from cf_request where id = ?"
+PUT_GROUP = "insert into cf_word (request, at, word, token, payload) select id, v.* from cf_request, (values %s) v where id = ?"
+MOST_AT_ONCE = 64  # words in one statement
 SMALL = 512  # bytes: a larger payload would make the words' own pages large
 BETWEEN_LOOKS = 0.001  # seconds between two looks at the file's version
 
@@ -45,7 +47,8 @@ class SQLite(Store):
             self._line = os.open(path + "-line", os.O_RDWR | os.O_CREAT, 0o644)
         except OSError as error:
             raise StoreError(f"{path}: {error}") from None
-        with self._in_line():
+        self._in_line, self._telling = _Line(self, self._line, self._turn), _Telling(self)
+        with self._in_line:
             db = self._db
             for statement in SCHEMA.split(";"):
                 db.execute(statement)
@@ -72,32 +75,16 @@ class SQLite(Store):
             raise StoreError(f"{self._path}: journal_mode is {mode}, with which a crash loses words")
         return db
 
-    @contextlib.contextmanager
-    def _first_in_line(self) -> Iterator[None]:
-        with self._turn:
-            fcntl.flock(self._line, fcntl.LOCK_EX)
-            try:
-                yield
-            finally:
-                fcntl.flock(self._line, fcntl.LOCK_UN)
-
-    @contextlib.contextmanager
-    def _in_line(self) -> Iterator[None]:
-        with self._first_in_line(), self._telling():
-            yield
-
-    @contextlib.contextmanager
-    def _telling(self) -> Iterator[None]:
-        try:
-            yield
-        except sqlite3.OperationalError as error:  # the disk is full, or can't be written
+    def _tell(self, error: Optional[BaseException]) -> None:
+        """Raises what an error of SQLite's is here."""
+        if isinstance(error, sqlite3.OperationalError):  # the disk is full, or can't be written
             raise Unknown(f"{self._path}: {error}") from None
-        except sqlite3.DatabaseError as error:
+        if isinstance(error, sqlite3.DatabaseError):
             raise StoreError(f"{self._path}: {error}") from None
 
     def _in_turn(self, act: Callable[[sqlite3.Connection], T]) -> T:
         """Acts in a transaction."""
-        with self._in_line():
+        with self._in_line:
             db = self._db
             db.execute("begin immediate")
             try:
@@ -110,7 +97,7 @@ class SQLite(Store):
             return told
 
     def _ask(self, statement: str, *values: Any) -> List[Tuple[Any, ...]]:
-        with self._telling():
+        with self._telling:
             return self._db.execute(statement, values).fetchall()
 
     def _id(self, name: str) -> int:
@@ -186,13 +173,25 @@ class SQLite(Store):
 
     def append_groups(self, puts: Sequence[Put]) -> List[Optional[List[Entry]]]:
         ids = [self._id(put.request) for put in puts]
-        if len(puts) == 1 and len(puts[0].entries) == 1 and all(len(it) <= SMALL for it in puts[0].payloads.values()):
-            put = puts[0]
-            with self._in_line():
-                landed = [self._db.execute(PUT, (put.at, *put.entries[0], put.payloads.get(put.at + 1), ids[0])).rowcount == 1]
+        if len(puts) == 1 and len(puts[0].entries) <= MOST_AT_ONCE and all(len(it) <= SMALL for it in puts[0].payloads.values()):
+            landed = [self._put_at_once(ids[0], puts[0])]
         else:
             landed = self._in_turn(lambda db: [_put(db, number, put) for number, put in zip(ids, puts)])
         return [None if it else self._stands(put) for it, put in zip(landed, puts)]
+
+    def _put_at_once(self, number: int, put: Put) -> bool:
+        """Puts a group by one statement, which is a transaction of its own: all or none."""
+        db, payloads, at, many = self._db, put.payloads, put.at, len(put.entries)
+        if many == 1:
+            with self._in_line:
+                return db.execute(PUT, (at, *put.entries[0], payloads.get(at + 1), number)).rowcount == 1
+        values = [it for k, (word, token) in enumerate(put.entries) for it in (at + k, word, token, payloads.get(at + 1 + k))]
+        statement = PUT_GROUP % ",".join(["(?,?,?,?)"] * many)
+        with self._in_line:
+            try:
+                return db.execute(statement, (*values, number)).rowcount == many
+            except sqlite3.IntegrityError:
+                return False
 
     def _stands(self, put: Put) -> List[Entry]:
         stands = self.read(put.request, put.at)
@@ -255,10 +254,10 @@ class SQLite(Store):
 
     @contextlib.contextmanager
     def transaction(self) -> Generator[Transaction, None, None]:
-        with self._first_in_line():
+        with _Line(None, self._line, self._turn):
             db = self._connected()
             try:
-                with self._telling():
+                with self._telling:
                     db.execute("begin immediate")
                 yield _Transaction(self, db)
             finally:
@@ -273,16 +272,50 @@ class SQLite(Store):
             self._local.db = None
 
 
+class _Line:
+    """One's turn in this process, and then the line's lock. What a store is given raises is told as its own."""
+
+    def __init__(self, store: Optional[SQLite], line: int, turn: threading.Lock) -> None:
+        self._store, self._line, self._turn = store, line, turn
+
+    def __enter__(self) -> None:
+        self._turn.acquire()
+        try:
+            fcntl.flock(self._line, fcntl.LOCK_EX)
+        except BaseException:
+            self._turn.release()
+            raise
+
+    def __exit__(self, _kind: object, error: Optional[BaseException], _trace: object) -> None:
+        fcntl.flock(self._line, fcntl.LOCK_UN)
+        self._turn.release()
+        if error is not None and self._store is not None:
+            self._store._tell(error)
+
+
+class _Telling:
+    """What SQLite raises within it is told as the store's own."""
+
+    def __init__(self, store: SQLite) -> None:
+        self._store = store
+
+    def __enter__(self) -> None: ...
+
+    def __exit__(self, _kind: object, error: Optional[BaseException], _trace: object) -> None:
+        if error is not None:
+            self._store._tell(error)
+
+
 class _Transaction(Transaction):
     def __init__(self, store: SQLite, connection: sqlite3.Connection) -> None:
         self.connection, self._store = connection, store
 
     def append(self, put: Put) -> bool:
-        with self._store._telling():
+        with self._store._telling:
             return _put(self.connection, self._store._id(put.request), put)
 
     def commit(self) -> None:
-        with self._store._telling():
+        with self._store._telling:
             self.connection.execute("commit")
 
 
