@@ -27,6 +27,8 @@ SET_UP = 6_318_042  # the number of the lock under which tables are made
 PREPARED = """
     prepare cf_put(bigint, int, bigint, bigint, bytea) as insert into cf_word select id, $2, $3, $4, $5 from cf_request where id = $1
         on conflict do nothing;
+    prepare cf_two(bigint, int, bigint, bigint, bytea, bigint, bigint, bytea) as insert into cf_word select id, v.* from cf_request,
+        (values ($2, $3, $4, $5), ($2 + 1, $6, $7, $8)) as v where id = $1;
     prepare cf_read(bigint, int) as select at, word, token from cf_word where request = $1 and at >= $2 order by at;
 """
 PUT_ALL = "insert into cf_word select id, at, word, token, payload from (values %s) as v(request, at, word, token, payload) join cf_request on id = request"
@@ -80,45 +82,35 @@ class Postgres(Store):
     def _telling(self) -> Iterator[None]:
         try:
             yield
-        except psycopg2.errors.UniqueViolation:
-            raise
         except psycopg2.Error as error:
-            raise (Unknown if _is_lost(error) else StoreError)(str(error).strip()) from None
+            _tell(error)
 
-    @contextlib.contextmanager
-    def _connection(self) -> Iterator[Any]:
-        """A connection's cursor. One that is lost is let go."""
-        with self._telling():
-            with self._lock:
-                db = self._free.pop() if self._free else None
-            try:
-                if db is None:
-                    db = self._connected()
-                    with db.cursor() as cursor:
-                        cursor.execute(PREPARED)
-                with db.cursor() as cursor:
-                    yield cursor
-            except psycopg2.Error as error:
-                if db is not None and _is_lost(error):
-                    with contextlib.suppress(psycopg2.Error):
-                        db.close()
-                raise
-            finally:
-                if db is not None and not db.closed:
-                    self._keep(db)
-
-    def _keep(self, db: Any) -> None:
-        with self._lock:
-            if not self._is_closed:
-                self._free.append(db)
-                return
-        db.close()
+    def _do(self, statement: str, values: Sequence[Any]) -> Tuple[int, List[Tuple[Any, ...]]]:
+        """How many rows a statement changed or gave, and those that it gave. A connection that is lost is let go."""
+        try:
+            cursor = self._free.pop()
+        except IndexError:
+            cursor = None
+        try:
+            if cursor is None:
+                cursor = self._connected().cursor()
+                cursor.execute(PREPARED)
+            cursor.execute(statement, values)
+            return cursor.rowcount, cursor.fetchall() if cursor.description else []
+        except psycopg2.Error as error:
+            if cursor is not None and _is_lost(error):
+                with contextlib.suppress(psycopg2.Error):
+                    cursor.connection.close()
+            _tell(error)
+            raise
+        finally:
+            if cursor is not None and not cursor.connection.closed:
+                self._free.append(cursor)
+                if self._is_closed:
+                    cursor.connection.close()
 
     def _ask(self, statement: str, *values: Any) -> List[Tuple[Any, ...]]:
-        with self._connection() as cursor:
-            cursor.execute(statement, values)
-            rows: List[Tuple[Any, ...]] = cursor.fetchall() if cursor.description else []
-            return rows
+        return self._do(statement, values)[1]
 
     def _id(self, name: str) -> int:
         found = self._ids.get(name)
@@ -180,12 +172,10 @@ class Postgres(Store):
 
     def drop(self, name: str, at: Optional[int] = None) -> bool:
         is_so = "" if at is None else " and closed is not null and (select count(*) from cf_word where request = id) = %s"
-        with self._connection() as cursor:
-            cursor.execute(f"with gone as (delete from cf_request where id = %s{is_so} returning id), "
-                           "words as (delete from cf_word where request in (select id from gone)), "
-                           "timers as (delete from cf_timer where request in (select id from gone)) select id from gone",
-                           (self._id(name), *(() if at is None else (at,))))
-            dropped = bool(cursor.fetchall())
+        dropped = bool(self._ask(f"with gone as (delete from cf_request where id = %s{is_so} returning id), "
+                                 "words as (delete from cf_word where request in (select id from gone)), "
+                                 "timers as (delete from cf_timer where request in (select id from gone)) select id from gone",
+                                 self._id(name), *(() if at is None else (at,))))
         if dropped:
             self._ids.pop(name, None)
         return dropped
@@ -205,10 +195,7 @@ class Postgres(Store):
         return [by_name[put.request] for put in order]
 
     def _append_one(self, put: Put, row: Tuple[Any, ...]) -> Optional[List[Entry]]:
-        with self._connection() as cursor:
-            cursor.execute("execute cf_put(%s, %s, %s, %s, %s)", row)
-            landed = cursor.rowcount == 1
-        return None if landed else self._stands(put)
+        return None if self._do("execute cf_put(%s, %s, %s, %s, %s)", row)[0] == 1 else self._stands(put)
 
     def _stands(self, put: Put) -> List[Entry]:
         stands = self.read(put.request, put.at)
@@ -219,10 +206,12 @@ class Postgres(Store):
     def _append_all(self, puts: Sequence[Put], rows: Sequence[Tuple[Any, ...]]) -> List[Optional[List[Entry]]]:
         """All or none: where one place is taken nothing of the statement stands, and each is put by itself."""
         try:
-            with self._connection() as cursor:
-                cursor.execute(PUT_ALL % ",".join(["(%s,%s,%s,%s,%s::bytea)"] * len(rows)), [it for row in rows for it in row])
-                if cursor.rowcount == len(rows):
-                    return [None] * len(puts)
+            if len(rows) == 2 and len(puts) == 1:
+                many, _ = self._do("execute cf_two(%s, %s, %s, %s, %s, %s, %s, %s)", (*rows[0], *rows[1][2:]))
+            else:
+                many, _ = self._do(PUT_ALL % ",".join(["(%s,%s,%s,%s,%s::bytea)"] * len(rows)), [it for row in rows for it in row])
+            if many == len(rows):
+                return [None] * len(puts)
         except psycopg2.errors.UniqueViolation:
             pass
         if len(puts) == 1:
@@ -323,14 +312,20 @@ class Postgres(Store):
         self._is_closed = True
         self._changes.set()
         with self._lock:
-            for db in self._free:
-                db.close()
+            for cursor in self._free:
+                cursor.connection.close()
             self._free.clear()
 
 
 def _is_lost(error: psycopg2.Error) -> bool:
     """Whether it isn't known what became of a statement: a cut connection may come as a `DatabaseError` without a kind."""
     return isinstance(error, (psycopg2.OperationalError, psycopg2.InterfaceError)) or type(error) is psycopg2.DatabaseError
+
+
+def _tell(error: psycopg2.Error) -> None:
+    """Raises what an error of psycopg2's is here, but for a place that is taken."""
+    if not isinstance(error, psycopg2.errors.UniqueViolation):
+        raise (Unknown if _is_lost(error) else StoreError)(str(error).strip()) from None
 
 
 class _Transaction(Transaction):
