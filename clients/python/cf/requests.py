@@ -29,7 +29,7 @@ def main(words: Optional[List[str]] = None) -> int:
         return 2
     try:
         lines = {"list": _list, "show": _show, "end": _end, "drop": _drop}[at.command](store, at)
-    except (KeyError, StoreError, Unknown, OSError, subprocess.CalledProcessError) as error:
+    except (StoreError, Unknown, OSError, subprocess.CalledProcessError) as error:
         print(f"cf.requests: {error}", file=sys.stderr)
         return 1
     print(*lines, sep="\n")
@@ -55,7 +55,7 @@ def _parser() -> argparse.ArgumentParser:
 def _desk(store: Store, name: str) -> Desk:
     found = store.find(name)
     if found is None:
-        raise KeyError(f"no request {name!r}")
+        raise StoreError(f"no request {name!r}")
     desk = Desk(store, found, new_session(), patience=5)
     desk.catch_up()
     return desk
