@@ -14,7 +14,7 @@
 #include <x86intrin.h>
 #endif
 
-enum { WORDS = 64, NEWS = 128, MOST = 4096, ROOM = 32 };
+enum { WORDS = 64, NEWS = 128, MOST = 4096, MOST_EDGES = 16384, ROOM = 32 };
 
 /* In the machine's order of bytes; Native.java has the places. */
 struct shown {
@@ -48,12 +48,12 @@ struct core {
 
 struct plan {
   cf_handle handle;
-  uint32_t stages;
+  uint32_t stages, place; /* for how many more there is place: two edges are set aside for each */
   uint64_t own[MOST / 64];
   pthread_mutex_t lock;
 };
 
-static struct plan empty; /* without stages */
+static struct plan empty = {.place = MOST}; /* without stages */
 
 #define CORE(at) ((struct core *)(intptr_t)(at))
 #define PLAN(at) ((at) ? (struct plan *)(intptr_t)(at) : &empty)
@@ -148,7 +148,7 @@ static void write_args(struct shown *shown, const cf_args *args) {
 
 /* Makes room for a stage. */
 static uint32_t make_room(struct core *core) {
-  uint32_t place = MOST - core->plan->stages - core->room, more = core->room < ROOM ? ROOM : core->room;
+  uint32_t place = core->plan->place - core->room, more = core->room < ROOM ? ROOM : core->room;
   if (more > place) more = place;
   uint32_t code = more ? cf_ledger_grow(&core->ledger, (uint16_t)more) : CF_NO_ROOM;
   if (code == CF_OK) core->room += more;
@@ -360,13 +360,16 @@ METHOD(jint, open)(JNIEnv *env, jclass class, jlong at, jlong plan, jint room, j
 METHOD(jint, keep)(JNIEnv *env, jclass class, jlong at, jlongArray into, jint n) {
   (void)class;
   struct core *core = CORE(at);
-  jlong *kept = (*env)->GetPrimitiveArrayCritical(env, into, NULL);
-  if (!kept) return CF_NO_MEMORY;
-  size_t all;
-  uint32_t code = cf_ledger_words(&core->ledger, 0, (uint64_t *)kept, (size_t)n, &all);
-  memcpy(kept + n, core->moments, (size_t)core->shown.moments * sizeof *core->moments);
-  (*env)->ReleasePrimitiveArrayCritical(env, into, kept, 0);
-  return (jint)code;
+  uint64_t words[512];
+  size_t left;
+  for (jint k = 0, part; k < n; k += part) {
+    uint32_t code = cf_ledger_words(&core->ledger, (size_t)k, words, 512, &left);
+    if (code != CF_OK) return (jint)code;
+    part = n - k < 512 ? n - k : 512;
+    (*env)->SetLongArrayRegion(env, into, k, part, (const jlong *)words);
+  }
+  (*env)->SetLongArrayRegion(env, into, n, 2 * core->shown.moments, (const jlong *)core->moments);
+  return CF_OK;
 }
 
 /* Plans: rows of form, to which 256 is added where whoever makes the stage ready calls its function; function or -1; count of sources;
@@ -377,7 +380,7 @@ METHOD(jlong, plan)(JNIEnv *env, jclass class, jintArray rows) {
   if (!plan) return -CF_NO_MEMORY;
   jsize n = (*env)->GetArrayLength(env, rows);
   jint *row = (*env)->GetIntArrayElements(env, rows, NULL);
-  uint32_t code = row ? cf_builder_new(&plan->handle, 0, 0) : CF_NO_MEMORY;
+  uint32_t edges = 0, code = row ? cf_builder_new(&plan->handle, 0, 0) : CF_NO_MEMORY;
   for (jsize k = 0; k < n && code == CF_OK; k += 3 + row[k + 2]) {
     uint16_t of[MOST], stage;
     for (jint i = 0; i < row[k + 2] && i < MOST; i++) of[i] = (uint16_t)row[k + 3 + i];
@@ -385,7 +388,7 @@ METHOD(jlong, plan)(JNIEnv *env, jclass class, jintArray rows) {
     code = row[k + 2] > MOST ? CF_TOO_MANY_EDGES : cf_builder_stage(&plan->handle, form, of, (size_t)row[k + 2], function, &stage);
     if (code != CF_OK) break;
     if (row[k] & 256) plan->own[stage / 64] |= (uint64_t)1 << stage % 64;
-    plan->stages++;
+    plan->stages++, edges += (uint32_t)row[k + 2];
   }
   if (row) (*env)->ReleaseIntArrayElements(env, rows, row, JNI_ABORT);
   if (code == CF_OK) code = cf_build(&plan->handle);
@@ -394,6 +397,7 @@ METHOD(jlong, plan)(JNIEnv *env, jclass class, jintArray rows) {
     free(plan);
     return -(jlong)code;
   }
+  plan->place = MOST - plan->stages < (MOST_EDGES - edges) / 2 ? MOST - plan->stages : (MOST_EDGES - edges) / 2;
   pthread_mutex_init(&plan->lock, NULL);
   return (jlong)(intptr_t)plan;
 }

@@ -3,13 +3,27 @@ package cf.service;
 import jdk.jfr.Category;
 import jdk.jfr.Description;
 import jdk.jfr.Event;
+import jdk.jfr.FlightRecorderListener;
 import jdk.jfr.Label;
 import jdk.jfr.Name;
 import jdk.jfr.StackTrace;
 
 /** Events of jdk.jfr: cf.Word for each word of a request, cf.Stage for each stage that is settled. */
 final class FlightRecorder extends Recorder {
-    FlightRecorder() {}
+    private FlightRecorder() {}
+
+    /** Is there from when the JVM has recordings on. */
+    static void await() {
+        jdk.jfr.FlightRecorder.addListener(new FlightRecorderListener() {
+            @Override
+            public void recorderInitialized(jdk.jfr.FlightRecorder recorder) {
+                now = new FlightRecorder();
+            }
+        });
+        if (jdk.jfr.FlightRecorder.isInitialized()) {
+            now = new FlightRecorder();
+        }
+    }
 
     @Name("cf.Word")
     @Label("Word")

@@ -24,8 +24,9 @@ import java.util.function.Supplier;
  * }
  * }</pre>
  *
- * <p>It may be added to until its first request is begun, by one thread; a step more throws {@link IllegalStateException} then. It has at
- * most 4,096 steps, of which a composing one takes two; else {@link RequestFullException}.
+ * <p>It may be added to until its first request is begun, by one thread; whatever changes it throws {@link IllegalStateException} then. It
+ * has at most 4,096 steps, of which a composing one takes two, and in all 16,384 mentions of steps as others' sources; else
+ * {@link RequestFullException}.
  */
 public final class Flow {
     /** Stands for the executor of the service. */
@@ -39,6 +40,7 @@ public final class Flow {
     private volatile Row[] fixed;
     private volatile Ledger.Plan plan;
     private boolean startsReady, isMixed;
+    private int edges;
 
     static final class Row {
         final Form form;
@@ -77,7 +79,7 @@ public final class Flow {
 
         /** What histories call it. This step itself is given back. */
         public Step<T> named(String name) {
-            row(number).name = name;
+            changed(number).name = name;
             return this;
         }
 
@@ -88,7 +90,7 @@ public final class Flow {
 
         /** Has its function called by this executor. This step itself is given back. */
         public Step<T> async(Executor executor) {
-            row(number).executor = Objects.requireNonNull(executor);
+            changed(number).executor = Objects.requireNonNull(executor);
             return this;
         }
 
@@ -182,18 +184,17 @@ public final class Flow {
         Objects.requireNonNull(function);
         if (form.composes) {
             add(Form.SOURCE, null, null);
-            row(rows.size() - 1).name = "relay";
+            changed(rows.size() - 1).name = "relay";
         }
         return add(form, function, null, of);
     }
 
     private <U> Step<U> add(Form form, Object function, Executor executor, int... of) {
-        if (fixed != null) {
-            throw new IllegalStateException("a request of the flow \"" + name + "\" was begun");
-        }
-        if (rows.size() == Ledger.MOST_STAGES) {
+        open();
+        if (rows.size() == Ledger.MOST_STAGES || edges + of.length > Ledger.MOST_EDGES) {
             throw new RequestFullException(name);
         }
+        edges += of.length;
         startsReady |= of.length == 0 && form != Form.SOURCE;
         rows.add(new Row(form, of, function, executor));
         return new Step<>(rows.size() - 1);
@@ -214,7 +215,14 @@ public final class Flow {
         return numbers;
     }
 
-    private Row row(int number) {
+    private void open() {
+        if (fixed != null) {
+            throw new IllegalStateException("a request of the flow \"" + name + "\" was begun");
+        }
+    }
+
+    private Row changed(int number) {
+        open();
         return rows.get(number);
     }
 
@@ -245,7 +253,7 @@ public final class Flow {
                 }
             }
             fixed = rows.toArray(new Row[0]);
-            plan = new Ledger.Plan(numbers, rows.size());
+            plan = new Ledger.Plan(numbers, rows.size(), edges);
         }
         return plan;
     }

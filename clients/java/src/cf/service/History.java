@@ -310,7 +310,7 @@ public final class History {
         String text;
         try {
             text = String.valueOf(thing);
-        } catch (RuntimeException unspeakable) {
+        } catch (RuntimeException | StackOverflowError unspeakable) {
             text = "a " + thing.getClass().getSimpleName();
         }
         return text.length() <= 60 ? text : text.substring(0, 57) + "...";

@@ -14,7 +14,7 @@ import java.util.concurrent.atomic.AtomicReferenceArray;
  * that can: one crossing does them all.
  */
 final class Ledger {
-    static final int MOST_STAGES = 4096;
+    static final int MOST_STAGES = 4096, MOST_EDGES = 16384;
 
     /** What stands for nobody where a caller is asked for who would claim, and for who wants the arguments of the word's own reply. */
     static final int NOBODY = -1, ARGUMENTS = -2;
@@ -96,7 +96,7 @@ final class Ledger {
         }
 
         private int place() {
-            return (int) (Thread.currentThread().getId() % free.length());
+            return (int) Math.floorMod(Thread.currentThread().getId(), (long) free.length());
         }
 
         /** One, or null. */
@@ -127,15 +127,18 @@ final class Ledger {
     static final class Plan {
         final long at;
         final int stages;
+        /** How many stages there may be by and by: two edges are set aside for each that is attached. */
+        final int most;
         final Pool pool;
 
-        Plan(int[] rows, int stages) {
+        Plan(int[] rows, int stages, int edges) {
             long made = Native.plan(rows);
             if (made < 0) {
                 throw refusal((int) -made);
             }
             at = made;
             this.stages = stages;
+            most = Math.min(MOST_STAGES, stages + (MOST_EDGES - edges) / 2);
             pool = new Pool(stages);
             new Freed(this, () -> Native.forget(made));
         }
@@ -192,7 +195,7 @@ final class Ledger {
     }
 
     boolean hasPlace(int more) {
-        return stages + more <= MOST_STAGES;
+        return stages + more <= (plan == null ? MOST_STAGES : plan.most);
     }
 
     /** Says of a stage that is to be attached next that its function is called by whoever makes it ready. */

@@ -2,8 +2,22 @@ package cf.service;
 
 /** What a flight recording is told, where the JVM has recordings. */
 abstract class Recorder {
-    /** Null where there is none. */
-    static final Recorder NOW = find();
+    /** Null until the JVM records anything, whose start would cost the first request some tenths of a second; and where it can't. */
+    static volatile Recorder now;
+
+    static {
+        try {
+            Class.forName("jdk.jfr.Event");
+            Class.forName("cf.service.FlightRecorder").getDeclaredMethod("await").invoke(null);
+        } catch (ReflectiveOperationException | LinkageError none) {
+            now = null;
+        }
+    }
+
+    static boolean hasStages() {
+        Recorder recorder = now;
+        return recorder != null && recorder.takesStages();
+    }
 
     /** Whether a recording that is on takes words, or stages. */
     abstract boolean takesWords();
@@ -13,13 +27,4 @@ abstract class Recorder {
     abstract void word(String request, long word);
 
     abstract void stage(String request, int number, String form, String name, Object outcome);
-
-    private static Recorder find() {
-        try {
-            Class.forName("jdk.jfr.Event");
-            return (Recorder) Class.forName("cf.service.FlightRecorder").getDeclaredConstructor().newInstance();
-        } catch (ReflectiveOperationException | LinkageError none) {
-            return null;
-        }
-    }
 }

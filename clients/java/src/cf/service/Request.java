@@ -39,7 +39,7 @@ public final class Request implements AutoCloseable {
     private Object[] values;
     private int valueCount;
     private Faults faults;
-    private long thread = -1;
+    private long thread = Long.MIN_VALUE;
     private long[] threads;
     private String[] threadNames = new String[1];
     private int threadCount;
@@ -178,8 +178,11 @@ public final class Request implements AutoCloseable {
         Stage<U> relay = promise();
         relay.request.name(relay.number, "relay");
         News news = new News();
-        handOver(of, relay, news);
+        Throwable thrown = handOver(of, relay, news);
         tell(news);
+        if (thrown != null) {
+            Request.<RuntimeException>rethrow(thrown);
+        }
         return relay;
     }
 
@@ -206,7 +209,7 @@ public final class Request implements AutoCloseable {
             if (((int) change >>> 12 & 1) != 0) {
                 stages[stage.number] = null;
                 stage.tells(told((int) change, (int) (change >>> 32)));
-                stage.show();
+                stage.inherit();
             }
         }
     }
@@ -268,6 +271,7 @@ public final class Request implements AutoCloseable {
     String called(Stage<?> stage) {
         synchronized (ledger) {
             String given = names == null || names.length <= stage.number ? null : names[stage.number];
+            given = given == null && flow != null && stage.number < flow.count() ? flow.name(stage.number) : given;
             return stage.number + " " + (given != null ? given : stage.form.text);
         }
     }
@@ -315,6 +319,9 @@ public final class Request implements AutoCloseable {
         }
         CompletionStage<?>[] row = Arrays.copyOf(of, of.length, CompletionStage[].class);
         int count = row.length;
+        if (count > 2 && !goesOn && !hasPlace(count - 1)) {
+            throw new RequestFullException(name);
+        }
         while (count > 2) {
             int half = (count + 1) / 2;
             for (int k = 0; k < half; k++) {
@@ -520,27 +527,33 @@ public final class Request implements AutoCloseable {
     private long relayWord(int relay, Object told, boolean own) {
         if (told instanceof Fault) {
             Fault fault = (Fault) told;
-            // The stage that is linked to a relay of this request has it wrapped in any case.
-            return fault.error instanceof CancellationException ? Words.cancel(RELAY, relay)
-                    : Words.fail(RELAY, relay, own && fault.code >= 0 ? fault.code : code(fault.error));
+            // The stage that is linked to a relay of this request has it wrapped in any case. A cancellation that says more keeps it.
+            boolean isPlain = fault.code < 0 && fault.error.getClass() == CancellationException.class && fault.error.getMessage() == null;
+            return isPlain ? Words.cancel(RELAY, relay) : Words.fail(RELAY, relay, own && fault.code >= 0 ? fault.code : code(fault.error));
         }
         return Words.complete(RELAY, relay, number(told == Stage.NIL ? null : told));
     }
 
-    /** Sees to it that a relay is settled as that is, which is no stage of its request. */
-    private static void handOver(CompletionStage<?> of, Stage<?> relay, News news) {
+    /** Sees to it that a relay is settled as that is, which is no stage of its request; or by what that throws when it's asked, which it gives. */
+    private static Throwable handOver(CompletionStage<?> of, Stage<?> relay, News news) {
         if (!(of instanceof Stage<?>)) {
-            of.whenComplete((value, error) -> {
-                News told = new News();
-                relay.request.relayed(relay, error != null ? new Fault(error, -1) : value == null ? Stage.NIL : value, told);
-                tell(told);
-            });
-            return;
+            try {
+                of.whenComplete((value, error) -> {
+                    News told = new News();
+                    relay.request.relayed(relay, error != null ? new Fault(error, -1) : value == null ? Stage.NIL : value, told);
+                    tell(told);
+                });
+            } catch (Throwable thrown) {
+                relay.request.relayed(relay, new Fault(thrown, -1), news);
+                return thrown;
+            }
+            return null;
         }
         Stage<?> other = (Stage<?>) of;
         if (!other.request.feeds(other, relay)) {
             relay.request.relayed(relay, other.told, news);
         }
+        return null;
     }
 
     private boolean feeds(Stage<?> stage, Stage<?> outside) {
@@ -618,7 +631,7 @@ public final class Request implements AutoCloseable {
                     continue;
                 }
                 Stage<?> stage = number < stages.length ? stages[number] : null;
-                if (stage == null && Recorder.NOW != null && Recorder.NOW.takesStages()) {
+                if (stage == null && Recorder.hasStages()) {
                     stage = at(number);
                 }
                 if (stage != null) {
@@ -850,8 +863,9 @@ public final class Request implements AutoCloseable {
     }
 
     private void record(long word) {
-        if (Recorder.NOW != null && Recorder.NOW.takesWords()) {
-            Recorder.NOW.word(name, word);
+        Recorder recorder = Recorder.now;
+        if (recorder != null && recorder.takesWords()) {
+            recorder.word(name, word);
         }
     }
 

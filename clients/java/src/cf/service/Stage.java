@@ -552,6 +552,11 @@ public class Stage<T> extends CompletableFuture<T> {
 
     // Telling.
 
+    /** Of a stage that is settled when it is made: there is nobody to tell. */
+    void inherit() {
+        inherit(told);
+    }
+
     /** Tells the inherited part what the ledger has decided, by which it wakes who waits. */
     @SuppressWarnings("unchecked")
     private void inherit(Object told) {
@@ -574,8 +579,8 @@ public class Stage<T> extends CompletableFuture<T> {
     void show() {
         Object told = this.told;
         inherit(told);
-        if (Recorder.NOW != null && Recorder.NOW.takesStages()) {
-            Recorder.NOW.stage(request.name(), number, form.text, request.called(this), told == NIL ? null
+        if (Recorder.hasStages()) {
+            Recorder.now.stage(request.name(), number, form.text, request.called(this), told == NIL ? null
                     : told instanceof Fault ? ((Fault) told).error : told);
         }
         More more = this.more;

@@ -2,6 +2,7 @@ package cf.service;
 
 import java.io.IOException;
 import java.lang.ref.WeakReference;
+import java.lang.reflect.Proxy;
 import java.nio.file.Files;
 import java.nio.file.Path;
 import java.nio.file.Paths;
@@ -14,11 +15,13 @@ import java.util.Objects;
 import java.util.concurrent.CancellationException;
 import java.util.concurrent.CompletableFuture;
 import java.util.concurrent.CompletionException;
+import java.util.concurrent.CompletionStage;
 import java.util.concurrent.CountDownLatch;
 import java.util.concurrent.CyclicBarrier;
 import java.util.concurrent.ExecutionException;
 import java.util.concurrent.ExecutorService;
 import java.util.concurrent.Executors;
+import java.util.concurrent.Future;
 import java.util.concurrent.RejectedExecutionException;
 import java.util.concurrent.TimeUnit;
 import java.util.concurrent.TimeoutException;
@@ -39,10 +42,13 @@ public final class ServiceTest {
     public static void main(String[] args) throws Exception {
         test("Java's own classes", ServiceTest::statics);
         test("other requests", ServiceTest::acrossRequests);
+        test("stages that can't be asked", ServiceTest::refusedToTell);
+        test("cancellations of one's own", ServiceTest::ownCancellations);
         test("a full request", ServiceTest::full);
         test("a full request that goes on", ServiceTest::goesOn);
         test("chains through requests", ServiceTest::backAndForth);
         test("closed requests", ServiceTest::closed);
+        test("requests closed by their users", ServiceTest::closedWithin);
         test("late answers", ServiceTest::late);
         test("waiting in a pool of one", ServiceTest::waitsWhileRunning);
         test("refused tasks", ServiceTest::refusedTasks);
@@ -133,6 +139,51 @@ public final class ServiceTest {
         is(one.adopt(a) == a, true);
     }
 
+    /** Somebody's stage of which each method throws. */
+    @SuppressWarnings("unchecked")
+    private static <U> CompletionStage<U> refusing() {
+        return (CompletionStage<U>) Proxy.newProxyInstance(ServiceTest.class.getClassLoader(), new Class<?>[] {CompletionStage.class}, (proxy, method, given) -> {
+            throw new UnsupportedOperationException("not asked");
+        });
+    }
+
+    /** A function may give such a one: its stage fails, and what else is ready goes on. Of a method that takes one it's thrown. */
+    private static void refusedToTell() throws Exception {
+        Request request = SERVICE.request();
+        Stage<Integer> first = request.promise();
+        Stage<Integer> composed = first.thenCompose(x -> refusing()), async = first.thenComposeAsync(x -> refusing());
+        Stage<Integer> behind = first.thenApply(x -> x + 1);
+        Stage<Integer> saved = composed.exceptionallyCompose(error -> refusing());
+        is(thrown(UnsupportedOperationException.class, () -> first.thenCombine(refusing(), (x, y) -> x)).getMessage(), "not asked");
+        first.complete(1);
+        is(behind.join(), 2);
+        for (Stage<Integer> each : Arrays.asList(composed, async, saved)) {
+            is(thrown(ExecutionException.class, () -> each.get(20, TimeUnit.SECONDS)).getCause().getMessage(), "not asked");
+        }
+    }
+
+    /** What somebody fails a stage with arrives where that is handed on, as it is. */
+    private static void ownCancellations() {
+        Request request = SERVICE.request();
+        CompletableFuture<Integer> foreign = new CompletableFuture<>();
+        Stage<Integer> first = request.promise(), later = request.promise(), other = SERVICE.request().promise();
+        Stage<Integer> high = first.thenCompose(x -> request.<Integer>failedFuture(new CancellationException("why")));
+        Stage<Integer> elsewhere = first.thenCompose(x -> other), outside = first.thenCompose(x -> foreign), plain = first.thenCompose(x -> later);
+        Stage<Integer> adopted = request.adopt(foreign);
+        first.complete(1);
+        later.cancel(true);
+        other.completeExceptionally(new CancellationException("why"));
+        foreign.completeExceptionally(new CancellationException("why"));
+        for (Stage<Integer> each : Arrays.asList(high, elsewhere, outside)) {
+            is(each.isCancelled(), false);
+            is(thrown(CompletionException.class, each::join).getCause().getMessage(), "why");
+        }
+        is(adopted.isCancelled(), true);
+        is(thrown(CancellationException.class, adopted::join).getMessage(), "why");
+        is(thrown(CompletionException.class, plain::join).getCause() instanceof CancellationException, true);
+        is(request.history().toString().contains("cancels 2 source") || request.history().toString().contains("cancels 1 source"), true);
+    }
+
     /** One stage too many throws and changes nothing; what is there goes on to its end. */
     private static void full() {
         Request request = SERVICE.request("full");
@@ -160,6 +211,13 @@ public final class ServiceTest {
         Stage<Integer> done = nearly.completedFuture(1);
         thrown(RequestFullException.class, () -> done.thenCompose(x -> done));
         is(nearly.history().stages(), 4096);
+        Request almost = SERVICE.request();
+        Stage<?>[] all = new Stage<?>[4090];
+        for (int k = 0; k < all.length; k++) {
+            all[k] = almost.promise();
+        }
+        thrown(RequestFullException.class, () -> almost.allOf(all));
+        is(almost.history().stages(), 4090);
     }
 
     private static void goesOn() {
@@ -206,6 +264,75 @@ public final class ServiceTest {
             waits.complete(k);
             is(next.join(), k + 1);
         }
+    }
+
+    /** Functions close the request, and so do others meanwhile. */
+    private static void closedWithin() throws Exception {
+        Request request = SERVICE.request();
+        Stage<Object> first = request.promise();
+        List<Stage<Object>> own = new ArrayList<>();
+        own.add(first.thenApply(x -> {
+            request.close();
+            own.get(0).cancel(true);
+            return 1;
+        }));
+        own.add(first.thenApply(x -> {
+            request.close();
+            own.get(1).complete("own");
+            request.close();
+            return 1;
+        }));
+        first.complete(1);
+        is(own.get(0).isCancelled(), true);
+        is(own.get(1).join(), "own");
+        ExecutorService pool = Executors.newFixedThreadPool(8);
+        for (int round = 0; round < 30; round++) {
+            Request shared = SERVICE.request();
+            List<Stage<Integer>> made = Collections.synchronizedList(new ArrayList<>());
+            Stage<Integer> start = shared.promise();
+            made.add(start);
+            List<Future<?>> ends = new ArrayList<>();
+            for (int t = 0; t < 8; t++) {
+                int who = t;
+                ends.add(pool.submit(() -> {
+                    for (int k = 0; k < 30; k++) {
+                        Stage<Integer> stage = made.get((7 * who + k) % made.size());
+                        switch ((who + k) % 5) {
+                            case 0: shared.close(); break;
+                            case 1: made.add(stage.thenApply(x -> x + 1)); break;
+                            case 2: made.add(stage.thenApplyAsync(x -> x + 1)); break;
+                            case 3: shared.history().report(); break;
+                            default: stage.complete(1);
+                        }
+                    }
+                }));
+            }
+            for (Future<?> end : ends) {
+                end.get(20, TimeUnit.SECONDS);
+            }
+            start.complete(1);
+            for (Stage<Integer> stage : made) {
+                stage.get(20, TimeUnit.SECONDS);
+            }
+            shared.close();
+        }
+        pool.shutdown();
+        Throwable[] wrong = new Throwable[1];
+        Thread odd = new Thread(() -> {
+            try (Request closed = SERVICE.request()) {
+                closed.completedFuture(1);
+            } catch (Throwable thrown) {
+                wrong[0] = thrown;
+            }
+        }) {
+            @Override
+            public long getId() {
+                return -7;
+            }
+        };
+        odd.start();
+        odd.join();
+        is(wrong[0], null);
     }
 
     /** Who finishes behind a timeout is late, and what he gave is in the history alone. */
@@ -556,6 +683,25 @@ public final class ServiceTest {
         thrown(IllegalArgumentException.class, () -> SERVICE.start(flow, 1, 2));
         Request request = SERVICE.start(flow, 1);
         thrown(IllegalStateException.class, flow::promise);
+        thrown(IllegalStateException.class, step::async);
+        thrown(IllegalStateException.class, () -> step.named("late"));
+        Flow wide = new Flow("wide");
+        Flow.Step<?>[] steps = new Flow.Step<?>[1000];
+        for (int k = 0; k < 1000; k++) {
+            steps[k] = wide.promise();
+        }
+        for (int k = 0; k < 16; k++) {
+            wide.allOf(steps);
+        }
+        thrown(RequestFullException.class, () -> wide.allOf(steps));
+        Stage<?> ends = SERVICE.start(wide).stage(steps[0]);
+        for (int k = 0; k < 192; k++) {
+            ends = ends.copy();
+        }
+        thrown(RequestFullException.class, ends::copy);
+        Flow named = new Flow("named");
+        Flow.Step<Integer> first = named.<Integer>promise().named("first");
+        is(SERVICE.start(named).stage(first).toString().contains("0 first: Not completed"), true);
         thrown(IllegalArgumentException.class, () -> request.stage(foreign));
         thrown(IllegalArgumentException.class, () -> SERVICE.request().stage(step));
         Flow full = new Flow("full");
@@ -601,10 +747,13 @@ public final class ServiceTest {
 
     /** A recording has an event for each word and for each stage that was settled. */
     private static void recordings() throws Exception {
-        if (Recorder.NOW == null) {
+        try {
+            Class.forName("jdk.jfr.Recording");
+        } catch (ClassNotFoundException none) {
             System.out.println("(no recordings in this JVM)");
             return;
         }
+        is(Recorder.now, null);
         Path file = Files.createTempFile("cf", ".jfr");
         int words;
         try (jdk.jfr.Recording recording = new jdk.jfr.Recording()) {
@@ -617,20 +766,34 @@ public final class ServiceTest {
             words = request.history().events();
             Stage<Integer> call = new Service(Runnable::run).supplyAsync(() -> 1);
             words += call.request().history().events();
+            Flow flow = new Flow("recorded flow");
+            Flow.Step<Integer> given = flow.promise(), more = given.thenApply(x -> x + 1);
+            Request done = SERVICE.start(flow, 1);
+            is(done.stage(more).join() + done.stage(more).join() + done.stage(given).join(), 5);
+            Stage<Object> silent = SERVICE.request("silent").promise(), behind = silent.thenApply(x -> "told");
+            silent.complete(new Object() {
+                @Override
+                public String toString() {
+                    throw new StackOverflowError();
+                }
+            });
+            is(behind.join(), "told");
             recording.stop();
             recording.dump(file);
         }
-        int recorded = 0;
+        int recorded = 0, flows = 0;
         List<String> ends = new ArrayList<>();
         for (jdk.jfr.consumer.RecordedEvent event : jdk.jfr.consumer.RecordingFile.readAllEvents(file)) {
             if (event.getEventType().getName().equals("cf.Word") && event.getString("request").matches("recorded|one call")) {
                 recorded++;
             }
+            flows += event.getEventType().getName().equals("cf.Stage") && event.getString("request").equals("recorded flow") ? 1 : 0;
             if (event.getEventType().getName().equals("cf.Stage") && event.getString("request").equals("recorded")) {
                 ends.add(event.getString("name") + ": " + event.getString("outcome"));
             }
         }
         Files.delete(file);
+        is(flows, 2);
         is(recorded, words);
         is(ends.contains("2 twice: 42"), true);
         is(ends.size(), 7);
