@@ -7,6 +7,7 @@ import java.util.concurrent.CancellationException;
 import java.util.concurrent.CompletableFuture;
 import java.util.concurrent.CompletionStage;
 import java.util.concurrent.Executor;
+import java.util.concurrent.TimeUnit;
 import java.util.function.Supplier;
 
 /**
@@ -120,6 +121,15 @@ public final class Request implements AutoCloseable {
 
     public Stage<Void> runAsync(Runnable runnable, Executor executor) {
         return started(Form.RUN_ASYNC, Objects.requireNonNull(runnable), Objects.requireNonNull(executor));
+    }
+
+    /** The service's executor, which gets what it is handed after a time. */
+    public Executor delayedExecutor(long delay, TimeUnit unit) {
+        return Service.delayedExecutor(delay, unit, service.executor());
+    }
+
+    public Executor delayedExecutor(long delay, TimeUnit unit, Executor executor) {
+        return Service.delayedExecutor(delay, unit, executor);
     }
 
     /** What somebody completes: what {@code new CompletableFuture<>()} is. */

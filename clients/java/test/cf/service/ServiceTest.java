@@ -123,6 +123,10 @@ public final class ServiceTest {
         Stage<String> mine = new Stage<String>(request) {};
         mine.complete("m");
         is(mine.thenApply(x -> x + "!").join(), "m!");
+        long began = System.nanoTime();
+        is(request.supplyAsync(() -> 1, request.delayedExecutor(20, TimeUnit.MILLISECONDS)).join()
+                + request.supplyAsync(() -> 2, request.delayedExecutor(20, TimeUnit.MILLISECONDS, Runnable::run)).join(), 3);
+        is(System.nanoTime() - began >= 40_000_000, true);
     }
 
     private static void acrossRequests() {
