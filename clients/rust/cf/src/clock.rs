@@ -5,6 +5,7 @@ use crate::spawn::CLOCK;
 use crate::value::Val;
 use std::collections::BTreeMap;
 use std::fmt;
+use std::panic::{catch_unwind, AssertUnwindSafe};
 use std::sync::{Arc, Condvar, Mutex, MutexGuard, Once, PoisonError, Weak};
 use std::thread;
 use std::time::{Duration, Instant};
@@ -126,11 +127,11 @@ impl Clock for SystemClock {
             let is_first = due.add(at, alarm);
             let is_full = due.alarms.len() > due.sweep;
             drop(held);
+            if is_first {
+                ALARMS.came.notify_one();
+            }
             if is_full {
                 sweep();
-            }
-            if is_first || is_full {
-                ALARMS.came.notify_one();
             }
         }
     }
@@ -192,14 +193,21 @@ fn lock<T>(held: &Mutex<T>) -> MutexGuard<'_, T> {
     held.lock().unwrap_or_else(PoisonError::into_inner)
 }
 
-/// Leaves out alarms that nobody wants. They are asked without the lock, since a request may end with that.
+/// Leaves out alarms that nobody wants. They are asked and dropped without the lock, since a request may end with that; a `Drop` that panics
+/// takes no other alarm along.
 fn sweep() {
-    let mut alarms = std::mem::take(&mut lock(&ALARMS.due).get_or_insert_with(Due::new).alarms);
-    alarms.retain(|_, alarm| alarm.is_wanted());
+    let alarms = std::mem::take(&mut lock(&ALARMS.due).get_or_insert_with(Due::new).alarms);
+    let is_wanted = |alarm: &Alarm| catch_unwind(AssertUnwindSafe(|| alarm.is_wanted())).unwrap_or(false);
+    let (mut wanted, unwanted): (BTreeMap<_, _>, BTreeMap<_, _>) = alarms.into_iter().partition(|(_, alarm)| is_wanted(alarm));
     let mut held = lock(&ALARMS.due);
     let due = held.get_or_insert_with(Due::new);
-    due.alarms.append(&mut alarms);
+    due.alarms.append(&mut wanted);
     due.sweep = 64 + 2 * due.alarms.len();
+    drop(held);
+    ALARMS.came.notify_one();
+    for (_, alarm) in unwanted {
+        let _ = catch_unwind(AssertUnwindSafe(|| drop(alarm)));
+    }
 }
 
 /// Rings each alarm at its moment, without the lock.
@@ -210,7 +218,7 @@ fn ring() {
             Ok(alarm) => {
                 drop(held);
                 // A waker that panics doesn't stop the clock.
-                let _ = std::panic::catch_unwind(std::panic::AssertUnwindSafe(|| alarm.ring()));
+                let _ = catch_unwind(AssertUnwindSafe(|| alarm.ring()));
                 held = lock(&ALARMS.due);
             }
             Err(None) => held = ALARMS.came.wait(held).unwrap_or_else(PoisonError::into_inner),

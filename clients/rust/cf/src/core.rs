@@ -3,7 +3,7 @@
 //! No code of a user runs under the lock: wakers, values and functions that are dropped, jobs and other requests are told behind it ([`After`]).
 use crate::clock::{Alarm, Clock};
 use crate::error::{Error, Panic, Refusal};
-use crate::inner::{After, Inner};
+use crate::inner::{After, Feed, Inner};
 use crate::name::Made;
 use crate::slot::Held;
 use crate::spawn::{as_worker, running, Job, Spawn, Turn, CLOCK, RELAY};
@@ -67,7 +67,7 @@ impl Core {
         let mut inner = self.lock();
         inner.ledger.now = now;
         let done = act(&mut inner, &mut after);
-        inner.relay(self, &mut after);
+        inner.relay(&mut after);
         inner.hire(self.most, false, &mut after);
         drop(inner);
         let panicked = self.tell(&mut after);
@@ -78,16 +78,18 @@ impl Core {
         done
     }
 
-    /// Nanoseconds since the request began. A clock may be a user's, so it isn't asked under the lock; the record lets times rise.
+    /// Nanoseconds since the request began. A clock may be a user's, so it isn't asked under the lock, and one that panics tells nothing; the
+    /// record lets times rise.
     fn now(&self) -> u64 {
-        let since = self.clock.now().saturating_sub(self.begun);
-        since.as_secs() * 1_000_000_000 + u64::from(since.subsec_nanos())
+        let told = catch_unwind(AssertUnwindSafe(|| self.clock.now())).unwrap_or_default();
+        let since = told.saturating_sub(self.begun);
+        since.as_secs().saturating_mul(1_000_000_000).saturating_add(u64::from(since.subsec_nanos()))
     }
 
     // Changes by callers.
 
     pub(crate) fn attach(self: &Arc<Core>, who: u8, form: Form, of: &[u16], call: Option<Call>, made: Made) -> Result<u16, Refusal> {
-        self.change(|inner, after| inner.attach(self, who, form, of, call, made, after))
+        self.change(|inner, after| inner.attach(who, form, of, call, made, after))
     }
 
     /// A composing stage, and right below it a source, the relay that stands in for a stage that is higher or elsewhere: a stage links to lower
@@ -98,14 +100,30 @@ impl Core {
                 after.dropped.push(Held::Call(call));
                 return Err(Refusal::Full);
             }
-            inner.attach(self, who, Form::Source, &[], None, Made::as_a(|| "relay"), after)?;
-            inner.attach(self, who, form, &[of], Some(call), made, after)
+            match inner.attach(who, Form::Source, &[], None, Made::as_a(|| "relay"), after) {
+                Ok(_) => inner.attach(who, form, &[of], Some(call), made, after),
+                Err(why) => {
+                    after.dropped.push(Held::Call(call));
+                    Err(why)
+                }
+            }
         })
+    }
+
+    /// Settles a relay as the stage of another request was. What relays of others follow is added to those that are still to be told, so that
+    /// a row of requests takes no stack.
+    fn settle_fed(self: &Arc<Core>, relay: u16, told: Result<Val, Error>, feeds: &mut Vec<Feed>) {
+        let late = self.change(|inner, after| {
+            let late = inner.settle(RELAY, relay, told, after);
+            feeds.append(&mut after.feeds);
+            late
+        });
+        drop(late);
     }
 
     /// Settles a stage, unless it is settled, whereupon what it was to be settled with is given back.
     pub(crate) fn settle(self: &Arc<Core>, who: u8, stage: u16, with: Result<Val, Error>) -> Result<(), Result<Val, Error>> {
-        self.change(|inner, after| inner.settle(self, who, stage, with, after))
+        self.change(|inner, after| inner.settle(who, stage, with, after))
     }
 
     /// Lets a relay of another request be settled as a stage of this one is.
@@ -116,7 +134,7 @@ impl Core {
                 drop(own);
                 let _ = to.settle(RELAY, relay, told);
             }
-            None => own.extra(stage).feeds.push((to, relay)),
+            None => own.extra(stage).feeds.push((Some(to), relay)),
         }
     }
 
@@ -136,7 +154,7 @@ impl Core {
         self.change(|inner, after| {
             for stage in (0..inner.ledger.stages).rev() {
                 if !inner.slot(stage).is_settled() {
-                    let _ = inner.settle(self, who, stage, Err(Error::Cancelled), after);
+                    let _ = inner.settle(who, stage, Err(Error::Cancelled), after);
                 }
             }
         });
@@ -209,7 +227,7 @@ impl Core {
                 (_, 0) => None,
                 (ended, _) => inner.step(self, who, ended, &mut after),
             };
-            inner.relay(self, &mut after);
+            inner.relay(&mut after);
             inner.coming -= usize::from(begins);
             inner.jobs -= usize::from(next.is_none());
             inner.hire(self.most, begins || next.is_none(), &mut after);
@@ -289,15 +307,15 @@ impl Core {
     }
 
     fn tell_all(self: &Arc<Core>, after: &mut After) -> Option<Box<dyn Any + Send>> {
-        for _ in 0..take(&mut after.jobs) {
-            self.spawn(Job::new(Turn::Work(Arc::clone(self))));
-        }
         let mut panicked = None;
         let mut guarded = |act: &mut dyn FnMut()| {
             if let Err(payload) = catch_unwind(AssertUnwindSafe(act)) {
                 panicked = Some(payload);
             }
         };
+        for _ in 0..take(&mut after.jobs) {
+            guarded(&mut || self.spawn(Job::new(Turn::Work(Arc::clone(self)))));
+        }
         while let Some(waker) = after.wakers.pop() {
             let mut waker = Some(waker);
             guarded(&mut || waker.take().into_iter().for_each(Waker::wake));
@@ -306,8 +324,10 @@ impl Core {
             guarded(&mut || task.stop(self));
         }
         while let Some((core, relay, told)) = after.feeds.pop() {
-            let mut told = Some(told);
-            guarded(&mut || told.take().into_iter().for_each(|told| drop(core.settle(RELAY, relay, told))));
+            let (mut told, feeds) = (Some(told), &mut after.feeds);
+            guarded(&mut || told.take().into_iter().for_each(|told| core.settle_fed(relay, told, feeds)));
+            let mut core = Some(core);
+            guarded(&mut || drop(core.take()));
         }
         while let Some((of, stage, relay)) = after.links.pop() {
             guarded(&mut || of.feed(stage, Arc::clone(self), relay));
@@ -334,5 +354,23 @@ impl Core {
         for stage in ready {
             let _ = self.settle(CLOCK, stage, Err(Refusal::Closed.into()));
         }
+    }
+}
+
+impl Drop for Core {
+    /// A stage that was never settled has the requests that adopted it, and they have others: they are dropped one after another.
+    fn drop(&mut self) {
+        let mut cores = self.fed();
+        while let Some(core) = cores.pop() {
+            if let Ok(mut core) = Arc::try_unwrap(core) {
+                cores.append(&mut core.fed());
+            }
+        }
+    }
+}
+
+impl Core {
+    fn fed(&mut self) -> Vec<Arc<Core>> {
+        self.inner.get_mut().unwrap_or_else(PoisonError::into_inner).fed()
     }
 }

@@ -50,8 +50,8 @@ pub(crate) struct Inner {
 #[derive(Default)]
 pub(crate) struct Extra {
     pub(crate) task: Option<Arc<Task>>,
-    /// Relays, of this request or others, that are settled as this one is.
-    pub(crate) feeds: Vec<(Arc<Core>, u16)>,
+    /// Relays that are settled as this one is, of other requests, or of this one, which doesn't keep itself alive.
+    pub(crate) feeds: Vec<(Option<Arc<Core>>, u16)>,
 }
 
 /// What a hold of the lock changed, and what is to be told once the lock is free.
@@ -60,12 +60,15 @@ pub(crate) struct After {
     changes: Changes,
     pub(crate) wakers: Vec<Waker>,
     pub(crate) dropped: Vec<Held>,
-    pub(crate) feeds: Vec<(Arc<Core>, u16, Result<Val, Error>)>,
+    pub(crate) feeds: Vec<Feed>,
     pub(crate) tasks: Vec<Arc<Task>>,
     /// A stage, and the relay that is to be settled as it is.
     pub(crate) links: Vec<(Arc<Core>, u16, u16)>,
     pub(crate) jobs: usize,
 }
+
+/// A relay of another request, and what it is to be settled with.
+pub(crate) type Feed = (Arc<Core>, u16, Result<Val, Error>);
 
 /// What a worker is to do: a stage that it has claimed, its function, and what that is called with.
 pub(crate) type Todo = (u16, Call, Args);
@@ -167,10 +170,8 @@ impl Inner {
 
     // Changes.
 
-    #[allow(clippy::too_many_arguments)]
     pub(crate) fn attach(
         &mut self,
-        core: &Arc<Core>,
         who: u8,
         form: Form,
         of: &[u16],
@@ -181,7 +182,7 @@ impl Inner {
         match self.ledger.attach(who, form, of, call.is_some(), &mut after.changes) {
             Ok(stage) => {
                 self.slots.push(Slot::new(made, call));
-                self.show(core, after);
+                self.show(after);
                 Ok(stage)
             }
             Err(why) => {
@@ -193,7 +194,6 @@ impl Inner {
 
     pub(crate) fn settle(
         &mut self,
-        core: &Arc<Core>,
         who: u8,
         stage: u16,
         with: Result<Val, Error>,
@@ -208,7 +208,7 @@ impl Inner {
         };
         if matches!(self.act(word::of(kind, who, stage, tail), after), Reply::Flag(true)) {
             self.hold(stage, holds, after);
-            self.show(core, after);
+            self.show(after);
             return Ok(());
         }
         Err(match holds {
@@ -238,12 +238,12 @@ impl Inner {
 
     /// Shows what the last word changed: which stages are ready, and which are settled.
     #[inline]
-    fn show(&mut self, core: &Arc<Core>, after: &mut After) {
+    fn show(&mut self, after: &mut After) {
         for at in 0..after.changes.len() {
             let news = after.changes.at(at);
             match news.now.state {
                 State::Ready => self.set_ready(news.stage),
-                State::Settled(outcome) => self.settled(core, news.stage, outcome, after),
+                State::Settled(outcome) => self.settled(news.stage, outcome, after),
                 State::Pending | State::Claimed | State::Linked(_) => {}
             }
         }
@@ -268,7 +268,7 @@ impl Inner {
 
     /// A stage is told to be settled. A second time that is told where only the claim of it has ended.
     #[inline]
-    fn settled(&mut self, core: &Arc<Core>, stage: u16, outcome: Outcome, after: &mut After) {
+    fn settled(&mut self, stage: u16, outcome: Outcome, after: &mut After) {
         self.set_unready(stage);
         let slot = &mut self.slots[usize::from(stage)];
         if slot.is_settled() {
@@ -283,31 +283,30 @@ impl Inner {
             self.waiting.take(&mut slot.waits, &mut after.wakers);
         }
         if !self.extras.is_empty() {
-            self.settled_extra(core, stage, outcome, after);
+            self.settled_extra(stage, outcome, after);
         }
     }
 
-    fn settled_extra(&mut self, core: &Arc<Core>, stage: u16, outcome: Outcome, after: &mut After) {
+    fn settled_extra(&mut self, stage: u16, outcome: Outcome, after: &mut After) {
         let extra = self.extras.remove(&stage).unwrap_or_default();
         after.tasks.extend(extra.task);
         for (to, relay) in extra.feeds {
-            if Arc::ptr_eq(&to, core) {
-                self.relaying.push((relay, stage));
-            } else {
-                after.feeds.push((to, relay, self.outcome(outcome)));
+            match to {
+                None => self.relaying.push((relay, stage)),
+                Some(to) => after.feeds.push((to, relay, self.outcome(outcome))),
             }
         }
     }
 
     /// Settles relays of this request as the stages are for which they stand.
     #[inline]
-    pub(crate) fn relay(&mut self, core: &Arc<Core>, after: &mut After) {
+    pub(crate) fn relay(&mut self, after: &mut After) {
         if !self.relaying.is_empty() {
-            self.relay_all(core, after);
+            self.relay_all(after);
         }
     }
 
-    fn relay_all(&mut self, core: &Arc<Core>, after: &mut After) {
+    fn relay_all(&mut self, after: &mut After) {
         while let Some((relay, stage)) = self.relaying.pop() {
             let outcome = self.slot(stage).outcome().expect("the stage is settled");
             let (kind, tail) = match outcome {
@@ -316,12 +315,12 @@ impl Inner {
                 Outcome::Fault { cause: Cause::Thrown(code), .. } => (FAIL, u64::from(code)),
                 Outcome::Fault { cause: Cause::Cancelled, .. } => (CANCEL, 0),
                 Outcome::Fault { .. } => {
-                    let _ = self.settle(core, RELAY, relay, Err(Error::BadAnswer), after);
+                    let _ = self.settle(RELAY, relay, Err(Error::BadAnswer), after);
                     continue;
                 }
             };
             self.act(word::of(kind, RELAY, relay, tail), after);
-            self.show(core, after);
+            self.show(after);
         }
     }
 
@@ -348,7 +347,7 @@ impl Inner {
         let from = held.map_or(self.from, |(stage, _)| self.from.min(stage + 1));
         let (finished, taken) = self.ledger.step(who, held, from, &mut after.changes);
         if let (Some(finished), Some((stage, _))) = (finished, held) {
-            self.ended(core, stage, finished, holds, after);
+            self.ended(stage, finished, holds, after);
         }
         let (stage, args) = match taken {
             Some(taken) => taken,
@@ -379,19 +378,19 @@ impl Inner {
             Answer::Link(target) => LINKS | u64::from(target),
         };
         if let Reply::Finished(finished) = self.act(word::of(FINISH, who, stage, tail), after) {
-            self.ended(core, stage, finished, holds, after);
+            self.ended(stage, finished, holds, after);
         }
     }
 
     /// A function's answer was taken, or came too late.
     #[inline]
-    fn ended(&mut self, core: &Arc<Core>, stage: u16, finished: Finished, holds: Held, after: &mut After) {
+    fn ended(&mut self, stage: u16, finished: Finished, holds: Held, after: &mut After) {
         match (finished, holds) {
             (Finished::Won, holds) => self.hold(stage, holds, after),
             (_, Held::Nothing) => {}
             (_, late) => after.dropped.push(late),
         }
-        self.show(core, after);
+        self.show(after);
     }
 
     /// Finishes a composing stage with a link to the stage that its function gave, or to the relay that stands for that.
@@ -400,8 +399,10 @@ impl Inner {
         let relay = stage - 1;
         let target = if is_own && number < stage { number } else { relay };
         let reply = self.act(word::of(FINISH, who, stage, LINKS | u64::from(target)), after);
-        self.show(core, after);
+        self.show(after);
         if reply != Reply::Finished(Finished::Won) || (is_own && target == number) {
+            // It may be the other request's last handle.
+            after.dropped.push(Held::Core(of));
             return;
         }
         if !is_own {
@@ -414,7 +415,7 @@ impl Inner {
         if self.slot(number).is_settled() {
             self.relaying.push((target, number));
         } else {
-            self.extra(number).feeds.push((of, target));
+            self.extra(number).feeds.push((None, target));
         }
     }
 
@@ -432,6 +433,12 @@ impl Inner {
             self.coming += 1;
             after.jobs += 1;
         }
+    }
+
+    /// The requests whose relays hang on stages of this one.
+    pub(crate) fn fed(&mut self) -> Vec<Arc<Core>> {
+        let extras = self.extras.values_mut();
+        extras.flat_map(|extra| take(&mut extra.feeds)).filter_map(|(core, _)| core).collect()
     }
 
     /// The stages that are ready, if no job is there that would run them.

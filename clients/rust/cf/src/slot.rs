@@ -1,8 +1,10 @@
 //! What a stage's number stands for.
+use crate::core::Core;
 use crate::error::Error;
 use crate::name::Made;
 use crate::value::{Call, Val};
 use cf_graph::{Cause, Outcome, Value};
+use std::sync::Arc;
 
 pub(crate) struct Slot {
     pub(crate) made: Made,
@@ -20,6 +22,8 @@ pub(crate) enum Held {
     Call(Call),
     Value(Val),
     Error(Box<Error>),
+    /// A request, where the lock isn't to be held while it is dropped.
+    Core(#[allow(dead_code)] Arc<Core>),
 }
 
 #[derive(Clone, Copy, PartialEq, Eq)]

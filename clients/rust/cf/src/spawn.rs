@@ -153,7 +153,7 @@ pub(crate) fn as_worker<T>(act: impl FnOnce(u8) -> T) -> T {
 
 /// Lets it be known that this thread runs functions of a request until what is given back is dropped.
 pub(crate) fn running(core: &Arc<Core>) -> Running {
-    RUNNING.with(|running| running.borrow_mut().push(Arc::clone(core)));
+    let _ = RUNNING.try_with(|running| running.borrow_mut().push(Arc::clone(core)));
     Running
 }
 
@@ -162,13 +162,13 @@ pub(crate) struct Running;
 impl Drop for Running {
     fn drop(&mut self) {
         // What it was may be dropped here, so the row isn't held then.
-        drop(RUNNING.with(|running| running.borrow_mut().pop()));
+        drop(RUNNING.try_with(|running| running.borrow_mut().pop()));
     }
 }
 
 /// The request whose function this thread is running, if it is running one.
 pub(crate) fn run_here() -> Option<Arc<Core>> {
-    RUNNING.with(|running| running.borrow().last().cloned())
+    RUNNING.try_with(|running| running.borrow().last().cloned()).ok().flatten()
 }
 
 /// Runs each function at once, on the thread by which its stage became ready.
@@ -189,7 +189,8 @@ thread_local! {
 impl Spawn for Inline {
     fn spawn(&self, job: Job) -> Result<(), Job> {
         let mut job = Some(job);
-        WAITING.with(|waiting| match &mut *waiting.borrow_mut() {
+        // A thread that ends has no row any more, and runs what comes at once.
+        let _ = WAITING.try_with(|waiting| match &mut *waiting.borrow_mut() {
             Some(waiting) => waiting.extend(job.take()),
             none => *none = Some(VecDeque::new()),
         });
@@ -197,14 +198,15 @@ impl Spawn for Inline {
         while let Some(next) = job {
             // A waker that panics doesn't keep the others from being run.
             panicked = catch_unwind(AssertUnwindSafe(|| next.run())).err().or(panicked);
-            job = WAITING.with(|waiting| {
+            let pop = |waiting: &RefCell<Option<VecDeque<Job>>>| {
                 let mut waiting = waiting.borrow_mut();
                 let next = waiting.as_mut().and_then(VecDeque::pop_front);
                 if next.is_none() {
                     *waiting = None;
                 }
                 next
-            });
+            };
+            job = WAITING.try_with(pop).ok().flatten();
         }
         if let Some(payload) = panicked {
             resume_unwind(payload);

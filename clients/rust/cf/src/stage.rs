@@ -185,7 +185,7 @@ impl<T> Stage<T> {
             }
             #[cfg(test)]
             crate::search::turn();
-            if self.helps(&waker) {
+            if !until.map_or(false, |until| Instant::now() >= until) && self.helps(&waker) {
                 continue;
             }
             while !parked.is_woken.swap(false, Ordering::SeqCst) {

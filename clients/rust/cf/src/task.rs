@@ -3,8 +3,8 @@ use crate::core::Core;
 use crate::error::{Error, Panic, Refusal};
 use crate::spawn::{running, Job, Turn, CLOCK};
 use crate::value::{Gave, Later};
-use std::panic::{catch_unwind, AssertUnwindSafe};
-use std::sync::atomic::{AtomicBool, Ordering};
+use std::panic::{catch_unwind, resume_unwind, AssertUnwindSafe};
+use std::sync::atomic::{AtomicBool, AtomicU8, Ordering};
 use std::sync::{Arc, Mutex, PoisonError};
 use std::task::{Context, Poll, Wake, Waker};
 
@@ -12,10 +12,20 @@ use std::task::{Context, Poll, Wake, Waker};
 pub(crate) struct Task {
     stage: u16,
     who: u8,
-    is_queued: AtomicBool,
+    /// Where it stands: [`RESTS`], [`QUEUED`], [`POLLED`] or [`WOKEN`].
+    at: AtomicU8,
     is_stopped: AtomicBool,
     future: Mutex<Option<Later>>,
 }
+
+/// Nobody has it, until a waker is called.
+const RESTS: u8 = 0;
+/// A job is to poll it, whatever wakes it by then.
+const QUEUED: u8 = 1;
+/// It is polled: no other job comes for it, so that a waker may be called in the midst of the poll, on any thread and by any executor.
+const POLLED: u8 = 2;
+/// It is polled, and is to be polled again.
+const WOKEN: u8 = 3;
 
 /// What a task's wakers are, and what is polled.
 pub(crate) struct Polling {
@@ -26,8 +36,8 @@ pub(crate) struct Polling {
 impl Polling {
     /// Polls a future for the first time, unless its stage is settled meanwhile.
     pub(crate) fn begin(core: &Arc<Core>, who: u8, stage: u16, future: Later) {
-        let (is_queued, is_stopped) = (AtomicBool::new(false), AtomicBool::new(false));
-        let task = Arc::new(Task { stage, who, is_queued, is_stopped, future: Mutex::new(Some(future)) });
+        let (at, is_stopped) = (AtomicU8::new(QUEUED), AtomicBool::new(false));
+        let task = Arc::new(Task { stage, who, at, is_stopped, future: Mutex::new(Some(future)) });
         let mut inner = core.lock();
         let is_late = inner.slot(stage).is_settled();
         if !is_late {
@@ -44,10 +54,10 @@ impl Polling {
     pub(crate) fn poll(self: Arc<Polling>) {
         let (core, task) = (&self.core, &self.task);
         let _running = running(core);
-        task.is_queued.store(false, Ordering::SeqCst);
-        let waker = Waker::from(Arc::clone(&self));
         #[cfg(test)]
-        task.search();
+        crate::search::turn();
+        task.at.store(POLLED, Ordering::SeqCst);
+        let waker = Waker::from(Arc::clone(&self));
         let mut held = task.future.lock().unwrap_or_else(PoisonError::into_inner);
         let polled = match held.as_mut() {
             None => return,
@@ -60,7 +70,13 @@ impl Polling {
                 crate::search::turn();
                 // Who stopped it meanwhile found it held.
                 if task.is_stopped.load(Ordering::SeqCst) {
-                    task.drop_future(core);
+                    return task.drop_future(core);
+                }
+                #[cfg(test)]
+                crate::search::turn();
+                if task.at.compare_exchange(POLLED, RESTS, Ordering::SeqCst, Ordering::SeqCst).is_err() {
+                    task.at.store(QUEUED, Ordering::SeqCst);
+                    core.spawn(Job::new(Turn::Poll(Arc::clone(&self))));
                 }
                 return;
             }
@@ -80,13 +96,6 @@ impl Polling {
 }
 
 impl Task {
-    /// Lets others go on first, up to where nobody polls it.
-    #[cfg(test)]
-    fn search(self: &Arc<Task>) {
-        let task = Arc::clone(self);
-        crate::search::rest(move || task.future.try_lock().is_ok());
-    }
-
     /// Drops the future, and gives its claim back. While it is polled, by this thread too, the poll's end does.
     pub(crate) fn stop(&self, core: &Arc<Core>) {
         #[cfg(test)]
@@ -103,8 +112,9 @@ impl Task {
             Err(_) => None,
         };
         if future.is_some() {
-            drop(future);
+            let dropped = catch_unwind(AssertUnwindSafe(|| drop(future)));
             core.end(self.who, self.stage, Gave::Error(Error::Cancelled));
+            dropped.unwrap_or_else(|payload| resume_unwind(payload));
         }
     }
 }
@@ -113,7 +123,12 @@ impl Wake for Polling {
     fn wake(self: Arc<Polling>) {
         #[cfg(test)]
         crate::search::turn();
-        if !self.task.is_queued.swap(true, Ordering::SeqCst) {
+        let woken = |at| match at {
+            RESTS => Some(QUEUED),
+            POLLED => Some(WOKEN),
+            _ => None,
+        };
+        if self.task.at.fetch_update(Ordering::SeqCst, Ordering::SeqCst, woken) == Ok(RESTS) {
             let core = Arc::clone(&self.core);
             core.spawn(Job::new(Turn::Poll(self)));
         }
