@@ -32,7 +32,7 @@ use std::time::{Duration, Instant};
 /// assert!(request.promise::<u32>().or_timeout(Duration::from_millis(20)).wait().unwrap_err().is_timeout());
 /// ```
 pub trait Clock: Send + Sync + 'static {
-    /// How long it is since a moment of the clock's own. It never goes back.
+    /// How long it is since a moment of the clock's own. It never goes back. Where it panics, an event has the time of the one before it.
     fn now(&self) -> Duration;
 
     /// Rings the alarm after a while. It must not ring it before it returns.
@@ -255,6 +255,10 @@ impl HandClock {
     }
 
     /// Lets it be so much later, and rings what is due by then, one after another, on this thread.
+    ///
+    /// # Panics
+    ///
+    /// Where a waker of somebody's does, and where it would be later than a `Duration` can say.
     ///
     /// ```
     /// use cf::{Clock, HandClock};

@@ -23,6 +23,9 @@ use std::sync::Arc;
 use std::task::Waker;
 use std::time::Duration;
 
+/// How many stages a request's first memory is for, at most; it grows like any row.
+pub(crate) const SLOTS: u16 = 64;
+
 pub(crate) struct Inner {
     pub(crate) ledger: Ledger,
     pub(crate) slots: Vec<Slot>,
@@ -103,7 +106,7 @@ impl Inner {
     pub(crate) fn new(room: u16) -> Result<Inner, Refusal> {
         Ok(Inner {
             ledger: Ledger::new(room)?,
-            slots: Vec::new(),
+            slots: Vec::with_capacity(usize::from(room.min(SLOTS))),
             names: BTreeMap::new(),
             relays: Vec::new(),
             waiting: Wakers::default(),
@@ -170,15 +173,7 @@ impl Inner {
 
     // Changes.
 
-    pub(crate) fn attach(
-        &mut self,
-        who: u8,
-        form: Form,
-        of: &[u16],
-        call: Option<Call>,
-        made: Made,
-        after: &mut After,
-    ) -> Result<u16, Refusal> {
+    pub(crate) fn attach(&mut self, who: u8, form: Form, of: &[u16], call: Option<Call>, made: Made, after: &mut After) -> Result<u16, Refusal> {
         match self.ledger.attach(who, form, of, call.is_some(), &mut after.changes) {
             Ok(stage) => {
                 self.slots.push(Slot::new(made, call));
@@ -192,13 +187,7 @@ impl Inner {
         }
     }
 
-    pub(crate) fn settle(
-        &mut self,
-        who: u8,
-        stage: u16,
-        with: Result<Val, Error>,
-        after: &mut After,
-    ) -> Result<(), Result<Val, Error>> {
+    pub(crate) fn settle(&mut self, who: u8, stage: u16, with: Result<Val, Error>, after: &mut After) -> Result<(), Result<Val, Error>> {
         let number = u64::from(stage);
         let (kind, tail, holds) = match with {
             Ok(Val::Nil) => (COMPLETE, 0, Held::Nothing),

@@ -1,5 +1,6 @@
 //! The library's ledger of one request, and what callers were told by it. One thread at a time has it.
 use crate::error::Refusal;
+use crate::inner::SLOTS;
 use crate::record::Record;
 use crate::word::{self, Form};
 use cf_graph::{Answer, Args, Changes, Claimed, Finished, Ledger as Words, Outcome, Plan, PlanBuilder, Refused, Reply};
@@ -58,7 +59,7 @@ impl Ledger {
             Some(plan) => Words::new(plan, room).map_err(|_| Refusal::NoLedger)?,
             None => return Err(Refusal::NoLedger),
         };
-        Ok(Ledger { words, room, stages: 0, record: Record::default(), now: 0 })
+        Ok(Ledger { words, room, stages: 0, record: Record::of_stages(room.min(SLOTS)), now: 0 })
     }
 
     /// Does the event of a word, and writes down what it was answered.

@@ -36,7 +36,8 @@
 //! values and functions, run on the thread that settled the stage. None of them runs under a lock of the request. A worker that waits runs
 //! other functions of its request meanwhile.
 //!
-//! A function that holds a handle of its own request keeps that alive until it was called or dropped.
+//! A function that holds a handle of its own request keeps that alive until it was called or dropped, and a value that holds one for good.
+//! What a worker runs while it waits lies on its stack, so functions that wait for one another want few levels.
 //!
 //! # Features
 //!

@@ -27,6 +27,11 @@ pub(crate) enum Item {
 }
 
 impl Record {
+    /// With room for what so many stages usually take.
+    pub(crate) fn of_stages(stages: u16) -> Record {
+        Record { bytes: Vec::with_capacity(24 + 16 * usize::from(stages)), ..Record::default() }
+    }
+
     /// An event that was done at this moment, in nanoseconds since the request began.
     pub(crate) fn event(&mut self, at: u64, reply: Reply) {
         let mut item = Bytes::default();

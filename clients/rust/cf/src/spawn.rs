@@ -85,7 +85,8 @@ impl fmt::Debug for Job {
 /// ```
 pub trait Spawn: Send + Sync + 'static {
     /// Runs the job soon, on any thread, or gives it back where it takes no more, whereupon what is ready fails with
-    /// [`Refusal::Closed`](crate::Refusal::Closed). It must not run it while it holds a lock that a function of a stage might take.
+    /// [`Refusal::Closed`](crate::Refusal::Closed). It must not run it while it holds a lock that a function of a stage might take. Where it
+    /// panics, its caller does.
     fn spawn(&self, job: Job) -> Result<(), Job>;
 
     /// How many jobs of one request it may run at a time.
@@ -171,7 +172,8 @@ pub(crate) fn run_here() -> Option<Arc<Core>> {
     RUNNING.try_with(|running| running.borrow().last().cloned()).ok().flatten()
 }
 
-/// Runs each function at once, on the thread by which its stage became ready.
+/// Runs each function at once, on the thread by which its stage became ready, and polls a future on the thread that wakes it: one whose waker
+/// is called under a lock that its poll takes, too, wants another [`Spawn`].
 ///
 /// ```
 /// let request = cf::Request::new("order 17", cf::Inline);
@@ -322,7 +324,8 @@ impl Drop for Threads {
     }
 }
 
-/// Functions on a pool of rayon.
+/// Functions on a pool of rayon. Where a waker or a `Drop` of somebody's panics, the pool's own handler of panics is called; rayon ends the
+/// process where it has none.
 ///
 /// ```
 /// let pool = std::sync::Arc::new(rayon::ThreadPoolBuilder::new().num_threads(2).build().unwrap());
