@@ -255,7 +255,7 @@ impl Wake for Parked {
 }
 
 impl<T: Send + Sync + 'static> Stage<T> {
-    /// What the function gives of the value. Attaching takes about 0.6 µs, and so do the claim and the finish of a function.
+    /// What the function gives of the value. Attaching takes about 0.3 µs, and the claim and the finish of a function 0.4.
     ///
     /// ```
     /// let request = cf::Request::new("order 17", cf::Inline);
