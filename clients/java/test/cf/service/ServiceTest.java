@@ -757,7 +757,7 @@ public final class ServiceTest {
             System.out.println("(no recordings in this JVM)");
             return;
         }
-        is(Recorder.now, null);
+        is(Recorder.now != null, jdk.jfr.FlightRecorder.isInitialized());
         Path file = Files.createTempFile("cf", ".jfr");
         int words;
         try (jdk.jfr.Recording recording = new jdk.jfr.Recording()) {
