@@ -90,6 +90,7 @@ class Etcd:
         self.nodes, self._turn = [self._start(k) for k in range(nodes)], 0
         self.address = "etcd://" + ",".join(f"{host}:{it}" for host, it in zip(self.hosts, self.ports))
         if self.leader(60) is None:
+            self.stop()
             raise RuntimeError("etcd has no leader")
 
     @staticmethod
