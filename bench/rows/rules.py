@@ -29,7 +29,7 @@ TURNED = [
     (5, "a number that another has is taken", "desk.py", "if who not in self._numbers", "if True", "Desks.test_numbers"),
     (6, "nobody fails the stage of who is gone", "service.py", "if self._is_gone(session):\n", "if False:\n", "Processes.test_once"),
     (6, "the stages of who is there are failed", "service.py", "if self._is_gone(session):\n", "if session != self.session:\n",
-     "Processes.test_a_request_goes_on_elsewhere"),
+     "Services.test_who_is_there_is_let_be"),
     (7, "an answer comes before the disk has it", "sqlite.py", '"off" if is_unsafe else "full"', '"off"', "Rows.test_settings"),
 ]
 

@@ -710,6 +710,19 @@ class Services(Case):
         self.until(lambda: not store.ends())
         store.close()
 
+    def test_who_is_there_is_let_be(self):
+        """A stage whose function runs elsewhere isn't failed by one that looks, as long as who has it is there."""
+        functions, goes, store = Functions(), threading.Event(), Memory()
+        waits = functions.function("waits")(lambda: goes.wait(20))
+        first, second = DurableService(store, 1, functions=functions), DurableService(store, 0, functions=functions, takes_all=True)
+        stage = first.request("r").supply(waits)
+        seen = second.open("r")
+        self.until(lambda: seen._desk.claims)
+        second._work(seen)
+        goes.set()
+        self.assertTrue(stage.result(20))
+        first.shutdown(), second.shutdown()
+
     def test_a_long_start(self):
         """Who reads many long rows for the first time says meanwhile that he is there."""
         class Slow(Memory):
