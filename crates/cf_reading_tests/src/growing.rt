@@ -2,11 +2,21 @@
 use cf_model::{Ask, Event};
 use cf_outcome::Value;
 use cf_plan::{Form, Of, PlanFault};
-use cf_reading::{Func, Part, ReadingFault, Step, read_race, read_script};
+use cf_reading::{Func, Part, ReadingFault, Script, Step, read_race, read_script};
 use std::alloc::{AllocError, Global};
-use std::fmt::Write;
 use std::process::Abort;
 use std::test::Fail;
+
+/// Adds a piece so often, with commas between.
+fn add_pieces(text: &mut String, piece: &str, count: u32) -> Result<(), AllocError> {
+    for i in 0..count {
+        if i > 0 {
+            text.push_str(",")?;
+        }
+        text.push_str(piece)?;
+    }
+    Ok(())
+}
 
 /// Why a text in which one piece stands so often, with commas between, is refused, if it is.
 fn refused(
@@ -16,14 +26,10 @@ fn refused(
     count: u32,
     after: &str,
 ) -> Result<Option<ReadingFault>, AllocError> {
-    let mut text = String::new(alloc);
-    write!(text, "{before}")?;
-    for i in 0..count {
-        let comma = if i == 0 { "" } else { "," };
-        write!(text, "{comma}{piece}")?;
-    }
-    write!(text, "{after}")?;
-    Ok(read_script(alloc, text.as_str().as_bytes()).err())
+    let mut text = String::from_str(alloc, before)?;
+    add_pieces(&mut text, piece, count)?;
+    text.push_str(after)?;
+    Ok(read_script(alloc, text.as_bytes()).err())
 }
 
 /// A text in which one piece stands so often, with commas between, and why it is refused, if it is.
@@ -53,7 +59,10 @@ fn assert_pieces(
     fault: Option<ReadingFault>,
 ) -> Result<(), Fail> {
     for piece in pieces {
-        assert_eq!(rt; refused(alloc, before, piece, 1, after)?, fault, "{piece}");
+        assert!(rt;
+            is_refused(alloc, (before, *piece, 1, after, fault))?,
+            "{piece}"
+        );
     }
     Ok(())
 }
@@ -69,14 +78,15 @@ fn assert_steps(
     assert_pieces(rt, alloc, before, steps, "]}", fault)
 }
 
+/// Whether a text is refused so.
+fn is_refused_so(alloc: Global, text: &str, fault: ReadingFault) -> bool {
+    read_script(alloc, text.as_bytes()).err() == Some(fault)
+}
+
 /// These texts are refused so.
 fn assert_refused(rt: &impl Abort, alloc: Global, rows: &[(&str, ReadingFault)]) {
     for (text, fault) in rows {
-        assert_eq!(rt;
-            read_script(alloc, text.as_bytes()).err(),
-            Some(*fault),
-            "{text}"
-        );
+        assert!(rt; is_refused_so(alloc, text, *fault), "{text}");
     }
 }
 
@@ -114,16 +124,19 @@ const CALLED: [Func; 4] = [
     Func::Const(Value::Int(4)),
 ];
 
+/// Whether that script is read.
+fn is_read(script: Script) -> bool {
+    let (plan, room, functions, steps) = script.into_parts();
+    plan.stages() == 2
+        && room == 2
+        && functions.as_slice() == CALLED.as_slice()
+        && are_read(steps.as_slice())
+}
+
 #[test]
 fn reads_attached_stages(rt: HostRuntime) -> Result<(), Fail> {
     let script = read_script(rt.alloc(), ATTACHED.as_bytes())?;
-    let (plan, room, functions, steps) = script.into_parts();
-    assert!(rt;
-        plan.stages() == 2 && room == 2,
-        "the plan is that of the opening"
-    );
-    assert!(rt; functions.as_slice() == CALLED.as_slice());
-    assert!(rt; are_read(steps.as_slice()));
+    assert!(rt; is_read(script));
     Ok(())
 }
 
@@ -245,8 +258,8 @@ fn version_one_leaves_room_unread(rt: HostRuntime) -> Result<(), Fail> {
 #[test]
 fn version_one_has_no_room(rt: HostRuntime) -> Result<(), Fail> {
     let text = r#"{"cf":1,"room":7,"stages":[{"form":"source"}]}"#;
-    let (_, room, _, _) = read_script(rt.alloc(), text.as_bytes())?.into_parts();
-    assert_eq!(rt; room, 0);
+    let script = read_script(rt.alloc(), text.as_bytes())?;
+    assert!(rt; has(script, 0, 0));
     Ok(())
 }
 
@@ -383,12 +396,18 @@ fn attaches_count_as_steps(rt: HostRuntime) -> Result<(), Fail> {
     assert_texts(&rt, rt.alloc(), &rows)
 }
 
+/// Whether a script is read that has so much room and so many steps.
+fn has(script: Script, wanted: u16, count: usize) -> bool {
+    let (_, room, _, steps) = script.into_parts();
+    room == wanted && steps.len() == count
+}
+
 #[test]
 fn races_attach(rt: HostRuntime) -> Result<(), Fail> {
     let text =
         r#"{"cf":2,"room":1,"stages":[],"steps":[["attach",{"form":"source"}],["complete",0,3]]}"#;
-    let (_, room, _, steps) = read_race(rt.alloc(), text.as_bytes())?.into_parts();
-    assert!(rt; room == 1 && steps.len() == 2);
+    let script = read_race(rt.alloc(), text.as_bytes())?;
+    assert!(rt; has(script, 1, 2));
     Ok(())
 }
 
@@ -397,7 +416,7 @@ fn races_that_attach_take_no_work(rt: HostRuntime) {
     let worked =
         r#"{"cf":2,"room":1,"stages":[],"steps":[["attach",{"form":"source"}],["work"],["complete",1,3]]}"#;
     let refused = read_race(rt.alloc(), worked.as_bytes()).err();
-    assert_eq!(rt; refused, Some(ReadingFault::Step(1)));
+    assert!(rt; refused == Some(ReadingFault::Step(1)));
 }
 
 /// Limits speak of the stages of the opening.

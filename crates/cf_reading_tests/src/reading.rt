@@ -2,8 +2,8 @@
 use cf_model::{Ask, Event};
 use cf_outcome::{Cause, Outcome, Value};
 use cf_plan::{Answer, Args, Limit, LimitKind, Plan, PlanFault, StageFn};
-use cf_reading::{Func, MAX_BYTES, Part, ReadingFault, Step, read_input, read_script};
-use std::alloc::Global;
+use cf_reading::{Func, MAX_BYTES, Part, ReadingFault, Script, Step, read_input, read_script};
+use std::alloc::{AllocError, Global};
 use std::io;
 use std::io::{ErrorKind, Read};
 use std::test::Fail;
@@ -79,13 +79,17 @@ const OTHERS: [(Func, Args, Answer); 16] = [
 ];
 
 #[test]
-fn functions_answer(rt: HostRuntime) {
+fn functions_give_numbers(rt: HostRuntime) {
     for (f, args, number) in &NUMBERS {
         let answer = Answer::Give(Value::Int(*number));
-        assert_eq!(rt; f.call(args), answer, "{f:?} of {args:?}");
+        assert!(rt; f.call(args) == answer, "{f:?} of {args:?}");
     }
+}
+
+#[test]
+fn functions_answer(rt: HostRuntime) {
     for (f, args, answer) in &OTHERS {
-        assert_eq!(rt; f.call(args), *answer, "{f:?} of {args:?}");
+        assert!(rt; f.call(args) == *answer, "{f:?} of {args:?}");
     }
 }
 
@@ -186,25 +190,28 @@ fn reads_whole_or_not(rt: HostRuntime) {
     }
 }
 
+/// How many of so many blanks are read, and how many are left then.
+fn blanks_read(
+    alloc: Global,
+    count: usize,
+) -> Result<(Result<usize, ReadingFault>, usize), AllocError> {
+    let blanks = vec![in alloc; b' '; count]?;
+    let mut input = blanks.as_slice();
+    let read = length_read(alloc, &mut input);
+    Ok((read, input.len()))
+}
+
 #[test]
 fn as_many_bytes_are_read_as_there_may_be(rt: HostRuntime) -> Result<(), Fail> {
-    let blanks = vec![in rt.alloc(); b' '; MAX_BYTES]?;
-    assert_eq!(rt;
-        length_read(rt.alloc(), &mut blanks.as_slice()),
-        Ok(MAX_BYTES)
-    );
+    let (read, left) = blanks_read(rt.alloc(), MAX_BYTES)?;
+    assert!(rt; read == Ok(MAX_BYTES) && left == 0);
     Ok(())
 }
 
 #[test]
 fn one_byte_too_many_is_read(rt: HostRuntime) -> Result<(), Fail> {
-    let blanks = vec![in rt.alloc(); b' '; MAX_BYTES + 3]?;
-    let mut input = blanks.as_slice();
-    assert_eq!(rt;
-        length_read(rt.alloc(), &mut input),
-        Err(ReadingFault::TooLong)
-    );
-    assert_eq!(rt; input.len(), 2);
+    let (read, left) = blanks_read(rt.alloc(), MAX_BYTES + 3)?;
+    assert!(rt; read == Err(ReadingFault::TooLong) && left == 2);
     Ok(())
 }
 
@@ -253,11 +260,15 @@ const REFUSED: [(&[u8], ReadingFault); 12] = [
     ),
 ];
 
+/// Whether these bytes are refused so.
+fn is_refused(alloc: Global, bytes: &[u8], fault: ReadingFault) -> bool {
+    read_script(alloc, bytes).err() == Some(fault)
+}
+
 #[test]
 fn refuses_for_what_is_wrong(rt: HostRuntime) {
-    for (bytes, fault) in &REFUSED {
-        let refused = read_script(rt.alloc(), bytes).err();
-        assert_eq!(rt; refused, Some(*fault));
+    for (at, (bytes, fault)) in REFUSED.iter().enumerate() {
+        assert!(rt; is_refused(rt.alloc(), bytes, *fault), "text {at}");
     }
 }
 
@@ -282,14 +293,22 @@ fn are_read(steps: &[Step]) -> bool {
     steps == asked.as_slice()
 }
 
+const SCRIPT: &str =
+    "{\"cf\":1,\"stages\":[{\"form\":\"source\"},{\"form\":\"apply\",\"of\":[0],\"fn\":{\"add\":5}}],\
+\"limits\":[{\"stage\":1,\"at\":9,\"kind\":\"timeout\"}],\"steps\":[[\"complete\",0,3],[\"work\"],[\"now\",1]]}";
+
+/// Whether that script is read.
+fn is_read(script: Script) -> bool {
+    let (plan, room, functions, steps) = script.into_parts();
+    room == 0
+        && is_limited(&plan)
+        && functions.as_slice() == [Func::Add(5)].as_slice()
+        && are_read(steps.as_slice())
+}
+
 #[test]
 fn reads_a_script(rt: HostRuntime) -> Result<(), Fail> {
-    let text =
-        "{\"cf\":1,\"stages\":[{\"form\":\"source\"},{\"form\":\"apply\",\"of\":[0],\"fn\":{\"add\":5}}],\
-\"limits\":[{\"stage\":1,\"at\":9,\"kind\":\"timeout\"}],\"steps\":[[\"complete\",0,3],[\"work\"],[\"now\",1]]}";
-    let (plan, room, functions, steps) = read_script(rt.alloc(), text.as_bytes())?.into_parts();
-    assert!(rt; room == 0 && is_limited(&plan));
-    assert!(rt; functions.as_slice() == [Func::Add(5)].as_slice());
-    assert!(rt; are_read(steps.as_slice()));
+    let script = read_script(rt.alloc(), SCRIPT.as_bytes())?;
+    assert!(rt; is_read(script));
     Ok(())
 }
