@@ -4,8 +4,9 @@
  *
  *   from scratch ..   a plan built, a graph of it opened, and settled by cf_work; a stage
  *   per request ..    a graph that is there restarted, its source completed, and settled: the lowest ready stage asked for, claimed and
- *                     finished, a call each; by cf_next; by cf_work, which calls the function; by cf_round, so many tasks at once. The
- *                     product does it by one call of work. An allOf is settled by the completions of its sources. A stage
+ *                     finished, a call each; by cf_next; by cf_work, which calls the function; by cf_round, so many tasks at once; in a
+ *                     sweep, by cf_sweep_next. The product does it by one call of work. An allOf is settled by the completions of its
+ *                     sources. A stage
  *   ledger ..         a ledger that is there started again, its source completed, and settled: the next ready stage asked for, claimed and
  *                     finished by a word each; by cf_ledger_step; or its row of words done again by one call. A stage
  *   ledger            a ledger of a chain of 16 opened of a plan that is there, and freed; or one that is there started again; all of it
@@ -58,14 +59,24 @@ static void by_round(cf_handle *graph) {
   must_be(!tasks[0].held && tasks[0].finished == CF_WON, "a finish");
 }
 
-enum { WAYS = 4 };
-static void (*const ways[WAYS])(cf_handle *graph) = {by_three, by_next, by_work, by_round};
+static void by_sweep(cf_handle *graph) {
+  cf_task task = {0};
+  MUST(cf_sweep_begin(graph));
+  while (cf_sweep_next(graph, &task) == CF_OK) task.answer = answer(&task.args);
+  must_be(!task.held && task.finished == CF_WON, "a finish");
+  MUST(cf_sweep_end(graph));
+}
+
+enum { WAYS = 5 };
+static void (*const ways[WAYS])(cf_handle *graph) = {by_three, by_next, by_work, by_round, by_sweep};
 
 static struct times chain[WAYS] = {{.name = "per request chain 512"}, {.name = "per request chain 512, by cf_next"},
-                                   {.name = "per request chain 512, by cf_work"}, {.name = "per request chain 512, by cf_round"}};
+                                   {.name = "per request chain 512, by cf_work"}, {.name = "per request chain 512, by cf_round"},
+                                   {.name = "per request chain 512, by cf_sweep_next"}};
 static struct times fan_out[WAYS] = {{.name = "per request fan-out 512"}, {.name = "per request fan-out 512, by cf_next"},
                                      {.name = "per request fan-out 512, by cf_work"},
-                                     {.name = "per request fan-out 512, by cf_round"}};
+                                     {.name = "per request fan-out 512, by cf_round"},
+                                     {.name = "per request fan-out 512, by cf_sweep_next"}};
 static struct times all_of = {.name = "per request allOf 512"};
 
 static void must_hold(cf_handle *graph, uint16_t stage, uint32_t kind, int32_t number) {

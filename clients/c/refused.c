@@ -68,6 +68,7 @@ static void graph_calls(cf_handle *h, uint32_t wanted) {
   ROW(cf_next(h, 0, &out.task), wanted);
   ROW(cf_round(h, 0, &out.task, 1), wanted);
   ROW(cf_work(h, 0, NULL, 0, NULL, &out.calls), wanted);
+  ROW(cf_sweep_begin(h), wanted);
   ROW(cf_tick(h, 1, &out.reply), wanted);
   ROW(cf_attach(h, CF_APPLY, &of, 1, 0, &out.reply), wanted);
   ROW(cf_get(h, SOURCE, &out.outcome), wanted);
@@ -81,6 +82,11 @@ static void graph_calls(cf_handle *h, uint32_t wanted) {
   ROW(cf_plan_of(h, &empty), wanted);
   ROW(cf_apply(h, 1, &out.reply), wanted == CF_EMPTY || wanted == CF_NULL ? wanted : CF_WRONG_KIND);
   HOLDS(!empty.full);
+}
+
+static void sweep_calls(cf_handle *h, uint32_t wanted) {
+  ROW(cf_sweep_next(h, &out.task), wanted);
+  ROW(cf_sweep_end(h), wanted);
 }
 
 static void ledger_calls(cf_handle *h, uint32_t wanted) {
@@ -134,9 +140,9 @@ static void closed_calls(cf_handle *h, uint32_t wanted) {
 
 /* ---- One handle of each kind ---- */
 
-enum kind { BUILDER, PLAN, GRAPH, LEDGER, CALLER, CLOSING, CLOSED, KINDS };
-static void (*const calls_of[KINDS])(cf_handle *h, uint32_t wanted) = {builder_calls, plan_calls, graph_calls, ledger_calls,
-                                                                       caller_calls, closing_calls, closed_calls};
+enum kind { BUILDER, PLAN, GRAPH, SWEEP, LEDGER, CALLER, CLOSING, CLOSED, KINDS };
+static void (*const calls_of[KINDS])(cf_handle *h, uint32_t wanted) = {builder_calls, plan_calls, graph_calls, sweep_calls,
+                                                                       ledger_calls, caller_calls, closing_calls, closed_calls};
 static cf_handle held[KINDS], other_caller;
 
 static void build(cf_handle *builder) {
@@ -151,6 +157,8 @@ static void make_all(void) {
   build(&held[PLAN]);
   ROW(cf_build(&held[PLAN]), CF_OK);
   ROW(cf_graph_new(&held[PLAN], 1, &held[GRAPH]), CF_OK);
+  ROW(cf_graph_new(&held[PLAN], 1, &held[SWEEP]), CF_OK);
+  ROW(cf_sweep_begin(&held[SWEEP]), CF_OK);
   ROW(cf_ledger_new(&held[PLAN], 1, &held[LEDGER]), CF_OK);
   ROW(cf_desk_open_with(&held[PLAN], callers, CALLERS, &sizes), CF_OK);
   held[CALLER] = callers[0], other_caller = callers[1];
@@ -175,6 +183,7 @@ static void are_as_before(void) {
   ROW(cf_get(&held[GRAPH], SOURCE, &outcome), CF_OK);
   HOLDS(outcome.kind == CF_PENDING);
   HOLDS(cf_stages(&held[GRAPH], &number) == CF_OK && number == STAGES);
+  HOLDS(cf_sweep_end(&held[SWEEP]) == CF_NOT_OVER);
   ROW(cf_ledger_stage(&held[LEDGER], SOURCE, &stage), CF_OK);
   HOLDS(stage.kind == CF_IS_PENDING && stage.who == CF_NOBODY);
   HOLDS(cf_ledger_words(&held[LEDGER], 0, NULL, 0, &n) == CF_OK && n == 0);
@@ -233,6 +242,7 @@ static void by_pointers(void) {
   ROW(cf_round(graph, 0, NULL, 1), CF_NULL);
   ROW(cf_work(graph, 0, NULL, 1, NULL, &out.calls), CF_NULL);
   ROW(cf_work(graph, 0, NULL, 0, NULL, NULL), CF_NULL);
+  ROW(cf_sweep_next(&held[SWEEP], NULL), CF_NULL);
   ROW(cf_tick(graph, 1, NULL), CF_NULL);
   ROW(cf_attach(graph, CF_APPLY, NULL, 1, 0, &out.reply), CF_NULL);
   ROW(cf_attach(graph, CF_APPLY, &of, 1, 0, NULL), CF_NULL);
@@ -319,6 +329,7 @@ static void by_numbers(uint16_t stage) {
   ROW(cf_finish_with(graph, 0, stage, &given, &out.reply), CF_NO_STAGE);
   ROW(cf_next(graph, 0, &task), CF_NO_STAGE);
   ROW(cf_round(graph, 0, &task, 1), CF_NO_STAGE);
+  ROW(cf_sweep_next(&held[SWEEP], &task), CF_NOT_HELD);
   ROW(cf_attach(graph, CF_APPLY, &stage, 1, 0, &out.reply), CF_NO_STAGE);
   ROW(cf_get(graph, stage, &out.outcome), CF_NO_STAGE);
   ROW(cf_get_now(graph, stage, value, &out.now), CF_NO_STAGE);
@@ -383,6 +394,7 @@ static void by_other_numbers(void) {
   ROW(cf_desk_attach(caller, CF_APPLY, &of, 1, 1, &out.reply), CF_BAD_ATTACH);
   ROW(cf_next(graph, 0, &task), CF_NOT_HELD);
   ROW(cf_round(graph, 0, &task, 1), CF_NOT_HELD);
+  ROW(cf_sweep_next(&held[SWEEP], &task), CF_NOT_HELD);
   ROW(cf_desk_next(caller, &task), CF_NOT_HELD);
   ROW(cf_ledger_step(ledger, &step, &task, out.news, 2, &out.n), CF_NO_WORD);
   step.who = 0;

@@ -3,10 +3,10 @@
  * Java's CompletableFuture (Java SE 17) over numbered stages: callers complete, fail and cancel stages, claim the function of a ready
  * one and finish it with what the function answered; limits fire when a moment is handed in.
  *
- * A handle is a builder (cf_builder_new), a plan (cf_build), a graph that one thread has alone (cf_graph_new), a ledger, which is a graph
- * under one lock with the words of all that was done to it (cf_ledger_new), or one of the callers of a desk (cf_desk_open), which is a
- * graph that several threads share without a lock: each thread has a caller's handle of its own. A desk ends as a closing
- * (cf_close_begin) and a closed desk (cf_close_end). An empty handle is all bytes 0: `cf_handle h = {0};`.
+ * A handle is a builder (cf_builder_new), a plan (cf_build), a graph that one thread has alone (cf_graph_new), a sweep of one
+ * (cf_sweep_begin), a ledger, which is a graph under one lock with the words of all that was done to it (cf_ledger_new), or one of the
+ * callers of a desk (cf_desk_open), which is a graph that several threads share without a lock: each thread has a caller's handle of its
+ * own. A desk ends as a closing (cf_close_begin) and a closed desk (cf_close_end). An empty handle is all bytes 0: `cf_handle h = {0};`.
  *
  * What C owes, and nothing can check (docs/C.md has more):
  *   - a handle isn't copied and then used twice; it may be moved, by memcpy too, if the old one isn't used again;
@@ -16,7 +16,7 @@
  * A null pointer is answered CF_NULL, unless a count or a room follows it that is 0; cf_free of one does nothing.
  *
  * Each call answers a cf_code: 0 where it did what it was asked. What it tells goes through its last pointer then; after any other
- * code that is left as it was, and so is what stands behind the handle, but as cf_build, cf_next, cf_round, cf_desk_next,
+ * code that is left as it was, and so is what stands behind the handle, but as cf_build, cf_next, cf_round, cf_sweep_next, cf_desk_next,
  * cf_desk_complete_many, cf_ledger_of, cf_ledger_step and cf_ledger_apply_all say, and a desk's caller may have looked. Every call on an
  * empty handle answers CF_EMPTY, and one on a handle of another kind CF_WRONG_KIND; neither changes anything.
  *
@@ -69,6 +69,7 @@ typedef enum {
   CF_NOT_HELD = 29,           /* the caller hasn't claimed the stage that its task holds */
   CF_NO_ROOM = 30,            /* a ledger has no room for the stage that a word attaches */
   CF_LOST = 31,               /* another caller of the desk was first to claim the stage */
+  CF_NOT_OVER = 32,           /* a sweep hasn't all stages behind it yet */
   CF_NULL = 255               /* a pointer is null that may not be; nothing was done */
 } cf_code;
 
@@ -208,6 +209,17 @@ uint32_t cf_round(cf_handle *graph, uint8_t who, cf_task *tasks, size_t n);
  * stage isn't there: before any is called, and else once it was attached by a function that was called; its stage isn't claimed. */
 typedef void (*cf_stage_function)(void *context, const cf_task *task, cf_answer *answer);
 uint32_t cf_work(cf_handle *graph, uint8_t who, const cf_stage_function *functions, size_t n, void *context, uint32_t *calls);
+
+/* The loop in one sweep over all stages, which takes the least time a stage. cf_sweep_begin makes the graph behind the handle a sweep, which
+ * takes no call but the other two and cf_free, until cf_sweep_end makes it a graph again.
+ * cf_sweep_next: the stage that the task holds is settled by the answer in it, as if any caller had claimed and finished it; then the sweep
+ * goes on to the lowest ready stage, and writes it into the task, as cf_next does. CF_NOTHING where none is ready then: all stages are behind
+ * the sweep, and the task holds nothing. CF_NOT_HELD where the sweep stands at a stage and the task holds another or none, or where the sweep
+ * stands at none and the task holds one: nothing is changed then, the task neither.
+ * cf_sweep_end: CF_NOT_OVER where stages aren't behind it yet, which is so until cf_sweep_next has answered CF_NOTHING: go on, or free it. */
+uint32_t cf_sweep_begin(cf_handle *graph);
+uint32_t cf_sweep_next(cf_handle *sweep, cf_task *task);
+uint32_t cf_sweep_end(cf_handle *sweep);
 
 /* Lets it be this moment, in the unit of the plan's limits; limits fire by this alone. A graph is opened, and starts again, at 0. */
 uint32_t cf_tick(cf_handle *graph, uint32_t now, cf_reply *reply);
@@ -444,10 +456,10 @@ uint32_t cf_code_text(uint32_t code, uint8_t *text, size_t room, size_t *length)
 
 /* The version of this header. A library of a later one with the same first number has all that stands here, and as it stands here. */
 #define CF_VERSION_MAJOR 1
-#define CF_VERSION_MINOR 2
+#define CF_VERSION_MINOR 3
 #define CF_VERSION_PATCH 0
 
-/* The library's version ("1.2.0"); whether a program that was written for this version of the header runs with the library; the name of a
+/* The library's version ("1.3.0"); whether a program that was written for this version of the header runs with the library; the name of a
  * code as cf_code_text has it ("NoStage"), or null where a number is no code's; of a struct ("cf_reply") its size, and of a field of one
  * ("cf_reply.args") its offset, in bytes, or SIZE_MAX where there is none of this name or it is null. The texts are static and end in a
  * zero byte. None of these calls answers a cf_code. */

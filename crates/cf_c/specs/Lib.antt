@@ -18,6 +18,7 @@ pub mod Rounds
 pub mod Restarts
 pub mod Scripts
 pub mod Seals
+pub mod Sweeps
 pub mod Tasks
 pub mod Texts
 pub mod Values

@@ -10,11 +10,9 @@ mod closing;
 use crate::close::closed::CfRecord;
 use crate::code::Code;
 use crate::handle::CfHandle;
-use crate::handle::object::{Closing, Object};
+use crate::handle::object::{Closing, Object, take};
 use crate::handle::with_handle::{ask, code_of, give, tell};
-use cf_plan::PlanBuilder;
 use std::alloc::Global;
-use std::mem;
 
 /// Begins to close a desk with one of its callers, which becomes a closing.
 #[unsafe(no_mangle)]
@@ -204,13 +202,6 @@ fn become_graph(alloc: Global, held: &mut Object) -> Result<(), Code>
             Err(Code::WrongKind)
         }
     }
-}
-
-/// Takes what is held. An empty builder is left, which takes no memory.
-fn take(alloc: Global, held: &mut Object) -> Object
-    ensures { result ≡ held.old }
-{
-    mem::replace(held, Object::Builder(PlanBuilder::new(alloc)))
 }
 
 fn events_of(held: &mut Object) -> Result<u16, Code>

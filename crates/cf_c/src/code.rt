@@ -64,6 +64,8 @@ pub enum Code {
     NoRoom,
     /// 31: another caller was first to claim the stage.
     Lost,
+    /// 32: a sweep hasn't all stages behind it yet.
+    NotOver,
 }
 
 impl Code {
@@ -112,6 +114,7 @@ pub(crate) fn text_of(number: u32) -> Option<&'static str>
         29 => Some("NotHeld"),
         30 => Some("NoRoom"),
         31 => Some("Lost"),
+        32 => Some("NotOver"),
         255 => Some("Null"),
         _ => None,
     }

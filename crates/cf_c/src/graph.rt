@@ -9,6 +9,7 @@ ghost use Rattle.cf_c.specs.Plans.{attach_event};
 ghost use Rattle.cf_c.specs.Ledgers.{Writes};
 ghost use Rattle.cf_c.specs.Restarts.{PlanOf, RestartsWith};
 ghost use Rattle.cf_c.specs.Rounds.{Rounds};
+ghost use Rattle.cf_c.specs.Sweeps.{BeginsSweep, EndsSweep, Sweeps};
 ghost use Rattle.cf_c.specs.Tasks.{Nexts, Steps};
 ghost use Rattle.cf_c.specs.Values.{answer_of, value_of};
 
@@ -16,6 +17,7 @@ mod asking;
 mod restarting;
 mod rounds;
 mod stepping;
+mod sweeping;
 
 use crate::code::{Code, plan_code};
 use crate::handle::CfHandle;
@@ -144,6 +146,30 @@ pub extern "C" fn cf_round(alloc: Global, h: &mut CfHandle, who: u8, tasks: &mut
     ensures { Writes (Rounds who) h.old.inner.held h.new.inner.held result tasks.old tasks.new }
 {
     ask!(alloc, h, held => rounds::round(&mut held, who, tasks))
+}
+
+/// Makes a graph a sweep, which stops at each function.
+#[unsafe(no_mangle)]
+pub extern "C" fn cf_sweep_begin(alloc: Global, h: &mut CfHandle) -> u32
+    ensures { Does BeginsSweep h.old.inner.held h.new.inner.held result }
+{
+    ask!(alloc, h, held => sweeping::begin(alloc, &mut held))
+}
+
+/// Takes the answer of what a task holds, and gives it the stage at which the sweep stops then.
+#[unsafe(no_mangle)]
+pub extern "C" fn cf_sweep_next(alloc: Global, h: &mut CfHandle, task: &mut CfTask) -> u32
+    ensures { Nexts Sweeps h.old.inner.held h.new.inner.held result task.old task.new }
+{
+    ask!(alloc, h, held => sweeping::next(&mut held, task))
+}
+
+/// Makes a sweep its graph again, once all stages are behind it.
+#[unsafe(no_mangle)]
+pub extern "C" fn cf_sweep_end(alloc: Global, h: &mut CfHandle) -> u32
+    ensures { Does EndsSweep h.old.inner.held h.new.inner.held result }
+{
+    ask!(alloc, h, held => sweeping::end(alloc, &mut held))
 }
 
 /// Lets it be this moment.

@@ -3,11 +3,12 @@ ghost use Rattle.std.specs.Prelude.{◌≡◌, ◌<◌, ◌≤◌, All, length, 
 ghost use Rattle.std.specs.Arc.{arc_value};
 ghost use Rattle.cf_c.specs.Records.{CallsHaveWords, HasWord};
 
-use cf_core::Graph;
+use cf_core::{Graph, Sweep};
 use cf_desk::{Closed, Desk, Pass};
 use cf_ledger::Ledger;
 use cf_plan::{Plan, PlanBuilder};
 use std::alloc::Global;
+use std::mem;
 use std::sync::Arc;
 
 /// What stands behind a handle: which of these is asked at each call, so that a handle of another kind is refused.
@@ -19,6 +20,8 @@ pub enum Object {
     Plan(Plan),
     /// A graph that one caller has alone.
     Graph(Graph),
+    /// A graph that is lent to a sweep.
+    Sweep(Sweep),
     /// A graph with the words of all that was done to it.
     Ledger(Ledger),
     /// A caller of a graph that several share.
@@ -53,6 +56,13 @@ pub struct ClosedDesk {
     pub ghost short: { length closed.history.items < 65536 },
     pub ghost events: { All HasWord closed.history.items },
     pub ghost calls: { All CallsHaveWords closed.passes.items },
+}
+
+/// Takes what is held. An empty builder is left, which takes no memory.
+pub(crate) fn take(alloc: Global, held: &mut Object) -> Object
+    ensures { result ≡ held.old }
+{
+    mem::replace(held, Object::Builder(PlanBuilder::new(alloc)))
 }
 
 /// That a handle may go to another thread.
