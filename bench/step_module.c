@@ -4,6 +4,8 @@
  *   .start(number)    starts again, and completes the source
  *   .next(answer)     one cf_next: finishes the stage that is held, if one is, with this number, claims the next ready stage, and gives
  *                     what its function is to be called with, or None where no stage is ready
+ *   .begin(), .end()  begins and ends a sweep of it
+ *   .sweep(answer)    one cf_sweep_next, in the same way
  *   .work(function)   calls this of each stage's argument until no stage is ready, and gives how many calls that were
  *   .outcome(stage)   a stage's number, or None where it isn't settled with one */
 #define PY_SSIZE_T_CLEAN
@@ -17,6 +19,11 @@ typedef struct {
 } Chain;
 
 static PyObject *refused(uint32_t code) { return PyErr_Format(PyExc_RuntimeError, "a call of the library answered %u", (unsigned)code); }
+
+static PyObject *done(uint32_t code) {
+  if (code != CF_OK) return refused(code);
+  Py_RETURN_NONE;
+}
 
 static uint32_t open_chain(cf_handle *plan, cf_handle *graph, uint16_t stages) {
   uint32_t code = cf_builder_new(plan, stages, stages);
@@ -63,17 +70,36 @@ static PyObject *chain_start(PyObject *object, PyObject *given) {
   self->task = (cf_task){0};
   uint32_t code = cf_restart(&self->graph);
   if (code == CF_OK) code = cf_complete(&self->graph, 0, value, &reply);
-  if (code != CF_OK) return refused(code);
+  return done(code);
+}
+
+/* The argument of the stage that a step has given, or None where it has given none. */
+static PyObject *told(Chain *self, uint32_t code) {
+  if (code == CF_OK) return PyLong_FromLong(self->task.args.first.number);
+  if (code != CF_NOTHING) return refused(code);
   Py_RETURN_NONE;
 }
 
 static PyObject *chain_next(PyObject *object, PyObject *answer) {
   Chain *self = (Chain *)object;
   if (self->task.held && !put_number(answer, &self->task.answer.value)) return NULL;
-  const uint32_t code = cf_next(&self->graph, 0, &self->task);
-  if (code == CF_OK) return PyLong_FromLong(self->task.args.first.number);
-  if (code != CF_NOTHING) return refused(code);
-  Py_RETURN_NONE;
+  return told(self, cf_next(&self->graph, 0, &self->task));
+}
+
+static PyObject *chain_begin(PyObject *object, PyObject *none) {
+  (void)none;
+  return done(cf_sweep_begin(&((Chain *)object)->graph));
+}
+
+static PyObject *chain_sweep(PyObject *object, PyObject *answer) {
+  Chain *self = (Chain *)object;
+  if (self->task.held && !put_number(answer, &self->task.answer.value)) return NULL;
+  return told(self, cf_sweep_next(&self->graph, &self->task));
+}
+
+static PyObject *chain_end(PyObject *object, PyObject *none) {
+  (void)none;
+  return done(cf_sweep_end(&((Chain *)object)->graph));
 }
 
 /* Calls the function with what the task has, and puts what it gave into the task. */
@@ -108,7 +134,8 @@ static PyObject *chain_outcome(PyObject *object, PyObject *stage) {
 }
 
 static PyMethodDef methods[] = {
-    {"start", chain_start, METH_O, NULL}, {"next", chain_next, METH_O, NULL},       {"work", chain_work, METH_O, NULL},
+    {"start", chain_start, METH_O, NULL},     {"next", chain_next, METH_O, NULL},   {"work", chain_work, METH_O, NULL},
+    {"begin", chain_begin, METH_NOARGS, NULL}, {"sweep", chain_sweep, METH_O, NULL}, {"end", chain_end, METH_NOARGS, NULL},
     {"outcome", chain_outcome, METH_O, NULL}, {NULL, NULL, 0, NULL},
 };
 static PyType_Slot slots[] = {

@@ -1,25 +1,27 @@
-"""A chain of 512 stages started again and settled over the library for C, from Python: bench/c runs it.
+"""A chain of 512 stages settled over the library for C, from Python: bench/c runs it.
 
     steps.py LIBRARY [MODULE]
 
 LIBRARY is the path of libcf.so, and MODULE that of bench/step_module.c as it was built, if it was. A line for each way, as bench/steps.c
 prints them; all ways take their rounds in turn:
 
-    step ctypes, three calls   cf_lowest_ready, cf_claim and cf_finish_with for each stage
-    step ctypes, by cf_next    one cf_next for each stage
-    step module, by next       the same by the module's next
-    step module, by work       the module calls the function of each stage, written in Python
+    step ctypes, three calls    cf_lowest_ready, cf_claim and cf_finish_with for each stage
+    step ctypes, by ..          one cf_next, cf_sweep_next, cf_round with 16 tasks, cf_ledger_step or cf_desk_next for each stage
+    step module, by ..          one cf_next or cf_sweep_next by a call of the module
+    step module, by work        the module calls the function of each stage, written in Python
+
+A graph and a ledger are started again; a desk is opened anew, which isn't counted.
 """
 import ctypes as c
 import sys
 import time
 from importlib.util import module_from_spec, spec_from_file_location
 
-STAGES, ROUNDS = 512, 2000
+STAGES, ROUNDS, TASKS, LOG = 512, 1500, 16, 3 * 512
 SOURCE, APPLY, NO_FUNCTION = 0, 3, 0xFFFFFFFF
-# At which word of 32 bits the numbers stand in a cf_task, a cf_reply, a cf_answer and a cf_outcome.
-TASK_FIRST, TASK_KIND, TASK_VALUE = 4, 14, 15
-REPLY_FIRST, ANSWER_KIND, ANSWER_VALUE, OUTCOME_VALUE = 4, 2, 3, 4
+# At which word of 32 bits the numbers stand in a cf_task, a cf_reply, a cf_answer and a cf_event.
+TASK, TASK_STAGE, TASK_FIRST, TASK_KIND, TASK_VALUE = 18, 1, 4, 14, 15
+REPLY_FIRST, ANSWER_KIND, ANSWER_VALUE, EVENT_VALUE = 4, 2, 3, 2
 
 
 def words(n):
@@ -33,7 +35,7 @@ class ByCtypes:
 
     def __init__(self, path):
         self.calls = c.CDLL(path)
-        self.plan, self.graph = (c.c_uint64 * 2)(), (c.c_uint64 * 2)()
+        self.plan, self.graph, self.ledger, self.caller = ((c.c_uint64 * 2)() for _ in range(4))
         self.at = c.byref(self.graph)
         number, plan = c.c_uint16(), c.byref(self.plan)
         must(self.calls.cf_builder_new(plan, STAGES, STAGES))
@@ -44,6 +46,11 @@ class ByCtypes:
         must(self.calls.cf_graph_new(plan, 0, self.at))
         self.one = c.c_uint64(1 << 32 | 1)  # a cf_value has 8 bytes, which C hands over as one number of 64 bits
         self.stage = c.c_uint16()
+        must(self.calls.cf_ledger_new(plan, 0, c.byref(self.ledger)))
+        event, event_at = words(15)
+        event[EVENT_VALUE], event[EVENT_VALUE + 1] = 1, 1
+        self.first = c.c_uint64()
+        must(self.calls.cf_word_of_event(event_at, c.byref(self.first)))
 
     def start(self):
         must(self.calls.cf_restart(self.at))
@@ -61,19 +68,66 @@ class ByCtypes:
             must(claim(graph, 0, number, reply_at))
             answer[ANSWER_VALUE] = reply[REPLY_FIRST] + 1
             must(finish(graph, 0, number, answer_at, reply_at))
+        return answer[ANSWER_VALUE]
 
     def by_next(self):
         self.start()
         graph, following = self.at, self.calls.cf_next
-        task, task_at = words(18)
+        task, task_at = words(TASK)
         task[TASK_KIND] = 1
         while following(graph, 0, task_at) == 0:
             task[TASK_VALUE] = task[TASK_FIRST] + 1
+        return task[TASK_VALUE]
 
-    def last(self):
-        outcome, outcome_at = words(5)
-        must(self.calls.cf_get(self.at, STAGES - 1, outcome_at))
-        return outcome[OUTCOME_VALUE]
+    def by_sweep(self):
+        self.start()
+        graph, following = self.at, self.calls.cf_sweep_next
+        must(self.calls.cf_sweep_begin(graph))
+        task, task_at = words(TASK)
+        task[TASK_KIND] = 1
+        while following(graph, task_at) == 0:
+            task[TASK_VALUE] = task[TASK_FIRST] + 1
+        must(self.calls.cf_sweep_end(graph))
+        return task[TASK_VALUE]
+
+    def by_round(self):
+        self.start()
+        graph, following, count = self.at, self.calls.cf_round, c.c_size_t(TASKS)
+        tasks, tasks_at = words(TASKS * TASK)
+        last = 0
+        while following(graph, 0, tasks_at, count) == 0:
+            for of in range(0, TASKS * TASK, TASK):
+                if not tasks[of]:
+                    break
+                tasks[of + TASK_KIND], tasks[of + TASK_VALUE] = 1, tasks[of + TASK_FIRST] + 1
+                last = tasks[of + TASK_VALUE]
+        return last
+
+    def by_ledger_step(self):
+        ledger, following = c.byref(self.ledger), self.calls.cf_ledger_step
+        must(self.calls.cf_ledger_restart(ledger))
+        (task, task_at), (step, step_at), news_at, room, count = words(TASK), words(8), words(36)[1], c.c_size_t(4), c.byref(c.c_size_t())
+        must(self.calls.cf_ledger_apply(ledger, self.first, words(12)[1], news_at, room, count))
+        task[TASK_KIND] = 1
+        while following(ledger, step_at, task_at, news_at, room, count) == 0:
+            step[0] = (task[TASK_STAGE] & 0xFFFF) << 16  # (`from`, behind `who`, which is 0)
+            task[TASK_VALUE] = task[TASK_FIRST] + 1
+        return task[TASK_VALUE]
+
+    def open(self):
+        must(self.calls.cf_desk_open(c.byref(self.plan), c.byref(self.caller), c.c_size_t(1), LOG, LOG))
+
+    def by_desk_next(self):
+        caller, following = c.byref(self.caller), self.calls.cf_desk_next
+        task, task_at = words(TASK)
+        must(self.calls.cf_desk_complete(caller, 0, self.one, words(12)[1]))
+        task[TASK_KIND] = 1
+        while following(caller, task_at) == 0:
+            task[TASK_VALUE] = task[TASK_FIRST] + 1
+        return task[TASK_VALUE]
+
+    def free(self):
+        self.calls.cf_free(c.byref(self.caller))
 
 
 class ByModule:
@@ -91,13 +145,22 @@ class ByModule:
         number = following(0)
         while number is not None:
             number = following(number + 1)
+        return self.chain.outcome(STAGES - 1)
+
+    def by_sweep(self):
+        self.chain.start(1)
+        self.chain.begin()
+        following = self.chain.sweep
+        number = following(0)
+        while number is not None:
+            number = following(number + 1)
+        self.chain.end()
+        return self.chain.outcome(STAGES - 1)
 
     def by_work(self):
         self.chain.start(1)
         if self.chain.work(one_more) != STAGES - 1:
             raise SystemExit("steps.py: a function wasn't called")
-
-    def last(self):
         return self.chain.outcome(STAGES - 1)
 
 
@@ -110,25 +173,29 @@ def must(code):
         raise SystemExit(f"steps.py: a call answered {code}")
 
 
-def took(way, last):
+def took(way):
     since = time.perf_counter_ns()
-    way()
+    last = way()
     nanos = time.perf_counter_ns() - since
-    if last() != STAGES:
+    if last != STAGES:
         raise SystemExit("steps.py: the last stage holds something else")
     return nanos
 
 
 def main(library, *module):
     chain = ByCtypes(library)
-    ways = {"ctypes, three calls": (chain.by_three, chain.last), "ctypes, by cf_next": (chain.by_next, chain.last)}
+    ways = {"ctypes, three calls": chain.by_three, "ctypes, by cf_next": chain.by_next, "ctypes, by cf_sweep_next": chain.by_sweep,
+            "ctypes, by cf_round": chain.by_round, "ctypes, by cf_ledger_step": chain.by_ledger_step,
+            "ctypes, by cf_desk_next": chain.by_desk_next}
     for path in module:
         built = ByModule(path)
-        ways.update({"module, by next": (built.by_next, built.last), "module, by work": (built.by_work, built.last)})
+        ways.update({"module, by cf_next": built.by_next, "module, by cf_sweep_next": built.by_sweep, "module, by work": built.by_work})
     found = {name: [] for name in ways}
     for _ in range(ROUNDS):
         for name, way in ways.items():
-            found[name].append(took(*way))
+            chain.open()
+            found[name].append(took(way))
+            chain.free()
     for name, nanos in found.items():
         nanos.sort()
         best, median = (it * 1000 // STAGES for it in (nanos[0], nanos[ROUNDS // 2]))
