@@ -4,6 +4,7 @@
 //! there were.
 //!
 //! - `fan-out library, lowest ready`: each thread asks the desk for the lowest ready stage, claims it, and finishes it where it got it.
+//! - `fan-out library, by cf_desk_next`: the same in one call a stage.
 //! - `fan-out library, own parts`: each thread claims and finishes each eighth stage.
 //! - `fan-out std, queue`: the functions stand in a queue behind a `Mutex` and a `Condvar`.
 //! - `fan-out std, channel`: the functions come by a channel, whose receiver stands behind a `Mutex`, and the answers go by another.
@@ -88,6 +89,19 @@ mod cf {
         pub stage: u16,
     }
 
+    #[repr(C)]
+    #[derive(Clone, Copy, Default)]
+    pub struct Task {
+        pub held: u32,
+        pub stage: u16,
+        pub function: u16,
+        pub args: Args,
+        pub answer: Answer,
+        pub finished: u32,
+    }
+
+    pub const NOTHING: u32 = 17;
+    pub const LOST: u32 = 31;
     pub const NO_FUNCTION: u32 = u32::MAX;
     pub const SOURCE: u32 = 0;
     pub const APPLY: u32 = 3;
@@ -102,6 +116,7 @@ mod cf {
         pub fn cf_desk_complete(caller: *mut Handle, stage: u16, value: Value, reply: *mut Reply) -> u32;
         pub fn cf_desk_claim(caller: *mut Handle, stage: u16, reply: *mut Reply) -> u32;
         pub fn cf_desk_finish_with(caller: *mut Handle, stage: u16, answer: *const Answer, reply: *mut Reply) -> u32;
+        pub fn cf_desk_next(caller: *mut Handle, task: *mut Task) -> u32;
         pub fn cf_desk_read(caller: *mut Handle, stage: u16, outcome: *mut Outcome) -> u32;
         pub fn cf_desk_ready(caller: *mut Handle, stage: *mut u16) -> u32;
         pub fn cf_desk_seen(caller: *mut Handle, events: *mut u16) -> u32;
@@ -181,6 +196,7 @@ fn answer(args: &cf::Args) -> cf::Answer {
 #[derive(Clone, Copy)]
 enum Way {
     LowestReady,
+    Next,
     OwnParts,
 }
 
@@ -224,6 +240,19 @@ impl Caller {
     fn run_ready(&mut self) {
         while let Some(stage) = self.ready() {
             self.run(stage);
+        }
+    }
+
+    /// The same in one call a stage. Where another thread was first, it asks again.
+    fn run_next(&mut self) {
+        let mut task = cf::Task::default();
+        loop {
+            match unsafe { cf::cf_desk_next(&mut self.0, &mut task) } {
+                0 => task.answer = answer(&task.args),
+                cf::LOST => {}
+                cf::NOTHING => return,
+                code => must(code),
+            }
         }
     }
 
@@ -279,6 +308,7 @@ fn over_library(plan: &mut Caller, way: Way) -> Duration {
             caller.begin(k == 0);
             match way {
                 Way::LowestReady => caller.run_ready(),
+                Way::Next => caller.run_next(),
                 Way::OwnParts => (1 + k..=PARTS).step_by(THREADS).for_each(|stage| caller.run(stage as u16)),
             }
         }
@@ -400,6 +430,7 @@ fn by_parts() -> Duration {
 fn main() {
     let mut plan = plan();
     show("fan-out library, lowest ready", || over_library(&mut plan, Way::LowestReady));
+    show("fan-out library, by cf_desk_next", || over_library(&mut plan, Way::Next));
     show("fan-out library, own parts", || over_library(&mut plan, Way::OwnParts));
     show("fan-out std, queue", by_queue);
     show("fan-out std, channel", by_channel);
