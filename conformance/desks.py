@@ -62,6 +62,18 @@ class Noted:
     def function(self, stage):
         return self.caller.function(stage)
 
+    def next(self, task=None, answer=None):
+        """A step by these calls, so that each is noted."""
+        if task is not None:
+            self.finish(task.stage, answer)
+        while True:
+            stage = self.ready()
+            if stage is None:
+                return None
+            told = self.claim(stage)
+            if told.args is not None:
+                return cf.Task(stage, self.function(stage), told.args)
+
     def work(self, functions, most=None):
         """The module's work, by these calls."""
         first = len(self.lines)

@@ -12,11 +12,11 @@ from .closed import Closed, Did, Record, Saw, SawNow
 from .desk import Caller, Desk, InUse, SharedFuture
 from .events import Event, event_of, word_of
 from .graph import Future, Graph
-from .ledger import Applied, Ledger, Misfit, Stage, StageKind, Stepped, Task
+from .ledger import Applied, Ledger, Stage, StageKind, Stepped
 from .plan import Plan
 from .texts import BadScript, code_text, outcome_text, run_script
-from .values import (BadAnswer, Cancelled, ClaimReply, ClaimStatus, Code, Fault, FinishReply, Form, Link, Now, NowKind, Outcome, Refused,
-                     Thrown, TimedOut)
+from .values import (BadAnswer, Cancelled, ClaimReply, ClaimStatus, Code, Fault, FinishReply, Form, Link, Misfit, Now, NowKind, Outcome,
+                     Refused, Task, Thrown, TimedOut)
 from .workers import Workers
 
 __all__ = ["Applied", "BadAnswer", "BadScript", "Caller", "Cancelled", "ClaimReply", "ClaimStatus", "Closed", "Code", "Desk", "Did", "Event",

@@ -6,7 +6,7 @@ from types import SimpleNamespace
 from typing import Any, Callable, Dict, List, Sequence
 
 NO_FUNCTION = 0xFFFFFFFF
-VERSION = (1, 1)  # of the library that this module is written for
+VERSION = (1, 2)  # of the library that this module is written for
 
 
 class CHandle(c.Structure):
@@ -61,6 +61,10 @@ class CTask(c.Structure):
                 ("finished", c.c_uint32)]
 
 
+class CGiven(c.Structure):
+    _fields_ = [("stage", c.c_uint16), ("value", CValue)]
+
+
 class CStep(c.Structure):
     _fields_ = [("who", c.c_uint8), ("first", c.c_uint16), ("place", c.c_size_t), ("finish", c.c_uint64), ("claim", c.c_uint64)]
 
@@ -112,6 +116,9 @@ CALLS: Dict[str, List[Any]] = {
     "cf_stages": [_H, _U16_OUT],
     "cf_turns": [_H, _U64_OUT],
     "cf_restart": [_H],
+    "cf_restart_with": [_H, c.POINTER(CGiven), _SIZE],
+    "cf_plan_of": [_H, _H],
+    "cf_next": [_H, _U8, c.POINTER(CTask)],
     "cf_desk_open": [_H, _H, _SIZE, _U16, _U16],
     "cf_desk_open_with": [_H, _H, _SIZE, c.POINTER(CDeskSizes)],
     "cf_desk_complete": [_H, _U16, CValue, _R],
@@ -120,6 +127,8 @@ CALLS: Dict[str, List[Any]] = {
     "cf_desk_claim": [_H, _U16, _R],
     "cf_desk_finish_with": [_H, _U16, _ANSWER, _R],
     "cf_desk_tick": [_H, _U32, _R],
+    "cf_desk_next": [_H, c.POINTER(CTask)],
+    "cf_desk_complete_many": [_H, c.POINTER(CGiven), _SIZE, _SIZE_OUT],
     "cf_desk_attach": [_H, _U32, _OF, _SIZE, _U32, _R],
     "cf_desk_read": [_H, _U16, _OUTCOME],
     "cf_desk_read_now": [_H, _U16, CValue, _NOW],
@@ -178,7 +187,7 @@ def _checked(call: Callable[..., int], arguments: List[Any]) -> Callable[..., in
 # The structures by their names in C.
 STRUCTURES = {"cf_handle": CHandle, "cf_value": CValue, "cf_answer": CAnswer, "cf_outcome": COutcome, "cf_args": CArgs, "cf_now": CNow,
               "cf_reply": CReply, "cf_record": CRecord, "cf_desk_sizes": CDeskSizes, "cf_stage": CStage, "cf_news": CNews,
-              "cf_event": CEvent, "cf_task": CTask, "cf_step": CStep}
+              "cf_event": CEvent, "cf_task": CTask, "cf_step": CStep, "cf_given": CGiven}
 
 
 def fit(loaded: c.CDLL, path: str) -> None:

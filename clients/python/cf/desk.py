@@ -8,7 +8,7 @@ from .closed import Closed
 from .graph import there, value_of
 from .handle import Calls, Handle
 from .plan import Plan
-from .values import Cancelled, Code, Fault, Now, NowKind, Outcome, Refused, Value, check, now_out, outcome_out, value_in
+from .values import Cancelled, Code, Fault, Misfit, Now, NowKind, Outcome, Refused, Value, given_in, now_out, outcome_out, value_in
 
 
 class InUse(RuntimeError):
@@ -47,6 +47,17 @@ class Caller(Calls):
 
     def __exit__(self, *_cause: object) -> None:
         self._lock.__exit__(None, None, None)
+
+    def complete_all(self, given: Iterable[Tuple[int, Value]]) -> None:
+        """Completes stages with their values, one after another, in one call. The first that is refused raises `Misfit` with NO_STAGE,
+        PASS_FULL or LOG_FULL."""
+        row, done = given_in(given), c.c_size_t()
+        try:
+            self._call("cf_desk_complete_many", row, len(row), c.byref(done))
+        except Refused as refused:
+            if refused.code in (Code.NO_STAGE, Code.PASS_FULL, Code.LOG_FULL):
+                raise Misfit(refused.code, done.value) from None
+            raise
 
     def read(self, stage: int) -> Optional[Outcome]:
         """What a stage is settled with, if it is, after a look at all that is there."""

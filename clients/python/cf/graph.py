@@ -1,13 +1,13 @@
 """The graph of a plan, and views of its stages."""
 import ctypes as c
 from concurrent.futures import InvalidStateError
-from typing import Optional, Tuple
+from typing import Iterable, Optional, Tuple
 
 from ._library import CHandle, CNow, COutcome, CReply
 from .events import reply_of
 from .handle import Calls
 from .plan import Plan
-from .values import Cancelled, Fault, Now, Outcome, Reply, Value, now_out, outcome_out, value_in
+from .values import Cancelled, Fault, Now, Outcome, Reply, Value, given_in, now_out, outcome_out, value_in
 
 
 class Graph(Calls):
@@ -53,9 +53,17 @@ class Graph(Calls):
         """Does the event of a word, and gives its reply."""
         return reply_of(word, self._tell("cf_apply", CReply(), word))
 
-    def restart(self) -> None:
-        """Starts again, as the graph was opened."""
-        self._call("cf_restart")
+    def restart(self, given: Iterable[Tuple[int, Value]] = ()) -> None:
+        """Starts again, as the graph was opened, and then completes these stages with their values: a request by a plan that is there.
+        `Refused` has NO_STAGE where one isn't a stage of the plan: nothing is done then."""
+        row = given_in(given)
+        self._call("cf_restart_with", row, len(row))
+
+    def plan(self) -> Plan:
+        """The plan that the graph was opened of. They share its memory."""
+        handle = CHandle()
+        self._call("cf_plan_of", c.byref(handle))
+        return Plan._of(handle)
 
     def _by(self) -> Tuple[int, ...]:
         return (self.who,)

@@ -4,8 +4,8 @@ import threading
 from typing import TYPE_CHECKING, Any, Callable, ContextManager, Optional, Tuple, TypeVar, Union, cast
 
 from ._library import NO_FUNCTION, CHandle, CReply, in_range, library, numbers
-from .values import (Answer, Args, ClaimReply, Code, FinishReply, Form, Link, Refused, Thrown, Value, answer_in, check, claim_out,
-                     finish_out, flag_out, number_out, value_in)
+from .values import (Answer, Args, ClaimReply, Code, FinishReply, Form, Link, Refused, Task, Thrown, Value, answer_in, check, claim_out,
+                     finish_out, flag_out, number_out, task_in, task_out, value_in)
 
 # The function of a stage. One that raises `Thrown(code)` throws the code.
 Function = Callable[..., Union[Value, Link]]
@@ -121,22 +121,33 @@ class Calls(Handle):
         """The number of a stage's function, if it has one."""
         return self._tell_number(self._prefix + "function", stage)
 
+    def next(self, task: Optional[Task] = None, answer: Answer = None) -> Optional[Task]:
+        """One step of a caller's loop in one call: finishes the stage of a task, if there is one, with what its function answered, and
+        claims the lowest ready stage: None where none is. `Refused` has NO_STAGE or NOT_HELD where the task's stage isn't there, or this
+        caller has no open claim of it: nothing is changed then. By PASS_FULL and LOG_FULL, of a caller of a desk, the stage may be
+        finished."""
+        told = task_in(task, answer)
+        with self._lock:
+            code: int = Code.LOST
+            while code == Code.LOST:  # the task is finished, and another caller was first
+                code = getattr(library, self._prefix + "next")(self._at, *self._by(), c.byref(told))
+        if code != Code.NOTHING:
+            check(code)
+        return task_out(told)
+
     def work(self, functions: "Functions", most: Optional[int] = None) -> int:
         """Claims ready stages, the lowest first, calls their functions, which stand at their numbers, and finishes them, until none
-        is ready, or so many were called: how many. A function that raises anything but `Thrown` ends it, and its stage stays
-        claimed."""
-        calls = 0
+        is ready, or so many were called: how many. A function that raises anything but `Thrown`, or isn't there, ends it, and its
+        stage stays claimed."""
+        calls, task, answer = 0, None, None
         while most is None or calls < most:
-            stage = self.ready()
-            if stage is None:
-                break
-            number = self.function(stage)
-            assert number is not None  # a stage without one is never ready
-            function = functions[number]
-            told = self.claim(stage)
-            if told.args is not None:
-                self.finish(stage, answer_of(function, told.args))
-                calls += 1
+            task = self.next(task, answer)
+            if task is None:
+                return calls
+            answer = answer_of(functions[task.function], task.args)
+            calls += 1
+        if task is not None:
+            self.finish(task.stage, answer)
         return calls
 
     def _by(self) -> Tuple[int, ...]:

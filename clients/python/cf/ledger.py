@@ -3,11 +3,11 @@ import ctypes as c
 import enum
 from typing import List, NamedTuple, Optional, Sequence
 
-from ._library import CNews, CReply, CStage, CStep, CTask, in_range, library
+from ._library import CNews, CReply, CStage, CStep, in_range, library
 from .events import Event, reply_of, word_of
 from .handle import Handle
 from .plan import Plan
-from .values import Answer, Args, Code, FinishReply, Outcome, Refused, Reply, answer_in, args_out, check, outcome_out
+from .values import Answer, Code, FinishReply, Misfit, Outcome, Refused, Reply, Task, check, outcome_out, task_in, task_out
 
 _NOBODY = 0xFFFFFFFF
 _MISFITS = (Code.NO_WORD, Code.NO_STAGE, Code.BAD_ATTACH, Code.NO_ROOM)
@@ -36,14 +36,6 @@ class Applied(NamedTuple):
     news: List[Stage]
 
 
-class Task(NamedTuple):
-    """A stage that a caller has claimed: the number of its function, and what that is to be called with."""
-
-    stage: int
-    function: int
-    args: Args
-
-
 class Stepped(NamedTuple):
     """What a step did: the place of its first word, the words of the finish and of the claim, where there are such, what the finish was
     answered, the stages that it changed, rising, as they are now, and what was claimed."""
@@ -54,14 +46,6 @@ class Stepped(NamedTuple):
     finished: FinishReply
     news: List[Stage]
     task: Optional[Task]
-
-
-class Misfit(Refused):
-    """A word that can't be done, at its place among those that were given."""
-
-    def __init__(self, code: int, place: int) -> None:
-        super().__init__(code)
-        self.place: int = place
 
 
 class Ledger(Handle):
@@ -99,18 +83,15 @@ class Ledger(Handle):
         ready stage from a number on, if there is one. Both are words that are written. `Refused` has NOT_HELD where this caller has no
         open claim of the task's stage, NO_STAGE where that isn't there, and NO_WORD where the caller isn't below 64."""
         step = CStep(who=in_range(who, 0xFF), first=in_range(first, 0xFFFF))
-        told = CTask(answer=answer_in(answer))
-        if task is not None:
-            told.held, told.stage = 1, in_range(task.stage, 0xFFFF)
+        told = task_in(task, answer)
         with self._lock:
             room = self.stages()
             news, count = (CNews * room)(), c.c_size_t()
             code = library.cf_ledger_step(self._at, c.byref(step), c.byref(told), news, room, c.byref(count))
             if code != Code.NOTHING:
                 check(code)
-        claimed = Task(told.stage, told.function, args_out(told.args)) if told.held else None
         return Stepped(step.place, step.finish or None, step.claim or None, FinishReply(told.finished),
-                       [_stage_out(it.stage, it.now) for it in news[:count.value]], claimed)
+                       [_stage_out(it.stage, it.now) for it in news[:count.value]], task_out(told))
 
     def apply_all(self, words: Sequence[int]) -> None:
         """Does words one after another in one call. The first that can't be done raises `Misfit` with its place among them; those

@@ -2,7 +2,7 @@
 import ctypes as c
 from typing import TYPE_CHECKING, Optional
 
-from ._library import numbers
+from ._library import CHandle, numbers
 from .handle import Handle, function_in
 from .values import Form, Value, value_in
 
@@ -17,6 +17,14 @@ class Plan(Handle):
         super().__init__()
         self._built = False
         self._call("cf_builder_new", 0, 0)
+
+    @classmethod
+    def _of(cls, handle: CHandle) -> "Plan":
+        """A plan that stands behind a handle."""
+        plan = cls.__new__(cls)
+        Handle.__init__(plan, handle)
+        plan._built = True
+        return plan
 
     def stage(self, form: Form, *of: int, function: Optional[int] = None) -> int:
         """Adds a stage to these sources, and tells its number."""

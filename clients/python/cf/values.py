@@ -2,9 +2,9 @@
 import enum
 from concurrent.futures import CancelledError
 from dataclasses import dataclass
-from typing import NamedTuple, Optional, Tuple, Union
+from typing import Any, Iterable, NamedTuple, Optional, Tuple, Union
 
-from ._library import CAnswer, CArgs, CNow, COutcome, CReply, CValue, in_range
+from ._library import CAnswer, CArgs, CGiven, CNow, COutcome, CReply, CTask, CValue, in_range
 
 Value = Optional[int]
 
@@ -25,6 +25,7 @@ class Code(enum.IntEnum):
     STILL_SHARED = 28
     NOT_HELD = 29
     NO_ROOM = 30
+    LOST = 31
     NULL = 255
 
 
@@ -34,6 +35,14 @@ class Refused(Exception):
     def __init__(self, code: int) -> None:
         self.code: Code = Code(code)
         super().__init__(self.code.name.lower().replace("_", " "))
+
+
+class Misfit(Refused):
+    """One of a row that can't be done, at its place in the row. Those before it are done."""
+
+    def __init__(self, code: int, place: int) -> None:
+        super().__init__(code)
+        self.place: int = place
 
 
 class Fault(Exception):
@@ -125,6 +134,14 @@ class ClaimReply(NamedTuple):
     args: Optional[Args]
 
 
+class Task(NamedTuple):
+    """A stage that a caller has claimed: the number of its function, and what that is to be called with."""
+
+    stage: int
+    function: int
+    args: Args
+
+
 class FinishReply(enum.Enum):
     """What a finish is answered: it settled or linked its stage, that had been settled before, or the caller hasn't claimed it."""
 
@@ -159,6 +176,25 @@ def answer_in(answer: Answer) -> CAnswer:
 
 def answer_out(answer: CAnswer) -> Answer:
     return value_out(answer.value) if answer.kind == 0 else Thrown(answer.code) if answer.kind == 1 else Link(answer.stage)
+
+
+def given_in(given: Iterable[Tuple[int, Value]]) -> Any:
+    """Stages with their values, as a row."""
+    row = [CGiven(in_range(stage, 0xFFFF), value_in(value)) for stage, value in given]
+    return (CGiven * len(row))(*row)
+
+
+def task_in(task: Optional[Task], answer: Answer) -> CTask:
+    """What a step is given: the task that is to be finished, if there is one, with what its function answered."""
+    told = CTask(answer=answer_in(answer))
+    if task is not None:
+        told.held, told.stage = 1, in_range(task.stage, 0xFFFF)
+    return told
+
+
+def task_out(told: CTask) -> Optional[Task]:
+    """What a step claimed, if it did."""
+    return Task(told.stage, told.function, args_out(told.args)) if told.held else None
 
 
 FAULTS = {3: Cancelled, 4: TimedOut, 5: BadAnswer}

@@ -350,7 +350,8 @@ class Grouped(Store):
         self._waiting: List[Tuple[Put, "_Slot"]] = []
         self._change = threading.Condition()
         self._is_closed = False
-        self.commits = self.puts = 0
+        self.commits: int = 0
+        self.puts: int = 0
         self._thread = threading.Thread(target=self._run, name="cf-writer", daemon=True)
         self._thread.start()
 
