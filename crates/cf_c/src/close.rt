@@ -192,15 +192,18 @@ fn end_closing(closing: Closing) -> (Object, Result<(), Code>)
 fn become_graph(alloc: Global, held: &mut Object) -> Result<(), Code>
     ensures { BecomesGraph held.old result held.new }
 {
-    match take(alloc, held) {
-        Object::Closed(closed) => {
-            *held = Object::Graph(closed.into_graph());
-            Ok(())
-        }
-        other => {
-            *held = other;
-            Err(Code::WrongKind)
-        }
+    let (now, done) = as_graph(take(alloc, held));
+    *held = now;
+    done
+}
+
+/// What stands behind a handle whose closed desk is to be its graph.
+fn as_graph(held: Object) -> (Object, Result<(), Code>)
+    ensures { BecomesGraph held result.1 result.0 }
+{
+    match held {
+        Object::Closed(closed) => (Object::Graph(closed.into_graph()), Ok(())),
+        other => (other, Err(Code::WrongKind)),
     }
 }
 

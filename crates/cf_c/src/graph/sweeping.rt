@@ -14,15 +14,18 @@ use std::alloc::Global;
 pub(crate) fn begin(alloc: Global, held: &mut Object) -> Result<(), Code>
     ensures { BeginsSweep held.old result held.new }
 {
-    match take(alloc, held) {
-        Object::Graph(graph) => {
-            *held = Object::Sweep(Sweep::begin(graph));
-            Ok(())
-        }
-        other => {
-            *held = other;
-            Err(Code::WrongKind)
-        }
+    let (now, done) = begun(take(alloc, held));
+    *held = now;
+    done
+}
+
+/// What stands behind a handle whose graph is to be lent to a sweep.
+fn begun(held: Object) -> (Object, Result<(), Code>)
+    ensures { BeginsSweep held result.1 result.0 }
+{
+    match held {
+        Object::Graph(graph) => (Object::Sweep(Sweep::begin(graph)), Ok(())),
+        other => (other, Err(Code::WrongKind)),
     }
 }
 
