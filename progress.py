@@ -17,7 +17,7 @@ from crates import TOP, own
 
 OTHER = 150
 PROOFS = {
-    "cf_c": 831, "cf_core": 280, "cf_desk": 204, "cf_pool": 253, "cf_script": 175, "cf_reading": 247, "cf_plan": 217, "cf_bench": 615,
+    "cf_c": 150, "cf_handles": 700, "cf_core": 280, "cf_desk": 204, "cf_pool": 253, "cf_script": 175, "cf_reading": 247, "cf_plan": 217, "cf_bench": 615,
     "cf_stress": 534, "cf_refused": 419, "cf_event": 62, "cf_outcome": 85, "cf_explain": 376, "cf_plain": 122, "cf_look": 393,
     "cf_history": 110, "cf_example": 114, "cf": 126, "cf_command": 78, "cf_picture": 221, "cf_bits": 28, "cf_expr": 20, "cf_model": 57,
     "cf_page": 240,

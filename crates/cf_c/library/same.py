@@ -17,6 +17,7 @@ from nulls import proved  # noqa: E402
 HERE = Path(__file__).resolve().parent
 CRATES = HERE.parents[1]
 HEADER = HERE.parent / "include/cf.h"
+OF_C = ["cf_c", "cf_handles"]  # the calls, and what they take and give
 NUMBERS = {"u8": "uint8_t", "u16": "uint16_t", "u32": "uint32_t", "u64": "uint64_t", "i32": "int32_t", "usize": "size_t", "bool": "bool"}
 SIZES = {"uint8_t": 1, "bool": 1, "uint16_t": 2, "uint32_t": 4, "int32_t": 4, "uint64_t": 8, "size_t": 8}
 MOST_WORDS, MOST_BYTES = 6, 16
@@ -80,7 +81,7 @@ def numbers_of(text, prefix):
 
 def main():
     header = re.sub(r"/\*.*?\*/", "", HEADER.read_text(encoding="utf-8"), flags=re.S)
-    sources = "\n".join(it.read_text(encoding="utf-8") for it in sorted((HERE.parent / "src").rglob("*.rt")))
+    sources = "\n".join(it.read_text(encoding="utf-8") for name in OF_C for it in sorted((CRATES / name / "src").rglob("*.rt")))
     wrong = []
 
     there = structs_of_header(header)

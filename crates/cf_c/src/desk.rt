@@ -1,28 +1,25 @@
 //! The callers of a desk, which is a graph that they share.
-ghost use Rattle.std.specs.Prelude.{◌≡◌, Ok};
+ghost use Rattle.std.specs.Prelude.{Ok};
 ghost use Rattle.cf_model.specs.declared.asks.Ask.TheVariants.{Now as AsksNow, Outcome as AsksOutcome};
 ghost use Rattle.cf_desk.specs.declared.calls.Call.TheVariants.{Complete as Completes, Fail as Fails, Cancel as Cancels, Claim as Claims, Finish as Finishes, Tick as Ticks};
-ghost use Rattle.cf_c.specs.Answers.{Does, Tells};
-ghost use Rattle.cf_c.specs.DeskTasks.{CompletesMany, StepsCaller};
-ghost use Rattle.cf_c.specs.Desks.{Acts, ByCaller, FindsReady, IsLeft, Joins, Knows, Reads, call_with, function_known, number_told, seen_told, told_now, told_outcome};
-ghost use Rattle.cf_c.specs.Ledgers.{Writes};
-ghost use Rattle.cf_c.specs.Meetings.{AreOfOne, MeetsBehind};
-ghost use Rattle.cf_c.specs.Plans.{parts_of};
-ghost use Rattle.cf_c.specs.Tasks.{Nexts};
-ghost use Rattle.cf_c.specs.Values.{answer_of, value_of};
+ghost use Rattle.cf_handles.specs.Answers.{Does, Tells};
+ghost use Rattle.cf_handles.specs.DeskTasks.{CompletesMany, StepsCaller};
+ghost use Rattle.cf_handles.specs.Desks.{Acts, ByCaller, FindsReady, IsLeft, Joins, Knows, Reads, call_with, function_known, number_told, seen_told, told_now, told_outcome};
+ghost use Rattle.cf_handles.specs.Ledgers.{Writes};
+ghost use Rattle.cf_handles.specs.Meetings.{AreOfOne, MeetsBehind};
+ghost use Rattle.cf_handles.specs.Plans.{parts_of};
+ghost use Rattle.cf_handles.specs.Tasks.{Nexts};
+ghost use Rattle.cf_handles.specs.Values.{answer_of, value_of};
 
-pub(crate) mod caller;
-mod completing;
-mod opening;
-mod stepping;
-
-use crate::code::Code;
-use crate::handle::CfHandle;
-use crate::handle::with_handle::{ask, code_of, give, tell};
-use crate::values::attaching::attach_call;
-use crate::values::task::CfTask;
-use crate::values::{CfAnswer, CfGiven, CfNow, CfOutcome, CfReply, CfValue, answer_of, value_of};
+use crate::handle::{ask, tell};
 use cf_desk::Call;
+use cf_handles::desk::{caller, completing, stepping};
+use cf_handles::handle::CfHandle;
+use cf_handles::values::attaching::attach_call;
+use cf_handles::values::task::CfTask;
+use cf_handles::values::{
+    CfAnswer, CfGiven, CfNow, CfOutcome, CfReply, CfValue, answer_of, value_of,
+};
 use std::alloc::Global;
 
 /// Completes a stage with a value.

@@ -1,35 +1,29 @@
 //! A graph that one caller has alone.
 ghost use Rattle.std.specs.Prelude.{Ok};
 ghost use Rattle.cf_model.specs.declared.events.Event.TheVariants.{Complete as Completes, Fail as Fails, Cancel as Cancels, Claim as Claims, Finish as Finishes, Tick as Ticks};
-ghost use Rattle.cf_c.specs.Answers.{Does, Tells};
-ghost use Rattle.cf_c.specs.Building.{GraphOf, Opens};
-ghost use Rattle.cf_c.specs.EventWords.{event_at};
-ghost use Rattle.cf_c.specs.Graphs.{Answers, Asked, Restarts, RestsAlways, RestsAt, RestsAtReady, function_told, now_told, outcome_told, ready_told, stages_told, turns_told};
-ghost use Rattle.cf_c.specs.Plans.{attach_event};
-ghost use Rattle.cf_c.specs.Ledgers.{Writes};
-ghost use Rattle.cf_c.specs.Restarts.{PlanOf, RestartsWith};
-ghost use Rattle.cf_c.specs.Rounds.{Rounds};
-ghost use Rattle.cf_c.specs.Sweeps.{BeginsSweep, EndsSweep, Sweeps};
-ghost use Rattle.cf_c.specs.Tasks.{Nexts, Steps};
-ghost use Rattle.cf_c.specs.Values.{answer_of, value_of};
+ghost use Rattle.cf_handles.specs.Answers.{Does, Tells};
+ghost use Rattle.cf_handles.specs.Building.{GraphOf, Opens};
+ghost use Rattle.cf_handles.specs.EventWords.{event_at};
+ghost use Rattle.cf_handles.specs.Graphs.{Answers, Asked, Restarts, RestsAlways, RestsAt, RestsAtReady, function_told, now_told, outcome_told, ready_told, stages_told, turns_told};
+ghost use Rattle.cf_handles.specs.Plans.{attach_event};
+ghost use Rattle.cf_handles.specs.Ledgers.{Writes};
+ghost use Rattle.cf_handles.specs.Restarts.{PlanOf, RestartsWith};
+ghost use Rattle.cf_handles.specs.Rounds.{Rounds};
+ghost use Rattle.cf_handles.specs.Sweeps.{BeginsSweep, EndsSweep, Sweeps};
+ghost use Rattle.cf_handles.specs.Tasks.{Nexts, Steps};
+ghost use Rattle.cf_handles.specs.Values.{answer_of, value_of};
 
-mod asking;
-mod restarting;
-mod rounds;
-mod stepping;
-mod sweeping;
-
-use crate::code::{Code, plan_code};
-use crate::handle::CfHandle;
-use crate::handle::object::Object;
-use crate::handle::with_handle::{ask, code_of, fill, give, tell};
-use crate::values::attaching::attach_event;
-use crate::values::event::event_at;
-use crate::values::task::CfTask;
-use crate::values::{CfAnswer, CfGiven, CfNow, CfOutcome, CfReply, CfValue, answer_of, value_of};
-use cf_core::Graph;
+use crate::handle::{ask, fill, tell};
+use cf_handles::code::Code;
+use cf_handles::graph::{asking, graph_of, plan_of, restarting, rounds, stepping, sweeping};
+use cf_handles::handle::CfHandle;
+use cf_handles::values::attaching::attach_event;
+use cf_handles::values::event::event_at;
+use cf_handles::values::task::CfTask;
+use cf_handles::values::{
+    CfAnswer, CfGiven, CfNow, CfOutcome, CfReply, CfValue, answer_of, value_of,
+};
 use cf_model::Event;
-use cf_plan::Plan;
 use std::alloc::Global;
 
 /// Puts the graph of the plan behind one handle behind another, which is empty.
@@ -302,38 +296,5 @@ pub extern "C" fn cf_plan_of(alloc: Global, h: &mut CfHandle, plan: &mut CfHandl
             h.put(held);
             fill(alloc, plan, made)
         }
-    }
-}
-
-/// The plan that a graph was opened of.
-fn plan_of(held: &Object) -> Result<Object, Code>
-    ensures { PlanOf held.now result }
-{
-    let Object::Graph(graph) = held else {
-        return Err(Code::WrongKind);
-    };
-    match graph.plan().copy() {
-        Ok(plan) => Ok(Object::Plan(plan)),
-        Err(_) => Err(Code::NoMemory),
-    }
-}
-
-/// The graph of a plan with so much room.
-fn graph_of(alloc: Global, held: &Object, room: u16) -> Result<Object, Code>
-    ensures { GraphOf room held.now result }
-{
-    let Object::Plan(plan) = held else {
-        return Err(Code::WrongKind);
-    };
-    if !plan.has_place(room) {
-        return Err(Code::Room);
-    }
-    let copy = match plan.copy() {
-        Ok(copy) => copy,
-        Err(fault) => return Err(plan_code(fault)),
-    };
-    match Graph::new_growing(alloc, copy, room) {
-        Ok(graph) => Ok(Object::Graph(graph)),
-        Err(_) => Err(Code::NoMemory),
     }
 }

@@ -1,66 +1,85 @@
-//! What C keeps: a pointer that it never looks at, and whether something stands behind it.
-ghost use Rattle.std.specs.Prelude.{◌≡◌, MatchOption, None, Some};
-ghost use Rattle.cf_c.specs.Seals.{is_full};
+//! How a call looks behind its handle, and what it gives C.
+ghost use Rattle.std.specs.Prelude.{◌≡◌, None};
+ghost use Rattle.cf_handles.specs.Answers.{Codes, Gives};
+ghost use Rattle.cf_handles.specs.Building.{Fills};
 
-pub(crate) mod object;
-pub(crate) mod raw_box;
-pub(crate) mod with_handle;
-
-use crate::handle::object::{Object, assert_send};
-use crate::handle::raw_box::{BoxParts, RawBox};
+use cf_handles::code::Code;
+use cf_handles::handle::CfHandle;
+use cf_handles::handle::object::Object;
 use std::alloc::Global;
-use std::mem;
 
-/// A handle. All bytes 0 is an empty one.
-#[repr(C)]
-#[derive(Drop)]
-pub struct CfHandle {
-    pub(crate) inner: RawBox,
-    full: bool,
-    ghost kept: { full ≡ is_full inner.held },
+/// Asks what stands behind a handle, and gives C the code, and where that is 0 the answer.
+macro_rules! tell {
+    ($alloc:expr, $h:expr, $out:expr, $held:ident => $ask:expr) => {
+        match $h.take($alloc) {
+            None => cf_handles::code::Code::Empty.number(),
+            Some(mut $held) => {
+                let told = $ask;
+                $h.put($held);
+                $crate::handle::give(told, $out)
+            }
+        }
+    };
 }
 
-impl CfHandle {
-    #[inline(always)]
-    fn empty(alloc: Global) -> CfHandle
-        ensures { result.inner.held ≡ None }
-    {
-        CfHandle {
-            inner: RawBox::empty(alloc),
-            full: false,
+/// The same where a code is all that C gets.
+macro_rules! ask {
+    ($alloc:expr, $h:expr, $held:ident => $ask:expr) => {
+        match $h.take($alloc) {
+            None => cf_handles::code::Code::Empty.number(),
+            Some(mut $held) => {
+                let done = $ask;
+                $h.put($held);
+                $crate::handle::code_of(done)
+            }
         }
-    }
+    };
+}
 
-    /// Takes out what stands behind it.
-    #[inline(always)]
-    pub(crate) fn take(&mut self, alloc: Global) -> Option<Box<Object>>
-        ensures was { MatchOption result (self.old.inner.held ≡ None) (λ held. self.old.inner.held ≡ Some held.value) }
-        ensures empty { self.new.inner.held ≡ None }
-    {
-        if !self.full {
-            return None;
+pub(crate) use ask;
+pub(crate) use tell;
+
+/// Gives C what it is told: the code, and where that is 0 the answer.
+#[inline(always)]
+pub(crate) fn give<X: Drop>(told: Result<X, Code>, out: &mut X) -> u32
+    ensures { Gives told result out.old out.new }
+{
+    match told {
+        Ok(answer) => {
+            *out = answer;
+            0
         }
-        let CfHandle { inner, full: _ } = mem::replace(self, CfHandle::empty(alloc));
-        Some(inner.into_parts().into_box())
+        Err(code) => code.number(),
     }
+}
 
-    /// Whether something stands behind it.
-    #[inline(always)]
-    pub(crate) fn is_full(&self) -> bool
-        ensures { result ≡ is_full self.now.inner.held }
-    {
-        self.full
+/// The code of what was done or not.
+#[inline(always)]
+pub(crate) fn code_of(done: Result<(), Code>) -> u32
+    ensures { Codes done result }
+{
+    match done {
+        Ok(()) => 0,
+        Err(code) => code.number(),
     }
+}
 
-    /// Puts something behind it. What stood there is never freed.
-    #[inline(always)]
-    pub(crate) fn put(&mut self, held: Box<Object>)
-        ensures { self.new.inner.held ≡ Some held.value }
-    {
-        *self = CfHandle {
-            inner: RawBox::of_parts(BoxParts::of(assert_send(held))),
-            full: true,
-        };
+/// Puts what was made behind a handle, if that is empty: 0, or why not.
+pub(crate) fn fill(alloc: Global, h: &mut CfHandle, made: Result<Object, Code>) -> u32
+    ensures { Fills made h.old.inner.held result h.new.inner.held }
+{
+    if h.is_full() {
+        return Code::Full.number();
+    }
+    match made {
+        Err(code) => code.number(),
+        Ok(held) => match Box::new(alloc, held) {
+            Ok(held) => {
+                h.put(held);
+                0
+            }
+            Err(_) => Code::NoMemory.number(),
+        },
     }
 }
 

@@ -1,22 +1,16 @@
 //! A graph with the words of all that was done to it.
-ghost use Rattle.std.specs.Prelude.{◌≡◌};
-ghost use Rattle.cf_c.specs.Answers.{Does, Tells};
-ghost use Rattle.cf_c.specs.Building.{Opens};
-ghost use Rattle.cf_c.specs.LedgerSteps.{StepsLedger};
-ghost use Rattle.cf_c.specs.Ledgers.{DoesRow, DoesWord, Grows, LedgerFrom, LedgerOf, OfLedger, OpensFrom, StartsAgain, TellsFunction, TellsReady, TellsStage, TellsStages, Writes, WritesNews, WritesWords, word_code};
+ghost use Rattle.cf_handles.specs.Answers.{Does, Tells};
+ghost use Rattle.cf_handles.specs.Building.{Opens};
+ghost use Rattle.cf_handles.specs.LedgerSteps.{StepsLedger};
+ghost use Rattle.cf_handles.specs.Ledgers.{DoesRow, DoesWord, Grows, LedgerFrom, LedgerOf, OfLedger, OpensFrom, StartsAgain, TellsFunction, TellsReady, TellsStage, TellsStages, Writes, WritesNews, WritesWords};
 
-mod asking;
-mod stepping;
-mod telling;
-
-use crate::code::{Code, plan_code};
-use crate::handle::CfHandle;
-use crate::handle::object::Object;
-use crate::handle::with_handle::{ask, code_of, fill, give, tell};
-use crate::values::CfReply;
-use crate::values::stage::{CfNews, CfStage};
-use crate::values::task::{CfStep, CfTask};
-use cf_ledger::{Ledger, LedgerFault};
+use crate::handle::{ask, fill, tell};
+use cf_handles::code::Code;
+use cf_handles::handle::CfHandle;
+use cf_handles::ledger::{asking, ledger_from, ledger_of, stepping, telling};
+use cf_handles::values::CfReply;
+use cf_handles::values::stage::{CfNews, CfStage};
+use cf_handles::values::task::{CfStep, CfTask};
 use std::alloc::Global;
 
 /// Puts the ledger of the plan behind one handle behind another, which is empty.
@@ -196,68 +190,4 @@ pub extern "C" fn cf_ledger_restart(alloc: Global, h: &mut CfHandle) -> u32
     ensures { Does StartsAgain h.old.inner.held h.new.inner.held result }
 {
     ask!(alloc, h, held => asking::restart(&mut held))
-}
-
-/// The ledger of a plan with so much room.
-fn ledger_of(alloc: Global, held: &Object, room: u16) -> Result<Object, Code>
-    ensures { LedgerOf room held.now result }
-{
-    let Object::Plan(plan) = held else {
-        return Err(Code::WrongKind);
-    };
-    if !plan.has_place(room) {
-        return Err(Code::Room);
-    }
-    match Ledger::new(alloc, plan, room) {
-        Ok(ledger) => Ok(Object::Ledger(ledger)),
-        Err(_) => Err(Code::NoMemory),
-    }
-}
-
-/// The ledger of a plan with so much room, and of these words.
-fn ledger_from(
-    alloc: Global,
-    held: &Object,
-    room: u16,
-    words: &[u64],
-    place: &mut usize,
-) -> Result<Object, Code>
-    ensures { LedgerFrom room words.now held.now place.old result place.new }
-{
-    let Object::Plan(plan) = held else {
-        return Err(Code::WrongKind);
-    };
-    if !plan.has_place(room) {
-        return Err(Code::Room);
-    }
-    match Ledger::of_words(alloc, plan, room, words) {
-        Ok(ledger) => Ok(Object::Ledger(ledger)),
-        Err(misfit) => match misfit.why {
-            LedgerFault::NoMemory => Err(Code::NoMemory),
-            LedgerFault::NoEvent => {
-                *place = misfit.place;
-                Err(Code::NoWord)
-            }
-            LedgerFault::NoStage => {
-                *place = misfit.place;
-                Err(Code::NoStage)
-            }
-            LedgerFault::NoRoom => {
-                *place = misfit.place;
-                Err(Code::NoRoom)
-            }
-        },
-    }
-}
-
-/// The code of the fault for which a word isn't done.
-fn word_code(fault: LedgerFault) -> Code
-    ensures { result ≡ word_code fault }
-{
-    match fault {
-        LedgerFault::NoMemory => Code::NoMemory,
-        LedgerFault::NoEvent => Code::NoWord,
-        LedgerFault::NoStage => Code::NoStage,
-        LedgerFault::NoRoom => Code::NoRoom,
-    }
 }

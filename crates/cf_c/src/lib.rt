@@ -1,27 +1,26 @@
-//! Proved completable futures for C.
+//! Proved completable futures for C: the calls that C has.
 //!
 //! A handle is a pointer that C keeps and never looks at. Each call takes out what stands behind it, asks it, and puts it
-//! back. A handle may go to another thread, and is in one call at a time.
+//! back. What it is asked, and how the answer looks to C, is `cf_handles`'s.
 //!
-//! | Module | What C has |
+//! | Module | Calls of |
 //! |---|---|
-//! | `handle` | the handle, and what may stand behind it |
+//! | `handle` | any handle |
 //! | `plan` | a plan that is being built |
 //! | `graph` | a graph that one caller has alone |
 //! | `ledger` | a graph with the words of all that was done to it |
-//! | `desk` | the callers of a graph that several share: how it is opened, and what each of them is asked |
+//! | `opening`, `desk` | the callers of a graph that several share: how it is opened, and what each of them is asked |
 //! | `close` | a desk that is being closed, and a closed one with its records |
-//! | `values` | values, replies and events |
+//! | `events` | events and their words |
 //! | `texts` | reports of scripts, outcomes and codes as texts |
-//! | `code` | what a call answers |
 #![tactic(auto)]
 
 mod close;
-mod code;
 mod desk;
+mod events;
 mod graph;
 mod handle;
 mod ledger;
+mod opening;
 mod plan;
 mod texts;
-mod values;

@@ -1,18 +1,17 @@
 //! A plan that is being built, call by call.
-ghost use Rattle.std.specs.Prelude.{◌≡◌};
-ghost use Rattle.cf_c.specs.Answers.{Does, Tells};
-ghost use Rattle.cf_c.specs.Building.{AddsLimit, AddsStage, Builds, IsNewBuilder, kind_of};
-ghost use Rattle.cf_c.specs.Plans.{form_of, function_of};
+ghost use Rattle.cf_handles.specs.Answers.{Does, Tells};
+ghost use Rattle.cf_handles.specs.Building.{AddsLimit, AddsStage, Builds, IsNewBuilder, kind_of};
+ghost use Rattle.cf_handles.specs.Plans.{form_of, function_of};
 
-use crate::code::{Code, plan_code};
-use crate::handle::CfHandle;
-use crate::handle::object::Object;
-use crate::handle::with_handle::{ask, code_of, fill, give, tell};
-use crate::values::attaching::function_of;
-use crate::values::{CfValue, value_of};
-use cf_plan::{Form, LimitKind, PlanBuilder};
+use crate::handle::{ask, fill, tell};
+use cf_handles::code::plan_code;
+use cf_handles::handle::CfHandle;
+use cf_handles::handle::object::Object;
+use cf_handles::plan::{add_limit, add_stage, build, kind_of};
+use cf_handles::values::CfValue;
+use cf_handles::values::attaching::function_of;
+use cf_plan::{Form, PlanBuilder};
 use std::alloc::Global;
-use std::mem;
 
 /// Puts an empty plan behind an empty handle, with room for so many stages and edges.
 #[unsafe(no_mangle)]
@@ -70,64 +69,4 @@ pub extern "C" fn cf_build(alloc: Global, builder: &mut CfHandle) -> u32
     ensures { Does Builds builder.old.inner.held builder.new.inner.held result }
 {
     ask!(alloc, builder, held => build(alloc, &mut held))
-}
-
-fn add_stage(
-    held: &mut Object,
-    form: Option<Form>,
-    of: &[u16],
-    function: Option<u16>,
-) -> Result<u16, Code>
-    ensures { AddsStage form of.now function held.old result held.new }
-{
-    let Object::Builder(builder) = held else {
-        return Err(Code::WrongKind);
-    };
-    let Some(form) = form else {
-        return Err(Code::NoSuchNumber);
-    };
-    match builder.stage(form, of, function) {
-        Ok(stage) => Ok(stage),
-        Err(fault) => Err(plan_code(fault)),
-    }
-}
-
-fn add_limit(held: &mut Object, stage: u16, at: u32, kind: LimitKind) -> Result<(), Code>
-    ensures { AddsLimit stage at kind held.old result held.new }
-{
-    let Object::Builder(builder) = held else {
-        return Err(Code::WrongKind);
-    };
-    match builder.limit(stage, at, kind) {
-        Ok(()) => Ok(()),
-        Err(fault) => Err(plan_code(fault)),
-    }
-}
-
-/// A time-out where the kind is 0, and else a value to give.
-fn kind_of(kind: u32, value: CfValue) -> LimitKind
-    ensures { result ≡ kind_of kind value }
-{
-    if kind == 0 {
-        LimitKind::Timeout
-    } else {
-        LimitKind::Give(value_of(value))
-    }
-}
-
-/// Makes the builder a plan. Where its memory is refused, an empty builder is left.
-fn build(alloc: Global, held: &mut Object) -> Result<(), Code>
-    ensures { Builds held.old result held.new }
-{
-    let Object::Builder(builder) = held else {
-        return Err(Code::WrongKind);
-    };
-    let builder = mem::replace(builder, PlanBuilder::new(alloc));
-    match builder.build() {
-        Ok(plan) => {
-            *held = Object::Plan(plan);
-            Ok(())
-        }
-        Err(fault) => Err(plan_code(fault)),
-    }
 }

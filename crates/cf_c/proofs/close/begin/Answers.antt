@@ -1,7 +1,0 @@
-use Rattle.std.proofs.Common.{subst}
-use Rattle.cf_c.specs.Closings.{Begins}
-use Rattle.cf_c.specs.declared.handle.object.Object.{Object}
-use Rattle.cf_c.proofs.close.begin.Goals as goal
-
-pub returns : goal.returns
-returns c = subst (λ (h : Object). Begins h c.begun-now.result.1 c.begun-now.result.0) c.take.ensures c.begun-now.ensures

@@ -1,7 +1,0 @@
-use Rattle.std.proofs.Common.{subst}
-use Rattle.cf_c.specs.Closings.{Ends}
-use Rattle.cf_c.specs.declared.handle.object.Object.{Object}
-use Rattle.cf_c.proofs.close.end.Goals as goal
-
-pub returns : goal.returns
-returns c = subst (λ (h : Object). Ends h c.ended-now.result.1 c.ended-now.result.0) c.take.ensures c.ended-now.ensures

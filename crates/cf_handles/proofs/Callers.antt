@@ -1,0 +1,17 @@
+-- A caller is asked behind its handle.
+use Rattle.std.proofs.Common.{◌≡◌, refl}
+use Rattle.std.specs.Prelude.{Result}
+use Rattle.cf_handles.specs.Desks.{ByCaller, IsSameCaller}
+use Rattle.cf_handles.specs.Meetings.{MeetsCaller, MeetsHeld}
+use Rattle.cf_handles.specs.declared.handle.object.Caller.{Caller as Caller'}
+use Rattle.cf_handles.specs.declared.code.Code.{Code}
+use Rattle.cf_handles.specs.declared.handle.object.Object.{Object}
+use Rattle.cf_handles.specs.declared.handle.object.Object.TheVariants.{Caller}
+
+pub at_caller : {X : Type 0} (Asks : Caller' → Result X Code → Caller' → Type 0) (h : Object) (c d : Caller') (r : Result X Code)
+    → h ≡ Caller c → IsSameCaller c d → Asks c r d → ByCaller Asks h r (Caller d)
+at_caller Asks h c d r is same asked = rw is (record { now = d; is = refl; same = same; asked = asked })
+
+pub are_met : (h g : Object) (c d newer other : Caller') (r : Result (Unit {0}) Code)
+    → h ≡ Caller c → g ≡ Caller d → MeetsCaller c d r newer other → MeetsHeld h g r (Caller newer) (Caller other)
+are_met h g c d newer other r is given_is meets = rw (is, given_is) (record { newer = newer; other = other; is = refl; left_is = refl; meets = meets })

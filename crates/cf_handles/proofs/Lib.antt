@@ -1,0 +1,13 @@
+mod AsBox
+pub mod Callers
+pub mod ClosedLemmas
+pub mod CodeNames
+pub mod DeskSteps
+pub mod EventsBack
+pub mod LedgerSteps
+pub mod News
+pub mod Restarts
+pub mod Rounds
+mod Runs
+pub mod Seats
+pub mod Steps

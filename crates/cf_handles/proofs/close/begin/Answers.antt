@@ -1,0 +1,7 @@
+use Rattle.std.proofs.Common.{subst}
+use Rattle.cf_handles.specs.Closings.{Begins}
+use Rattle.cf_handles.specs.declared.handle.object.Object.{Object}
+use Rattle.cf_handles.proofs.close.begin.Goals as goal
+
+pub returns : goal.returns
+returns c = subst (λ (h : Object). Begins h c.begun-now.result.1 c.begun-now.result.0) c.take.ensures c.begun-now.ensures

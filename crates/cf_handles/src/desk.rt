@@ -1,0 +1,6 @@
+//! The callers of a desk, which is a graph that they share.
+
+pub mod caller;
+pub mod completing;
+pub mod opening;
+pub mod stepping;

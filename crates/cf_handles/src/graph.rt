@@ -1,0 +1,49 @@
+//! A graph that one caller has alone.
+ghost use Rattle.std.specs.Prelude.{Ok};
+ghost use Rattle.cf_handles.specs.Building.{GraphOf};
+ghost use Rattle.cf_handles.specs.Restarts.{PlanOf};
+
+pub mod asking;
+pub mod restarting;
+pub mod rounds;
+pub mod stepping;
+pub mod sweeping;
+
+use crate::code::{Code, plan_code};
+use crate::handle::object::Object;
+use cf_core::Graph;
+use cf_plan::Plan;
+use std::alloc::Global;
+
+/// The plan that a graph was opened of.
+pub fn plan_of(held: &Object) -> Result<Object, Code>
+    ensures { PlanOf held.now result }
+{
+    let Object::Graph(graph) = held else {
+        return Err(Code::WrongKind);
+    };
+    match graph.plan().copy() {
+        Ok(plan) => Ok(Object::Plan(plan)),
+        Err(_) => Err(Code::NoMemory),
+    }
+}
+
+/// The graph of a plan with so much room.
+pub fn graph_of(alloc: Global, held: &Object, room: u16) -> Result<Object, Code>
+    ensures { GraphOf room held.now result }
+{
+    let Object::Plan(plan) = held else {
+        return Err(Code::WrongKind);
+    };
+    if !plan.has_place(room) {
+        return Err(Code::Room);
+    }
+    let copy = match plan.copy() {
+        Ok(copy) => copy,
+        Err(fault) => return Err(plan_code(fault)),
+    };
+    match Graph::new_growing(alloc, copy, room) {
+        Ok(graph) => Ok(Object::Graph(graph)),
+        Err(_) => Err(Code::NoMemory),
+    }
+}

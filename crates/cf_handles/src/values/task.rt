@@ -1,0 +1,70 @@
+//! What a caller is given to do, as C has it: a stage that it has claimed, and what the stage's function answered.
+ghost use Rattle.std.specs.Prelude.{◌≡◌};
+ghost use Rattle.cf_handles.specs.Tasks.{finished_as, held_by, number_or_none};
+
+use crate::code::Code;
+use crate::values::{CfAnswer, CfArgs, answer_of};
+use cf_ledger::Held;
+use cf_model::Finished;
+
+/// What a caller holds: nothing (`held` is 0), or a stage, with the number and the arguments of its function, and a place for
+/// what that answers. `finished` is what the last finish was answered: won (0), also where nothing was held, or late (1).
+#[repr(C)]
+#[derive(Clone, Copy)]
+pub struct CfTask {
+    pub held: u32,
+    pub stage: u16,
+    pub function: u16,
+    pub args: CfArgs,
+    pub answer: CfAnswer,
+    pub finished: u32,
+}
+
+/// Who takes a step of a ledger, and from which stage on; and then the place of the first word that it wrote, and its words:
+/// that of the finish and that of the claim, or 0 where there is none.
+#[repr(C)]
+#[derive(Clone, Copy)]
+pub struct CfStep {
+    pub who: u8,
+    pub from: u16,
+    pub place: usize,
+    pub finish: u64,
+    pub claim: u64,
+}
+
+/// The stage that a task holds, if it holds one.
+#[inline(always)]
+pub(crate) fn held_by(task: &CfTask) -> Option<Held>
+    ensures { result ≡ held_by task.now }
+{
+    if task.held == 0 {
+        return None;
+    }
+    Some(Held {
+        stage: task.stage,
+        answer: answer_of(task.answer),
+    })
+}
+
+/// What a finish was answered, or that the caller hasn't claimed the stage.
+#[inline(always)]
+pub(crate) fn finished_as(finished: Finished) -> Result<u32, Code>
+    ensures { result ≡ finished_as finished }
+{
+    match finished {
+        Finished::Won => Ok(0),
+        Finished::Late => Ok(1),
+        Finished::NotYours => Err(Code::NotHeld),
+    }
+}
+
+/// The number of a function, of which a ready stage has one.
+#[inline(always)]
+pub(crate) fn number_or_none(function: Option<u16>) -> u16
+    ensures { result ≡ number_or_none function }
+{
+    match function {
+        Some(number) => number,
+        None => 0,
+    }
+}
