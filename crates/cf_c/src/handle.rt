@@ -1,5 +1,5 @@
 //! How a call looks behind its handle, and what it gives C.
-ghost use Rattle.std.specs.Prelude.{◌≡◌, None};
+ghost use Rattle.std.specs.Prelude.{◌≡◌, None, Ok};
 ghost use Rattle.cf_handles.specs.Answers.{Codes, Gives};
 ghost use Rattle.cf_handles.specs.Building.{Fills};
 
@@ -73,13 +73,21 @@ pub(crate) fn fill(alloc: Global, h: &mut CfHandle, made: Result<Object, Code>) 
     }
     match made {
         Err(code) => code.number(),
-        Ok(held) => match Box::new(alloc, held) {
-            Ok(held) => {
-                h.put(held);
-                0
-            }
-            Err(_) => Code::NoMemory.number(),
-        },
+        Ok(held) => put_new(alloc, h, held),
+    }
+}
+
+/// Puts this behind an empty handle: 0, or that there is no memory.
+fn put_new(alloc: Global, h: &mut CfHandle, held: Object) -> u32
+    requires { h.old.inner.held ≡ None }
+    ensures { Fills (Ok held) None result h.new.inner.held }
+{
+    match Box::new(alloc, held) {
+        Ok(held) => {
+            h.put(held);
+            0
+        }
+        Err(_) => Code::NoMemory.number(),
     }
 }
 
