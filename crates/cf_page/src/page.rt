@@ -19,8 +19,37 @@ pub fn page_of(alloc: Global, scene: &Scene, people: &People) -> Result<String, 
 
 /// Adds all that the page knows, as JSON.
 fn write_data(out: &mut String, scene: &Scene, people: &People) -> Result<(), AllocError> {
-    write_top(out, scene, people)?;
+    write_top(out, people, is_timed(scene, people))?;
+    write_size(out, scene)?;
+    write_plan(out, scene, people)?;
+    write_told(out, scene)?;
+    write_callers(out, scene, people)
+}
+
+/// Adds the name, the verdict, and whether events have times.
+fn write_top(out: &mut String, people: &People, is_timed: bool) -> Result<(), AllocError> {
+    write!(out, "{{\"name\":")?;
+    write_string(out, &people.name)?;
+    write!(out, ",\"fits\":{},\"verdict\":", people.fits)?;
+    write_string(out, &people.verdict)?;
+    write!(out, ",\"timed\":{is_timed}")
+}
+
+/// Adds how large the picture is, and a box in it.
+fn write_size(out: &mut String, scene: &Scene) -> Result<(), AllocError> {
+    write!(out, ",\"size\":[{},{}", scene.size.width, scene.size.height)?;
+    write!(out, ",{},{}]", BOX.width, BOX.height)
+}
+
+/// Adds the stages and the edges between them.
+fn write_plan(out: &mut String, scene: &Scene, people: &People) -> Result<(), AllocError> {
     write!(out, ",\n\"stages\":[")?;
+    write_stages(out, scene, people)?;
+    write!(out, "],\n\"edges\":[")?;
+    write_edges(out, scene)
+}
+
+fn write_stages(out: &mut String, scene: &Scene, people: &People) -> Result<(), AllocError> {
     for (i, seen) in scene.notes.stages.iter().enumerate() {
         write_comma(out, i)?;
         write_stage(
@@ -31,31 +60,32 @@ fn write_data(out: &mut String, scene: &Scene, people: &People) -> Result<(), Al
             seen,
         )?;
     }
-    write!(out, "],\n\"edges\":[")?;
-    write_edges(out, scene)?;
+    Ok(())
+}
+
+/// Adds what was told before the first event, and then of each.
+fn write_told(out: &mut String, scene: &Scene) -> Result<(), AllocError> {
     write!(out, "],\n\"start\":[")?;
     out.push_str(&scene.start)?;
     write!(out, "],\n\"events\":[")?;
-    out.push_str(&scene.events)?;
+    out.push_str(&scene.events)
+}
+
+/// Adds the callers and their calls of functions.
+fn write_callers(out: &mut String, scene: &Scene, people: &People) -> Result<(), AllocError> {
     write!(out, "],\n\"lanes\":[")?;
     write_lanes(out, people)?;
     write!(out, "],\n\"runs\":[")?;
-    for (k, run) in scene.notes.runs.iter().enumerate() {
-        write_comma(out, k)?;
-        write_run(out, *run)?;
-    }
+    write_runs(out, &scene.notes.runs)?;
     write!(out, "]}}")
 }
 
-/// Adds the name, the verdict, and how large the picture is.
-fn write_top(out: &mut String, scene: &Scene, people: &People) -> Result<(), AllocError> {
-    write!(out, "{{\"name\":")?;
-    write_string(out, &people.name)?;
-    write!(out, ",\"fits\":{},\"verdict\":", people.fits)?;
-    write_string(out, &people.verdict)?;
-    write!(out, ",\"timed\":{}", is_timed(scene, people))?;
-    write!(out, ",\"size\":[{},{}", scene.size.width, scene.size.height)?;
-    write!(out, ",{},{}]", BOX.width, BOX.height)
+fn write_runs(out: &mut String, runs: &[Run]) -> Result<(), AllocError> {
+    for (k, run) in runs.iter().enumerate() {
+        write_comma(out, k)?;
+        write_run(out, *run)?;
+    }
+    Ok(())
 }
 
 /// Whether each event has a time.
@@ -82,20 +112,30 @@ fn write_stage(
 ) -> Result<(), AllocError> {
     write!(out, "[\"")?;
     write_bare_name(out, &scene.notes, people, i)?;
+    write_form(out, seen)?;
+    write_origin(out, seen)?;
+    write_limits(out, scene.plan.limits(), i)?;
+    match seen.settled {
+        Some((_, place)) => write!(out, "],{place}]"),
+        None => write!(out, "],null]"),
+    }
+}
+
+/// Adds a stage's form, sources and place in the picture.
+fn write_form(out: &mut String, seen: &Seen) -> Result<(), AllocError> {
     write!(out, "\",\"{}\",[", seen.form.name())?;
     for (k, j) in seen.of.iter().enumerate() {
         write_comma(out, k)?;
         write!(out, "{j}")?;
     }
-    write!(out, "],{},{},{},", seen.x, seen.y, seen.born)?;
+    write!(out, "],{},{},", seen.x, seen.y)
+}
+
+/// Adds the place by which a stage is there, and the stage from which its outcome came.
+fn write_origin(out: &mut String, seen: &Seen) -> Result<(), AllocError> {
     match seen.from {
-        Some(j) => write!(out, "{j},[")?,
-        None => write!(out, "null,[")?,
-    }
-    write_limits(out, scene.plan.limits(), i)?;
-    match seen.settled {
-        Some((_, place)) => write!(out, "],{place}]"),
-        None => write!(out, "],null]"),
+        Some(j) => write!(out, "{},{j},[", seen.born),
+        None => write!(out, "{},null,[", seen.born),
     }
 }
 

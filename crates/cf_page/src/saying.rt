@@ -19,15 +19,11 @@ pub(crate) fn write_event(
     match event {
         Event::Complete { stage, value, .. } => {
             write_call(out, notes, people, "completes", stage)?;
-            write!(out, " with ")?;
-            write_value(out, people, value)?;
-            write_flag(out, reply)
+            write_completed(out, people, value, reply)
         }
         Event::Fail { stage, code, .. } => {
             write_call(out, notes, people, "fails", stage)?;
-            write!(out, " with ")?;
-            write_error(out, people, code)?;
-            write_flag(out, reply)
+            write_failed(out, people, code, reply)
         }
         Event::Cancel { stage, .. } => {
             write_call(out, notes, people, "cancels", stage)?;
@@ -39,12 +35,44 @@ pub(crate) fn write_event(
         }
         Event::Finish { stage, answer, .. } => {
             write_call(out, notes, people, "finishes", stage)?;
-            write_answer(out, notes, people, answer)?;
-            write_finished(out, reply)
+            write_answered(out, notes, people, answer, reply)
         }
         Event::Tick { moment, .. } => write_tick(out, moment, reply),
         Event::Attach { .. } => write_attach(out, notes, people, reply),
     }
+}
+
+fn write_completed(
+    out: &mut String,
+    people: &People,
+    value: Value,
+    reply: Reply,
+) -> Result<(), AllocError> {
+    write!(out, " with ")?;
+    write_value(out, people, value)?;
+    write_flag(out, reply)
+}
+
+fn write_failed(
+    out: &mut String,
+    people: &People,
+    code: u32,
+    reply: Reply,
+) -> Result<(), AllocError> {
+    write!(out, " with ")?;
+    write_error(out, people, code)?;
+    write_flag(out, reply)
+}
+
+fn write_answered(
+    out: &mut String,
+    notes: &Notes,
+    people: &People,
+    answer: Answer,
+    reply: Reply,
+) -> Result<(), AllocError> {
+    write_answer(out, notes, people, answer)?;
+    write_finished(out, reply)
 }
 
 /// Adds who does what, of an event of which nothing more is told than the call.

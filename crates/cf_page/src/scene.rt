@@ -71,16 +71,30 @@ fn told(
 ) -> Result<Scene, AllocError> {
     let mut scene = scene;
     let mut ledger = ledger;
-    scene.tell_start(&mut ledger, people)?;
-    scene.tell_all(alloc, &mut ledger, words, people)?;
-    for (stage, to) in people.relays.iter() {
-        scene.notes.relay(*stage, *to);
+    match scene.go_through(alloc, &mut ledger, words, people) {
+        Ok(()) => Ok(scene),
+        Err(fault) => Err(fault),
     }
-    scene.size = lay_out(alloc, &mut scene.notes)?;
-    Ok(scene)
 }
 
 impl Scene {
+    /// Does the events, tells them, and lays the stages out.
+    fn go_through(
+        &mut self,
+        alloc: Global,
+        ledger: &mut Ledger,
+        words: &[u64],
+        people: &People,
+    ) -> Result<(), AllocError> {
+        self.tell_start(ledger, people)?;
+        self.tell_all(alloc, ledger, words, people)?;
+        for (stage, to) in people.relays.iter() {
+            self.notes.relay(*stage, *to);
+        }
+        self.size = lay_out(alloc, &mut self.notes)?;
+        Ok(())
+    }
+
     /// Tells what has become of each stage before the first event.
     fn tell_start(&mut self, ledger: &mut Ledger, people: &People) -> Result<(), AllocError> {
         for i in 0..ledger.stages() {

@@ -29,16 +29,29 @@ pub fn words_of(
     };
     let mut ledger = ledger;
     let mut words = Vec::new(alloc);
+    match do_all(&mut ledger, &mut words, functions, steps) {
+        Ok(()) => Ok(words),
+        Err(fault) => Err(fault),
+    }
+}
+
+/// Does the steps, and writes the words of their events.
+fn do_all(
+    ledger: &mut Ledger,
+    words: &mut Vec<u64>,
+    functions: &[Func],
+    steps: &[Step],
+) -> Result<(), AllocError> {
     for step in steps {
         match *step {
             Step::Does(event) => {
-                do_one(&mut ledger, &mut words, event)?;
+                do_one(ledger, words, event)?;
             }
-            Step::Work => work(&mut ledger, &mut words, functions)?,
+            Step::Work => work(ledger, words, functions)?,
             Step::Asks(_) | Step::Nudge(_) => {}
         }
     }
-    Ok(words)
+    Ok(())
 }
 
 /// Does an event, and writes its word.

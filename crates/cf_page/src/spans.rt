@@ -19,25 +19,26 @@ pub fn spans_of(
 ) -> Result<String, AllocError> {
     let trace = number_of(words);
     let mut out = String::new(alloc);
-    write!(
-        out,
-        "{{\"resourceSpans\":[{{\"resource\":{{\"attributes\":["
-    )?;
-    write!(
-        out,
-        "{{\"key\":\"service.name\",\"value\":{{\"stringValue\":"
-    )?;
-    write_string(&mut out, &people.name)?;
-    write!(
-        out,
-        "}}}}]}},\"scopeSpans\":[{{\"scope\":{{\"name\":\"cf_look\"}},\"spans\":[\n"
-    )?;
+    write_head(&mut out, people)?;
     write_whole(&mut out, scene, people, trace)?;
     for run in scene.notes.runs.iter() {
         write_span(&mut out, scene, people, trace, *run)?;
     }
     write!(out, "\n]}}]}}]}}\n")?;
     Ok(out)
+}
+
+/// Adds whose spans these are.
+fn write_head(out: &mut String, people: &People) -> Result<(), AllocError> {
+    write!(
+        out,
+        "{{\"resourceSpans\":[{{\"resource\":{{\"attributes\":[{{\"key\":\"service.name\",\"value\":{{\"stringValue\":"
+    )?;
+    write_string(out, &people.name)?;
+    write!(
+        out,
+        "}}}}]}},\"scopeSpans\":[{{\"scope\":{{\"name\":\"cf_look\"}},\"spans\":[\n"
+    )
 }
 
 /// A number that the words make, other than 0.
@@ -67,20 +68,23 @@ fn write_whole(
 ) -> Result<(), AllocError> {
     write!(
         out,
-        "{{\"traceId\":\"{trace:016x}{trace:016x}\",\"spanId\":\"ffffffffffffffff\","
+        "{{\"traceId\":\"{trace:016x}{trace:016x}\",\"spanId\":\"ffffffffffffffff\",\"name\":"
     )?;
-    write!(out, "\"name\":")?;
     write_string(out, &people.name)?;
-    write!(
-        out,
-        ",\"kind\":1,\"startTimeUnixNano\":\"{}\",",
-        moment_of(scene, people, 1)
-    )?;
-    let end = moment_of(scene, people, scene.calls.len());
-    write!(out, "\"endTimeUnixNano\":\"{end}\",\"attributes\":[")?;
+    write!(out, ",\"kind\":1,")?;
+    let start = moment_of(scene, people, 1);
+    write_times(out, start, moment_of(scene, people, scene.calls.len()))?;
     write!(out, "{{\"key\":\"cf.verdict\",\"value\":{{\"stringValue\":")?;
     write_string(out, &people.verdict)?;
     write!(out, "}}}}]}}")
+}
+
+/// Adds when a span begins and ends, and the head of what else is said of it.
+fn write_times(out: &mut String, start: u64, end: u64) -> Result<(), AllocError> {
+    write!(
+        out,
+        "\"startTimeUnixNano\":\"{start}\",\"endTimeUnixNano\":\"{end}\",\"attributes\":["
+    )
 }
 
 /// Adds the span of a call of a function.
@@ -92,31 +96,41 @@ fn write_span(
     run: Run,
 ) -> Result<(), AllocError> {
     let own = span_of(run.stage);
-    let start = moment_of(scene, people, run.claimed);
-    let end = moment_of(scene, people, run.finished.unwrap_or(scene.calls.len()));
     write!(
         out,
-        ",\n{{\"traceId\":\"{trace:016x}{trace:016x}\",\"spanId\":\"{own:016x}\","
+        ",\n{{\"traceId\":\"{trace:016x}{trace:016x}\",\"spanId\":\"{own:016x}\",\"parentSpanId\":\"ffffffffffffffff\","
     )?;
-    write!(out, "\"parentSpanId\":\"ffffffffffffffff\",\"name\":\"")?;
-    write_bare_name(out, &scene.notes, people, run.stage)?;
-    write!(out, "\",\"kind\":1,\"startTimeUnixNano\":\"{start}\",")?;
-    write!(out, "\"endTimeUnixNano\":\"{end}\",\"attributes\":[")?;
-    write!(
-        out,
-        "{{\"key\":\"cf.stage\",\"value\":{{\"intValue\":\"{}\"}}}},",
-        run.stage
-    )?;
-    write!(
-        out,
-        "{{\"key\":\"cf.caller\",\"value\":{{\"stringValue\":\""
-    )?;
-    write_caller(out, people, run.who)?;
-    write!(out, "\"}}}}")?;
+    write_name_and_times(out, scene, people, run)?;
+    write_who(out, people, run)?;
     match scene.notes.stages.get(run.stage as usize) {
         Some(seen) => write_rest(out, scene, people, trace, seen),
         None => write!(out, "]}}"),
     }
+}
+
+fn write_name_and_times(
+    out: &mut String,
+    scene: &Scene,
+    people: &People,
+    run: Run,
+) -> Result<(), AllocError> {
+    let start = moment_of(scene, people, run.claimed);
+    let end = moment_of(scene, people, run.finished.unwrap_or(scene.calls.len()));
+    write!(out, "\"name\":\"")?;
+    write_bare_name(out, &scene.notes, people, run.stage)?;
+    write!(out, "\",\"kind\":1,")?;
+    write_times(out, start, end)
+}
+
+/// Adds which stage's function was called, and by whom.
+fn write_who(out: &mut String, people: &People, run: Run) -> Result<(), AllocError> {
+    write!(
+        out,
+        "{{\"key\":\"cf.stage\",\"value\":{{\"intValue\":\"{}\"}}}},{{\"key\":\"cf.caller\",\"value\":{{\"stringValue\":\"",
+        run.stage
+    )?;
+    write_caller(out, people, run.who)?;
+    write!(out, "\"}}}}")
 }
 
 /// The number of the span of a stage's call.
@@ -134,21 +148,22 @@ fn write_rest(
 ) -> Result<(), AllocError> {
     write!(
         out,
-        ",{{\"key\":\"cf.form\",\"value\":{{\"stringValue\":\"{}\"}}}}],",
+        ",{{\"key\":\"cf.form\",\"value\":{{\"stringValue\":\"{}\"}}}}],\"links\":[",
         seen.form.name()
     )?;
-    write!(out, "\"links\":[")?;
     write_links(out, scene, trace, &seen.of)?;
-    write!(out, "],\"status\":{{")?;
     match seen.settled {
-        Some((Outcome::Value(_), _)) => write!(out, "\"code\":1}}}}"),
-        Some((fault, _)) => {
-            write!(out, "\"code\":2,\"message\":\"")?;
-            write_outcome(out, people, fault)?;
-            write!(out, "\"}}}}")
-        }
-        None => write!(out, "\"code\":0}}}}"),
+        Some((Outcome::Value(_), _)) => write!(out, "],\"status\":{{\"code\":1}}}}"),
+        Some((fault, _)) => write_fault(out, people, fault),
+        None => write!(out, "],\"status\":{{\"code\":0}}}}"),
     }
+}
+
+/// Adds the status of a stage that ended in a fault.
+fn write_fault(out: &mut String, people: &People, fault: Outcome) -> Result<(), AllocError> {
+    write!(out, "],\"status\":{{\"code\":2,\"message\":\"")?;
+    write_outcome(out, people, fault)?;
+    write!(out, "\"}}}}")
 }
 
 /// Adds a link to the span of each source that has one.

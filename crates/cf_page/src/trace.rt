@@ -12,29 +12,50 @@ use std::alloc::{AllocError, Global};
 /// only where there is no memory.
 pub fn trace_of(alloc: Global, scene: &Scene, people: &People) -> Result<String, AllocError> {
     let mut out = String::new(alloc);
+    write_head(&mut out, people)?;
+    let rows = rows_of(alloc, scene)?;
+    write_rows(&mut out, scene, people, &rows)?;
+    write_bars(&mut out, scene, people, &rows)?;
+    write_marks(&mut out, scene, people)?;
+    write!(out, "\n]}}\n")?;
+    Ok(out)
+}
+
+/// Adds the verdict and the name.
+fn write_head(out: &mut String, people: &People) -> Result<(), AllocError> {
     write!(
         out,
         "{{\"displayTimeUnit\":\"ms\",\"otherData\":{{\"verdict\":"
     )?;
-    write_string(&mut out, &people.verdict)?;
-    write!(out, "}},\"traceEvents\":[\n")?;
+    write_string(out, &people.verdict)?;
     write!(
         out,
-        "{{\"ph\":\"M\",\"name\":\"process_name\",\"pid\":1,\"args\":{{\"name\":"
+        "}},\"traceEvents\":[\n{{\"ph\":\"M\",\"name\":\"process_name\",\"pid\":1,\"args\":{{\"name\":"
     )?;
-    write_string(&mut out, &people.name)?;
-    write!(out, "}}}}")?;
-    let rows = rows_of(alloc, scene)?;
-    write_rows(&mut out, scene, people, &rows)?;
+    write_string(out, &people.name)?;
+    write!(out, "}}}}")
+}
+
+/// Adds a bar for each call of a function, with the arrows to it.
+fn write_bars(
+    out: &mut String,
+    scene: &Scene,
+    people: &People,
+    rows: &Rows,
+) -> Result<(), AllocError> {
     for (k, run) in scene.notes.runs.iter().enumerate() {
-        write_bar(&mut out, scene, people, *run, rows.of(k))?;
-        write_arrows(&mut out, scene, people, &rows, k, *run)?;
+        write_bar(out, scene, people, *run, rows.of(k))?;
+        write_arrows(out, scene, people, rows, k, *run)?;
     }
+    Ok(())
+}
+
+/// Adds the marks of events.
+fn write_marks(out: &mut String, scene: &Scene, people: &People) -> Result<(), AllocError> {
     for (k, event) in scene.calls.iter().enumerate() {
-        write_mark(&mut out, scene, people, k + 1, *event)?;
+        write_mark(out, scene, people, k + 1, *event)?;
     }
-    write!(out, "\n]}}\n")?;
-    Ok(out)
+    Ok(())
 }
 
 /// A row of bars: whose, how many of that caller's rows stand above it, and the place by which its last bar ends.
@@ -152,29 +173,45 @@ fn write_bar(
     run: Run,
     row: u32,
 ) -> Result<(), AllocError> {
-    let from = moment_of(scene, people, run.claimed);
-    let to = moment_of(scene, people, end_of(scene, run));
     write!(
         out,
         ",\n{{\"ph\":\"X\",\"cat\":\"stage\",\"pid\":1,\"tid\":{row},\"name\":\""
     )?;
     write_bare_name(out, &scene.notes, people, run.stage)?;
+    write_times(out, scene, people, run)?;
+    write_places(out, run)?;
+    if let Some(seen) = scene.notes.stages.get(run.stage as usize) {
+        write_end(out, people, seen)?;
+    }
+    write!(out, "}}}}")
+}
+
+/// Adds when a bar begins, and how long it is.
+fn write_times(
+    out: &mut String,
+    scene: &Scene,
+    people: &People,
+    run: Run,
+) -> Result<(), AllocError> {
+    let from = moment_of(scene, people, run.claimed);
+    let to = moment_of(scene, people, end_of(scene, run));
     write!(out, "\",\"ts\":")?;
     write_micros(out, from)?;
     write!(out, ",\"dur\":")?;
-    write_micros(out, to.saturating_sub(from))?;
+    write_micros(out, to.saturating_sub(from))
+}
+
+/// Adds the places of a call's claim and finish.
+fn write_places(out: &mut String, run: Run) -> Result<(), AllocError> {
     write!(
         out,
         ",\"args\":{{\"stage\":{},\"claimed\":{}",
         run.stage, run.claimed
     )?;
-    if let Some(place) = run.finished {
-        write!(out, ",\"finished\":{place},\"late\":{}", run.is_late)?;
+    match run.finished {
+        Some(place) => write!(out, ",\"finished\":{place},\"late\":{}", run.is_late),
+        None => Ok(()),
     }
-    if let Some(seen) = scene.notes.stages.get(run.stage as usize) {
-        write_end(out, people, seen)?;
-    }
-    write!(out, "}}}}")
 }
 
 /// Adds a stage's form and what it settled with.
@@ -252,18 +289,20 @@ fn write_arrow(out: &mut String, stages: (u16, u16), from: End, to: End) -> Resu
     let id = u32::from(source)
         .saturating_mul(4_096)
         .saturating_add(u32::from(stage));
+    write!(out, ",\n{{\"ph\":\"s\"")?;
+    write_arrow_end(out, id, from)?;
+    write!(out, ",\n{{\"ph\":\"f\",\"bp\":\"e\"")?;
+    write_arrow_end(out, id, to)
+}
+
+/// Adds an end of an arrow.
+fn write_arrow_end(out: &mut String, id: u32, end: End) -> Result<(), AllocError> {
     write!(
         out,
-        ",\n{{\"ph\":\"s\",\"cat\":\"source\",\"name\":\"source\",\"id\":{id},"
+        ",\"cat\":\"source\",\"name\":\"source\",\"id\":{id},\"pid\":1,\"tid\":{},\"ts\":",
+        end.row
     )?;
-    write!(out, "\"pid\":1,\"tid\":{},\"ts\":", from.row)?;
-    write_micros(out, from.at)?;
-    write!(
-        out,
-        "}},\n{{\"ph\":\"f\",\"bp\":\"e\",\"cat\":\"source\",\"name\":\"source\",\"id\":{id},"
-    )?;
-    write!(out, "\"pid\":1,\"tid\":{},\"ts\":", to.row)?;
-    write_micros(out, to.at)?;
+    write_micros(out, end.at)?;
     write!(out, "}}")
 }
 

@@ -21,29 +21,35 @@ pub fn draw_script(alloc: Global, bytes: &[u8], names: &[String]) -> Result<Stri
 
 /// The picture of a script.
 fn drawing_of(alloc: Global, script: Script, names: &[String]) -> Result<String, AllocError> {
-    let run = run_of(alloc, script)?;
+    let mut run = run_of(alloc, script)?;
     let mut text = String::new(alloc);
-    write_picture(&mut text, run, names)?;
-    Ok(text)
+    match write_picture(&mut text, &mut run, names) {
+        Ok(()) => Ok(text),
+        Err(fault) => Err(fault),
+    }
 }
 
 /// Adds the picture of a script whose steps are done.
-fn write_picture(text: &mut String, run: RunScript, names: &[String]) -> Result<(), AllocError> {
+fn write_picture(
+    text: &mut String,
+    run: &mut RunScript,
+    names: &[String],
+) -> Result<(), AllocError> {
     let RunScript {
         plan,
-        mut graph,
+        graph,
         functions,
         notes,
         steps,
     } = run;
     write_head(text)?;
     let known = Known {
-        functions: &functions,
-        notes: &notes,
+        functions,
+        notes,
         names,
     };
-    write_opening(text, &mut graph, known, &plan)?;
-    write_attached(text, &mut graph, known, plan.stages(), &steps)?;
+    write_opening(text, graph, known, plan)?;
+    write_attached(text, graph, known, plan.stages(), steps)?;
     write_limits(text, plan.limits())?;
     writeln!(text, "}}")
 }
