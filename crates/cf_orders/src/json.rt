@@ -4,6 +4,7 @@ use crate::question::Question;
 use crate::telling::{Standing, standing_of};
 use crate::witness::{Shape, witness_of};
 use cf_explore::{Found, Witness};
+use cf_outcome::Outcome;
 use cf_script::write_settled;
 use std::alloc::{AllocError, Global};
 
@@ -17,26 +18,47 @@ pub fn json_of(
     let mut out = String::new(alloc);
     write!(
         out,
-        "{{\"situations\":{},\"moves\":{}",
+        "{{\"situations\":{},\"moves\":{},\"whole\":{},\n\"ends\":[",
         found.trail.len(),
-        found.moves.saturating_sub(1)
+        found.moves.saturating_sub(1),
+        found.whole
     )?;
-    write!(out, ",\"whole\":{},\n\"ends\":[", found.whole)?;
+    write_ends(alloc, &mut out, question, found, groups)?;
+    write!(out, "],\n\"conditions\":[")?;
+    write_all_asked(alloc, &mut out, question, found)?;
+    writeln!(out, "]}}")?;
+    Ok(out)
+}
+
+fn write_ends(
+    alloc: Global,
+    out: &mut String,
+    question: &Question,
+    found: &Found,
+    groups: &[Grouped],
+) -> Result<(), AllocError> {
     for (k, group) in groups.iter().enumerate() {
         if k > 0 {
             out.push(',')?;
         }
-        write_end(alloc, &mut out, question, found, group)?;
+        write_end(alloc, out, question, found, group)?;
     }
-    write!(out, "],\n\"conditions\":[")?;
+    Ok(())
+}
+
+fn write_all_asked(
+    alloc: Global,
+    out: &mut String,
+    question: &Question,
+    found: &Found,
+) -> Result<(), AllocError> {
     for k in 0..question.texts.len() {
         if k > 0 {
             out.push(',')?;
         }
-        write_asked(alloc, &mut out, question, found, k)?;
+        write_asked(alloc, out, question, found, k)?;
     }
-    writeln!(out, "]}}")?;
-    Ok(out)
+    Ok(())
 }
 
 /// Adds an end. The number of orders is a text, since readers of JSON lose digits of large numbers.
@@ -47,13 +69,20 @@ fn write_end(
     found: &Found,
     group: &Grouped,
 ) -> Result<(), AllocError> {
-    write!(out, "\n{{\"orders\":\"{}\"", group.orders)?;
     write!(
         out,
-        ",\"more\":{},\"outcomes\":{{",
+        "\n{{\"orders\":\"{}\",\"more\":{},\"outcomes\":{{",
+        group.orders,
         group.orders == u128::MAX
     )?;
-    for (k, (i, outcome)) in group.outcomes.iter().enumerate() {
+    write_outcomes(out, &group.outcomes)?;
+    out.push('}')?;
+    write_order(alloc, out, question, found, group.witness)?;
+    out.push('}')
+}
+
+fn write_outcomes(out: &mut String, outcomes: &[(u16, Option<Outcome>)]) -> Result<(), AllocError> {
+    for (k, (i, outcome)) in outcomes.iter().enumerate() {
         if k > 0 {
             out.push(',')?;
         }
@@ -61,9 +90,7 @@ fn write_end(
         write_settled(out, *outcome)?;
         out.push('"')?;
     }
-    out.push('}')?;
-    write_order(alloc, out, question, found, group.witness)?;
-    out.push('}')
+    Ok(())
 }
 
 /// Adds something that must hold.

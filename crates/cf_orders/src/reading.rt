@@ -1,4 +1,7 @@
 //! The reading of a question.
+ghost use Rattle.std.specs.Prelude.{◌≡◌, true};
+ghost use Rattle.cf_plan.specs.Plans.{has_place};
+
 use crate::facts::{Asked, Known, read_asked};
 use crate::fault::{QuestionFault, Spot};
 use crate::joined::{Joined, joined_of, shared_of};
@@ -7,7 +10,7 @@ use crate::question::Question;
 use cf_explore::{Call, Caller, Program, Step};
 use cf_model::{Ask, Event};
 use cf_plan::Plan;
-use cf_reading::{Part, ReadingFault, Script, Step as Said, script_of};
+use cf_reading::{Func, Part, ReadingFault, Script, Step as Said, script_of};
 use serde_json::Value as Json;
 use std::alloc::{AllocError, Global};
 
@@ -19,16 +22,54 @@ const MAX_HANDS: usize = 62;
 pub fn read_question(alloc: Global, json: &Json) -> Result<Question, QuestionFault> {
     let joined = joined_of(alloc, json)?;
     let script = script_in(alloc, &joined)?;
+    let hands = hands_of(json, joined.callers.len())?;
+    let parts = parts_of(alloc, json, script)?;
+    question(alloc, json, joined, parts, hands)
+}
+
+/// Who there is besides callers with steps: workers, and whether the clock is free.
+#[derive(Clone, Copy)]
+struct Hands {
+    workers: u8,
+    is_free: bool,
+}
+
+fn hands_of(json: &Json, callers: usize) -> Result<Hands, QuestionFault> {
     let Some(workers) = workers_of(json) else {
         return Err(QuestionFault::At(Spot::Workers));
     };
-    let Some(free) = clock_of(json) else {
+    let Some(is_free) = clock_of(json) else {
         return Err(QuestionFault::At(Spot::Clock));
     };
-    if joined.callers.len() + usize::from(workers) > MAX_HANDS {
+    if callers.saturating_add(usize::from(workers)) > MAX_HANDS {
         return Err(QuestionFault::At(Spot::Callers));
     }
-    question(alloc, json, joined, script, workers, free)
+    Ok(Hands { workers, is_free })
+}
+
+/// The parts of a script whose functions may be shared.
+#[derive(Drop)]
+struct Parts {
+    plan: Plan,
+    room: u16,
+    functions: Vec<Func>,
+    steps: Vec<Said>,
+    ghost place: { has_place plan.stages room ≡ true },
+}
+
+fn parts_of(alloc: Global, json: &Json, script: Script) -> Result<Parts, QuestionFault> {
+    let shared = shared_of(alloc, json)?;
+    let (plan, room, functions, steps) = script.into_parts();
+    let plan = with_shared(alloc, &plan, shared.as_slice())?;
+    if !plan.has_place(room) {
+        return Err(QuestionFault::Script(ReadingFault::Shape(Part::Room)));
+    }
+    Ok(Parts {
+        plan,
+        room,
+        functions,
+        steps,
+    })
 }
 
 /// The question of a script and its parts.
@@ -36,44 +77,76 @@ fn question(
     alloc: Global,
     json: &Json,
     joined: Joined,
-    script: Script,
-    workers: u8,
-    free: bool,
+    parts: Parts,
+    hands: Hands,
 ) -> Result<Question, QuestionFault> {
-    let shared = shared_of(alloc, json)?;
-    let (plan, room, functions, steps) = script.into_parts();
-    let plan = with_shared(alloc, &plan, shared.as_slice())?;
-    if !plan.has_place(room) {
-        return Err(QuestionFault::Script(ReadingFault::Shape(Part::Room)));
-    }
-    let counts = counts_of(alloc, &joined)?;
+    let asked = asked_of(alloc, json, &joined, &parts)?;
+    let (program, callers) = acted_by(alloc, &joined, &parts, hands)?;
+    Ok(put_together(joined, parts, asked, program, (callers, hands)))
+}
+
+/// What must hold of the script's orders.
+fn asked_of(
+    alloc: Global,
+    json: &Json,
+    joined: &Joined,
+    parts: &Parts,
+) -> Result<Asked, QuestionFault> {
+    let counts = counts_of(alloc, joined)?;
     let known = Known {
-        plan: &plan,
-        stages: plan.stages() as usize + usize::from(room),
+        plan: &parts.plan,
+        stages: parts.plan.stages() as usize + usize::from(parts.room),
         steps: counts.as_slice(),
     };
-    let Asked { conditions, texts } = read_asked(alloc, json, &known)?;
-    let callers = callers_of(alloc, &joined, steps.as_slice())?;
+    read_asked(alloc, json, &known)
+}
+
+/// The program of the script's callers, and how many they are.
+fn acted_by(
+    alloc: Global,
+    joined: &Joined,
+    parts: &Parts,
+    hands: Hands,
+) -> Result<(Program, u8), QuestionFault> {
+    let callers = callers_of(alloc, joined, parts.steps.as_slice())?;
     let count = u8::try_from(callers.len()).unwrap_or(u8::MAX);
-    let own = plan.copy()?;
-    let program = program_of(own, room, callers, workers, free)?;
+    let own = parts.plan.copy()?;
+    let program = program_of(own, parts.room, callers, hands)?;
+    Ok((program, count))
+}
+
+fn put_together(
+    joined: Joined,
+    parts: Parts,
+    asked: Asked,
+    program: Program,
+    by: (u8, Hands),
+) -> Question {
+    let Asked { conditions, texts } = asked;
     let Joined {
         head,
-        callers: own_steps,
+        callers: steps,
         joins: _,
     } = joined;
-    Ok(Question {
+    let Parts {
+        plan,
+        room,
+        functions,
+        steps: _,
+    } = parts;
+    let (callers, hands) = by;
+    Question {
         program,
         conditions,
         texts,
         plan,
         room,
         functions,
-        callers: count,
-        hands: count.saturating_add(workers),
+        callers,
+        hands: callers.saturating_add(hands.workers),
         head,
-        steps: own_steps,
-    })
+        steps,
+    }
 }
 
 /// The program of these parts.
@@ -81,13 +154,13 @@ fn program_of(
     plan: Plan,
     room: u16,
     callers: Vec<Caller>,
-    workers: u8,
-    free: bool,
+    hands: Hands,
 ) -> Result<Program, QuestionFault> {
+    let Hands { workers, is_free } = hands;
     if !plan.has_place(room) || callers.len() + usize::from(workers) > MAX_HANDS {
         return Err(QuestionFault::At(Spot::Callers));
     }
-    Ok(Program::new(plan, room, callers, workers, free))
+    Ok(Program::new(plan, room, callers, workers, is_free))
 }
 
 /// The script of all callers' steps.

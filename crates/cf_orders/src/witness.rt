@@ -57,11 +57,7 @@ pub fn witness_of(
 ) -> Result<String, AllocError> {
     let order = found.order(alloc, witness)?;
     let mut told = begin(alloc, question)?;
-    let mut s = question.program.start(alloc)?;
-    for by in order.iter() {
-        told.go_on(question, &s, *by)?;
-        s = question.program.moved(alloc, &question.functions, &s, *by)?;
-    }
+    told.go_through(alloc, question, &order)?;
     match shape {
         Shape::Account => told.account(alloc, question),
         Shape::Script => told.script(alloc, question),
@@ -86,6 +82,21 @@ fn begin(alloc: Global, question: &Question) -> Result<Retold, AllocError> {
 }
 
 impl Retold {
+    /// An order's moves, from the start on.
+    fn go_through(
+        &mut self,
+        alloc: Global,
+        question: &Question,
+        order: &[Move],
+    ) -> Result<(), AllocError> {
+        let mut s = question.program.start(alloc)?;
+        for by in order {
+            self.go_on(question, &s, *by)?;
+            s = question.program.moved(alloc, &question.functions, &s, *by)?;
+        }
+        Ok(())
+    }
+
     /// One move more.
     fn go_on(&mut self, question: &Question, s: &Situation, by: Move) -> Result<(), AllocError> {
         match question.program.event(s, by) {
@@ -201,23 +212,30 @@ impl Retold {
         write!(text, "{{\"plan\":{{{}}}", question.head)?;
         write!(text, ",\"functions\":{}", question.functions.len())?;
         write!(text, ",\"events\":[{}],\"callers\":[", self.words)?;
+        self.write_records(&mut text)?;
+        write!(text, "],\"outcomes\":[")?;
+        self.write_outcomes(&mut text)?;
+        write!(text, "]}}")?;
+        Ok(text)
+    }
+
+    fn write_records(&self, text: &mut String) -> Result<(), AllocError> {
         for (c, records) in self.records.iter().enumerate() {
             if c > 0 {
                 text.push(',')?;
             }
             write!(text, "[{records}]")?;
         }
-        write!(text, "],\"outcomes\":[")?;
+        Ok(())
+    }
+
+    fn write_outcomes(&mut self, text: &mut String) -> Result<(), AllocError> {
         for i in 0..self.graph.stages() {
-            if i > 0 {
-                text.push(',')?;
-            }
-            text.push('"')?;
-            write_settled(&mut text, outcome(&mut self.graph, i))?;
+            text.push_str(if i > 0 { ",\"" } else { "\"" })?;
+            write_settled(text, outcome(&mut self.graph, i))?;
             text.push('"')?;
         }
-        write!(text, "]}}")?;
-        Ok(text)
+        Ok(())
     }
 
     /// All of it as a script.
