@@ -25,7 +25,8 @@ const NO_STAGE: u64 = 0x0400009000000000;
 const WORDS: [u64; 6] = [COMPLETE, COMPLETE, CLAIM, FINISH, ATTACH, ATTACH];
 
 /// What the graph of these words is like.
-const AFTER: [Step; 18] = [
+const AFTER: [Step; 19] = [
+    Step::Words(&WORDS),
     Step::Outcome(0, Some(Outcome::Value(Value::Int(5)))),
     Step::Outcome(1, Some(Outcome::Value(Value::Int(6)))),
     Step::Outcome(2, None),
@@ -66,24 +67,32 @@ const STEPS: [Step; 13] = [
     Step::Apply(ATTACH, Ok(Reply::Attach(Attached::At(3)))),
 ];
 
+/// A ledger with so much room.
+fn opened(rt: &impl Abort, alloc: Global, room: u16) -> Result<Ledger, Fail> {
+    let plan = plan(alloc)?;
+    assert!(rt; plan.has_place(room));
+    Ok(Ledger::new(alloc, &plan, room)?)
+}
+
 #[test]
 fn words_are_done_and_written(rt: HostRuntime) -> Result<(), Fail> {
-    let plan = plan(rt.alloc())?;
-    assert!(rt; plan.has_place(1));
-    let mut ledger = Ledger::new(rt.alloc(), &plan, 1)?;
+    let mut ledger = opened(&rt, rt.alloc(), 1)?;
     take(&rt, rt.alloc(), &mut ledger, &STEPS);
-    assert!(rt; ledger.words() == WORDS.as_slice());
     take(&rt, rt.alloc(), &mut ledger, &AFTER);
     Ok(())
+}
+
+/// A ledger of the words of the first test.
+fn made_again(rt: &impl Abort, alloc: Global) -> Result<Ledger, Fail> {
+    let plan = plan(alloc)?;
+    assert!(rt; plan.has_place(3));
+    Ok(Ledger::of_words(alloc, &plan, 3, &WORDS)?)
 }
 
 /// The words of a ledger make the same one again.
 #[test]
 fn a_ledger_is_made_of_its_words(rt: HostRuntime) -> Result<(), Fail> {
-    let plan = plan(rt.alloc())?;
-    assert!(rt; plan.has_place(3));
-    let mut ledger = Ledger::of_words(rt.alloc(), &plan, 3, &WORDS)?;
-    assert!(rt; ledger.words() == WORDS.as_slice());
+    let mut ledger = made_again(&rt, rt.alloc())?;
     take(&rt, rt.alloc(), &mut ledger, &AFTER);
     Ok(())
 }
@@ -176,7 +185,7 @@ const MISFIT: Misfit = Misfit {
 const CANCEL: u64 = 0x0300001000000000;
 
 /// One request by steps; what is refused between them; and it is started again, and its words done in rows.
-const BY_STEPS: [Step; 16] = [
+const BY_STEPS: [Step; 17] = [
     Step::Apply(COMPLETE, Ok(Reply::Flag(true))),
     Step::Next(0, None, 2, Ok(IDLE)),
     Step::Next(64, None, 0, Err(StepFault::NoCaller)),
@@ -193,14 +202,12 @@ const BY_STEPS: [Step; 16] = [
     Step::ApplyAll(&[CLAIM, CANCEL], Ok(())),
     Step::Next(0, HELD, 0, Ok(LATE)),
     Step::Len(4),
+    Step::Words(&[COMPLETE, CLAIM, CANCEL, FINISH]),
 ];
 
 #[test]
 fn a_step_finishes_and_takes(rt: HostRuntime) -> Result<(), Fail> {
-    let plan = plan(rt.alloc())?;
-    assert!(rt; plan.has_place(0));
-    let mut ledger = Ledger::new(rt.alloc(), &plan, 0)?;
+    let mut ledger = opened(&rt, rt.alloc(), 0)?;
     take(&rt, rt.alloc(), &mut ledger, &BY_STEPS);
-    assert!(rt; ledger.words() == [COMPLETE, CLAIM, CANCEL, FINISH].as_slice());
     Ok(())
 }

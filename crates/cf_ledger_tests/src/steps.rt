@@ -6,7 +6,7 @@ use std::alloc::Global;
 use std::process::Abort;
 
 /// A call of `Ledger` with its answer last.
-#[derive(Clone, Copy, Debug)]
+#[derive(Clone, Copy)]
 pub(crate) enum Step {
     Apply(u64, Result<Reply, LedgerFault>),
     /// A caller, what it holds, and from which stage on it takes one.
@@ -15,6 +15,8 @@ pub(crate) enum Step {
     Restart,
     /// So many stages of room more.
     Grow(u16),
+    /// All that was done since the start.
+    Words(&'static [u64]),
     Outcome(u16, Option<Outcome>),
     LowestReady(Option<u16>),
     Stages(u16),
@@ -36,8 +38,13 @@ pub(crate) fn plan(alloc: Global) -> Result<Plan, PlanFault> {
     builder.build()
 }
 
+/// Whether so much room more has a place, and is there.
+fn grows(alloc: Global, ledger: &mut Ledger, more: u16) -> bool {
+    ledger.has_place(more) && ledger.grow(alloc, more) == Ok(())
+}
+
 /// Whether a step is answered so.
-fn is_answered(rt: &impl Abort, alloc: Global, ledger: &mut Ledger, step: Step) -> bool {
+fn is_answered(alloc: Global, ledger: &mut Ledger, step: Step) -> bool {
     match step {
         Step::Apply(word, answer) => ledger.apply(word) == answer,
         Step::Next(who, held, from, answer) => ledger.step(who, held, from) == answer,
@@ -46,10 +53,8 @@ fn is_answered(rt: &impl Abort, alloc: Global, ledger: &mut Ledger, step: Step) 
             ledger.restart();
             true
         }
-        Step::Grow(more) => {
-            assert!(rt; ledger.has_place(more));
-            ledger.grow(alloc, more) == Ok(())
-        }
+        Step::Grow(more) => grows(alloc, ledger, more),
+        Step::Words(answer) => ledger.words() == answer,
         Step::Outcome(i, answer) => i < ledger.stages() && ledger.outcome(i) == answer,
         Step::LowestReady(answer) => ledger.lowest_ready() == answer,
         Step::Stages(answer) => ledger.stages() == answer,
@@ -66,9 +71,6 @@ fn is_answered(rt: &impl Abort, alloc: Global, ledger: &mut Ledger, step: Step) 
 /// The ledger takes these steps, and each is answered as it says.
 pub(crate) fn take(rt: &impl Abort, alloc: Global, ledger: &mut Ledger, steps: &[Step]) {
     for (at, step) in steps.iter().enumerate() {
-        assert!(rt;
-            is_answered(rt, alloc, ledger, *step),
-            "step {at}: {step:?}"
-        );
+        assert!(rt; is_answered(alloc, ledger, *step), "step {at}");
     }
 }

@@ -1,4 +1,5 @@
 //! Plans to which stages are attached, beside plans that were built whole.
+use crate::rows::are_same;
 use cf_plan::{
     Form, GrowingPlan, LimitKind, MAX_STAGES, Of, Plan, PlanBuilder, PlanFault, fits_form,
 };
@@ -85,7 +86,7 @@ fn has_dependents(whole: &Plan, i: u16, named: &[u16]) -> bool {
 fn has_counts(plan: &GrowingPlan, whole: &Plan) -> bool {
     plan.stages() == whole.stages()
         && plan.edges() == whole.edges()
-        && plan.limits() == whole.limits()
+        && are_same(plan.limits(), whole.limits())
 }
 
 /// The plan is the one that was built whole.
@@ -117,12 +118,16 @@ fn assert_full(
     Ok(())
 }
 
+const SOURCE: Row<'static> = Row(Form::Source, Of::None, &[], None);
+
+const OPENING: [Row<'static>; 3] = [SOURCE, SOURCE, Row(Form::Apply, Of::One(0), &[0], Some(4))];
+
 /// Two sources, an apply, and a limit.
 fn opening(alloc: Global) -> Result<PlanBuilder, PlanFault> {
     let mut builder = PlanBuilder::new(alloc);
-    builder.stage(Form::Source, &[], None)?;
-    builder.stage(Form::Source, &[], None)?;
-    builder.stage(Form::Apply, &[0], Some(4))?;
+    for Row(form, _, of, function) in &OPENING {
+        builder.stage(*form, of, *function)?;
+    }
     builder.limit(2, 5, LimitKind::Timeout)?;
     Ok(builder)
 }
@@ -165,14 +170,15 @@ const EACH_COUNT: [Row<'static>; 4] = [
     Row(Form::Supply, Of::None, &[], Some(0)),
 ];
 
-/// Attaches these stages to the one plan, and adds them to the other, which is then the same. There is no room left.
+/// Attaches these stages to the opening, and adds them to the same builder, whose plan is then the same. There is no room
+/// left.
 fn fill(
     rt: &impl Abort,
     alloc: Global,
     plan: &mut GrowingPlan,
-    mut builder: PlanBuilder,
     rows: &[Row<'_>],
 ) -> Result<(), Fail> {
+    let mut builder = opening(alloc)?;
     add_all(rt, plan, &mut builder, rows)?;
     assert_full(rt, alloc, plan, builder)
 }
@@ -180,13 +186,7 @@ fn fill(
 #[test]
 fn stages_are_attached_behind_the_opening(rt: HostRuntime) -> Result<(), Fail> {
     let mut plan = with_four(&rt, rt.alloc())?;
-    fill(
-        &rt,
-        rt.alloc(),
-        &mut plan,
-        opening(rt.alloc())?,
-        &EACH_COUNT,
-    )?;
+    fill(&rt, rt.alloc(), &mut plan, &EACH_COUNT)?;
     assert!(rt; is_left(&plan, 0, 3, 1));
     Ok(())
 }
@@ -204,21 +204,28 @@ fn names_of_one(plan: &GrowingPlan, wanted: &[u16]) -> bool {
     right && later.pop().is_none() && later.pop().is_none()
 }
 
+/// Attaches two stages to stage 1, of which the second names it twice and comes first.
+fn attach_to_one(plan: &mut GrowingPlan) -> bool {
+    attaches(plan, Form::Apply, Of::One(1), Some(0))
+        && attaches(plan, Form::AllOf, Of::Two(1, 1), None)
+        && plan.stages() == 5
+        && names_of_one(plan, &[4, 4, 3])
+}
+
 #[test]
 fn the_newest_comes_first(rt: HostRuntime) -> Result<(), Fail> {
     let mut plan = with_four(&rt, rt.alloc())?;
-    assert!(rt; attaches(&mut plan, Form::Apply, Of::One(1), Some(0)));
-    assert!(rt; attaches(&mut plan, Form::AllOf, Of::Two(1, 1), None));
-    assert!(rt; plan.stages() == 5 && names_of_one(&plan, &[4, 4, 3]));
+    assert!(rt; attach_to_one(&mut plan));
     Ok(())
 }
 
-/// Adds an allOf of stage `i / 2` and the last, `i - 1`, to both plans, for each `i` from 1 on below 4,096.
+/// Adds a source to both plans, and an allOf of stage `i / 2` and the last, `i - 1`, for each `i` from 1 on below 4,096.
 fn add_most(
     rt: &impl Abort,
     plan: &mut GrowingPlan,
     builder: &mut PlanBuilder,
 ) -> Result<(), PlanFault> {
+    add(rt, plan, builder, SOURCE)?;
     for i in 1..4_096u16 {
         let (half, last) = (i / 2, i - 1);
         add(
@@ -231,15 +238,9 @@ fn add_most(
     Ok(())
 }
 
-/// Attaches a source and then those, and has as many edges as those name.
+/// Attaches those, and is then the plan that was built of them.
 fn fill_with_most(rt: &impl Abort, alloc: Global, plan: &mut GrowingPlan) -> Result<(), Fail> {
     let mut builder = PlanBuilder::new(alloc);
-    add(
-        rt,
-        plan,
-        &mut builder,
-        Row(Form::Source, Of::None, &[], None),
-    )?;
     add_most(rt, plan, &mut builder)?;
     assert_full(rt, alloc, plan, builder)
 }
@@ -301,5 +302,5 @@ fn a_restart_takes_out_what_was_attached(rt: HostRuntime) -> Result<(), Fail> {
     let mut plan = with_four(&rt, rt.alloc())?;
     restart_often(&rt, rt.alloc(), &mut plan)?;
     let row = Row(Form::AllOf, Of::Two(0, 0), &[0, 0], None);
-    fill(&rt, rt.alloc(), &mut plan, opening(rt.alloc())?, &[row; 4])
+    fill(&rt, rt.alloc(), &mut plan, &[row; 4])
 }

@@ -3,6 +3,7 @@ use crate::rows::{Ask, Step, check, check_after, check_built, take, taken};
 use cf_outcome::{Value, WriteFault};
 use cf_plan::{Form, Limit, LimitKind, MAX_EDGES, Plan, PlanBuilder, PlanFault};
 use std::alloc::Global;
+use std::fmt::Display;
 use std::process::Abort;
 use std::test::Fail;
 
@@ -205,21 +206,18 @@ fn every_number_of_edges_is_built(rt: HostRuntime) -> Result<(), Fail> {
     Ok(())
 }
 
-/// So many supplies, each with the greatest number of a function.
-fn supplies(rt: &impl Abort, alloc: Global, stages: u16) -> PlanBuilder {
-    let mut builder = PlanBuilder::new(alloc);
+/// Adds so many supplies, each with the greatest number of a function.
+fn add_supplies(rt: &impl Abort, builder: &mut PlanBuilder, stages: u16) {
     for i in 0..stages {
-        take(
-            rt,
-            &mut builder,
-            &[Step::Stage(Form::Supply, &[], Some(u16::MAX), Ok(i))],
-        );
+        let step = Step::Stage(Form::Supply, &[], Some(u16::MAX), Ok(i));
+        take(rt, builder, &[step]);
     }
-    builder
 }
 
 fn build_stages(rt: &impl Abort, alloc: Global, stages: u16) -> Result<(), PlanFault> {
-    let plan = supplies(rt, alloc, stages).build()?;
+    let mut builder = PlanBuilder::new(alloc);
+    add_supplies(rt, &mut builder, stages);
+    let plan = builder.build()?;
     let asks = [Ask::Stages(stages), Ask::Edges(0)];
     check(rt, &plan, &asks);
     assert_eq!(rt; plan.starts().len(), stages as usize);
@@ -227,10 +225,12 @@ fn build_stages(rt: &impl Abort, alloc: Global, stages: u16) -> Result<(), PlanF
     Ok(())
 }
 
+const STAGES: [u16; 8] = [0, 1, 2, 63, 64, 65, 4_095, 4_096];
+
 #[test]
 fn every_number_of_stages_is_built(rt: HostRuntime) -> Result<(), Fail> {
-    for stages in [0u16, 1, 2, 63, 64, 65, 4_095, 4_096] {
-        build_stages(&rt, rt.alloc(), stages)?;
+    for stages in &STAGES {
+        build_stages(&rt, rt.alloc(), *stages)?;
     }
     Ok(())
 }
@@ -344,16 +344,40 @@ const FAULTS: [(PlanFault, &str); 9] = [
     (PlanFault::TooManyLimits, "TooManyLimits"),
 ];
 
+/// A fault is written so.
+fn assert_written(
+    rt: &impl Abort,
+    alloc: Global,
+    fault: &impl Display,
+    text: &str,
+) -> Result<(), Fail> {
+    let written = format!(in alloc; "{fault}")?;
+    assert_eq!(rt; written.as_str(), text);
+    Ok(())
+}
+
 #[test]
 fn faults_are_written_by_name(rt: HostRuntime) -> Result<(), Fail> {
     for (fault, text) in &FAULTS {
-        let written = format!(in rt.alloc(); "{fault}")?;
-        assert_eq!(rt; written.as_str(), *text);
+        assert_written(&rt, rt.alloc(), fault, text)?;
     }
-    let fault = WriteFault;
-    let written = format!(in rt.alloc(); "{fault}")?;
-    assert_eq!(rt; written.as_str(), "WriteFault");
-    Ok(())
+    assert_written(&rt, rt.alloc(), &WriteFault, "WriteFault")
+}
+
+/// Adds a stage. Where a growth is refused, there are as many stages as before, and it is tried again.
+fn stage_again(
+    builder: &mut PlanBuilder,
+    form: Form,
+    of: &[u16],
+    function: Option<u16>,
+    number: u16,
+) -> Result<u16, PlanFault> {
+    let answer = builder.stage(form, of, function);
+    if answer == Err(PlanFault::NoMemory) && builder.stages() == number {
+        builder.stage(form, of, function)
+    } else {
+        answer
+    }
 }
 
 /// Adds a stage. Where a growth is refused, the same call again succeeds as if it were the first.
@@ -365,11 +389,7 @@ fn add_again(
     function: Option<u16>,
     number: u16,
 ) {
-    let mut answer = builder.stage(form, of, function);
-    if answer == Err(PlanFault::NoMemory) {
-        assert_eq!(rt; builder.stages(), number);
-        answer = builder.stage(form, of, function);
-    }
+    let answer = stage_again(builder, form, of, function, number);
     assert_eq!(rt; answer, Ok(number));
 }
 
@@ -473,10 +493,12 @@ fn build_beyond(rt: &impl Abort, alloc: Global, stages: u16, edges: u16) -> Resu
     Ok(())
 }
 
+const ROOMS: [(u16, u16); 3] = [(0, 0), (1, 1), (u16::MAX, u16::MAX)];
+
 #[test]
 fn room_is_no_bound(rt: HostRuntime) -> Result<(), Fail> {
-    for (stages, edges) in [(0, 0), (1, 1), (u16::MAX, u16::MAX)] {
-        build_beyond(&rt, rt.alloc(), stages, edges)?;
+    for (stages, edges) in &ROOMS {
+        build_beyond(&rt, rt.alloc(), *stages, *edges)?;
     }
     Ok(())
 }

@@ -25,13 +25,18 @@ pub(crate) enum Ask<'a> {
     Starts(&'a [u16]),
 }
 
+/// Whether these are the same limits in the same order.
+pub(crate) fn are_same(limits: &[Limit], others: &[Limit]) -> bool {
+    limits == others
+}
+
 /// Whether a call is answered so.
 fn is_taken(builder: &mut PlanBuilder, step: Step<'_>) -> bool {
     match step {
         Step::Stage(form, of, function, answer) => builder.stage(form, of, function) == answer,
         Step::Limit(stage, at, kind, answer) => builder.limit(stage, at, kind) == answer,
         Step::Stages(answer) => builder.stages() == answer,
-        Step::Limits(answer) => builder.limits() == answer,
+        Step::Limits(answer) => are_same(builder.limits(), answer),
     }
 }
 
@@ -44,7 +49,7 @@ fn is_answered(plan: &Plan, ask: Ask<'_>) -> bool {
         Ask::Function(i, answer) => i < plan.stages() && plan.function(i) == answer,
         Ask::Sources(i, answer) => i < plan.stages() && plan.sources(i) == answer,
         Ask::Dependents(i, answer) => i < plan.stages() && plan.dependents(i) == answer,
-        Ask::Limits(answer) => plan.limits() == answer,
+        Ask::Limits(answer) => are_same(plan.limits(), answer),
         Ask::Starts(answer) => plan.starts() == answer,
     }
 }
