@@ -39,15 +39,20 @@ pub fn scene_of(
 ) -> Result<Scene, AllocError>
     requires place { has_place plan.now.stages room ≡ true }
 {
-    let ledger = Ledger::new(alloc, plan, room);
-    let Ok(ledger) = ledger else {
-        return Err(AllocError);
-    };
+    let mut scene = opening_of(alloc, plan)?;
+    match scene.do_all(alloc, plan, room, words, people) {
+        Ok(()) => Ok(scene),
+        Err(fault) => Err(fault),
+    }
+}
+
+/// The scene of a plan to which nothing was done.
+fn opening_of(alloc: Global, plan: &Plan) -> Result<Scene, AllocError> {
     let Ok(plan) = plan.copy() else {
         return Err(AllocError);
     };
     let notes = Notes::new(alloc, &plan)?;
-    let scene = Scene {
+    Ok(Scene {
         plan,
         notes,
         start: String::new(alloc),
@@ -57,27 +62,27 @@ pub fn scene_of(
             width: 0,
             height: 0,
         },
-    };
-    told(alloc, scene, ledger, words, people)
-}
-
-/// The scene once its events are done and told, and its stages laid out.
-fn told(
-    alloc: Global,
-    scene: Scene,
-    ledger: Ledger,
-    words: &[u64],
-    people: &People,
-) -> Result<Scene, AllocError> {
-    let mut scene = scene;
-    let mut ledger = ledger;
-    match scene.go_through(alloc, &mut ledger, words, people) {
-        Ok(()) => Ok(scene),
-        Err(fault) => Err(fault),
-    }
+    })
 }
 
 impl Scene {
+    /// Does the words to a new ledger of the plan, and tells what came of them.
+    fn do_all(
+        &mut self,
+        alloc: Global,
+        plan: &Plan,
+        room: u16,
+        words: &[u64],
+        people: &People,
+    ) -> Result<(), AllocError>
+        requires place { has_place plan.now.stages room ≡ true }
+    {
+        match Ledger::new(alloc, plan, room) {
+            Ok(mut ledger) => self.go_through(alloc, &mut ledger, words, people),
+            Err(_) => Err(AllocError),
+        }
+    }
+
     /// Does the events, tells them, and lays the stages out.
     fn go_through(
         &mut self,

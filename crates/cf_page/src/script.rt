@@ -24,15 +24,12 @@ pub fn words_of(
 ) -> Result<Vec<u64>, AllocError>
     requires place { has_place plan.now.stages room ≡ true }
 {
-    let Ok(ledger) = Ledger::new(alloc, plan, room) else {
-        return Err(AllocError);
-    };
-    let mut ledger = ledger;
     let mut words = Vec::new(alloc);
-    match do_all(&mut ledger, &mut words, functions, steps) {
-        Ok(()) => Ok(words),
-        Err(fault) => Err(fault),
+    match Ledger::new(alloc, plan, room) {
+        Ok(mut ledger) => do_all(&mut ledger, &mut words, functions, steps)?,
+        Err(_) => return Err(AllocError),
     }
+    Ok(words)
 }
 
 /// Does the steps, and writes the words of their events.
