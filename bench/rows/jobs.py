@@ -60,7 +60,7 @@ class Jobs:
         try:
             next_kill = time.monotonic() + 1
             while count["kills"] < self.kills:
-                while sum(not it.done() for it in ends.values()) < OPEN:
+                for _ in range(OPEN - sum(not it.done() for it in ends.values())):
                     flow, name = Flow("job"), f"job {len(ends)}"
                     last = flow.supply(call, name).again(tries)
                     ends[name] = service.start(flow, name=name)[last]

@@ -17,7 +17,7 @@ from model import Graph  # noqa: E402
 from cf.events import event_of  # noqa: E402
 from cf.service.history import Told, _outcome_text, _reply_text, _shape  # noqa: E402
 from cf.service.words import ATTACH, CLAIM, COMPLETE, FAIL, FINISH, FORMS, PENDING  # noqa: E402
-from cf.shared import connect  # noqa: E402
+from cf.shared import Broken, connect  # noqa: E402
 
 CALLERS = int(os.environ.get("CF_CALLERS", "64"))
 
@@ -72,7 +72,10 @@ class Judge:
                     self.count["lost words"] += sum(it[0] == "did" for it in self.said[name])
                     self.wrong.append(f"{name}: the request is lost")
                     continue
-                out.write(self.request(name) + "\n")
+                try:
+                    out.write(self.request(name) + "\n")
+                except Broken as error:  # words are missing in it
+                    self.wrong.append(str(error))
         self.count["lost words"] += 0
         self.count["misfits"] = len(self.wrong)
         return self.count, self.wrong

@@ -2,6 +2,7 @@
 
 The engine writes to a small disk of its own, a file with ext4 in it. At a chance moment all processes are stopped, and the disk is copied as
 it is: what no sync had sent to it isn't in the copy, as where the power fails. A new server begins with the copy."""
+import contextlib
 import os
 import random
 import shutil
@@ -61,6 +62,13 @@ def below(pid):
     return found
 
 
+def send(pids, number):
+    """Sends a signal to processes, of which some may have ended by themselves."""
+    for pid in pids:
+        with contextlib.suppress(ProcessLookupError):
+            os.kill(pid, number)
+
+
 class Engine:
     """An engine on a disk."""
 
@@ -118,11 +126,9 @@ def cut(engine, lax, folder, number):
             time.sleep(0.05)
         time.sleep(random.uniform(1, 3))
         stopped = run.processes()
-        for pid in [writer.pid, *stopped]:
-            os.kill(pid, signal.SIGSTOP)
+        send([writer.pid, *stopped], signal.SIGSTOP)
         shutil.copyfile(first.image, second.image)
-        for pid in [writer.pid, *stopped]:
-            os.kill(pid, signal.SIGKILL)
+        send([writer.pid, *stopped], signal.SIGKILL)
         writer.wait()
         answered = len(Path(log).read_text().split()) if os.path.exists(log) else 0
         if not second.mount():
@@ -142,8 +148,7 @@ def cut(engine, lax, folder, number):
             return answered, 0  # it doesn't even start
         raise
     finally:
-        for pid in after.processes():
-            os.kill(pid, signal.SIGKILL)
+        send(after.processes(), signal.SIGKILL)
         if writer and writer.poll() is None:
             writer.kill()
         time.sleep(0.3)

@@ -18,6 +18,7 @@ TURNED = [
     (1, "a put that was given up isn't known later", "desk.py", "if token in self._doubt:", "if False:", "Desks.test_a_put_that_was_given_up"),
     (2, "a group lands in part", "sqlite.py", "            return False  # the first", "            continue  # the first", "Rows.test_appends"),
     (2, "a row with a gap is read", "rows.py", "if place != at + len(told):", "if False:", "Rows.test_rows_with_gaps"),
+    (2, "another request of the name is put to", "sqlite.py", "if put.number not in (0, number):", "if False:", "Rows.test_dropped"),
     (3, "who loses doesn't decide again", "desk.py", "wanted = decide(self)", "wanted = self._w = getattr(self, '_w', None) or decide(self)",
      "Desks.test_a_lost_reply_and_another"),
     (3, "who loses learns nothing of what stands", "desk.py", "others += [self._take(*entry) for entry in stands]\n", "return [], others\n",

@@ -28,7 +28,7 @@ def missing(engine):
         if not (POSTGRES / "initdb").exists():
             return "no postgresql-15"
         return "" if subprocess.run([sys.executable, "-c", "import psycopg2"], stderr=subprocess.DEVNULL).returncode == 0 else "no python3-psycopg2"
-    if engine == "parted" and (os.getuid() or not all(shutil.which(it) for it in ("unshare", "ip", "nft"))):
+    if engine in ("parted", "space") and (os.getuid() or not all(shutil.which(it) for it in ("unshare", "ip", "nft"))):
         return "it takes root, unshare, ip and nft"
     return "no etcd-server" if engine in ("etcd", "parted") and not shutil.which("etcd") else ""
 

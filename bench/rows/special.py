@@ -144,6 +144,17 @@ def store_away(address, folder):
         server.stop()
 
 
+def silent_network(address, folder):
+    """A network lets nothing through any more: PostgreSQL's calls tell it within a minute, and go on once it does."""
+    from servers import in_space, missing
+    lacks = missing("postgres") or missing("space")
+    if lacks:
+        return None, lacks
+    done = in_space([sys.executable, HERE / "silent.py", folder])
+    told = Path(folder, "told")
+    return done == 0, told.read_text() if told.exists() else "it ended before"
+
+
 def many_timers(address, folder):
     """500 timers: those that are due are found at once."""
     store = connect(address)
@@ -196,7 +207,7 @@ def many_open(address, folder):
     return len(ends) == 3000 and told == {"7": 1, "another": 0}, f"all in {1000 * whole:.1f} ms, what changed in {1000 * few:.2f} ms"
 
 
-ALL = [many_sessions, one_session_twice, full_disk, jumping_clock, store_away, many_timers, many_open, unsafe_servers, loss_of_power]
+ALL = [many_sessions, one_session_twice, full_disk, jumping_clock, store_away, silent_network, many_timers, many_open, unsafe_servers, loss_of_power]
 
 
 def run(folder):

@@ -3,7 +3,8 @@
     list [--closed]             each open request: name, age, words, how many stages wait, and for what the first ones wait
     show NAME [--account]       its words as sentences, one a line; with --account what `cf_look check` judges
     show NAME --page [CF_LOOK]  a page for a browser, which the program `cf_look` writes
-    end NAME [--cancel]         closes it, so that workers look at it no more; with --cancel its stages are cancelled first
+    end NAME [--cancel]         closes it, also one that is broken, so that workers look at it no more; with --cancel its stages are
+                                cancelled first
     drop --days N [NAME ..]     forgets those that were closed more than N days ago, or of these names; prints how many
 
 Status 0, 1 where a request isn't there or is broken, 2 where the words or the address are wrong. Nothing runs here.
@@ -90,12 +91,19 @@ def _show(store: Store, at: argparse.Namespace) -> List[str]:
 
 
 def _end(store: Store, at: argparse.Namespace) -> List[str]:
-    desk, many = _desk(store, at.name), 0
-    for stage in range(len(desk.kinds)) if at.cancel else ():
-        def decide(desk: Desk, stage: int = stage) -> Any:
-            return None if desk.is_settled(stage) else [(CANCEL << 56 | desk.who << 48 | stage << 36, None)]
-        many += desk.act(decide)[0] is not None
-    store.end(at.name, desk.seen)
+    many, words = 0, next((it.words for it in store.listing() if it.name == at.name), None)
+    if words is None:
+        raise StoreError(f"no request {at.name!r}")
+    if at.cancel:
+        desk = _desk(store, at.name)
+        for stage in range(len(desk.kinds)):
+            def decide(desk: Desk, stage: int = stage) -> Any:
+                return None if desk.is_settled(stage) else [(CANCEL << 56 | desk.who << 48 | stage << 36, None)]
+            many += desk.act(decide)[0] is not None
+        words = desk.seen
+    store.end(at.name, words)
+    if at.name in store.ends():
+        raise StoreError(f"request {at.name!r} isn't closed: words were put meanwhile")
     return [f"{at.name} is closed, {many} stages were cancelled"]
 
 

@@ -28,8 +28,8 @@ if not os.environ.get("CF_INSTALLED"):
 import shared_functions as f  # noqa: E402
 from cf import requests  # noqa: E402
 from cf.service import Flow, RequestFull, Service  # noqa: E402
-from cf.shared import (Abandoned, Broken, Desk, DurableService, Functions, Grouped, Json, Memory, Put, RemoteError, StoreError, Unknown,  # noqa: E402
-                       connect, new_session)
+from cf.shared import (Abandoned, Broken, Desk, DurableService, Functions, Grouped, Json, Memory, Put, RemoteError, StoreError, Timer,  # noqa: E402
+                       Unknown, connect, new_session)
 from cf.shared import service as shared_service  # noqa: E402
 from cf.shared.plans import text_of  # noqa: E402
 
@@ -166,7 +166,6 @@ class Rows(Case):
                 store.close()
 
     def test_sessions_and_timers(self):
-        from cf.shared import Timer
         for store in self.stores():
             with self.subTest(type(store).__name__):
                 store.open(self.name, "plan")
@@ -182,8 +181,23 @@ class Rows(Case):
                 self.assertEqual([(it.stage, it.payload) for it in mine], [(0, b"0"), (1, b"1")])
                 store.drop_timer(self.name, 0)
                 self.assertEqual([it.stage for it in store.due(now) if it.request == self.name], [1])
+                store.end(self.name, 0)
+                self.assertEqual([it for it in store.due(now + 9) if it.request == self.name], [])
                 store.drop(self.name)
                 store.close()
+
+    def test_a_long_name(self):
+        """It is taken, or refused at once."""
+        name, begun = os.urandom(10000).hex(), time.monotonic()
+        for store in self.stores():
+            with self.subTest(type(store).__name__):
+                try:
+                    self.assertEqual(store.open(name, "plan").name, name)
+                    store.drop(name)
+                except StoreError as error:
+                    self.assertNotIsInstance(error, Unknown)
+                store.close()
+        self.assertLess(time.monotonic() - begun, 20)
 
     def test_dropped(self):
         """A request that goes on isn't dropped; a put to one that was dropped is told so, also where another of its name was opened."""
@@ -205,9 +219,15 @@ class Rows(Case):
                         store.append(Put(name, 2, puts, {}))
                     self.assertIn("no such request", str(told.exception))
                 self.assertIsNone(store.find(name))
-                store.open(name, "another")
+                number = store.open(name, "another").number
                 self.assertEqual(store.read(name), [])
-                self.assertIsNone(store.append(Put(name, 0, [(5, 15)], {})))
+                self.assertIsNone(store.append(Put(name, 0, [(5, 15)], {}, number)))
+                store.drop(name)
+                self.assertNotEqual(store.open(name, "a third").number, number)
+                for puts in ([(6, 16)], [(6, 16), (7, 17)]):
+                    with self.assertRaises(Broken):
+                        store.append(Put(name, 0, puts, {}, number))
+                self.assertEqual(store.read(name), [])
                 store.drop(name)
                 store.close()
 
@@ -313,9 +333,10 @@ class Rows(Case):
                 store.close()
 
     def test_addresses(self):
-        for address in ("mysql://x", "sqlite://", "etcd://", "db"):
-            with self.assertRaises(ValueError):
+        for address in ("mysql://x", "sqlite://", "etcd://", "etcd://host", "etcd://127.0.0.1:1,host:port", "db"):
+            with self.assertRaises(ValueError) as told:
                 connect(address)
+            self.assertIn("is no address of a store", str(told.exception))
         with self.assertRaises(StoreError):
             connect("sqlite:////nowhere/at/all/db")
         Path(self.folder.name, "text").write_text("no database, but a text that is long enough to be one" * 100)
@@ -488,6 +509,22 @@ class Desks(Case):
         self.assertIn("'old', place 0: its plan can't be read", str(told.exception))
         self.assertIn("version 2", str(told.exception))
 
+    def test_a_stage_that_speaks_of_others(self):
+        """A further try and a promise for what comes are told by the numbers of lower stages, in a plan and in a payload."""
+        store = Memory()
+        for key in ("again", "to"):
+            for number in (-1, 1, 77):
+                said = {"form": "supply", "name": "s", key: number}
+                with self.assertRaises(Broken) as told:
+                    plan = {"cf": 3, "flow": "", "stages": [{"form": "source", "name": "p"}, said]}
+                    Desk(store, store.open(f"{key} {number}", json.dumps(plan)), new_session())
+                self.assertIn("place 0: its plan can't be read", str(told.exception))
+        desk = Desk(store, store.open("r", EMPTY), new_session())
+        desk.act(lambda desk: [(7 << 56 | 1 << 24, b'{"name":"s","again":5}')])
+        with self.assertRaises(Broken) as told:
+            desk.said(0)
+        self.assertIn("'r', place 1: its payload can't be read", str(told.exception))
+
     def test_a_store_that_is_away(self):
         class Away(Memory):
             def append(self, put):
@@ -587,6 +624,40 @@ class Services(Case):
             self.assertIsInstance(again.exception(20) if not again.cancelled() else CancelledError(), CancelledError)
             with self.assertRaises(TypeError):
                 late.again()
+
+    def test_a_promise_that_nothing_comes_of(self):
+        """Where a stage that composes fails, its promise is cancelled: a flow's request is closed all the same."""
+        for service, name in self.each():
+            flow = Flow("one")
+            number = flow.promise("number")
+            request = service.start(flow, name=name)
+            fails, given = request[number].compose(f.inc), request[number].compose(f.loading)
+            source = request[number].then(f.fails).compose(f.loading)
+            request[number].complete(1)
+            self.assertIsInstance(fails.exception(20), TypeError)
+            self.assertIsInstance(source.exception(20), PermissionError)
+            self.assertEqual(given.result(20)["number"], 1)
+            self.until(lambda: name not in service.store.ends())
+
+    def test_a_name_that_is_used_again(self):
+        """Who has a request that was dropped is told so, and another of its name is worked on."""
+        for service, name in self.each():
+            worker = DurableService(service.store, 1, functions=f.functions, takes_all=True, lease=1)
+            old = service.request(name)
+            stage = old.promise("p")
+            self.until(lambda: name in worker._requests)
+            service.store.drop(name)
+            new = service.request(name)
+            self.assertIsInstance(stage.exception(5), Broken)
+            with self.assertRaises(Broken) as told:
+                old.promise()
+            self.assertIn("no such request", str(told.exception))
+            self.assertEqual(new.seen, 0)
+            self.assertEqual(worker.open(name).supply(f.inc, 1).result(20), 2)
+            self.assertEqual(new[0].result(20), 2)
+            self.assertNotIn(name, {**service.broken, **worker.broken})
+            worker._stops.set()
+            worker._pump.join()
 
     def flow(self):
         flow = Flow("order")
@@ -761,6 +832,14 @@ class Services(Case):
             service.function("inc")(lambda x: x)
         with self.assertRaises(StoreError):
             self.service("memory://").function("x", transactional=True)
+        for lease in (0, -1, float("inf"), float("nan")):
+            with self.assertRaises(ValueError):
+                DurableService(Memory(), lease=lease)
+        other = Functions()
+        other.function("inc")(lambda x: x)
+        with self.assertRaises(ValueError) as told:
+            other.add(f.functions)
+        self.assertIn("inc, version 1, is another function already", str(told.exception))
         self.assertIsInstance(Service(store=connect("memory://")), DurableService)
         service.shutdown()
         with self.assertRaises(RuntimeError):
@@ -881,7 +960,7 @@ class Processes(Case):
     def killed(self, stage, path, ready=lambda: True):
         """Kills the worker that runs a stage, once it has left its mark, and starts another."""
         worker = self.worker()
-        self.until(lambda: os.path.exists(path) and ready())
+        self.until(lambda: os.path.exists(path) and os.path.getsize(path) and ready())
         worker.kill()
         worker.wait()
         self.worker()
@@ -1016,6 +1095,44 @@ class Processes(Case):
         self.assertEqual(good.supply(f.load, 1).result(20)["number"], 1)
         db.close()
 
+    def test_bad_payloads_and_timers_leave_others_alone(self):
+        """What a composing stage and a timer name by hand isn't there: each is told with its request, and others go on."""
+        store = connect(self.address)
+        promise, completes = (7 << 56, b'{"name":"p"}'), (1 << 56 | 1 << 36, None)
+        composes = 7 << 56 | 1 << 36 | 1 << 32 | 12 << 24 | 2, b'{"name":"loading","fn":"loading","version":1}'
+        to_0 = composes[0], composes[1][:-1] + b',"to":0}'
+        links = [(4 << 56 | 2 << 36, None), (5 << 56 | 2 << 36 | 3 << 32, b'{"stage":9}')]
+        rows = {"no promise": [promise, promise, composes, completes], "no stage": [promise, promise, to_0, completes, *links],
+                "no timer": [promise]}
+        for name, words in rows.items():
+            desk = Desk(store, store.open(name, EMPTY), new_session())
+            desk.act(lambda desk, words=words: [(word | desk.who << 48, said) for word, said in words])
+        db = sqlite3.connect(f"{self.folder.name}/db", isolation_level=None)
+        db.execute("insert into cf_timer values (3, 77, 0, 'by hand')")
+        db.close()
+        with self.assertLogs("cf.shared", "WARNING") as logs:
+            service = self.service(takes_all=True)
+            self.until(lambda: len(service.broken) == 2 and "'no timer'" in "".join(logs.output))
+            self.assertEqual(service.request("no timer").supply(f.load, 1).result(20)["number"], 1)
+            service.shutdown()
+        told = "\n".join(logs.output)
+        for part in ("'no promise', place 3: stage 2 composes", "'no stage', place 6: its payload can't be read", "'no timer': place 2: a timer"):
+            self.assertIn(part, told)
+        self.assertNotIn("CRITICAL", told)
+        store.close()
+
+    def test_a_timer_of_a_plan_that_is_unknown(self):
+        """Who can't read a request leaves its timers for others."""
+        store = connect(self.address)
+        store.open("newer", '{"cf":99}')
+        store.set_timer(Timer("newer", 0, 0.0, b"N"))
+        with self.assertLogs("cf.shared", "ERROR"):
+            service = self.service(takes_all=True)
+            self.until(lambda: service.broken)
+            self.assertEqual(service.request("good").supply(f.slow, 0.2).result(20), os.getpid())
+        self.assertEqual(len(store.due(1.0)), 1)
+        store.close()
+
     def test_the_worker_command(self):
         for words in (["--store", "nothing://", "shared_functions"], ["--store", self.address, "json"], ["--store", self.address, "no.such.module"]):
             done = subprocess.run([sys.executable, "-m", "cf.worker", *words], stderr=subprocess.PIPE, timeout=60,
@@ -1052,6 +1169,16 @@ class Command(Case):
         self.assertEqual(self.run_it("drop", "--days", "1")[1], "0 dropped\n")
         self.assertEqual(self.run_it("drop", "--days", "0")[1], "1 dropped\n")
         self.assertEqual(self.run_it("show", "order 17")[0], 1)
+        self.assertEqual(self.run_it("end", "order 17")[0], 1)
+        service.shutdown()
+        db = sqlite3.connect(f"{self.folder.name}/db", isolation_level=None)
+        db.execute("insert into cf_word (request, at, word, token) values (2, 5, 77, 7)")
+        db.close()
+        self.assertIn("order 18", self.run_it("list")[1])
+        self.assertRegex(self.run_it("list")[1], "broken at place 2: no word stands there")
+        self.assertEqual(self.run_it("end", "order 18", "--cancel")[0], 1)
+        self.assertEqual(self.run_it("end", "order 18")[0], 0)
+        self.assertEqual(self.run_it("drop", "--days", "0")[1], "1 dropped\n")
         with self.assertRaises(SystemExit):
             self.run_it("what")
 

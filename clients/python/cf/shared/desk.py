@@ -10,10 +10,11 @@ from .. import values
 from .._library import CNews
 from ..service._plain import PlanCore, _grow, _Ledger, _told
 from ..service.history import History, Told
-from ..service.words import ANSWER, ATTACH, CLAIM, FINISH, IS_CLAIMED, IS_READY, IS_SETTLED, LINKS, MOST_STAGES, NUMBER, PENDING, RequestFull
+from ..service.words import (ANSWER, ATTACH, CLAIM, COMPOSE_FORMS, FINISH, IS_CLAIMED, IS_READY, IS_SETTLED, LINKS, MOST_STAGES, NUMBER, PENDING,
+                             RequestFull)
 from .codec import Json
 from .plans import SharedPlan, said_in
-from .rows import COUNT_BITS, Broken, Opened, Put, Store, Unknown, gone, sure
+from .rows import COUNT_BITS, Broken, Gone, Opened, Put, Store, Unknown, sure
 
 CALLERS = int(os.environ.get("CF_CALLERS", "64"))  # fewer, for tests of sessions that share a number
 COUNTS = 1 << COUNT_BITS
@@ -96,6 +97,7 @@ class Desk:
         self.places: List[int] = [0] * len(self.forms)  # where each was settled
         self.attached: Dict[int, int] = {}  # the place of the word that attached a stage
         self.links: Dict[int, int] = {}  # the promises that composing stages were linked to, with the places of those words
+        self.unlinked: Set[int] = set()  # composing stages that were settled, and whose promises may be waited for by nobody
         self.claims: Dict[int, int] = {}  # the session whose claim of a stage is open
         self.ready: Set[int] = {number for number, kind in enumerate(self.kinds) if kind == IS_READY}
         self.words: "array[int]" = array("Q")
@@ -159,7 +161,7 @@ class Desk:
                 self.unknown += 1
                 stands = self._put_again(put)
             if stands == []:
-                raise gone(self.name)
+                raise Gone(self.name)
             if stands is None or stands[0][1] == put.entries[0][1]:  # the second: its token stands, so it had landed
                 done = self.landed(put)
                 others += [self._take(*entry) for entry in (stands or [])[len(put.entries):]]
@@ -178,7 +180,8 @@ class Desk:
         """A put of these words behind what is seen, with new tokens."""
         entries = [(word, self.session << COUNT_BITS | (self._count + k) % COUNTS) for k, (word, _) in enumerate(wanted)]
         self._count += len(wanted)
-        return Put(self.name, self.seen, entries, {self.place + k: it for k, (_, it) in enumerate(wanted) if it is not None})
+        payloads = {self.place + k: it for k, (_, it) in enumerate(wanted) if it is not None}
+        return Put(self.name, self.seen, entries, payloads, self.opened.number)
 
     def landed(self, put: Put) -> List[Done]:
         """Does the words of a put that stands."""
@@ -261,6 +264,8 @@ class Desk:
             if kind == IS_SETTLED and not self.places[number]:
                 self.told[number], self.places[number] = Told(*_told(it.now)), place
                 settled.append(number)
+                if self.forms[number][0] in COMPOSE_FORMS:
+                    self.unlinked.add(number)
         return settled
 
     # Room for stages that are attached.
@@ -301,7 +306,7 @@ class Desk:
         if stage < len(self.plan.said):
             return self.plan.said[stage]
         if stage not in self._said:
-            self._said[stage] = self.read(self.attached[stage], lambda given: said_in(json.loads(given.decode())))
+            self._said[stage] = self.read(self.attached[stage], lambda given: said_in(json.loads(given.decode()), stage))
         return self._said[stage]
 
     def read(self, place: int, reader: Callable[[bytes], T]) -> T:

@@ -9,7 +9,7 @@ import weakref
 from typing import Any, Dict, List, Optional, Sequence, Tuple
 from urllib.parse import quote, unquote
 
-from .rows import Entry, Listed, Opened, Put, Store, StoreError, Timer, Unknown, gone, in_a_row
+from .rows import Entry, Gone, Listed, Opened, Put, Store, StoreError, Timer, Unknown, in_a_row
 
 MOST_ENTRIES = 40  # in a put: a transaction of etcd has 128 operations at most by default
 SECONDS = 3  # for an answer
@@ -71,20 +71,21 @@ class Etcd(Store):
             return None
         said = json.loads(base64.b64decode(found[0]["value"]))
         self._born[name] = found[0]["create_revision"]
-        return Opened(name, said["plan"], said["opened"])
+        return Opened(name, said["plan"], said["opened"], int(self._born[name]))
 
-    def _is_there(self, name: str) -> Any:
+    @staticmethod
+    def _is_there(name: str, revision: str) -> Any:
         """Compares whether a request is the one that was opened."""
-        return {"key": _b64(_key("r", name)), "target": "CREATE", "create_revision": self._revision(name)}
+        return {"key": _b64(_key("r", name)), "target": "CREATE", "create_revision": revision}
 
     def _revision(self, name: str) -> str:
         if name not in self._born and self.find(name) is None:
-            raise gone(name)
+            raise Gone(name)
         return self._born[name]
 
-    def _row(self, kind: str, name: str) -> bytes:
+    def _row(self, kind: str, name: str, revision: str = "") -> bytes:
         """What the keys of a request's words or payloads begin with: another request of the same name has others."""
-        return _key(kind, name) + f"/{self._revision(name)}/".encode()
+        return _key(kind, name) + f"/{revision or self._revision(name)}/".encode()
 
     def ends(self) -> Dict[str, int]:
         return {_name(key): int(value) for key, value in self._get(b"cf/o/", b"cf/o0", serializable=True)}
@@ -106,9 +107,10 @@ class Etcd(Store):
         return sorted(told)
 
     def end(self, name: str, at: int) -> None:
-        key = _key("o", name)
+        key, timers = _key("o", name), _key("t", name) + b"/"
         self._txn([{"key": _b64(key), "target": "VALUE", "value": _b64(b"%d" % at)}],
-                  [{"request_delete_range": {"key": _b64(key)}}, _put(_key("c", name), json.dumps([time.time(), at]).encode())])
+                  [{"request_delete_range": {"key": _b64(key)}}, {"request_delete_range": _range(timers, _after(timers))},
+                   _put(_key("c", name), json.dumps([time.time(), at]).encode())])
 
     def reopen(self, name: str) -> None:
         many = len(self.read(name))
@@ -116,11 +118,12 @@ class Etcd(Store):
 
     def drop(self, name: str, at: Optional[int] = None) -> bool:
         ranges = [_range(key, _after(key)) for key in (_key(kind, name) + b"/" for kind in "wpt")] + [_range(_key(kind, name)) for kind in "roc"]
-        row = self._row("w", name)
+        revision = self._revision(name)
+        row = self._row("w", name, revision)
         is_so = [] if at is None else [_absent(_key("o", name)), _absent(_place(row, at))]
         if at:
             is_so.append({"key": _b64(_place(row, at - 1)), "target": "VERSION", "result": "GREATER", "version": 0})
-        told = self._txn([self._is_there(name), *is_so], [{"request_delete_range": it} for it in ranges])
+        told = self._txn([self._is_there(name, revision), *is_so], [{"request_delete_range": it} for it in ranges])
         if told.get("succeeded"):
             self._born.pop(name, None)
         return bool(told.get("succeeded"))
@@ -133,17 +136,18 @@ class Etcd(Store):
     def _append(self, put: Put) -> Optional[List[Entry]]:
         if len(put.entries) > MOST_ENTRIES:
             raise StoreError(f"etcd takes {MOST_ENTRIES} words in a put, not {len(put.entries)}")
-        row, payloads = self._row("w", put.request), self._row("p", put.request)
+        revision = str(put.number or self._revision(put.request))
+        row, payloads = self._row("w", put.request, revision), self._row("p", put.request, revision)
         key, end = _place(row, put.at), _after(row)
         puts = [_put(_place(row, put.at + k), b"%x %x" % entry) for k, entry in enumerate(put.entries)]
         puts += [_put(_place(payloads, place), payload) for place, payload in put.payloads.items()]
         puts.append(_put(_key("o", put.request), b"%d" % (put.at + len(put.entries))))
-        told = self._txn([_absent(key), self._is_there(put.request)], puts, [{"request_range": _range(key, end)}])
+        told = self._txn([_absent(key), self._is_there(put.request, revision)], puts, [{"request_range": _range(key, end)}])
         if told.get("succeeded"):
             return None
         stands = told["responses"][0]["response_range"].get("kvs", [])
         if not stands:
-            raise gone(put.request)
+            raise Gone(put.request)
         return _entries(put.request, put.at, [(base64.b64decode(it["key"]), base64.b64decode(it["value"])) for it in stands])
 
     def read(self, name: str, at: int = 0) -> List[Entry]:

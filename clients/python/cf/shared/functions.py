@@ -42,9 +42,9 @@ class Functions:
         return named
 
     def add(self, other: "Functions") -> None:
-        """Takes all that another has."""
-        self._known.update(other._known)
-        self._names.update(other._names)
+        """Takes all that another has. `ValueError` where a name and version are another function's here."""
+        for known in other._known.values():
+            self.function(known.name, known.version, known.is_transactional)(known.call)
 
     def of(self, call: Callable[..., Any]) -> Known:
         """What a function is registered as; `TypeError` where it isn't."""

@@ -22,7 +22,7 @@ class SharedPlan:
             if read["cf"] != FORMAT:
                 raise ValueError(f"it is of version {read['cf']}")
             self.flow = str(read["flow"])
-            self.said: List[Dict[str, Any]] = [said_in(it) for it in read["stages"]]
+            self.said: List[Dict[str, Any]] = [said_in(it, number) for number, it in enumerate(read["stages"])]
             forms = [FORMS.index(it["form"]) for it in self.said]
             rows = [(form, tuple(it.get("of", [])), None if form in HAS_NO_FUNCTION else _nobody, str(it["name"]))
                     for form, it in zip(forms, self.said)]
@@ -36,11 +36,14 @@ class SharedPlan:
         return self.core.rows
 
 
-def said_in(read: Any) -> Dict[str, Any]:
-    """What was read of a stage, if it is something of the kind: its name, and its function's name, version and arguments."""
+def said_in(read: Any, number: int) -> Dict[str, Any]:
+    """What was read of a stage of this number, if it is something of the kind: its name, its function's name, version and arguments, and
+    the lower stages that it speaks of."""
     kinds = {"name": str, "fn": str, "version": int, "args": list, "kwargs": dict, "again": int, "to": int}
     if not isinstance(read, dict) or "name" not in read or any(name in read and not isinstance(read[name], kind) for name, kind in kinds.items()):
         raise ValueError(f"it says nothing of a stage: {str(read)[:80]}")
+    if any(not 0 <= read.get(name, 0) < max(number, 1) for name in ("again", "to")):
+        raise ValueError(f"it names a stage that isn't lower: {str(read)[:80]}")
     return read
 
 

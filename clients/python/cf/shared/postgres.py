@@ -7,7 +7,7 @@ from typing import Any, Dict, Generator, Iterator, List, Optional, Sequence, Tup
 
 import psycopg2  # type: ignore[import]
 
-from .rows import Entry, Listed, Opened, Put, Store, StoreError, Timer, Transaction, Unknown, gone, in_a_row
+from .rows import Entry, Gone, Listed, Opened, Put, Store, StoreError, Timer, Transaction, Unknown, in_a_row
 
 SCHEMA = """
     create table if not exists cf_request (id bigserial primary key, name text not null unique, plan text not null,
@@ -31,8 +31,11 @@ PREPARED = """
         (values ($2, $3, $4, $5), ($2 + 1, $6, $7, $8)) as v where id = $1;
     prepare cf_read(bigint, int) as select at, word, token from cf_word where request = $1 and at >= $2 order by at;
 """
+HAS = "(select coalesce(max(at) + 1, 0) from cf_word where request = id) = %s"  # so many words
 PUT_ALL = "insert into cf_word select id, at, word, token, payload from (values %s) as v(request, at, word, token, payload) join cf_request on id = request"
 SAFE = {"fsync": ("on",), "full_page_writes": ("on",), "transaction_read_only": ("off",)}
+# A network that lets nothing through is told after 20 s: else a call would wait for many minutes.
+NOTICES_SILENCE = {"tcp_user_timeout": 20_000, "keepalives_idle": 10, "keepalives_interval": 5, "keepalives_count": 2}
 LEAST_BETWEEN = 0.01  # seconds between two notices: the first goes at once
 
 
@@ -64,7 +67,7 @@ class Postgres(Store):
     # Connections.
 
     def _connected(self) -> Any:
-        db = psycopg2.connect(self._address, connect_timeout=5)
+        db = psycopg2.connect(self._address, connect_timeout=5, **NOTICES_SILENCE)
         db.autocommit = True
         with db.cursor() as cursor:
             for name, wanted in {} if self._is_unsafe else SAFE.items():
@@ -117,9 +120,15 @@ class Postgres(Store):
         if found is None:
             rows = self._ask("select id from cf_request where name = %s", name)
             if not rows:
-                raise gone(name)
+                raise Gone(name)
             found = self._ids[name] = int(rows[0][0])
         return found
+
+    def _id_of(self, put: Put) -> int:
+        number = self._id(put.request)
+        if put.number not in (0, number):
+            raise Gone(put.request)
+        return number
 
     # Requests.
 
@@ -135,8 +144,8 @@ class Postgres(Store):
         rows = self._ask("select id, plan, opened from cf_request where name = %s", name)
         if not rows:
             return None
-        self._ids[name] = int(rows[0][0])
-        return Opened(name, str(rows[0][1]), float(rows[0][2]))
+        number = self._ids[name] = int(rows[0][0])
+        return Opened(name, str(rows[0][1]), float(rows[0][2]), number)
 
     def ends(self) -> Dict[str, int]:
         return {str(name): int(many or 0) for name, many in self._ask(
@@ -164,14 +173,14 @@ class Postgres(Store):
             "select name, opened, closed, (select max(at) + 1 from cf_word where request = id) from cf_request order by name")]
 
     def end(self, name: str, at: int) -> None:
-        self._ask(f"update cf_request set closed = {NOW} where name = %s and closed is null and "
-                  "(select count(*) from cf_word where request = id) = %s", name, at)
+        self._ask(f"with closed as (update cf_request set closed = {NOW} where id = %s and closed is null and {HAS} returning id) "
+                  "delete from cf_timer where request in (select id from closed)", self._id(name), at)
 
     def reopen(self, name: str) -> None:
         self._ask("update cf_request set closed = null, made_by = pg_current_xact_id() where name = %s and closed is not null", name)
 
     def drop(self, name: str, at: Optional[int] = None) -> bool:
-        is_so = "" if at is None else " and closed is not null and (select count(*) from cf_word where request = id) = %s"
+        is_so = "" if at is None else f" and closed is not null and {HAS}"
         dropped = bool(self._ask(f"with gone as (delete from cf_request where id = %s{is_so} returning id), "
                                  "words as (delete from cf_word where request in (select id from gone)), "
                                  "timers as (delete from cf_timer where request in (select id from gone)) select id from gone",
@@ -184,7 +193,7 @@ class Postgres(Store):
 
     def append_groups(self, puts: Sequence[Put]) -> List[Optional[List[Entry]]]:
         puts, order = sorted(puts, key=lambda put: put.request), list(puts)
-        ids = {put.request: self._id(put.request) for put in puts}
+        ids = {put.request: self._id_of(put) for put in puts}
         rows = [(ids[put.request], put.at + k, *entry, put.payloads.get(put.at + 1 + k)) for put in puts for k, entry in enumerate(put.entries)]
         if len(rows) == 1:
             told = [self._append_one(puts[0], rows[0])]
@@ -200,7 +209,7 @@ class Postgres(Store):
     def _stands(self, put: Put) -> List[Entry]:
         stands = self.read(put.request, put.at)
         if not stands:
-            raise gone(put.request)
+            raise Gone(put.request)
         return stands
 
     def _append_all(self, puts: Sequence[Put], rows: Sequence[Tuple[Any, ...]]) -> List[Optional[List[Entry]]]:
@@ -319,6 +328,8 @@ class Postgres(Store):
 
 def _is_lost(error: psycopg2.Error) -> bool:
     """Whether it isn't known what became of a statement: a cut connection may come as a `DatabaseError` without a kind."""
+    if isinstance(error, psycopg2.errors.ProgramLimitExceeded):  # a name that is too long, say: asked again it is refused again
+        return False
     return isinstance(error, (psycopg2.OperationalError, psycopg2.InterfaceError)) or type(error) is psycopg2.DatabaseError
 
 
@@ -337,7 +348,7 @@ class _Transaction(Transaction):
         return bool(self._db.closed)
 
     def append(self, put: Put) -> bool:
-        number = self._store._id(put.request)
+        number = self._store._id_of(put)
         with self._store._telling():
             for k, entry in enumerate(put.entries):
                 self.connection.execute("insert into cf_word select id, %s, %s, %s, %s from cf_request where id = %s on conflict do nothing",

@@ -262,10 +262,22 @@ class Request:
         return self._stage(done[-1].reply[NUMBER])
 
     def _relay(self) -> None:
-        """Settles the promises of stages that composed as the stages are that their functions gave, where those are settled."""
+        """Settles the promises of stages that composed as the stages are that their functions gave, where those are settled, and cancels
+        those of stages that were settled in another way."""
         desk = self._desk
+
+        def given_in(said: bytes) -> int:
+            given = int(json.loads(said)["stage"])
+            if not 0 <= given < len(desk.forms):
+                raise ValueError(f"there is no stage {given}")
+            return given
+        for stage in list(desk.unlinked):
+            promise = int(desk.said(stage).get("to", stage))
+            if promise not in desk.links and not desk.is_settled(promise):
+                self._settle(CANCEL, promise, None)
+            desk.unlinked.discard(stage)
         for promise, place in list(desk.links.items()):
-            given = desk.read(place, lambda said: int(json.loads(said)["stage"])) if not desk.is_settled(promise) else promise
+            given = desk.read(place, given_in) if not desk.is_settled(promise) else promise
             if given == promise:
                 desk.links.pop(promise, None)
             elif desk.is_settled(given):
@@ -325,6 +337,8 @@ class Request:
 
     def _fire(self, timer: Timer) -> None:
         kind, payload = timer.payload[:1], timer.payload[1:]
+        if not 0 <= timer.stage < len(self._desk.forms):
+            raise StoreError(f"place {self._desk.place}: a timer is set for stage {timer.stage}, which isn't there")
         self._settle(FAIL if kind == b"E" else COMPLETE, timer.stage, None if kind == b"N" else payload)
 
     def _act_within(self, transaction: Transaction, finish: "Finish") -> bool:

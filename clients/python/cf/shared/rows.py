@@ -48,9 +48,11 @@ def in_a_row(name: str, at: int, rows: Iterable[Tuple[Any, ...]]) -> List[Entry]
     return told
 
 
-def gone(name: str) -> Broken:
-    """What a request is told that isn't in the store, or not any more."""
-    return Broken(name, 0, "the store has no such request")
+class Gone(Broken):
+    """A request that isn't in the store, or not any more."""
+
+    def __init__(self, request: str) -> None:
+        super().__init__(request, 0, "the store has no such request")
 
 
 def sure(call: Callable[[], T], name: str, place: int, patience: float, note: Callable[[], None] = lambda: None) -> T:
@@ -68,20 +70,23 @@ def sure(call: Callable[[], T], name: str, place: int, patience: float, note: Ca
 
 
 class Put(NamedTuple):
-    """Entries for the places behind `at` words of a request, and the payloads of those that have one, by their places."""
+    """Entries for the places behind `at` words of a request, and the payloads of those that have one, by their places. `number` is the
+    request's own, or 0 for whichever has the name."""
 
     request: str
     at: int
     entries: Sequence[Entry]
     payloads: Mapping[int, bytes]
+    number: int = 0
 
 
 class Opened(NamedTuple):
-    """A request as it was opened: when, in seconds of the engine's clock since 1970."""
+    """A request as it was opened: when, in seconds of the engine's clock since 1970. Another one of its name has another number."""
 
     name: str
     plan: str
     opened: float
+    number: int
 
 
 class Listed(NamedTuple):
@@ -166,7 +171,7 @@ class Store(abc.ABC):
 
     @abc.abstractmethod
     def end(self, name: str, at: int) -> None:
-        """Marks a request as closed, where it has just so many words: nothing is left to do in it."""
+        """Marks a request as closed, where it has just so many words: nothing is left to do in it. Its timers are forgotten."""
 
     @abc.abstractmethod
     def reopen(self, name: str) -> None:
@@ -247,7 +252,7 @@ class Memory(Store):
                 self._puts += 1
                 self._last[name] = self._puts
                 self._change.notify_all()
-            return self._opened.setdefault(name, Opened(name, plan, time.time()))
+            return self._opened.setdefault(name, Opened(name, plan, time.time(), self._puts))
 
     def find(self, name: str) -> Optional[Opened]:
         return self._opened.get(name)
@@ -261,8 +266,8 @@ class Memory(Store):
         return told
 
     def _append(self, put: Put) -> Optional[List[Entry]]:
-        if put.request not in self._opened:
-            raise gone(put.request)
+        if put.request not in self._opened or put.number not in (0, self._opened[put.request].number):
+            raise Gone(put.request)
         row = self._rows.setdefault(put.request, [])
         if len(row) > put.at:
             return row[put.at:]
@@ -298,6 +303,7 @@ class Memory(Store):
         with self._change:
             if len(self._rows.get(name, [])) == at:
                 self._closed.setdefault(name, time.time())
+                self._timers = {key: it for key, it in self._timers.items() if key[0] != name}
 
     def reopen(self, name: str) -> None:
         with self._change:

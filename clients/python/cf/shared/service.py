@@ -3,6 +3,7 @@ import concurrent.futures
 import contextlib
 import itertools
 import logging
+import math
 import os
 import threading
 import time
@@ -10,15 +11,15 @@ from typing import Any, Callable, Dict, List, NamedTuple, Optional, Sequence, Se
 
 from ..service.flow import Flow
 from ..service.history import Told
-from ..service.words import (ANSWER, ARGS, CLAIM, FAIL, FINISH, FIRST, FIRST_SOME, GIVES, GOT, LINKS, ONE, OUTCOME, SECOND, SECOND_SOME, THROWS,
-                             TWO, VALUE)
+from ..service.words import (ANSWER, ARGS, CLAIM, COMPOSE_FORMS, FAIL, FINISH, FIRST, FIRST_SOME, GIVES, GOT, LINKS, ONE, OUTCOME, SECOND,
+                             SECOND_SOME, THROWS, TWO, VALUE)
 from ..values import Form
 from .codec import Abandoned, Json
 from .desk import Desk, Done, Watcher, new_session
 from .functions import F, Functions, Known
 from .plans import text_of, tried_again
 from .request import Request, Stage
-from .rows import Broken, Grouped, Store, StoreError, Timer, Unknown, sure
+from .rows import Broken, Gone, Grouped, Store, StoreError, Timer, Unknown, sure
 
 T = TypeVar("T")
 LOGGER = logging.getLogger("cf.shared")
@@ -77,6 +78,8 @@ class DurableService(concurrent.futures.Executor):
         workers = min(32, (os.cpu_count() or 1) + 4) if max_workers is None else max_workers
         if workers < 0:
             raise ValueError("max_workers must not be below 0")
+        if not 0 < lease < math.inf:
+            raise ValueError("lease must be above 0 and finite")
         self.store: Store = Grouped(store) if groups else store
         self.codec: Json = codec or Json()
         self.session: int = new_session()
@@ -141,7 +144,7 @@ class DurableService(concurrent.futures.Executor):
 
     def shutdown(self, wait: bool = True, *, cancel_futures: bool = False) -> None:
         """Begins no more functions. Those that run are finished; what is open stays in the store, and others go on with it. With
-        `cancel_futures` stages of requests that were begun here and that nobody has claimed are cancelled."""
+        `cancel_futures` stages of flows, as by `submit`, that were asked for here and that nobody has claimed are cancelled."""
         if cancel_futures:
             for request in list(self._requests.values()):
                 request._cancel_all()
@@ -167,9 +170,14 @@ class DurableService(concurrent.futures.Executor):
 
     def _kept(self, request: Request) -> Request:
         with self._lock:
-            request = self._requests.setdefault(request.name, request)
-        request._catch_up()
-        return request
+            known = self._requests.setdefault(request.name, request)
+            if known._desk.opened != request._desk.opened:
+                self._requests[request.name] = request
+        if known._desk.opened != request._desk.opened:
+            known._fail_all(Gone(request.name))  # it was dropped, and another of its name begun
+            known = request
+        known._catch_up()
+        return known
 
     def _taken(self, name: str) -> Optional[Request]:
         """A request of the store, or None where it is broken or gone."""
@@ -184,12 +192,15 @@ class DurableService(concurrent.futures.Executor):
             self._break(name, error)
             return None
 
-    def _break(self, name: str, error: BaseException) -> None:
+    def _break(self, name: str, error: BaseException, request: Optional[Request] = None) -> None:
         """Leaves a request alone. Others go on."""
         LOGGER.error("%s", error)
-        self.broken[name] = error
+        if not isinstance(error, Gone):  # (another of its name may be begun)
+            self.broken[name] = error
         with self._lock:
-            request = self._requests.pop(name, None)
+            request = request or self._requests.get(name)
+            if self._requests.get(name) is request:
+                self._requests.pop(name, None)
         if request is not None:
             request._fail_all(error)
 
@@ -214,7 +225,8 @@ class DurableService(concurrent.futures.Executor):
         if now >= self._next_look:
             self._next_look = now + 0.02
             for timer in self.store.due(self.store.now()):
-                if (self._takes_all or timer.request in self._requests) and timer[:3] not in self._firing:
+                is_mine = timer.request in self._requests or self._takes_all and timer.request not in self.broken
+                if is_mine and timer[:3] not in self._firing:
                     self._firing.add(timer[:3])
                     self._submit(timer.request, self._fire, timer)
         known = list(self._requests.values())  # (before the store is asked: what is opened meanwhile isn't in its answer)
@@ -245,7 +257,7 @@ class DurableService(concurrent.futures.Executor):
         """Whether something is to do in a request without a new word."""
         desk = request._desk
         gone = [self._is_gone(session) for session in desk.open_claims().values()]
-        return bool(desk.ready or desk.links or desk.found or request._unshown) or any(gone) or request._is_over()
+        return bool(desk.ready or desk.links or desk.unlinked or desk.found or request._unshown) or any(gone) or request._is_over()
 
     def _is_gone(self, session: int) -> bool:
         return session != self.session and self._watcher.is_gone(session)
@@ -265,7 +277,8 @@ class DurableService(concurrent.futures.Executor):
             if request is not None:
                 request._catch_up()  # (a timer is set behind the word of its stage)
                 request._fire(timer)
-            self.store.drop_timer(timer.request, timer.stage)
+            if timer.request not in self.broken:  # (others may go on with it)
+                self.store.drop_timer(timer.request, timer.stage)
         finally:
             self._firing.discard(timer[:3])
 
@@ -284,7 +297,7 @@ class DurableService(concurrent.futures.Executor):
         try:
             call(*given)
         except Broken as error:
-            self._break(name, error)
+            self._break(name, error, next((it for it in given if isinstance(it, Request)), None))
         except (Unknown, StoreError) as error:
             LOGGER.warning("request %r: %s", name, error)
         except BaseException:
@@ -374,6 +387,8 @@ class DurableService(concurrent.futures.Executor):
         if again is not None:
             said = request._desk.said(again)
         known = self.functions.named(str(said.get("fn")), int(said.get("version", 0)))
+        if known is not None and request._desk.forms[stage][0] in COMPOSE_FORMS and "to" not in said:
+            raise Broken(request.name, request._desk.attached.get(stage, 0), f"stage {stage} composes, and no promise is named for what comes")
         if known is None and request.name not in self._unknown:
             self._unknown[request.name] = (str(said.get("fn")), stage)
             LOGGER.warning("request %r, stage %d: function %s, version %s isn't known here", request.name, stage, said.get("fn"), said.get("version"))

@@ -7,7 +7,7 @@ import threading
 import time
 from typing import Any, Callable, Dict, Generator, List, Optional, Sequence, Tuple, TypeVar
 
-from .rows import Broken, Entry, Listed, Opened, Put, Store, StoreError, Timer, Transaction, Unknown, gone, in_a_row
+from .rows import Broken, Entry, Gone, Listed, Opened, Put, Store, StoreError, Timer, Transaction, Unknown, in_a_row
 
 T = TypeVar("T")
 SCHEMA = """
@@ -24,6 +24,7 @@ SCHEMA = """
 """
 PUT = "insert or ignore into cf_word (request, at, word, token, payload) select id, ?, ?, ?, ? from cf_request where id = ?"
 PUT_GROUP = "insert into cf_word (request, at, word, token, payload) select id, v.* from cf_request, (values %s) v where id = ?"
+HAS = "(select coalesce(max(at) + 1, 0) from cf_word where request = id) = ?"  # so many words
 MOST_AT_ONCE = 64  # words in one statement
 SMALL = 512  # bytes: a larger payload would make the words' own pages large
 BETWEEN_LOOKS = 0.001  # seconds between two looks at the file's version
@@ -105,9 +106,15 @@ class SQLite(Store):
         if found is None:
             rows = self._ask("select id from cf_request where name = ?", name)
             if not rows:
-                raise gone(name)
+                raise Gone(name)
             found = self._ids[name] = int(rows[0][0])
         return found
+
+    def _id_of(self, put: Put) -> int:
+        number = self._id(put.request)
+        if put.number not in (0, number):
+            raise Gone(put.request)
+        return number
 
     # Requests.
 
@@ -124,8 +131,8 @@ class SQLite(Store):
         rows = self._ask("select id, plan, opened from cf_request where name = ?", name)
         if not rows:
             return None
-        self._ids[name] = int(rows[0][0])
-        return Opened(name, str(rows[0][1]), float(rows[0][2]))
+        number = self._ids[name] = int(rows[0][0])
+        return Opened(name, str(rows[0][1]), float(rows[0][2]), number)
 
     def ends(self) -> Dict[str, int]:
         return {str(name): int(many or 0) for name, many in self._ask(
@@ -147,9 +154,12 @@ class SQLite(Store):
             "select name, opened, closed, (select max(at) + 1 from cf_word where request = id) from cf_request order by name")]
 
     def end(self, name: str, at: int) -> None:
-        self._in_turn(lambda db: db.execute(
-            "update cf_request set closed = ? where name = ? and closed is null and (select count(*) from cf_word where request = id) = ?",
-            (time.time(), name, at)))
+        number = self._id(name)
+
+        def act(db: sqlite3.Connection) -> None:
+            if db.execute(f"update cf_request set closed = ? where id = ? and closed is null and {HAS}", (time.time(), number, at)).rowcount:
+                db.execute("delete from cf_timer where request = ?", (number,))
+        self._in_turn(act)
 
     def reopen(self, name: str) -> None:
         self._in_turn(lambda db: db.execute("update cf_request set closed = null where name = ? and closed is not null", (name,)))
@@ -158,7 +168,7 @@ class SQLite(Store):
         number = self._id(name)
 
         def act(db: sqlite3.Connection) -> bool:
-            is_so = "select 1 from cf_request where id = ? and closed is not null and (select count(*) from cf_word where request = id) = ?"
+            is_so = f"select 1 from cf_request where id = ? and closed is not null and {HAS}"
             if at is not None and not db.execute(is_so, (number, at)).fetchall():
                 return False
             for table in ("cf_word", "cf_large", "cf_timer"):
@@ -172,7 +182,7 @@ class SQLite(Store):
     # Words.
 
     def append_groups(self, puts: Sequence[Put]) -> List[Optional[List[Entry]]]:
-        ids = [self._id(put.request) for put in puts]
+        ids = [self._id_of(put) for put in puts]
         if len(puts) == 1 and len(puts[0].entries) <= MOST_AT_ONCE and all(len(it) <= SMALL for it in puts[0].payloads.values()):
             landed = [self._put_at_once(ids[0], puts[0])]
         else:
@@ -196,7 +206,7 @@ class SQLite(Store):
     def _stands(self, put: Put) -> List[Entry]:
         stands = self.read(put.request, put.at)
         if not stands:
-            raise gone(put.request)
+            raise Gone(put.request)
         return stands
 
     def read(self, name: str, at: int = 0) -> List[Entry]:
@@ -209,7 +219,7 @@ class SQLite(Store):
             if rows and rows[0][0] is None:
                 rows = self._ask("select payload from cf_large where request = ? and place = ?", number, place)
             if rows:
-                told[place] = rows[0][0] if isinstance(rows[0][0], bytes) else str(rows[0][0]).encode()
+                told[place] = _bytes(rows[0][0])
         return told
 
     def changed(self, seconds: float) -> None:
@@ -243,7 +253,7 @@ class SQLite(Store):
         self._in_turn(lambda db: db.execute("insert or replace into cf_timer values (?, ?, ?, ?)", (number, *timer[1:])))
 
     def due(self, now: float) -> List[Timer]:
-        return [Timer(str(name), int(stage), float(due), bytes(payload)) for name, stage, due, payload in self._ask(
+        return [Timer(str(name), int(stage), float(due), _bytes(payload)) for name, stage, due, payload in self._ask(
             "select name, stage, due, payload from cf_timer join cf_request on id = request where due <= ? order by due", now)]
 
     def drop_timer(self, request: str, stage: int) -> None:
@@ -312,11 +322,16 @@ class _Transaction(Transaction):
 
     def append(self, put: Put) -> bool:
         with self._store._telling:
-            return _put(self.connection, self._store._id(put.request), put)
+            return _put(self.connection, self._store._id_of(put), put)
 
     def commit(self) -> None:
         with self._store._telling:
             self.connection.execute("commit")
+
+
+def _bytes(payload: Any) -> bytes:
+    """A payload, which may be a text where somebody wrote it by hand."""
+    return payload if isinstance(payload, bytes) else str(payload).encode()
 
 
 def _put(db: sqlite3.Connection, request: int, put: Put) -> bool:

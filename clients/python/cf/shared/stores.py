@@ -1,4 +1,5 @@
 """Stores by their addresses."""
+import re
 from urllib.parse import parse_qs, urlsplit
 
 from .rows import Memory, Store, StoreError
@@ -30,7 +31,7 @@ def connect(address: str) -> Store:
             raise StoreError(f"PostgreSQL takes psycopg2: {error}") from None
 
         return Postgres(address.split("?")[0] if is_unsafe else address, is_unsafe)
-    if parts.scheme == "etcd" and parts.netloc:
+    if parts.scheme == "etcd" and all(re.fullmatch(r".+:\d{1,5}", it) for it in parts.netloc.split(",")):
         from .etcd import Etcd
 
         return Etcd(parts.netloc)
