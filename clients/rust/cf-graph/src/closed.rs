@@ -29,6 +29,7 @@ impl Closed {
         Closed { handle, callers }
     }
 
+    /// How many callers it had.
     pub fn callers(&self) -> u8 {
         self.callers
     }

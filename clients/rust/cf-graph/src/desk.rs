@@ -3,6 +3,7 @@ use crate::closed::Closed;
 use crate::handle::Handle;
 use crate::plan::{function_in, Form, Sizes};
 use crate::refused::{if_there, Refused};
+use crate::step::{step_out, task_in, Step, Taken};
 use crate::values::*;
 use cf_sys as sys;
 use std::error::Error;
@@ -119,6 +120,7 @@ impl Caller {
         self.handle.tell(|h, reply| unsafe { sys::cf_desk_claim(h, stage, reply) }).map(claimed_out)
     }
 
+    /// Finishes a stage that it has claimed with what its function answered. `NO_STAGE`, `PASS_FULL`, `LOG_FULL`.
     pub fn finish(&mut self, stage: u16, answer: Answer) -> Result<Finished, Refused> {
         // SAFETY: `h` and what is told to are this call's alone.
         self.handle.tell(|h, reply| unsafe { sys::cf_desk_finish_with(h, stage, &answer_in(answer), reply) }).map(finished_out)
@@ -136,6 +138,34 @@ impl Caller {
             // SAFETY: `h` and what is told to are this call's alone, and `of` points to as many numbers as said.
             .tell(|h, reply| unsafe { sys::cf_desk_attach(h, form as u32, of.as_ptr(), of.len(), function_in(function), reply) })
             .map(attached_out)
+    }
+
+    /// Completes stages one after another, up to the first that is refused, and says how many were answered and why that one wasn't:
+    /// `NO_STAGE`, `PASS_FULL`, `LOG_FULL`.
+    pub fn complete_many(&mut self, given: &[(u16, Value)]) -> (usize, Result<(), Refused>) {
+        let given: Vec<_> = given.iter().map(|&(stage, value)| sys::cf_given { stage, value: value_in(value) }).collect();
+        let mut done = 0;
+        let (first, n, told) = (given.as_ptr(), given.len(), &mut done);
+        // SAFETY: `h` and what is told to are this call's alone, and `first` points to as many elements as said.
+        let answer = self.handle.call(|h| unsafe { sys::cf_desk_complete_many(h, first, n, told) });
+        (done, answer)
+    }
+
+    /// One step of a caller's loop, in one call: finishes the stage that it holds with this answer, looks, and claims the lowest stage that is
+    /// ready then. How the finish went is told, where there was one, and what was claimed, if something is ready. `LOST` where another caller
+    /// was first: ask again. `PASS_FULL` and `LOG_FULL`: without a word of the finish the stage is held as it was. `NO_STAGE` and `NOT_HELD`,
+    /// where this caller has no open claim of the stage: nothing is changed then.
+    pub fn step(&mut self, held: Option<(u16, Answer)>) -> (Option<Finished>, Result<Option<Taken>, Refused>) {
+        let mut task = task_in(held);
+        // SAFETY: `h` and the task are this call's alone.
+        let answer = self.handle.call(|h| unsafe { sys::cf_desk_next(h, &mut task) });
+        let Step { finished, taken } = step_out(held, &task);
+        match answer {
+            Ok(()) => (finished, Ok(taken)),
+            Err(Refused::NOTHING) => (finished, Ok(None)),
+            Err(refused) if task.held == 0 => (finished, Err(refused)),
+            Err(refused) => (None, Err(refused)),
+        }
     }
 
     /// What a stage is settled with, if it is, after a look at all that is there.

@@ -3,6 +3,8 @@ use crate::event::{reply_out, Event};
 use crate::handle::Handle;
 use crate::plan::{function_in, Form, Plan};
 use crate::refused::{if_there, Refused};
+use crate::step::{step_out, task_in, Step};
+use crate::sweep::Sweep;
 use crate::values::*;
 use cf_sys as sys;
 
@@ -35,6 +37,7 @@ impl Graph {
         self.0.tell(|h, reply| unsafe { sys::cf_claim(h, who, stage, reply) }).map(claimed_out)
     }
 
+    /// Finishes a stage that a caller has claimed with what its function answered. `NO_STAGE`.
     pub fn finish(&mut self, who: u8, stage: u16, answer: Answer) -> Result<Finished, Refused> {
         // SAFETY: `h` and what is told to are this call's alone.
         self.0.tell(|h, reply| unsafe { sys::cf_finish_with(h, who, stage, &answer_in(answer), reply) }).map(finished_out)
@@ -64,6 +67,7 @@ impl Graph {
         self.0.tell(|h, told| unsafe { sys::cf_get_now(h, stage, value_in(absent), told) }).map(now_out)
     }
 
+    /// The lowest stage that can be claimed, if there is one.
     pub fn lowest_ready(&mut self) -> Result<Option<u16>, Refused> {
         // SAFETY: `h` and what is told to are this call's alone.
         if_there(self.0.tell(|h, told| unsafe { sys::cf_lowest_ready(h, told) }))
@@ -116,16 +120,69 @@ impl Graph {
         Ok(Plan(plan))
     }
 
+    /// One step of a caller's loop, in one call: finishes the stage that it holds with this answer, and claims the lowest ready one. `NO_STAGE`,
+    /// and `NOT_HELD` where this caller has no open claim of it: nothing is changed then.
+    ///
+    /// ```
+    /// use cf_graph::{Answer, Args, Finished, Form, PlanBuilder, Value};
+    /// # fn main() -> Result<(), cf_graph::Refused> {
+    /// let mut builder = PlanBuilder::new()?;
+    /// builder.stage(Form::Supply, &[], Some(7))?;
+    /// let mut graph = builder.build()?.graph(0)?;
+    /// let taken = graph.step(3, None)?.taken.unwrap();
+    /// assert_eq!((taken.stage, taken.function, taken.args), (0, 7, Args::None));
+    /// let last = graph.step(3, Some((0, Answer::Give(Value::Int(1)))))?;
+    /// assert_eq!((last.finished, last.taken), (Some(Finished::Won), None));
+    /// # Ok(())
+    /// # }
+    /// ```
+    pub fn step(&mut self, who: u8, held: Option<(u16, Answer)>) -> Result<Step, Refused> {
+        let mut task = task_in(held);
+        // SAFETY: `h` and the task are this call's alone.
+        match self.0.call(|h| unsafe { sys::cf_next(h, who, &mut task) }) {
+            Ok(()) | Err(Refused::NOTHING) => Ok(step_out(held, &task)),
+            Err(refused) => Err(refused),
+        }
+    }
+
+    /// A step for several tasks of one caller: finishes what each holds, one after another, and then each in turn claims the lowest ready stage.
+    /// `NotYours` is told where a task before it held the same stage. `NO_STAGE` and `NOT_HELD` of the first that can't be finished: nothing is
+    /// changed then.
+    ///
+    /// ```
+    /// use cf_graph::{Answer, Form, PlanBuilder, Value};
+    /// # fn main() -> Result<(), cf_graph::Refused> {
+    /// let mut builder = PlanBuilder::new()?;
+    /// builder.stage(Form::Supply, &[], Some(7))?;
+    /// builder.stage(Form::Supply, &[], Some(8))?;
+    /// let mut graph = builder.build()?.graph(0)?;
+    /// let steps = graph.round(3, &[None, None, None])?;
+    /// assert_eq!(steps.iter().map(|step| step.taken.map(|taken| taken.stage)).collect::<Vec<_>>(), [Some(0), Some(1), None]);
+    /// # Ok(())
+    /// # }
+    /// ```
+    pub fn round(&mut self, who: u8, held: &[Option<(u16, Answer)>]) -> Result<Vec<Step>, Refused> {
+        let mut tasks: Vec<_> = held.iter().copied().map(task_in).collect();
+        let (first, n) = (tasks.as_mut_ptr(), tasks.len());
+        // SAFETY: `h` is this call's alone, and `first` points to as many tasks as said.
+        match self.0.call(|h| unsafe { sys::cf_round(h, who, first, n) }) {
+            Ok(()) | Err(Refused::NOTHING) => Ok(held.iter().zip(&tasks).map(|(held, task)| step_out(*held, task)).collect()),
+            Err(refused) => Err(refused),
+        }
+    }
+
+    /// Makes it a sweep, which takes no other call until it ends as the graph.
+    pub fn sweep(self) -> Result<Sweep, Refused> {
+        Sweep::of(self)
+    }
+
     /// Claims ready stages, the lowest first, calls `function` with the number of each stage's function and its arguments, and finishes
     /// them, until none is ready: how many. Where `function` panics its stage stays claimed.
     pub fn work(&mut self, who: u8, mut function: impl FnMut(u16, Args) -> Answer) -> Result<u32, Refused> {
-        let mut calls = 0;
-        while let Some(stage) = self.lowest_ready()? {
-            let number = self.function(stage)?;
-            if let (Some(number), Claimed::Granted(args)) = (number, self.claim(who, stage)?) {
-                self.finish(who, stage, function(number, args))?;
-                calls += 1;
-            }
+        let (mut calls, mut held) = (0, None);
+        while let Some(taken) = self.step(who, held)?.taken {
+            held = Some((taken.stage, function(taken.function, taken.args)));
+            calls += 1;
         }
         Ok(calls)
     }

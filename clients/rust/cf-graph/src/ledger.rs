@@ -3,6 +3,7 @@ use crate::event::{reply_of_word, Event};
 use crate::handle::Handle;
 use crate::plan::Plan;
 use crate::refused::{if_there, Refused};
+use crate::step::{step_out, task_in, Step};
 use crate::values::*;
 use cf_sys as sys;
 
@@ -35,26 +36,6 @@ pub struct Ledger {
 pub struct Changes {
     news: Vec<sys::cf_news>,
     count: usize,
-}
-
-/// What a caller's step did: whether what it finished came too late, and what it has to do now.
-#[derive(Clone, Copy, PartialEq, Eq, Debug)]
-pub struct Step {
-    /// What the finish was answered, if the caller held something.
-    pub finished: Option<Finished>,
-    /// What it has claimed, if something was ready.
-    pub taken: Option<Taken>,
-}
-
-/// A stage that a step has claimed, the number of its function, and what that is to be called with.
-#[derive(Clone, Copy, PartialEq, Eq, Debug)]
-pub struct Taken {
-    /// The stage's number.
-    pub stage: u16,
-    /// The number of its function.
-    pub function: u16,
-    /// What the function is to be called with.
-    pub args: Args,
 }
 
 /// Where a stage stands.
@@ -227,24 +208,17 @@ impl Ledger {
     #[inline]
     pub fn step(&mut self, who: u8, held: Option<(u16, Answer)>, from: u16, changes: &mut Changes) -> Result<Step, Refused> {
         let mut step = sys::cf_step { who, from, ..sys::cf_step::default() };
-        let mut task = sys::cf_task::default();
-        if let Some((stage, answer)) = held {
-            task.held = 1;
-            task.stage = stage;
-            task.answer = answer_in(answer);
-        }
+        let mut task = task_in(held);
         let told = (&mut step, &mut task);
         // SAFETY: `h` and what is told to are this call's alone, and `news` points to as many elements as said.
-        let taken = match changes.tell(&mut self.handle, |h, news, room, n| unsafe { sys::cf_ledger_step(h, told.0, told.1, news, room, n) }) {
-            Ok(()) => Some(Taken { stage: task.stage, function: task.function, args: args_out(task.args) }),
-            Err(Refused::NOTHING) => None,
+        match changes.tell(&mut self.handle, |h, news, room, n| unsafe { sys::cf_ledger_step(h, told.0, told.1, news, room, n) }) {
+            Ok(()) | Err(Refused::NOTHING) => {}
             Err(refused) => return Err(refused),
-        };
+        }
         if changes.count > changes.news.len() {
             changes.tell_more(&mut self.handle, step.place)?;
         }
-        let finished = held.map(|_| if task.finished == 0 { Finished::Won } else { Finished::Late });
-        Ok(Step { finished, taken })
+        Ok(step_out(held, &task))
     }
 
     /// Does words one after another, up to the first that can't be done, and says how many were done and why that one wasn't.

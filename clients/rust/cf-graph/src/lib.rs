@@ -2,8 +2,9 @@
 //!
 //! A [`PlanBuilder`] makes a [`Plan`], and that any number of graphs and desks. A [`Graph`] goes to any thread, and is in one call at a
 //! time, since each takes it by `&mut`. A [`Desk`] is a graph that threads share without a lock, each by a [`Caller`] of its own; closed
-//! with all of them it gives the one history of what they did. A [`Ledger`] is a graph that keeps the words of all that was done to it. What C owes by docs/C.md is met by the types: nothing copies a handle,
-//! and dropping frees it.
+//! with all of them it gives the one history of what they did. A [`Ledger`] is a graph that keeps the words of all that was done to it, and
+//! a [`Sweep`] one whose functions are called in one go. What C owes by docs/C.md is met by the types: nothing copies a handle, and dropping
+//! frees it.
 //!
 //! ```compile_fail
 //! fn twice(graph: cf_graph::Graph) -> (cf_graph::Graph, cf_graph::Graph) {
@@ -33,6 +34,8 @@ mod handle;
 mod ledger;
 mod plan;
 mod refused;
+mod step;
+mod sweep;
 mod text;
 mod values;
 
@@ -40,8 +43,10 @@ pub use closed::{Closed, Record};
 pub use desk::{Caller, Desk, NotClosed};
 pub use event::{Call, Event, Of};
 pub use graph::Graph;
-pub use ledger::{Changes, Ledger, Misfit, News, Stage, State, Step, Taken};
+pub use ledger::{Changes, Ledger, Misfit, News, Stage, State};
 pub use plan::{Form, Limit, Plan, PlanBuilder, Sizes};
 pub use refused::Refused;
+pub use step::{Step, Taken};
+pub use sweep::Sweep;
 pub use text::{outcome_text, run_script, ScriptFault};
 pub use values::{Answer, Args, Cause, Claimed, Finished, Now, Outcome, Reply, Ticked, Value};

@@ -85,6 +85,7 @@ impl PlanBuilder {
         self.0.tell(|h, told| unsafe { sys::cf_builder_stage(h, form as u32, of.as_ptr(), of.len(), function_in(function), told) })
     }
 
+    /// Adds what is done to a stage that isn't settled at a moment. `NO_SUCH_STAGE`, `TOO_MANY_LIMITS`, `NO_MEMORY`.
     pub fn limit(&mut self, stage: u16, at: u32, limit: Limit) -> Result<(), Refused> {
         let (kind, value) = match limit {
             Limit::Timeout => (0, Value::Nil),
@@ -94,6 +95,7 @@ impl PlanBuilder {
         self.0.call(|h| unsafe { sys::cf_builder_limit(h, stage, at, kind, value_in(value)) })
     }
 
+    /// The plan of these stages. `NO_MEMORY`.
     pub fn build(mut self) -> Result<Plan, Refused> {
         // SAFETY: `h` is this call's alone.
         self.0.call(|h| unsafe { sys::cf_build(h) })?;

@@ -9,7 +9,7 @@ use std::sync::atomic::{AtomicBool, Ordering};
 #[derive(Clone, Copy, PartialEq, Eq, Debug)]
 pub struct Refused(u32);
 
-const WORDS: [&str; 30] = [
+const WORDS: [&str; 32] = [
     "the plan has 4,096 stages already",
     "a source isn't below the new stage's number",
     "the number of sources isn't the form's",
@@ -40,6 +40,8 @@ const WORDS: [&str; 30] = [
     "the desk is held all the same",
     "the caller hasn't claimed the stage",
     "there is no room for the stage",
+    "another caller was first to claim the stage",
+    "the sweep hasn't all stages behind it",
 ];
 
 impl Refused {
@@ -69,6 +71,8 @@ impl Refused {
     pub const STILL_SHARED: Refused = Refused(28);
     pub const NOT_HELD: Refused = Refused(29);
     pub const NO_ROOM: Refused = Refused(30);
+    pub const LOST: Refused = Refused(31);
+    pub const NOT_OVER: Refused = Refused(32);
     /// No code of the library: what is linked isn't the library that this crate was written for.
     pub const OTHER_LIBRARY: Refused = Refused(256);
 

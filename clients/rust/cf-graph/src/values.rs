@@ -162,7 +162,12 @@ pub(crate) fn claimed_out(reply: sys::cf_reply) -> Claimed {
 
 #[inline]
 pub(crate) fn finished_out(reply: sys::cf_reply) -> Finished {
-    match reply.answer {
+    finished_of(reply.answer)
+}
+
+#[inline]
+pub(crate) fn finished_of(answer: u32) -> Finished {
+    match answer {
         0 => Finished::Won,
         1 => Finished::Late,
         _ => Finished::NotYours,

@@ -1,5 +1,5 @@
 //! What each call answers, row by row.
-use cf_graph::{Answer, Args, Cause, Claimed, Finished, Form, Graph, Limit, Now, Outcome, Plan, PlanBuilder, Refused, Ticked, Value};
+use cf_graph::{Answer, Args, Cause, Claimed, Finished, Form, Graph, Limit, Now, Outcome, Plan, PlanBuilder, Refused, Step, Taken, Ticked, Value};
 use std::thread;
 
 const THROWN: Outcome = fault(Cause::Thrown(4_000_000_000), false);
@@ -99,6 +99,57 @@ fn stages_are_attached_while_there_is_room() {
     assert_eq!(graph.outcome(5), Ok(Some(Outcome::Value(Value::Int(2)))));
     assert_eq!(graph.restart(), Ok(()));
     assert_eq!(graph.outcome(5), Err(Refused::NO_STAGE));
+}
+
+#[test]
+fn a_caller_goes_step_by_step() {
+    let mut graph = graph(0);
+    assert_eq!(graph.step(7, None), Ok(Step { finished: None, taken: None }));
+    assert_eq!(graph.complete(0, Value::Int(5)), Ok(true));
+    let first = Taken { stage: 1, function: 65_535, args: Args::One(Value::Int(5)) };
+    assert_eq!(graph.step(7, None), Ok(Step { finished: None, taken: Some(first) }));
+    assert_eq!(graph.step(8, Some((1, Answer::Throw(1)))), Err(Refused::NOT_HELD));
+    assert_eq!(graph.step(7, Some((9, Answer::Throw(1)))), Err(Refused::NO_STAGE));
+    assert_eq!(graph.cancel(1), Ok(true));
+    let second = Taken { stage: 4, function: 2, args: Args::Got(fault(Cause::Cancelled, false)) };
+    let step = graph.step(7, Some((1, Answer::Throw(1))));
+    assert_eq!(step, Ok(Step { finished: Some(Finished::Late), taken: Some(second) }));
+    let step = graph.step(7, Some((4, Answer::Give(Value::Int(6)))));
+    assert_eq!(step, Ok(Step { finished: Some(Finished::Won), taken: None }));
+    assert_eq!(graph.outcome(4), Ok(Some(Outcome::Value(Value::Int(6)))));
+}
+
+#[test]
+fn a_caller_goes_round_with_several_tasks() {
+    let mut graph = graph(0);
+    assert_eq!(graph.round(7, &[]), Ok(vec![]));
+    assert_eq!((graph.complete(0, Value::Int(5)), graph.complete(2, Value::Nil)), (Ok(true), Ok(true)));
+    let none = Step { finished: None, taken: None };
+    let steps = graph.round(7, &[None, None, None]).unwrap();
+    assert_eq!(steps.iter().map(|step| step.taken.map(|taken| taken.stage)).collect::<Vec<_>>(), [Some(1), Some(3), None]);
+    let (one, three) = (Some((1, Answer::Give(Value::Int(6)))), Some((3, Answer::Link(0))));
+    assert_eq!(graph.round(7, &[one, Some((4, Answer::Throw(1)))]), Err(Refused::NOT_HELD));
+    let last = Taken { stage: 4, function: 2, args: Args::Got(Outcome::Value(Value::Int(6))) };
+    let won = Step { finished: Some(Finished::Won), ..none };
+    let again = Step { finished: Some(Finished::NotYours), ..none };
+    assert_eq!(graph.round(7, &[one, three, one]), Ok(vec![Step { taken: Some(last), ..won }, won, again]));
+    assert_eq!(graph.outcome(3), Ok(Some(Outcome::Value(Value::Int(5)))));
+}
+
+#[test]
+fn a_sweep_calls_all_functions() {
+    let mut graph = graph(0);
+    assert_eq!(graph.complete(0, Value::Int(5)), Ok(true));
+    let mut sweep = graph.sweep().unwrap().end().expect_err("a stage is ready");
+    assert_eq!(sweep.step(Some((1, Answer::Throw(1)))), Err(Refused::NOT_HELD));
+    assert_eq!(sweep.step(None), Ok(Some(Taken { stage: 1, function: 65_535, args: Args::One(Value::Int(5)) })));
+    assert_eq!(sweep.step(None), Err(Refused::NOT_HELD));
+    let last = Taken { stage: 4, function: 2, args: Args::Got(Outcome::Value(Value::Int(6))) };
+    assert_eq!(sweep.step(Some((1, Answer::Give(Value::Int(6))))), Ok(Some(last)));
+    assert_eq!(sweep.step(Some((4, Answer::Give(Value::Nil)))), Ok(None));
+    let mut graph = sweep.end().unwrap();
+    assert_eq!(graph.outcome(4), Ok(Some(Outcome::Value(Value::Nil))));
+    assert_eq!((Refused::NOT_OVER.name(), Refused::LOST.name()), ("NotOver".into(), "Lost".into()));
 }
 
 #[test]

@@ -80,6 +80,26 @@ fn two_callers_do_what_a_graph_does() {
 }
 
 #[test]
+fn callers_go_step_by_step() {
+    let (_desk, mut callers) = plan().desk(sizes(2, 100, 5)).unwrap();
+    let (one, other) = callers.split_at_mut(1);
+    let (one, other) = (&mut one[0], &mut other[0]);
+    assert_eq!(one.step(None), (None, Ok(None)));
+    assert_eq!(one.complete_many(&[(0, Value::Int(7)), (2, Value::Nil), (9, Value::Nil)]), (2, Err(Refused::NO_STAGE)));
+    assert_eq!(one.complete_many(&[]), (0, Ok(())));
+    assert_eq!(other.step(None), (None, Ok(Some(Taken { stage: 1, function: 3, args: Args::One(Value::Int(7)) }))));
+    let second = Taken { stage: 3, function: 1, args: Args::One(Value::Nil) };
+    assert_eq!(one.step(None), (None, Ok(Some(second))));
+    assert_eq!(one.step(Some((1, Answer::Throw(1)))), (None, Err(Refused::NOT_HELD)));
+    assert_eq!(other.cancel(1), Ok(true));
+    assert_eq!(other.step(Some((1, Answer::Throw(1)))), (Some(Finished::Late), Ok(None)));
+    assert_eq!(one.complete_many(&[(0, Value::Nil); 3]), (2, Err(Refused::PASS_FULL)));
+    let linked = Some((3, Answer::Link(0)));
+    assert_eq!(one.step(linked), (None, Err(Refused::PASS_FULL)));
+    assert_eq!(other.claim(3), Ok(Claimed::Taken));
+}
+
+#[test]
 fn a_closed_desk_has_all_that_was_told() {
     let (desk, mut callers) = plan().desk(sizes(2, 100, 100)).unwrap();
     callers[1].read(0).unwrap();

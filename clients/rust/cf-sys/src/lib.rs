@@ -57,6 +57,8 @@ pub const CF_BAD_SCRIPT: u32 = 27;
 pub const CF_STILL_SHARED: u32 = 28;
 pub const CF_NOT_HELD: u32 = 29;
 pub const CF_NO_ROOM: u32 = 30;
+pub const CF_LOST: u32 = 31;
+pub const CF_NOT_OVER: u32 = 32;
 pub const CF_NULL: u32 = 255;
 
 pub const CF_SOURCE: u32 = 0;
@@ -144,7 +146,7 @@ pub const CF_IS_SETTLED: u32 = 4;
 pub const CF_NO_FUNCTION: u32 = u32::MAX;
 pub const CF_NOBODY: u32 = u32::MAX;
 pub const CF_VERSION_MAJOR: u32 = 1;
-pub const CF_VERSION_MINOR: u32 = 1;
+pub const CF_VERSION_MINOR: u32 = 3;
 
 #[repr(C)]
 #[derive(Clone, Copy, Debug, Default, PartialEq, Eq)]
@@ -313,6 +315,8 @@ extern "C" {
     pub fn cf_desk_finish_with(caller: *mut cf_handle, stage: u16, answer: *const cf_answer, reply: *mut cf_reply) -> u32;
     pub fn cf_desk_tick(caller: *mut cf_handle, now: u32, reply: *mut cf_reply) -> u32;
     pub fn cf_desk_attach(caller: *mut cf_handle, form: u32, of: *const u16, n: usize, function: u32, reply: *mut cf_reply) -> u32;
+    pub fn cf_desk_complete_many(caller: *mut cf_handle, given: *const cf_given, n: usize, done: *mut usize) -> u32;
+    pub fn cf_desk_next(caller: *mut cf_handle, task: *mut cf_task) -> u32;
     pub fn cf_desk_read(caller: *mut cf_handle, stage: u16, outcome: *mut cf_outcome) -> u32;
     pub fn cf_desk_read_now(caller: *mut cf_handle, stage: u16, absent: cf_value, now: *mut cf_now) -> u32;
     pub fn cf_desk_join(caller: *mut cf_handle, stage: u16, looks: u32, now: *mut cf_now) -> u32;
@@ -337,6 +341,10 @@ extern "C" {
     pub fn cf_text_of_outcome(outcome: *const cf_outcome, text: *mut u8, room: usize, length: *mut usize) -> u32;
     pub fn cf_code_text(code: u32, text: *mut u8, room: usize, length: *mut usize) -> u32;
     pub fn cf_next(graph: *mut cf_handle, who: u8, task: *mut cf_task) -> u32;
+    pub fn cf_round(graph: *mut cf_handle, who: u8, tasks: *mut cf_task, n: usize) -> u32;
+    pub fn cf_sweep_begin(graph: *mut cf_handle) -> u32;
+    pub fn cf_sweep_next(sweep: *mut cf_handle, task: *mut cf_task) -> u32;
+    pub fn cf_sweep_end(sweep: *mut cf_handle) -> u32;
     pub fn cf_work(graph: *mut cf_handle, who: u8, functions: *const cf_stage_function, n: usize, context: *mut c_void, calls: *mut u32) -> u32;
     pub fn cf_ledger_new(plan: *mut cf_handle, room: u16, ledger: *mut cf_handle) -> u32;
     pub fn cf_ledger_of(plan: *mut cf_handle, room: u16, words: *const u64, n: usize, ledger: *mut cf_handle, place: *mut usize) -> u32;

@@ -29,6 +29,9 @@ pub(crate) struct Core {
     inner: Mutex<Inner>,
 }
 
+/// What somebody's code panicked with.
+type Payload = Box<dyn Any + Send>;
+
 /// How often a thread looks whether the lock is free before it sleeps, and how long it pauses at most between two looks. A hold is some hundred
 /// nanoseconds: who pauses longer lets the one that has it take several, with all that it needs at hand.
 const LOOKS: usize = 12;
@@ -114,6 +117,7 @@ impl Core {
     /// a row of requests takes no stack.
     fn settle_fed(self: &Arc<Core>, relay: u16, told: Result<Val, Error>, feeds: &mut Vec<Feed>) {
         let late = self.change(|inner, after| {
+            inner.fed_now(relay);
             let late = inner.settle(RELAY, relay, told, after);
             feeds.append(&mut after.feeds);
             late
@@ -134,8 +138,41 @@ impl Core {
                 drop(own);
                 let _ = to.settle(RELAY, relay, told);
             }
-            None => own.extra(stage).feeds.push((Some(to), relay)),
+            None => {
+                own.extra(stage).feeds.push((Some(Arc::clone(&to)), relay));
+                drop(own);
+                if !to.follow(relay, self, stage) {
+                    self.unfeed(stage, &to, relay);
+                }
+            }
         }
+    }
+
+    /// Lets workers that wait for a stage of this request run functions of the one whose stage a relay stands for, too. False where the relay is
+    /// settled.
+    fn follow(&self, relay: u16, of: &Arc<Core>, stage: u16) -> bool {
+        let mut inner = self.lock();
+        if inner.slot(relay).is_settled() {
+            return false;
+        }
+        inner.extra(relay).of = Some((Arc::downgrade(of), stage));
+        let helpers = take(&mut inner.helpers);
+        drop(inner);
+        helpers.into_iter().for_each(Waker::wake);
+        true
+    }
+
+    /// Lets go of a request whose relay of a stage is settled otherwise.
+    fn unfeed(&self, stage: u16, to: &Arc<Core>, relay: u16) {
+        let mut inner = self.lock();
+        let unfed = inner.unfed(stage, to, relay);
+        drop(inner);
+        drop(unfed);
+    }
+
+    /// The requests for whose stages this one's relays wait.
+    pub(crate) fn followed(&self) -> Vec<Arc<Core>> {
+        self.lock().followed()
     }
 
     pub(crate) fn name_stage(&self, stage: u16, name: Cow<'static, str>) {
@@ -243,7 +280,7 @@ impl Core {
                 None => break,
                 Some((stage, call, _old)) => {
                     left -= 1;
-                    ended = self.called(who, stage, call, &given.1).map(|gave| (stage, gave));
+                    ended = self.called(who, stage, call, &given.1, &mut panicked).map(|gave| (stage, gave));
                 }
             }
         }
@@ -269,21 +306,31 @@ impl Core {
             None => false,
             Some((stage, call, given)) => {
                 let _running = running(self);
+                let mut panicked = None;
                 as_worker(|who| {
-                    if let Some(gave) = self.called(who, stage, call, &given) {
+                    if let Some(gave) = self.called(who, stage, call, &given, &mut panicked) {
                         self.end(who, stage, gave);
                     }
                 });
+                if let Some(payload) = panicked {
+                    resume_unwind(payload);
+                }
                 true
             }
         }
     }
 
-    /// What a function gave, or None where that comes later.
-    fn called(self: &Arc<Core>, who: u8, stage: u16, call: Call, given: &Given) -> Option<Gave> {
+    /// Forgets the waker of a worker that waits no more.
+    pub(crate) fn forget_helper(&self, waker: &Waker) {
+        self.lock().helpers.retain(|kept| !kept.will_wake(waker));
+    }
+
+    /// What a function gave, or None where that comes later. A waker or a `Drop` that panics as a future is begun doesn't end the worker's row.
+    fn called(self: &Arc<Core>, who: u8, stage: u16, call: Call, given: &Given, panicked: &mut Option<Payload>) -> Option<Gave> {
         match catch_unwind(AssertUnwindSafe(|| call(given))) {
             Ok(Gave::Later(future)) => {
-                Polling::begin(self, who, stage, future);
+                let begun = catch_unwind(AssertUnwindSafe(|| Polling::begin(self, who, stage, future)));
+                *panicked = begun.err().or(panicked.take());
                 None
             }
             Ok(gave) => Some(gave),
@@ -299,14 +346,14 @@ impl Core {
     /// Tells what came of changes. The lock is free. A waker or a `Drop` that panics doesn't keep the others from being
     /// told, and what it panicked with is given back.
     #[inline]
-    fn tell(self: &Arc<Core>, after: &mut After) -> Option<Box<dyn Any + Send>> {
+    fn tell(self: &Arc<Core>, after: &mut After) -> Option<Payload> {
         if after.is_empty() {
             return None;
         }
         self.tell_all(after)
     }
 
-    fn tell_all(self: &Arc<Core>, after: &mut After) -> Option<Box<dyn Any + Send>> {
+    fn tell_all(self: &Arc<Core>, after: &mut After) -> Option<Payload> {
         let mut panicked = None;
         let mut guarded = |act: &mut dyn FnMut()| {
             if let Err(payload) = catch_unwind(AssertUnwindSafe(act)) {
@@ -332,6 +379,9 @@ impl Core {
         while let Some((of, stage, relay)) = after.links.pop() {
             guarded(&mut || of.feed(stage, Arc::clone(self), relay));
         }
+        while let Some((of, stage, relay)) = after.ends.pop() {
+            guarded(&mut || of.upgrade().into_iter().for_each(|of| of.unfeed(stage, self, relay)));
+        }
         while let Some(dropped) = after.dropped.pop() {
             let mut dropped = Some(dropped);
             guarded(&mut || drop(dropped.take()));
@@ -346,14 +396,13 @@ impl Core {
 
     /// Lets all that is ready fail, since a job wasn't taken, or was dropped.
     pub(crate) fn refuse(self: &Arc<Core>) {
-        let mut inner = self.lock();
-        inner.jobs -= 1;
-        inner.coming -= 1;
-        let ready = inner.given_up();
-        drop(inner);
-        for stage in ready {
-            let _ = self.settle(CLOCK, stage, Err(Refusal::Closed.into()));
-        }
+        self.change(|inner, after| {
+            inner.jobs -= 1;
+            inner.coming -= 1;
+            for stage in inner.given_up() {
+                let _ = inner.settle(CLOCK, stage, Err(Refusal::Closed.into()), after);
+            }
+        });
     }
 }
 

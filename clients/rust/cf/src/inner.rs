@@ -19,7 +19,7 @@ use std::borrow::Cow;
 use std::cell::RefCell;
 use std::collections::BTreeMap;
 use std::mem::{replace, take};
-use std::sync::Arc;
+use std::sync::{Arc, Weak};
 use std::task::Waker;
 use std::time::Duration;
 
@@ -55,6 +55,8 @@ pub(crate) struct Extra {
     pub(crate) task: Option<Arc<Task>>,
     /// Relays that are settled as this one is, of other requests, or of this one, which doesn't keep itself alive.
     pub(crate) feeds: Vec<(Option<Arc<Core>>, u16)>,
+    /// The request and its stage for which it stands as a relay.
+    pub(crate) of: Option<(Weak<Core>, u16)>,
 }
 
 /// What a hold of the lock changed, and what is to be told once the lock is free.
@@ -67,6 +69,8 @@ pub(crate) struct After {
     pub(crate) tasks: Vec<Arc<Task>>,
     /// A stage, and the relay that is to be settled as it is.
     pub(crate) links: Vec<(Arc<Core>, u16, u16)>,
+    /// A stage of another request, and the relay that is settled and stands for it.
+    pub(crate) ends: Vec<(Weak<Core>, u16, u16)>,
     pub(crate) jobs: usize,
 }
 
@@ -97,8 +101,8 @@ impl After {
 
     #[inline]
     pub(crate) fn is_empty(&self) -> bool {
-        let ends = self.tasks.is_empty() && self.feeds.is_empty() && self.links.is_empty() && self.dropped.is_empty();
-        self.jobs == 0 && self.wakers.is_empty() && ends
+        let ends = self.tasks.is_empty() && self.feeds.is_empty() && self.links.is_empty() && self.ends.is_empty();
+        self.jobs == 0 && self.wakers.is_empty() && self.dropped.is_empty() && ends
     }
 }
 
@@ -279,6 +283,7 @@ impl Inner {
     fn settled_extra(&mut self, stage: u16, outcome: Outcome, after: &mut After) {
         let extra = self.extras.remove(&stage).unwrap_or_default();
         after.tasks.extend(extra.task);
+        after.ends.extend(extra.of.map(|(of, number)| (of, number, stage)));
         for (to, relay) in extra.feeds {
             match to {
                 None => self.relaying.push((relay, stage)),
@@ -428,6 +433,25 @@ impl Inner {
     pub(crate) fn fed(&mut self) -> Vec<Arc<Core>> {
         let extras = self.extras.values_mut();
         extras.flat_map(|extra| take(&mut extra.feeds)).filter_map(|(core, _)| core).collect()
+    }
+
+    /// The requests for whose stages relays of this one wait.
+    pub(crate) fn followed(&self) -> Vec<Arc<Core>> {
+        self.extras.values().filter_map(|extra| extra.of.as_ref()?.0.upgrade()).collect()
+    }
+
+    /// Forgets for which stage a relay stands, since that has let go of it.
+    pub(crate) fn fed_now(&mut self, relay: u16) {
+        if let Some(extra) = self.extras.get_mut(&relay) {
+            extra.of = None;
+        }
+    }
+
+    /// Takes out a relay that is settled otherwise, and gives back its request.
+    pub(crate) fn unfed(&mut self, stage: u16, to: &Arc<Core>, relay: u16) -> Option<Arc<Core>> {
+        let feeds = &mut self.extras.get_mut(&stage)?.feeds;
+        let is_it = |feed: &(Option<Arc<Core>>, u16)| feed.1 == relay && feed.0.as_ref().map_or(false, |core| Arc::ptr_eq(core, to));
+        feeds.iter().rposition(is_it).and_then(|at| feeds.remove(at).0)
     }
 
     /// The stages that are ready, if no job is there that would run them.

@@ -34,7 +34,7 @@
 //!
 //! Functions run where [`Spawn`] says: on the threads of a [`Pool`], at once ([`Inline`]), or by a type of your own. Wakers, and the `Drop` of
 //! values and functions, run on the thread that settled the stage. None of them runs under a lock of the request. A worker that waits runs
-//! other functions of its request meanwhile.
+//! meanwhile what it may be waiting for: functions of the stage's request, of those that it is in, and of those for whose stages these wait.
 //!
 //! A function that holds a handle of its own request keeps that alive until it was called or dropped, and a value that holds one for good.
 //! What a worker runs while it waits lies on its stack, so functions that wait for one another want few levels.
@@ -60,6 +60,7 @@
 mod clock;
 mod core;
 mod error;
+mod help;
 mod history;
 mod inner;
 mod ledger;

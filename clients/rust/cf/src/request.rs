@@ -149,6 +149,7 @@ impl Request {
     }
 
     /// A stage of this request that ends as the given one does, whose request may be another. A stage of this request is given back itself.
+    /// Until one of the two ends, the given stage keeps this request alive.
     ///
     /// ```
     /// let (one, two) = (cf::Request::new("order 17", cf::Inline), cf::Request::new("order 18", cf::Inline));

@@ -442,6 +442,25 @@ mod tests {
         assert!(searched > 2, "{searched}");
     }
 
+    /// A worker that waits is woken by a relay that comes later, since it may have to run what that stands for.
+    #[test]
+    fn a_worker_that_waits_follows_a_relay() {
+        let searched = search(|| {
+            let later = Later::default();
+            let (request, other) = (Request::new("waits", later.clone()), Request::new("followed", later.clone()));
+            let gate = request.promise::<i32>();
+            let of = gate.clone();
+            let (outer, source) = (request.supply(move || of.wait().unwrap()), other.supply(|| 3));
+            let adopts: Play = Box::new(move || {
+                let relay = request.adopt(&source);
+                rest(move || relay.is_settled());
+                gate.complete(4).unwrap();
+            });
+            (vec![later.work(), later.ends_with(&outer), adopts], is_settled(&outer))
+        });
+        assert!(searched > 2, "{searched}");
+    }
+
     /// The one function ends once the other has begun, so a job has to come for each.
     #[test]
     fn two_functions_run_at_once() {

@@ -7,7 +7,7 @@ use std::fmt;
 use std::panic::{catch_unwind, resume_unwind, AssertUnwindSafe};
 use std::sync::atomic::{AtomicUsize, Ordering};
 use std::sync::{Arc, Condvar, Mutex, MutexGuard, PoisonError};
-use std::thread::{self, JoinHandle};
+use std::thread::{self, JoinHandle, LocalKey};
 
 /// A turn of a request's work: it runs functions that are ready, one after the other, or polls the future of one. [`Spawn`] has an example.
 /// One that is dropped lets what it would have run fail with [`Refusal::Closed`](crate::Refusal::Closed).
@@ -22,7 +22,7 @@ impl Drop for Job {
     fn drop(&mut self) {
         match self.0.take() {
             None => {}
-            Some(Turn::Work(core)) => core.refuse(),
+            Some(Turn::Work(core)) => in_turn(&REFUSED, core, |core| core.refuse()),
             Some(Turn::Poll(polling)) => polling.refuse(),
         }
     }
@@ -167,9 +167,43 @@ impl Drop for Running {
     }
 }
 
-/// The request whose function this thread is running, if it is running one.
-pub(crate) fn run_here() -> Option<Arc<Core>> {
-    RUNNING.try_with(|running| running.borrow().last().cloned()).ok().flatten()
+/// The requests whose functions this thread is running, the innermost last.
+pub(crate) fn run_here() -> Vec<Arc<Core>> {
+    RUNNING.try_with(|running| running.borrow().clone()).unwrap_or_default()
+}
+
+/// What comes while the like of it is done waits here for its end, so that the stack stays flat.
+type Row<T> = RefCell<Option<VecDeque<T>>>;
+
+thread_local! {
+    static INLINE: Row<Job> = const { RefCell::new(None) };
+    static REFUSED: Row<Arc<Core>> = const { RefCell::new(None) };
+}
+
+/// Does it, and what comes meanwhile, one after another. One that panics doesn't keep the others from being done.
+fn in_turn<T>(row: &'static LocalKey<Row<T>>, first: T, act: impl Fn(T)) {
+    let mut next = Some(first);
+    // A thread that ends has no row any more, and does what comes at once.
+    let _ = row.try_with(|row| match &mut *row.borrow_mut() {
+        Some(row) => row.extend(next.take()),
+        none => *none = Some(VecDeque::new()),
+    });
+    let mut panicked = None;
+    while let Some(it) = next {
+        panicked = catch_unwind(AssertUnwindSafe(|| act(it))).err().or(panicked);
+        let pop = |row: &Row<T>| {
+            let mut row = row.borrow_mut();
+            let next = row.as_mut().and_then(VecDeque::pop_front);
+            if next.is_none() {
+                *row = None;
+            }
+            next
+        };
+        next = row.try_with(pop).ok().flatten();
+    }
+    if let Some(payload) = panicked {
+        resume_unwind(payload);
+    }
 }
 
 /// Runs each function at once, on the thread by which its stage became ready, and polls a future on the thread that wakes it: one whose waker
@@ -183,36 +217,9 @@ pub(crate) fn run_here() -> Option<Arc<Core>> {
 #[derive(Clone, Copy, Debug, Default)]
 pub struct Inline;
 
-thread_local! {
-    /// Jobs that came while one runs wait for its end, so that the stack stays flat.
-    static WAITING: RefCell<Option<VecDeque<Job>>> = const { RefCell::new(None) };
-}
-
 impl Spawn for Inline {
     fn spawn(&self, job: Job) -> Result<(), Job> {
-        let mut job = Some(job);
-        // A thread that ends has no row any more, and runs what comes at once.
-        let _ = WAITING.try_with(|waiting| match &mut *waiting.borrow_mut() {
-            Some(waiting) => waiting.extend(job.take()),
-            none => *none = Some(VecDeque::new()),
-        });
-        let mut panicked = None;
-        while let Some(next) = job {
-            // A waker that panics doesn't keep the others from being run.
-            panicked = catch_unwind(AssertUnwindSafe(|| next.run())).err().or(panicked);
-            let pop = |waiting: &RefCell<Option<VecDeque<Job>>>| {
-                let mut waiting = waiting.borrow_mut();
-                let next = waiting.as_mut().and_then(VecDeque::pop_front);
-                if next.is_none() {
-                    *waiting = None;
-                }
-                next
-            };
-            job = WAITING.try_with(pop).ok().flatten();
-        }
-        if let Some(payload) = panicked {
-            resume_unwind(payload);
-        }
+        in_turn(&INLINE, job, Job::run);
         Ok(())
     }
 }

@@ -1,9 +1,10 @@
 //! A stage of a request: a value that will be there, and a future of it.
 use crate::core::Core;
 use crate::error::{BoxError, Error, Refusal};
+use crate::help::Helper;
 use crate::name::Made;
 use crate::request::{later, Request};
-use crate::spawn::{here, run_here, CALLER};
+use crate::spawn::here;
 use crate::value::{self, Call, Gave, Given, Val};
 use crate::word::Form;
 use std::borrow::Cow;
@@ -178,14 +179,14 @@ impl<T> Stage<T> {
         let parked = Arc::new(Parked { thread: thread::current(), is_woken: AtomicBool::new(false) });
         let waker = Waker::from(Arc::clone(&parked));
         let mut waiting = self.clone();
-        let mut context = Context::from_waker(&waker);
+        let (mut context, mut helper) = (Context::from_waker(&waker), Helper::new(&waker));
         loop {
             if let Poll::Ready(told) = waiting.poll_value(&mut context) {
                 return Some(told);
             }
             #[cfg(test)]
             crate::search::turn();
-            if !until.map_or(false, |until| Instant::now() >= until) && self.helps(&waker) {
+            if !until.map_or(false, |until| Instant::now() >= until) && helper.helps(&self.core) {
                 continue;
             }
             while !parked.is_woken.swap(false, Ordering::SeqCst) {
@@ -200,14 +201,6 @@ impl<T> Stage<T> {
                 }
             }
         }
-    }
-
-    /// Whether a worker, which might be the one that is waited for, has run a function of this request or of its own meanwhile.
-    fn helps(&self, waker: &Waker) -> bool {
-        if here() == CALLER {
-            return false;
-        }
-        self.core.help(waker) || run_here().map_or(false, |own| !Arc::ptr_eq(&own, &self.core) && own.help(waker))
     }
 
     pub(crate) fn gave(self) -> Gave {
@@ -488,7 +481,7 @@ impl<T: Send + Sync + 'static> Stage<T> {
         self.told().map(|told| told.map(value::arc_of))
     }
 
-    /// Blocks the thread until it is settled, for values that can't be cloned. A worker runs other functions of the request meanwhile.
+    /// Blocks the thread until it is settled, for values that can't be cloned. A worker runs other functions meanwhile.
     ///
     /// # Errors
     ///
@@ -528,8 +521,8 @@ impl<T: Clone + Send + Sync + 'static> Stage<T> {
         self.told().map(cloned)
     }
 
-    /// Blocks the thread until it is settled. A worker, which runs a function that calls this, runs other functions of the request meanwhile,
-    /// so that a pool of one thread goes on.
+    /// Blocks the thread until it is settled. A worker, which runs a function that calls this, runs functions meanwhile that it may be waiting
+    /// for, so that a pool of one thread goes on.
     ///
     /// # Errors
     ///

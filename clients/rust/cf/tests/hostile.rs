@@ -185,6 +185,68 @@ fn a_waker_that_panics_further_down_keeps_nobody_from_being_told() {
     });
 }
 
+/// The waker of a stage whose future ends when it is polled first panics in the midst of its worker's job.
+#[test]
+fn a_waker_that_panics_as_a_future_begins_ends_no_job() {
+    comes_back(|| {
+        let request = Request::new("panics", Inline);
+        let gate = request.promise::<i32>();
+        let mut behind = gate.clone().then_async(|n| std::future::ready(Ok::<_, Error>(*n + 1)));
+        assert!(!poll(&mut behind, &Waker::from(Arc::new(Panics))));
+        assert!(catch_unwind(AssertUnwindSafe(|| gate.complete(1))).is_err());
+        assert_eq!(behind.wait().unwrap(), 2);
+        assert_eq!(request.supply(|| 3).wait().unwrap(), 3);
+    });
+}
+
+/// Keeps each job until it is asked to let them go.
+#[derive(Clone, Default)]
+struct Keeps(Arc<Mutex<Vec<Job>>>);
+
+impl Spawn for Keeps {
+    fn spawn(&self, job: Job) -> Result<(), Job> {
+        self.0.lock().unwrap().push(job);
+        Ok(())
+    }
+}
+
+/// A job that is dropped leaves several stages ready, and the waker of the first panics.
+#[test]
+fn a_waker_that_panics_keeps_no_refused_stage_pending() {
+    comes_back(|| {
+        let keeps = Keeps::default();
+        let gate = Request::new("dropped", keeps.clone()).promise::<i32>();
+        let (mut first, second) = (gate.clone().then(|n| n + 1), gate.clone().then(|n| n + 2));
+        assert!(!poll(&mut first, &Waker::from(Arc::new(Panics))));
+        gate.complete(1).unwrap();
+        let jobs = std::mem::take(&mut *keeps.0.lock().unwrap());
+        assert!(catch_unwind(AssertUnwindSafe(|| drop(jobs))).is_err());
+        assert!(second.wait().is_err());
+    });
+}
+
+/// Each function is refused, and makes the next one ready by that: by an executor that gives jobs back, and by one that drops them.
+#[test]
+fn a_long_row_behind_a_closed_executor_is_refused() {
+    struct Closed(bool);
+    impl Spawn for Closed {
+        fn spawn(&self, job: Job) -> Result<(), Job> {
+            if self.0 {
+                return Err(job);
+            }
+            Ok(())
+        }
+    }
+    for gives_back in [true, false] {
+        comes_back(move || {
+            let first = Request::new("closed", Closed(gives_back)).promise::<i32>();
+            let last = (1..4096).fold(first.clone(), |last, _| last.recover(|_| 1));
+            first.cancel();
+            assert!(matches!(last.wait(), Err(Error::Refused(cf::Refusal::Closed))));
+        });
+    }
+}
+
 #[test]
 fn a_clock_that_panics_leaves_no_stage_pending() {
     struct Breaks(AtomicUsize);
@@ -253,6 +315,40 @@ fn a_future_whose_drop_panics_gives_its_claim_back() {
         assert!(catch_unwind(AssertUnwindSafe(|| stage.cancel())).is_err());
         let history = request.history().to_string();
         assert_eq!(history.matches("claims").count(), history.matches("finishes").count(), "{history}");
+    });
+}
+
+/// The one thread waits in a function of the second request, which it runs as it waits in one of the first, whose other function it needs.
+#[test]
+fn a_worker_that_waits_runs_functions_of_all_that_it_is_in() {
+    comes_back(|| {
+        let pool = Pool::new(1);
+        let [one, two, three] = ["one", "two", "three"].map(|name| Request::new(name, pool.clone()));
+        let (gate, start) = (three.promise::<i32>(), two.promise::<i32>());
+        let behind = gate.clone().then(|n| n + 1);
+        let middle = start.clone().then(move |n| n + behind.wait().unwrap());
+        let by = one.clone();
+        let told = one.supply(move || {
+            drop(by.supply(move || gate.complete(4)));
+            start.complete(1).unwrap();
+            middle.wait().unwrap()
+        });
+        assert_eq!(told.wait().unwrap(), 6);
+    });
+}
+
+/// What the one thread waits for stands for a stage of another request, and that for one of a third.
+#[test]
+fn a_worker_that_waits_runs_functions_of_requests_that_are_followed() {
+    comes_back(|| {
+        let pool = Pool::new(1);
+        let [one, two, three] = ["one", "two", "three"].map(|name| Request::new(name, pool.clone()));
+        let by = one.clone();
+        let told = one.supply(move || {
+            let (far, near) = (three.supply(|| 4), by.supply(|| 1));
+            near.combine(&two.adopt(&far).then(|n| n + 1), |a, b| a + b).wait().unwrap()
+        });
+        assert_eq!(told.wait().unwrap(), 6);
     });
 }
 
@@ -369,6 +465,29 @@ fn a_request_that_waits_for_itself_is_freed() {
     assert!(!composed.is_settled());
     drop((request, gate, composed));
     assert_eq!(Arc::strong_count(&alive), 1);
+}
+
+/// A stage that stays pending lets go of a request once its relay there is settled otherwise.
+#[test]
+fn a_relay_that_is_settled_keeps_no_request_alive() {
+    let long = Request::new("long", Inline).promise::<i32>();
+    for k in 0..3 {
+        let alive = Arc::new(());
+        let request = Request::new("short", Inline);
+        let kept = request.promise::<Arc<()>>();
+        kept.complete(Arc::clone(&alive)).unwrap();
+        let (relay, other) = (request.adopt(&long), request.adopt(&long));
+        match k {
+            0 => assert!(relay.cancel() && other.fail("no")),
+            1 => assert!(relay.complete(4).is_ok() && other.complete(5).is_ok()),
+            _ => request.cancel_all(),
+        }
+        drop((request, kept, relay, other));
+        assert_eq!(Arc::strong_count(&alive), 1);
+    }
+    let again = Request::new("again", Inline).adopt(&long);
+    long.complete(1).unwrap();
+    assert_eq!(again.wait().unwrap(), 1);
 }
 
 /// Requests that each take over a stage of the one before.
