@@ -17,15 +17,13 @@ from crates import TOP, own
 
 OTHER = 150
 PROOFS = {
-    "cf_c": 150, "cf_handles": 700, "cf_core": 280, "cf_desk": 204, "cf_pool": 253, "cf_script": 175, "cf_reading": 247, "cf_plan": 217, "cf_bench": 615,
-    "cf_stress": 534, "cf_refused": 419, "cf_event": 62, "cf_outcome": 85, "cf_explain": 376, "cf_plain": 122, "cf_look": 393,
-    "cf_history": 110, "cf_example": 114, "cf": 126, "cf_command": 78, "cf_picture": 221, "cf_bits": 28, "cf_expr": 20, "cf_model": 57,
-    "cf_page": 240,
+    "cf_handles": 905, "cf_look": 750, "cf_c": 554, "cf_explain": 490, "cf_refused": 452, "cf_bench": 424, "cf_orders": 385, "cf_page": 363, "cf_core": 348,
+    "cf_stress": 328, "cf_explore": 325, "cf_pool": 296, "cf_reading": 273, "cf_desk": 218, "cf_plan": 216, "cf_plain": 176, "cf_history": 162, "cf_ledger": 158,
+    "cf_script": 151, "cf_picture": 127, "cf_example": 105, "cf": 87, "cf_event": 64, "cf_command": 60, "cf_model": 56, "cf_outcome": 53,
 }  # fmt: skip
 TESTS = {
-    "cf_script_tests": 602, "cf_event": 160, "cf_plan_tests": 252, "cf_desk_tests": 539, "cf_outcome": 203,
-    "cf_pool_tests": 576, "cf_core_tests": 418, "cf_plain_tests": 274, "cf": 97,
-    "cf_reading_tests": 189, "cf_bits": 88, "cf_look_tests": 424, "cf_page_tests": 200,
+    "cf_script_tests": 500, "cf_desk_tests": 475, "cf_look_tests": 467, "cf_pool_tests": 409, "cf_plan_tests": 262, "cf_plain_tests": 248, "cf_core_tests": 203, "cf_event": 194, "cf_reading_tests": 110,
+    "cf_outcome": 98, "cf_ledger_tests": 83, "cf_page_tests": 77, "cf_explore_tests": 73, "cf": 70, "cf_orders_tests": 66, "cf_bits": 38,
 }  # fmt: skip
 OF_TESTS = 9  # to prove a crate that holds tests alone
 CALLERS = 420  # seconds, for the library for C and its callers, where they don't run beside rt ci
