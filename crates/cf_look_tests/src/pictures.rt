@@ -1,4 +1,0 @@
-//! Tests of the pictures of scripts.
-mod checks;
-mod ends;
-mod forms;
