@@ -1,6 +1,7 @@
 //! Stages that are attached: what they take at once, and what they wait for.
 use crate::plans::{Row, SOURCE, plan_of};
 use crate::steps::{Step, fault, gives, granted, play_growing, play_in, with_room};
+use cf_checks::same;
 use cf_core::{Graph, GraphFault};
 use cf_model::{Attached, Claimed, Finished};
 use cf_outcome::{Cause, Outcome, Value};
@@ -214,7 +215,7 @@ fn growing_again(rt: &impl Abort, alloc: Global, plan: Plan) -> Result<Graph, Fa
     match Graph::new_growing(alloc, plan, 2) {
         Ok(graph) => Ok(graph),
         Err(fault) => {
-            assert_eq!(rt; fault, GraphFault::NoMemory);
+            same(rt, fault, GraphFault::NoMemory);
             with_room(rt, alloc, plan_of(alloc, &TWO_SOURCES)?, 2)
         }
     }

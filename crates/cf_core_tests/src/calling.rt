@@ -3,6 +3,7 @@ ghost use Rattle.std.specs.Prelude.{⊤};
 
 use crate::plans::{Row, SOURCE};
 use crate::steps::{Step, gives, granted, graph_of, take};
+use cf_checks::{holds, same};
 use cf_core::Graph;
 use cf_outcome::Value;
 use cf_plan::{Answer, Args, Closure, Form, Functions};
@@ -42,8 +43,8 @@ fn notes_in(
     all: &[(u16, Args)],
     count: u32,
 ) {
-    assert!(rt; calls(graph, noting, all, count), "called");
-    assert!(rt; calls(graph, noting, all, 0), "called again");
+    holds(rt, calls(graph, noting, all, count), "called");
+    holds(rt, calls(graph, noting, all, 0), "called again");
 }
 
 /// Once the graph of these stages has taken these steps, work calls these functions with these arguments, and work after
@@ -144,7 +145,7 @@ fn remembers(rt: &impl Abort, alloc: Global, closure: &mut Closure) -> Result<()
 /// The closure is called three times, and once more when stage 4 is there.
 fn works_twice(rt: &impl Abort, graph: &mut Graph, closure: &mut Closure) {
     take(rt, graph, &[Step::Complete(0, 3, true)]);
-    assert_eq!(rt; graph.work(0, closure), 3);
+    same(rt, graph.work(0, closure), 3);
     let steps = [
         Step::Outcome(1, gives(10)),
         Step::Outcome(2, gives(27)),
@@ -152,6 +153,6 @@ fn works_twice(rt: &impl Abort, graph: &mut Graph, closure: &mut Closure) {
         Step::Complete(4, 8, true),
     ];
     take(rt, graph, &steps);
-    assert_eq!(rt; graph.work(0, closure), 1);
+    same(rt, graph.work(0, closure), 1);
     take(rt, graph, &[Step::Outcome(5, gives(47))]);
 }

@@ -1,6 +1,7 @@
 //! Worked examples, each call once, graphs of each size, and a graph whose memory is refused.
 use crate::plans::{Row, SOURCE, limited, longest_chain, plan_of, supplies};
 use crate::steps::{Step, fault, give, gives, granted, play, play_in, play_on, take};
+use cf_checks::same;
 use cf_core::{Graph, GraphFault};
 use cf_model::{Claimed, Finished, Ticked};
 use cf_outcome::{Cause, Now, Outcome, Value};
@@ -159,7 +160,7 @@ fn plan_again(rt: &impl Abort, alloc: Global) -> Result<Plan, PlanFault> {
     match plan_of(alloc, &SOURCE_AND_APPLY) {
         Ok(plan) => Ok(plan),
         Err(fault) => {
-            assert_eq!(rt; fault, PlanFault::NoMemory);
+            same(rt, fault, PlanFault::NoMemory);
             plan_of(alloc, &SOURCE_AND_APPLY)
         }
     }
@@ -170,7 +171,7 @@ fn graph_again(rt: &impl Abort, alloc: Global, plan: Plan) -> Result<Graph, Fail
     match Graph::new(alloc, plan) {
         Ok(graph) => Ok(graph),
         Err(fault) => {
-            assert_eq!(rt; fault, GraphFault::NoMemory);
+            same(rt, fault, GraphFault::NoMemory);
             Ok(Graph::new(alloc, plan_of(alloc, &SOURCE_AND_APPLY)?)?)
         }
     }

@@ -1,6 +1,7 @@
 //! What is done to a graph and asked of it, as rows: a call, and what it is answered.
 
 use crate::plans::{Row, plan_of};
+use cf_checks::holds;
 use cf_core::Graph;
 use cf_model::{Attached, Claimed, Event, Finished, Reply, Ticked};
 use cf_outcome::{Cause, Now, Outcome, Value};
@@ -101,7 +102,7 @@ fn is_answered(graph: &mut Graph, step: Step) -> bool {
 /// The graph takes these steps, and each is answered as it says.
 pub(crate) fn take(rt: &impl Abort, graph: &mut Graph, steps: &[Step]) {
     for (at, step) in steps.iter().enumerate() {
-        assert!(rt; is_answered(graph, *step), "step {at}");
+        holds(rt, is_answered(graph, *step), ("step", at));
     }
 }
 

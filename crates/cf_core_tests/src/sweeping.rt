@@ -1,6 +1,7 @@
 //! A sweep that stops at each function: where it stops, and what the graph is then.
 use crate::plans::{Row, SOURCE};
 use crate::steps::{Step, fault, gives, graph_of, take};
+use cf_checks::holds;
 use cf_core::{Stop, Sweep};
 use cf_outcome::{Cause, Value};
 use cf_plan::{Answer, Args, Form};
@@ -23,7 +24,7 @@ fn stops(sweep: &mut Sweep, all: &[(Stop, Answer)]) -> bool {
 
 /// The graph that a sweep gives back takes these steps.
 fn ends(rt: &impl Abort, sweep: Sweep, steps: &[Step]) {
-    assert!(rt; sweep.is_over(), "over");
+    holds(rt, sweep.is_over(), "over");
     let mut graph = sweep.end();
     take(rt, &mut graph, steps);
 }
@@ -56,7 +57,7 @@ fn stops_at_each_function(rt: HostRuntime) -> Result<(), Fail> {
         (at(3, 3, 8), Answer::Link(1)),
         (at(4, 4, 8), Answer::Give(Value::Int(6))),
     ];
-    assert!(rt; stops(&mut sweep, &all), "stops");
+    holds(&rt, stops(&mut sweep, &all), "stops");
     let steps = [
         Step::LowestReady(None),
         Step::Outcome(1, gives(8)),
@@ -74,8 +75,8 @@ fn stops_nowhere_where_nothing_is_ready(rt: HostRuntime) -> Result<(), Fail> {
     let rows: [Row<'_>; 2] = [SOURCE, (Form::Apply, &[0], Some(7))];
     let graph = graph_of(rt.alloc(), &rows)?;
     let mut sweep = Sweep::begin(graph);
-    assert!(rt; !sweep.is_over(), "begun");
-    assert!(rt; stops(&mut sweep, &[]), "stops");
+    holds(&rt, !sweep.is_over(), "begun");
+    holds(&rt, stops(&mut sweep, &[]), "stops");
     let steps = [
         Step::Complete(0, 2, true),
         Step::LowestReady(Some(1)),

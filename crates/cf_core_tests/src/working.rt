@@ -5,6 +5,7 @@ ghost use Rattle.cf_outcome.specs.declared.outcome.Value.TheVariants.{Int};
 
 use crate::plans::{Row, SOURCE, longest_chain};
 use crate::steps::{Step, fault, give, gives, granted, graph_of, take};
+use cf_checks::same;
 use cf_core::Graph;
 use cf_model::{Claimed, Finished};
 use cf_outcome::{Cause, Outcome, Value};
@@ -50,7 +51,7 @@ fn take_turns(rt: &impl Abort, graph: &mut Graph, functions: &[Fixed], turns: &[
         match *turn {
             Turn::Takes(step) => take(rt, graph, &[step]),
             Turn::Works(who, calls) => {
-                assert_eq!(rt; graph.work(who, &mut Each { functions }), calls);
+                same(rt, graph.work(who, &mut Each { functions }), calls);
             }
         }
     }

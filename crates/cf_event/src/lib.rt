@@ -17,8 +17,5 @@ mod record;
 pub use applying::{apply, replay};
 pub use cf_model::{Event, Reply};
 
-#[cfg(test)]
-mod tests;
-
 pub use codec::{decode, encode, is_event};
 pub use record::Record;

@@ -17,6 +17,3 @@ pub use now::{Now, now_of};
 pub use outcome::{Cause, Outcome, Value, is_cancelled, is_exceptional, wrap};
 pub use short::{SHORT_ROOM, ShortText};
 pub use write::{WriteFault, write_outcome, write_text};
-
-#[cfg(test)]
-mod tests;

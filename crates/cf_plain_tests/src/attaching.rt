@@ -1,6 +1,7 @@
 //! Graphs to which stages are attached between the calls.
 ghost use Rattle.std.specs.Prelude.{◌<◌};
 
+use cf_checks::same;
 use crate::both::{answer, assert_alike, nudge};
 use crate::calls::{call_of, caller_of, finishing};
 use crate::plans::{New, larger_plan, new_choice, new_of, numbers_of, two_sources};
@@ -60,7 +61,7 @@ fn attach_to_both(
     let Reply::Attach(told) = answer(rt, alloc, graph, plain, event)? else {
         return Err(Fail::from("another reply"));
     };
-    assert_eq!(rt; graph.stages(), plain.stages());
+    same(rt, graph.stages(), plain.stages());
     Ok(told)
 }
 
@@ -118,7 +119,7 @@ fn attach_told(
     due: Due,
 ) -> Result<(), Fail> {
     let told = attach_to_both(rt, alloc, graph, plain, due.new)?;
-    assert_eq!(rt; told, due.told);
+    same(rt, told, due.told);
     Ok(())
 }
 
@@ -282,7 +283,7 @@ fn two_stages_are_attached(rt: HostRuntime) -> Result<(), Fail> {
     for form in 0..19 {
         pairs = compare_first(&rt, rt.alloc(), &plan, form, pairs)?;
     }
-    assert_eq!(rt; pairs, 12198);
+    same(&rt, pairs, 12198);
     Ok(())
 }
 
@@ -443,7 +444,7 @@ fn stages_are_attached_by_rule(rt: HostRuntime) -> Result<(), Fail> {
         full: 0,
     };
     compare_plans(&rt, rt.alloc(), &mut seen)?;
-    assert_eq!(rt; seen.forms, [0x30007, 0x7fff8, 0x30fc0, 0x7fff8]);
-    assert_eq!(rt; (seen.attached, seen.full), (7439, 7664));
+    same(&rt, seen.forms, [0x30007, 0x7fff8, 0x30fc0, 0x7fff8]);
+    same(&rt, (seen.attached, seen.full), (7439, 7664));
     Ok(())
 }

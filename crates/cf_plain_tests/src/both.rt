@@ -2,6 +2,7 @@
 ghost use Rattle.std.specs.Prelude.{length};
 ghost use Rattle.cf_model.specs.Ranges.{EventFits};
 
+use cf_checks::{holds, same, same_at};
 use cf_core::Graph;
 use cf_model::{Attached, Event, Finished, Reply, Ticked};
 use cf_outcome::{Cause, Outcome};
@@ -65,7 +66,7 @@ pub(crate) fn answer(
     assert!(rt; graph.takes(&event) && event.fits(plain.stages()));
     let wanted = plain_reply(alloc, plain, &event)?;
     let reply = graph.answer(&event);
-    assert_eq!(rt; reply, wanted, "{event:?}");
+    same_at(rt, reply, wanted, event);
     Ok(reply)
 }
 
@@ -73,7 +74,7 @@ pub(crate) fn answer(
 pub(crate) fn nudge(rt: &impl Abort, graph: &mut Graph, turns: u32) {
     let before = graph.turns();
     let taken = graph.nudge(turns);
-    assert_eq!(rt; graph.turns(), before.wrapping_add(taken as u64));
+    same(rt, graph.turns(), before.wrapping_add(taken as u64));
 }
 
 /// Whether both tell the same of a stage that both have.
@@ -83,8 +84,8 @@ fn is_alike(graph: &mut Graph, plain: &Plain, i: u16) -> bool {
 
 /// Both tell the same of each stage, and of which is ready.
 pub(crate) fn assert_alike(rt: &impl Abort, graph: &mut Graph, plain: &Plain, stages: u16) {
-    assert_eq!(rt; graph.lowest_ready(), plain.lowest_ready());
+    same(rt, graph.lowest_ready(), plain.lowest_ready());
     for i in 0..stages {
-        assert!(rt; is_alike(graph, plain, i), "stage {i}");
+        holds(rt, is_alike(graph, plain, i), ("stage", i));
     }
 }

@@ -1,4 +1,5 @@
 //! Plans to which stages are attached, beside plans that were built whole.
+use cf_checks::{holds, same};
 use crate::rows::are_same;
 use cf_plan::{
     Form, GrowingPlan, LimitKind, MAX_STAGES, Of, Plan, PlanBuilder, PlanFault, fits_form,
@@ -31,7 +32,7 @@ fn add(
     row: Row<'_>,
 ) -> Result<(), PlanFault> {
     let Row(form, of, list, function) = row;
-    assert!(rt; attaches(plan, form, of, function), "{row:?}");
+    holds(rt, attaches(plan, form, of, function), row);
     builder.stage(form, list, function)?;
     Ok(())
 }
@@ -100,7 +101,7 @@ fn assert_same(
     for i in 0..whole.stages() {
         let named = dependents(alloc, plan, i)?;
         let same = is_same(plan, whole, i) && has_dependents(whole, i, named.as_slice());
-        assert!(rt; same, "stage {i}");
+        holds(rt, same, ("stage", i));
     }
     Ok(())
 }
@@ -112,7 +113,7 @@ fn assert_full(
     plan: &GrowingPlan,
     builder: PlanBuilder,
 ) -> Result<(), Fail> {
-    assert_eq!(rt; plan.room(), 0);
+    same(rt, plan.room(), 0);
     let whole = builder.build()?;
     assert_same(rt, alloc, plan, &whole)?;
     Ok(())
@@ -250,7 +251,7 @@ fn as_many_are_attached_as_there_may_be(rt: HostRuntime) -> Result<(), Fail> {
     let empty = PlanBuilder::new(rt.alloc()).build()?;
     let mut plan = with_room(&rt, rt.alloc(), empty, MAX_STAGES as u16)?;
     fill_with_most(&rt, rt.alloc(), &mut plan)?;
-    assert_eq!(rt; plan.edges(), 8_190);
+    same(&rt, plan.edges(), 8_190);
     Ok(())
 }
 
@@ -262,7 +263,7 @@ fn restart(
     whole: &Plan,
 ) -> Result<(), AllocError> {
     plan.restart();
-    assert_eq!(rt; plan.room(), 4);
+    same(rt, plan.room(), 4);
     assert_same(rt, alloc, plan, whole)
 }
 

@@ -1,4 +1,5 @@
 //! The numbers and the names of forms.
+use cf_checks::holds;
 use cf_plan::Form;
 use std::test::Fail;
 
@@ -49,7 +50,7 @@ const OTHER_NUMBERS: [u32; 3] = [19, 256, 4_294_967_295];
 #[test]
 fn other_numbers_are_none(rt: HostRuntime) -> Result<(), Fail> {
     for number in &OTHER_NUMBERS {
-        assert!(rt; Form::numbered(*number).is_none(), "{number}");
+        holds(&rt, Form::numbered(*number).is_none(), number);
     }
     Ok(())
 }
@@ -59,7 +60,7 @@ const OTHER_NAMES: [&str; 5] = ["", "Source", "apply ", "thenApply", "exceptiona
 #[test]
 fn other_names_are_none(rt: HostRuntime) -> Result<(), Fail> {
     for name in &OTHER_NAMES {
-        assert!(rt; Form::named(name).is_none(), "{name}");
+        holds(&rt, Form::named(name).is_none(), name);
     }
     Ok(())
 }

@@ -1,4 +1,5 @@
 //! Which sources a plan has, and for how much room it has place.
+use cf_checks::same;
 use cf_plan::{Form, Of, Plan, PlanBuilder, PlanFault};
 use std::alloc::Global;
 use std::test::Fail;
@@ -16,7 +17,7 @@ const BELOW: [(Of, u16, bool); 6] = [
 #[test]
 fn sources_are_below_the_stages(rt: HostRuntime) -> Result<(), Fail> {
     for (of, stages, is_below) in &BELOW {
-        assert_eq!(rt; of.are_below(*stages), *is_below);
+        same(&rt, of.are_below(*stages), *is_below);
     }
     Ok(())
 }
@@ -42,7 +43,7 @@ fn a_plan_has_many_copies_at_once(rt: HostRuntime) -> Result<(), Fail> {
     for _ in 0..20_000 {
         copies.push(plan.copy()?)?;
     }
-    assert_eq!(rt; copies.len(), 20_000);
+    same(&rt, copies.len(), 20_000);
     Ok(())
 }
 
@@ -65,7 +66,7 @@ const PLACES: [(usize, u16, bool); 10] = [
 fn stages_edges_and_room_are_bounded(rt: HostRuntime) -> Result<(), Fail> {
     for (edges, room, has) in &PLACES {
         let plan = with_edges(rt.alloc(), *edges)?;
-        assert_eq!(rt; plan.has_place(*room), *has);
+        same(&rt, plan.has_place(*room), *has);
     }
     Ok(())
 }

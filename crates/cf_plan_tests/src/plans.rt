@@ -1,4 +1,5 @@
 //! Plans of every kind of size, and what is refused.
+use cf_checks::same;
 use crate::rows::{Ask, Step, check, check_after, check_built, take, taken};
 use cf_outcome::{Value, WriteFault};
 use cf_plan::{Form, Limit, LimitKind, MAX_EDGES, Plan, PlanBuilder, PlanFault};
@@ -220,7 +221,7 @@ fn build_stages(rt: &impl Abort, alloc: Global, stages: u16) -> Result<(), PlanF
     let plan = builder.build()?;
     let asks = [Ask::Stages(stages), Ask::Edges(0)];
     check(rt, &plan, &asks);
-    assert_eq!(rt; plan.starts().len(), stages as usize);
+    same(rt, plan.starts().len(), stages as usize);
     check(rt, &plan.copy()?, &asks);
     Ok(())
 }
@@ -352,7 +353,7 @@ fn assert_written(
     text: &str,
 ) -> Result<(), Fail> {
     let written = format!(in alloc; "{fault}")?;
-    assert_eq!(rt; written.as_str(), text);
+    same(rt, written.as_str(), text);
     Ok(())
 }
 
@@ -390,7 +391,7 @@ fn add_again(
     number: u16,
 ) {
     let answer = stage_again(builder, form, of, function, number);
-    assert_eq!(rt; answer, Ok(number));
+    same(rt, answer, Ok(number));
 }
 
 /// Adds a limit in the same way.
@@ -400,7 +401,7 @@ fn limit_again(rt: &impl Abort, builder: &mut PlanBuilder) {
         assert!(rt; builder.limits().is_empty());
         answer = builder.limit(1, 5, LimitKind::Timeout);
     }
-    assert_eq!(rt; answer, Ok(()));
+    same(rt, answer, Ok(()));
 }
 
 /// A plan of three stages and a limit. Where a growth is refused, it is tried again.
@@ -439,7 +440,7 @@ fn a_refused_growth_can_be_tried_again(rt: HostRuntime) -> Result<(), Fail> {
         Ask::Dependents(1, &[2]),
     ];
     check(&rt, &copy, &asks);
-    assert_eq!(rt; copy.limits().len(), 1);
+    same(&rt, copy.limits().len(), 1);
     Ok(())
 }
 

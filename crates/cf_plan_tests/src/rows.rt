@@ -1,4 +1,5 @@
 //! What is done to a builder, and what a plan is asked, as rows that tests take.
+use cf_checks::holds;
 use cf_plan::{Form, Limit, LimitKind, Plan, PlanBuilder, PlanFault};
 use std::alloc::Global;
 use std::process::Abort;
@@ -57,7 +58,7 @@ fn is_answered(plan: &Plan, ask: Ask<'_>) -> bool {
 /// The builder takes these steps, and each is answered as it says.
 pub(crate) fn take(rt: &impl Abort, builder: &mut PlanBuilder, steps: &[Step<'_>]) {
     for (at, step) in steps.iter().enumerate() {
-        assert!(rt; is_taken(builder, *step), "step {at}");
+        holds(rt, is_taken(builder, *step), ("step", at));
     }
 }
 
@@ -71,7 +72,7 @@ pub(crate) fn taken(rt: &impl Abort, alloc: Global, steps: &[Step<'_>]) -> PlanB
 /// Each question is answered as it says.
 pub(crate) fn check(rt: &impl Abort, plan: &Plan, asks: &[Ask<'_>]) {
     for (at, ask) in asks.iter().enumerate() {
-        assert!(rt; is_answered(plan, *ask), "question {at}");
+        holds(rt, is_answered(plan, *ask), ("question", at));
     }
 }
 

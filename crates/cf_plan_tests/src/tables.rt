@@ -1,6 +1,7 @@
 //! The tables of forms: what a stage does by its sources, where an answer lands, and which stages fit their form.
 ghost use Rattle.std.specs.Prelude.{◌≡◌};
 
+use cf_checks::{same, same_at};
 use cf_outcome::{Cause, Outcome, Value};
 use cf_plan::{
     Answer, Args, Due, Form, Landing, Of, StageFn, due_one, due_two, fits_form, landing,
@@ -63,7 +64,7 @@ fn answer_of<F: StageFn>(function: &F, args: &Args) -> Answer
 fn a_function_answers_by_its_meaning(rt: HostRuntime) {
     let fixed = Fixed { value: INT };
     let answer = answer_of(&fixed, &Args::One(Value::Nil));
-    assert_eq!(rt; answer, GIVES);
+    same(&rt, answer, GIVES);
 }
 
 /// A form, the outcome of the source that decides, and what the stage does.
@@ -97,7 +98,7 @@ const ONE: [(Form, Outcome, Due); 20] = [
 #[test]
 fn one_source_decides(rt: HostRuntime) {
     for (form, outcome, due) in &ONE {
-        assert_eq!(rt; due_one(*form, *outcome), *due, "{form:?}");
+        same_at(&rt, due_one(*form, *outcome), *due, form);
     }
 }
 
@@ -124,7 +125,7 @@ const TWO: [(Form, Outcome, Outcome, Due); 6] = [
 #[test]
 fn two_sources_decide(rt: HostRuntime) {
     for (form, first, second, due) in &TWO {
-        assert_eq!(rt; due_two(*form, *first, *second), *due, "{form:?}");
+        same_at(&rt, due_two(*form, *first, *second), *due, form);
     }
 }
 
@@ -190,7 +191,7 @@ const ANSWERS: [(Form, Option<Outcome>, Answer, Landing); 15] = [
 #[test]
 fn an_answer_lands(rt: HostRuntime) {
     for (form, source, answer, lands) in &ANSWERS {
-        assert_eq!(rt; landing(*form, 5, *source, *answer), *lands, "{form:?}");
+        same_at(&rt, landing(*form, 5, *source, *answer), *lands, form);
     }
 }
 
@@ -213,10 +214,6 @@ const FITTING: [(Form, Of, bool, bool); 12] = [
 #[test]
 fn stages_fit_their_form(rt: HostRuntime) {
     for (form, of, has_function, fits) in &FITTING {
-        assert_eq!(rt;
-            fits_form(*form, of.count(), *has_function),
-            *fits,
-            "{form:?}"
-        );
+        same_at(&rt, fits_form(*form, of.count(), *has_function), *fits, form);
     }
 }

@@ -1,4 +1,5 @@
 //! Scripts of version 2: room, and steps that attach stages.
+use cf_checks::holds;
 use cf_model::{Ask, Event};
 use cf_outcome::Value;
 use cf_plan::{Form, Of, PlanFault};
@@ -44,7 +45,7 @@ fn is_refused(alloc: Global, row: Row<'_>) -> Result<bool, AllocError> {
 /// These texts are read, or refused so.
 fn assert_texts(rt: &impl Abort, alloc: Global, rows: &[Row<'_>]) -> Result<(), Fail> {
     for (at, row) in rows.iter().enumerate() {
-        assert!(rt; is_refused(alloc, *row)?, "text {at}");
+        holds(rt, is_refused(alloc, *row)?, ("text", at));
     }
     Ok(())
 }
@@ -59,9 +60,10 @@ fn assert_pieces(
     fault: Option<ReadingFault>,
 ) -> Result<(), Fail> {
     for piece in pieces {
-        assert!(rt;
+        holds(
+            rt,
             is_refused(alloc, (before, *piece, 1, after, fault))?,
-            "{piece}"
+            piece,
         );
     }
     Ok(())
@@ -86,7 +88,7 @@ fn is_refused_so(alloc: Global, text: &str, fault: ReadingFault) -> bool {
 /// These texts are refused so.
 fn assert_refused(rt: &impl Abort, alloc: Global, rows: &[(&str, ReadingFault)]) {
     for (text, fault) in rows {
-        assert!(rt; is_refused_so(alloc, text, *fault), "{text}");
+        holds(rt, is_refused_so(alloc, text, *fault), text);
     }
 }
 

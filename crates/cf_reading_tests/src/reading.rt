@@ -1,4 +1,5 @@
 //! What scripts are read as, what is refused, and the ten functions.
+use cf_checks::holds;
 use cf_model::{Ask, Event};
 use cf_outcome::{Cause, Outcome, Value};
 use cf_plan::{Answer, Args, Limit, LimitKind, Plan, PlanFault, StageFn};
@@ -82,14 +83,14 @@ const OTHERS: [(Func, Args, Answer); 16] = [
 fn functions_give_numbers(rt: HostRuntime) {
     for (f, args, number) in &NUMBERS {
         let answer = Answer::Give(Value::Int(*number));
-        assert!(rt; f.call(args) == answer, "{f:?} of {args:?}");
+        holds(&rt, f.call(args) == answer, (f, "of", args));
     }
 }
 
 #[test]
 fn functions_answer(rt: HostRuntime) {
     for (f, args, answer) in &OTHERS {
-        assert!(rt; f.call(args) == *answer, "{f:?} of {args:?}");
+        holds(&rt, f.call(args) == *answer, (f, "of", args));
     }
 }
 
@@ -164,7 +165,7 @@ fn stops_in_time(alloc: Global, fails_at: usize) -> bool {
 #[test]
 fn asks_for_pieces_up_to_the_end_or_a_failure(rt: HostRuntime) {
     for fails_at in 0..6usize {
-        assert!(rt; stops_in_time(rt.alloc(), fails_at), "{fails_at}");
+        holds(&rt, stops_in_time(rt.alloc(), fails_at), fails_at);
     }
 }
 
@@ -182,9 +183,10 @@ fn reads_whole_unless_it_fails(alloc: Global, fails_at: usize, kind: ErrorKind) 
 fn reads_whole_or_not(rt: HostRuntime) {
     for fails_at in 0..12usize {
         for kind in [ErrorKind::Interrupted, ErrorKind::Other] {
-            assert!(rt;
+            holds(
+                &rt,
                 reads_whole_unless_it_fails(rt.alloc(), fails_at, kind),
-                "{fails_at}"
+                fails_at,
             );
         }
     }
@@ -268,7 +270,7 @@ fn is_refused(alloc: Global, bytes: &[u8], fault: ReadingFault) -> bool {
 #[test]
 fn refuses_for_what_is_wrong(rt: HostRuntime) {
     for (at, (bytes, fault)) in REFUSED.iter().enumerate() {
-        assert!(rt; is_refused(rt.alloc(), bytes, *fault), "text {at}");
+        holds(&rt, is_refused(rt.alloc(), bytes, *fault), ("text", at));
     }
 }
 

@@ -1,4 +1,5 @@
 //! The text of each part of a script, and of each reason why bytes are none.
+use cf_checks::holds;
 use cf_plan::PlanFault;
 use cf_reading::{Part, ReadingFault};
 use std::alloc::{AllocError, Global};
@@ -14,7 +15,7 @@ fn is_written<T: Display>(alloc: Global, said: &T, text: &str) -> Result<bool, A
 /// Each of these is written so.
 fn check<T: Display>(rt: &impl Abort, alloc: Global, rows: &[(T, &str)]) -> Result<(), Fail> {
     for (said, text) in rows {
-        assert!(rt; is_written(alloc, said, text)?, "{text}");
+        holds(rt, is_written(alloc, said, text)?, text);
     }
     Ok(())
 }

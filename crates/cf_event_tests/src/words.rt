@@ -1,7 +1,7 @@
-mod attaching;
-
-use crate::{Event, Reply, apply, decode, encode, is_event, replay};
+//! Events and their words, and what events do to a graph.
+use cf_checks::{holds, same, same_at};
 use cf_core::Graph;
+use cf_event::{Event, Reply, apply, decode, encode, is_event, replay};
 use cf_model::{Claimed, Ticked};
 use cf_outcome::Value;
 use cf_plan::{Answer, Args, Form, Of, Plan, PlanBuilder, PlanFault};
@@ -134,10 +134,10 @@ fn has_word(event: &Event, word: u64) -> bool {
 #[test]
 fn each_event_has_its_word(rt: HostRuntime) {
     for (event, word) in &ROWS {
-        assert!(rt; has_word(event, *word), "{word}");
+        holds(&rt, has_word(event, *word), word);
     }
     for word in &REFUSED {
-        assert_eq!(rt; decode(*word), None, "{word}");
+        same_at(&rt, decode(*word), None, word);
     }
 }
 
@@ -158,11 +158,11 @@ fn greater_numbers_have_no_word(rt: HostRuntime) {
 }
 
 /// Whether a word is an event's, which then has this word.
-fn is_word(rt: &impl Abort, word: u64) -> bool {
+pub(crate) fn is_word(rt: &impl Abort, word: u64) -> bool {
     match decode(word) {
         None => false,
         Some(event) => {
-            assert!(rt; is_event(&event) && encode(&event) == word, "{word}");
+            holds(rt, is_event(&event) && encode(&event) == word, word);
             true
         }
     }
@@ -186,7 +186,7 @@ fn one_bit_off_is_another_event_or_none(rt: HostRuntime) {
     for (_, word) in &ROWS {
         good = good.saturating_add(count_near(&rt, *word));
     }
-    assert_eq!(rt; good, 468);
+    same(&rt, good, 468);
 }
 
 /// The plan of one supply.
@@ -216,7 +216,7 @@ fn turns_are_taken_before_their_event(rt: HostRuntime) -> Result<(), Fail> {
         let mut graph = Graph::new(rt.alloc(), pair(rt.alloc())?)?;
         assert!(rt; graph.takes(&complete));
         replay(&mut graph, &[complete, tick], nudges);
-        assert_eq!(rt; graph.turns(), turns);
+        same(&rt, graph.turns(), turns);
     }
     Ok(())
 }

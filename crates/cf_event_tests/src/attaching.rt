@@ -1,9 +1,10 @@
 //! Events that attach stages: the words of all of them, and what they do to a graph with room.
 ghost use Rattle.std.specs.Prelude.{◌≡◌, ◌<◌, IfOk, length};
 
-use crate::tests::is_word;
-use crate::{Event, Reply, apply, decode, encode, is_event, replay};
+use crate::words::is_word;
+use cf_checks::{same, same_at};
 use cf_core::Graph;
+use cf_event::{Event, Reply, apply, decode, encode, is_event, replay};
 use cf_model::{Attached, Claimed};
 use cf_outcome::{Outcome, Value};
 use cf_plan::{Args, Form, Of, PlanBuilder, fits_form};
@@ -73,8 +74,8 @@ fn attach(who: u8, form: Form, of: Of, function: Option<u16>) -> Event {
 fn fits(rt: &impl Abort, number: usize, form: Form, of: Of, function: Option<u16>) -> bool {
     let fits = fits_form(form, of.count(), function.is_some());
     let event = attach(3, form, of, function);
-    assert_eq!(rt; is_event(&event), fits, "{event:?}");
-    assert_eq!(rt; is_numbered(&event, number as u64), fits, "{event:?}");
+    same_at(rt, is_event(&event), fits, event);
+    same_at(rt, is_numbered(&event, number as u64), fits, event);
     fits
 }
 
@@ -86,7 +87,7 @@ fn count_fitting(rt: &impl Abort, number: usize, row: (Form, u16, u16, bool)) ->
         let counts = least <= of.count() && of.count() <= most;
         for function in &FUNCTIONS {
             let wanted = counts && called == function.is_some();
-            assert_eq!(rt; fits(rt, number, form, *of, *function), wanted);
+            same(rt, fits(rt, number, form, *of, *function), wanted);
             found = found.wrapping_add(wanted as u32);
         }
     }
@@ -99,7 +100,7 @@ fn stages_that_fit_their_form_have_words(rt: HostRuntime) {
     for (number, row) in FORMS.iter().enumerate() {
         found = found.wrapping_add(count_fitting(&rt, number, *row));
     }
-    assert_eq!(rt; found, FITTING);
+    same(&rt, found, FITTING);
 }
 
 /// Those are all words with these sources and functions: each form's number up to 255, with each number of sources up to 15.
@@ -111,7 +112,7 @@ fn no_other_word_attaches(rt: HostRuntime) {
             found = found.wrapping_add(count_words(&rt, form, count));
         }
     }
-    assert_eq!(rt; found, FITTING);
+    same(&rt, found, FITTING);
 }
 
 /// The sources and the functions of those events, as the bits of their words.
@@ -150,7 +151,7 @@ const GREATEST: [(u8, Form, Of, Option<u16>, bool); 6] = [
 fn words_have_no_room_for_greater_numbers(rt: HostRuntime) {
     for (who, form, of, function, has) in &GREATEST {
         let event = attach(*who, *form, *of, *function);
-        assert_eq!(rt; is_event(&event), *has, "{event:?}");
+        same_at(&rt, is_event(&event), *has, event);
     }
 }
 
@@ -196,9 +197,9 @@ const WORDS: [(u64, Option<Reply>); 6] = [
 fn events_of_words_name_attached_stages(rt: HostRuntime) -> Result<(), Fail> {
     let mut graph = growing(&rt, rt.alloc())?;
     for (word, wanted) in &WORDS {
-        assert_eq!(rt; answer(&mut graph, *word), *wanted, "{word}");
+        same_at(&rt, answer(&mut graph, *word), *wanted, word);
     }
-    assert_eq!(rt; graph.stages(), 3);
+    same(&rt, graph.stages(), 3);
     Ok(())
 }
 
@@ -220,6 +221,6 @@ fn replayed_events_name_stages_attached_before(rt: HostRuntime) -> Result<(), Fa
     ];
     replay(&mut graph, &events, &[1]);
     assert!(rt; graph.has(1));
-    assert_eq!(rt; graph.outcome(1), Some(Outcome::Value(Value::Int(4))));
+    same(&rt, graph.outcome(1), Some(Outcome::Value(Value::Int(4))));
     Ok(())
 }

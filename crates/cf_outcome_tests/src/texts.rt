@@ -1,4 +1,6 @@
-use crate::{
+//! Outcomes, what becomes of them, and their texts, in memory, cut short and where a writer stumbles.
+use cf_checks::{holds, same};
+use cf_outcome::{
     Cause, Now, Outcome, SHORT_ROOM, ShortText, Value, WriteFault, is_cancelled, is_exceptional,
     now_of, wrap, write_outcome, write_text,
 };
@@ -41,11 +43,15 @@ fn is_so(outcome: Outcome, cancelled: bool, exceptional: bool) -> bool {
 #[test]
 fn wraps_and_tells(rt: HostRuntime) {
     for (outcome, wrapped, cancelled, exceptional, now) in &OUTCOMES {
-        assert_eq!(rt; wrap(*outcome), *wrapped);
-        assert!(rt; is_so(*outcome, *cancelled, *exceptional), "{outcome}");
-        assert_eq!(rt; now_of(Some(*outcome), Value::Nil), *now);
+        same(&rt, wrap(*outcome), *wrapped);
+        holds(&rt, is_so(*outcome, *cancelled, *exceptional), outcome);
+        same(&rt, now_of(Some(*outcome), Value::Nil), *now);
     }
-    assert_eq!(rt; now_of(None, Value::Int(-1)), Now::Absent(Value::Int(-1)));
+    same(
+        &rt,
+        now_of(None, Value::Int(-1)),
+        Now::Absent(Value::Int(-1)),
+    );
 }
 
 /// Whether an outcome is written so, to a writer and as a text.
@@ -77,7 +83,7 @@ fn is_value_written(alloc: Global, value: Value, text: &str) -> Result<bool, All
 #[test]
 fn writes_each_value(rt: HostRuntime) -> Result<(), Fail> {
     for (value, text) in &VALUES {
-        assert!(rt; is_value_written(rt.alloc(), *value, text)?, "{text}");
+        holds(&rt, is_value_written(rt.alloc(), *value, text)?, text);
     }
     Ok(())
 }
@@ -123,10 +129,11 @@ fn fault(cause: Cause, wrapped: bool) -> Outcome {
 #[test]
 fn writes_each_fault(rt: HostRuntime) -> Result<(), Fail> {
     for (cause, raw, wrapped) in &CAUSES {
-        assert!(rt; is_written(rt.alloc(), fault(*cause, false), raw)?, "{raw}");
-        assert!(rt;
+        holds(&rt, is_written(rt.alloc(), fault(*cause, false), raw)?, raw);
+        holds(
+            &rt,
             is_written(rt.alloc(), fault(*cause, true), wrapped)?,
-            "{wrapped}"
+            wrapped,
         );
     }
     Ok(())
@@ -156,8 +163,8 @@ fn is_short(told: Now, text: &str) -> bool {
 fn writes_each_answer(rt: HostRuntime) -> Result<(), Fail> {
     for (told, text) in &TOLD {
         let shown = format!(in rt.alloc(); "{told}")?;
-        assert_eq!(rt; shown.as_str(), *text);
-        assert!(rt; is_short(*told, text), "{text}");
+        same(&rt, shown.as_str(), *text);
+        holds(&rt, is_short(*told, text), text);
     }
     Ok(())
 }
@@ -168,7 +175,7 @@ fn the_longest_has_room(rt: HostRuntime) {
     let mut short = ShortText::new();
     short.push("granted got 12345");
     short.push_outcome(fault(Cause::Thrown(4294967295), true));
-    assert_eq!(rt; short.as_bytes().len(), SHORT_ROOM);
+    same(&rt, short.as_bytes().len(), SHORT_ROOM);
 }
 
 /// Takes one byte a call. One call of `write` fails or takes nothing, and the first flush may fail. The next call would
@@ -259,8 +266,8 @@ fn ends_at(stumbles_at: usize, fails: bool, as_outcome: bool) -> bool {
 fn nothing_follows_a_failed_write(rt: HostRuntime) {
     for stumbles_at in 0..21usize {
         for fails in [false, true] {
-            assert!(rt; ends_at(stumbles_at, fails, false), "{stumbles_at}");
-            assert!(rt; ends_at(stumbles_at, fails, true), "{stumbles_at}");
+            holds(&rt, ends_at(stumbles_at, fails, false), stumbles_at);
+            holds(&rt, ends_at(stumbles_at, fails, true), stumbles_at);
         }
     }
 }
@@ -291,7 +298,7 @@ fn all_that_is_left_is_handed_over_at_once(rt: HostRuntime) {
         writes: 0,
     };
     assert!(rt; write_text(&mut out, &[b'x'; 9_000]).is_ok());
-    assert_eq!(rt; (out.writes, out.taken), (1, 9_000));
+    same(&rt, (out.writes, out.taken), (1, 9_000));
 }
 
 /// Whether so many bytes were written one at a time and flushed once, behind the last.

@@ -1,0 +1,5 @@
+//! Tests of outcomes and their texts, by the public calls of `cf_outcome` alone.
+#![tactic(auto)]
+
+#[cfg(test)]
+mod texts;
