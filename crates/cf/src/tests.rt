@@ -1,8 +1,8 @@
-//! Commands that are carried out over memory.
+//! Words that are read as commands, and commands that are carried out over memory.
 ghost use Rattle.cf_command.specs.Words.{HasWorkers};
 
 use crate::commands::carry_out;
-use cf_command::Command;
+use cf_command::{Command, CommandFault, read_command};
 use std::alloc::Global;
 use std::process::{Abort, ExitCode};
 use std::sync::Wait;
@@ -53,4 +53,45 @@ fn runs_and_races_are_carried_out(rt: HostRuntime) {
         ExitCode::FAILURE,
     );
     check(&rt, rt.alloc(), race, "[]", fault, ExitCode::FAILURE);
+}
+
+type Words = (&'static [&'static str], Result<Command, CommandFault>);
+
+const WORDS: [Words; 6] = [
+    (&["run"], Ok(Command::Run)),
+    (&["race"], Ok(Command::Race(4))),
+    (&["race", "--workers", "2"], Ok(Command::Race(2))),
+    (&["race", "--workers=32"], Ok(Command::Race(32))),
+    (&["race", "--workers", "10"], Ok(Command::Race(10))),
+    (&["race", "--workers", "33"], Err(CommandFault::Usage)),
+];
+
+#[test]
+fn words_are_read(rt: HostRuntime) -> Result<(), Fail> {
+    for (words, command) in &WORDS {
+        assert!(&rt; read_command(rt.alloc(), words) == *command);
+    }
+    Ok(())
+}
+
+#[test]
+fn faults_of_words_have_lines(rt: HostRuntime) -> Result<(), Fail> {
+    let usage = CommandFault::Usage;
+    let memory = CommandFault::NoMemory;
+    let text = format!(in rt.alloc(); "{usage} / {memory}")?;
+    assert_eq!(&rt;
+        text.as_str(),
+        "usage: cf run | cf race [--workers N] / fault 9 memory"
+    );
+    Ok(())
+}
+
+#[test]
+fn refused_memory_is_told(rt: HostRuntime) {
+    let words = ["race", "--workers", "2"].as_slice();
+    let first = read_command(rt.alloc(), words);
+    if first != Ok(Command::Race(2)) {
+        assert!(&rt; first == Err(CommandFault::NoMemory));
+    }
+    assert!(&rt; read_command(rt.alloc(), words) == Ok(Command::Race(2)));
 }

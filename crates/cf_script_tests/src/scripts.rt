@@ -1,69 +1,30 @@
-//! Scripts with what they print, read and written whole, a byte at a time, up to where a device fails, and where memory is
-//! refused.
-use crate::checks::{check_long_rows, check_rows, lines};
-use crate::claims::{CLAIMS, NUDGED};
+//! Scripts that end early, devices that fail, and memory that is refused.
 use crate::devices::{Dripping, Fixed, Sipping, Then};
-use crate::forms::{CALLS, FORMS};
-use crate::long::LONG;
-use crate::wrong::{BAD_PLANS, BAD_SHAPES};
+use crate::reports::{ADD_FIVE, ADD_FIVE_REPORT, lines};
 use cf_script::{Part, ScriptFault, run_script};
 use std::alloc::Global;
 use std::io::ErrorKind;
 use std::process::Abort;
 use std::test::Fail;
 
-/// The script of a source and an apply that adds 5, and its report.
-const ADD_FIVE: &str =
-    r#"{"cf":1,"stages":[{"form":"source"},{"form":"apply","of":[0],"fn":{"add":5}}],"steps":[["complete",0,3],["work"],["now",1]]}"#;
+/// The script of a source to which an apply is attached.
+const ATTACH_ONE: &str =
+    r#"{"cf":2,"room":1,"stages":[{"form":"source"}],"steps":[["complete",0,3],["attach",{"form":"apply","of":[0],"fn":{"add":5}}]]}"#;
 
-const ADD_FIVE_REPORT: &str = "true / worked 1 / value 8 / stage 0 value 3 / stage 1 value 8";
-
-#[test]
-fn callers_complete_fail_cancel_and_ask(rt: HostRuntime) -> Result<(), Fail> {
-    check_rows(&rt, &CALLS)
-}
-
-#[test]
-fn forms_take_what_their_sources_give(rt: HostRuntime) -> Result<(), Fail> {
-    check_rows(&rt, &FORMS)
-}
-
-#[test]
-fn claims_and_limits(rt: HostRuntime) -> Result<(), Fail> {
-    check_rows(&rt, &CLAIMS)
-}
-
-#[test]
-fn nudges_change_no_answer(rt: HostRuntime) -> Result<(), Fail> {
-    check_rows(&rt, &NUDGED)
-}
-
-#[test]
-fn wrong_shapes_are_told(rt: HostRuntime) -> Result<(), Fail> {
-    check_rows(&rt, &BAD_SHAPES)
-}
-
-#[test]
-fn wrong_plans_and_steps_are_told(rt: HostRuntime) -> Result<(), Fail> {
-    check_rows(&rt, &BAD_PLANS)
-}
-
-#[test]
-fn long_rows_print_their_reports(rt: HostRuntime) -> Result<(), Fail> {
-    check_long_rows(&rt, &LONG)
-}
-
-#[test]
-fn no_front_of_a_script_is_json(rt: HostRuntime) -> Result<(), Fail> {
-    let script = ADD_FIVE.as_bytes();
+fn check_fronts(rt: &(impl Abort + AllocGlobal), script: &[u8]) {
     for len in 0..script.len() {
         let mut out: Vec<u8> = Vec::new(rt.alloc());
         let mut input = &script[..len];
         let result = run_script(rt.alloc(), &mut input, &mut out);
-        assert!(&rt; result == Err(ScriptFault::NotJson), "{len}");
-        assert_eq!(&rt; out.as_slice(), b"fault 2 not json\n".as_slice(), "{len}");
+        assert!(rt; result == Err(ScriptFault::NotJson), "{len}");
+        assert_eq!(rt; out.as_slice(), b"fault 2 not json\n".as_slice(), "{len}");
     }
-    Ok(())
+}
+
+#[test]
+fn no_front_of_a_script_is_json(rt: HostRuntime) {
+    check_fronts(&rt, ADD_FIVE.as_bytes());
+    check_fronts(&rt, ATTACH_ONE.as_bytes());
 }
 
 #[test]
