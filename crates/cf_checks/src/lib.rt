@@ -1,10 +1,10 @@
 //! How a test says what it wants.
 //!
-//! A test that says so by a call is proved in a tenth of the time that the same text takes with `assert_eq!` and a name in it, which
-//! stand in line. Each call ends the test where it doesn't hold.
+//! Each call ends the program where what it says doesn't hold. A function that says so by calls is proved in a third of the time that
+//! it takes with `?`, and in a tenth of that with `assert_eq!` and a name: those stand in line, and each is a way out.
 #![tactic(auto)]
 
-ghost use Rattle.std.specs.Prelude.{IsTrue};
+ghost use Rattle.std.specs.Prelude.{◌≡◌, IsTrue, Ok};
 
 use std::fmt::Debug;
 use std::process::Abort;
@@ -29,4 +29,14 @@ pub fn holds<N: Debug + Drop>(rt: &impl Abort, is_so: bool, name: N)
     ensures { IsTrue is_so }
 {
     assert!(rt; is_so, "{name:?}");
+}
+
+/// What was answered, which is no error.
+pub fn must<T: Drop, E: Debug + Drop>(rt: &impl Abort, told: Result<T, E>) -> T
+    ensures { told ≡ Ok result }
+{
+    match told {
+        Ok(told) => told,
+        Err(fault) => panic!(rt; "{fault:?}"),
+    }
 }

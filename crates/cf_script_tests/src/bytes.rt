@@ -1,4 +1,5 @@
 //! Scripts that are read and written one byte a call.
+use cf_checks::holds;
 use crate::devices::{Dripping, Sipping, Then};
 use crate::reports::{ADD_FIVE, ADD_FIVE_REPORT, lines};
 use cf_script::{Part, ScriptFault, run_script};
@@ -86,8 +87,8 @@ fn check_bytes(
         kind: ErrorKind::Other,
     };
     let gave = run_script(rt.alloc(), &mut drips, &mut sips);
-    assert!(rt; sips.held.as_slice() == printed.as_bytes(), "{name}");
-    assert!(rt; gave == ended, "{name}");
+    holds(rt, sips.held.as_slice() == printed.as_bytes(), name);
+    holds(rt, gave == ended, name);
 }
 
 #[test]

@@ -1,4 +1,5 @@
 //! The line of each fault.
+use cf_checks::same;
 use cf_script::{Part, PlanFault, ScriptFault};
 use std::process::Abort;
 use std::test::Fail;
@@ -84,7 +85,7 @@ const REFUSALS: [Row; 9] = [
 fn check_lines(rt: &(impl Abort + AllocGlobal), rows: &[Row]) -> Result<(), Fail> {
     for row in rows {
         let fault = row.0;
-        assert_eq!(rt; format!(in rt.alloc(); "{fault}")?.as_str(), row.1);
+        same(rt, format!(in rt.alloc(); "{fault}")?.as_str(), row.1);
     }
     Ok(())
 }

@@ -1,6 +1,7 @@
 //! What a gate is told in a race, and when functions are called.
 ghost use Rattle.std.specs.Prelude.{◌<◌, ◌≤◌};
 
+use cf_checks::{holds, same, same_at};
 use cf_outcome::Value;
 use cf_plan::{Answer, Args, Form, Plan, PlanBuilder, StageFn};
 use cf_pool::{race, share};
@@ -88,17 +89,11 @@ fn check_told(rt: &impl Abort, gate: &Told, workers: u8) {
         let word = word.load(Ordering::SeqCst);
         let stage = (word / 256) as usize;
         let worker = (word % 256) as usize;
-        assert!(rt; stage >= 4 && stage < STAGES, "stage {stage} is told");
-        assert!(rt; !stages[stage], "stage {stage} is told twice");
+        holds(rt, stage >= 4 && stage < STAGES, ("stage", stage, "is told"));
+        holds(rt, !stages[stage], ("stage", stage, "is told twice"));
         stages[stage] = true;
-        assert!(rt;
-            worker >= 1 && worker <= workers as usize && worker < 33,
-            "{worker}"
-        );
-        assert!(rt;
-            at >= workers as usize || !first[worker],
-            "{worker} is told twice"
-        );
+        holds(rt, worker >= 1 && worker <= workers as usize && worker < 33, worker);
+        holds(rt, at >= workers as usize || !first[worker], (worker, "is told twice"));
         first[worker] = true;
     }
 }
@@ -117,12 +112,9 @@ fn a_gate_is_told_each_claim_once(rt: HostRuntime) -> Result<(), Fail> {
         let mut input = script.as_str().as_bytes();
         assert!(rt; workers >= 1 && workers <= 32);
         let ended = race_script(&rt, rt.alloc(), &mut input, &mut out, &gate, workers);
-        assert_eq!(rt; ended, Ok(()));
-        assert!(rt;
-            !gate.is_late.load(Ordering::SeqCst),
-            "{workers} work at once"
-        );
-        assert_eq!(rt; gate.count.load(Ordering::SeqCst), STAGES as u32 - 4);
+        same(&rt, ended, Ok(()));
+        holds(&rt, !gate.is_late.load(Ordering::SeqCst), (workers, "work at once"));
+        same(&rt, gate.count.load(Ordering::SeqCst), STAGES as u32 - 4);
         check_told(&rt, &gate, workers);
     }
     Ok(())
@@ -201,9 +193,9 @@ fn functions_are_called_once_behind_the_gate(rt: HostRuntime) -> Result<(), Fail
         let hands = share(rt.alloc(), &functions, &calls, workers + 1)?;
         let raced = race(&rt, rt.alloc(), plan, 0, &[], hands, workers);
         assert!(rt; raced.is_ok());
-        assert!(rt; !calls.is_early.load(Ordering::SeqCst), "{workers} workers");
+        holds(&rt, !calls.is_early.load(Ordering::SeqCst), (workers, "workers"));
         for called in calls.called.iter() {
-            assert_eq!(rt; called.load(Ordering::SeqCst), 1, "{workers} workers");
+            same_at(&rt, called.load(Ordering::SeqCst), 1, (workers, "workers"));
         }
     }
     Ok(())

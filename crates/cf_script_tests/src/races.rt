@@ -1,6 +1,7 @@
 //! Races of whole scripts: functions that are called at once, and devices that fail.
 ghost use Rattle.std.specs.Prelude.{◌<◌, ◌≤◌};
 
+use cf_checks::same;
 use crate::devices::{Dripping, Sipping, Then};
 use crate::reports::lines;
 use cf_script::{Gate, NoGate, ScriptFault, race_script};
@@ -83,9 +84,9 @@ fn check_meeting(
     let mut out: Vec<u8> = Vec::new(rt.alloc());
     let mut input = script.as_bytes();
     let ended = race_script(rt, rt.alloc(), &mut input, &mut out, &gate, together);
-    assert_eq!(rt; ended, Ok(()));
-    assert_eq!(rt; out.as_slice(), report.as_str().as_bytes());
-    assert_eq!(rt; gate.met.load(Ordering::SeqCst), u32::from(together));
+    same(rt, ended, Ok(()));
+    same(rt, out.as_slice(), report.as_str().as_bytes());
+    same(rt, gate.met.load(Ordering::SeqCst), u32::from(together));
     Ok(())
 }
 
@@ -113,8 +114,8 @@ fn a_failing_reader_is_told_of_a_race(rt: HostRuntime) {
         };
         let mut out: Vec<u8> = Vec::new(rt.alloc());
         let ended = race_script(&rt, rt.alloc(), &mut drops, &mut out, &NoGate, 2);
-        assert_eq!(&rt; ended, Err(ScriptFault::Read));
-        assert_eq!(&rt; out.as_slice(), "fault 7 read\n".as_bytes());
+        same(&rt, ended, Err(ScriptFault::Read));
+        same(&rt, out.as_slice(), "fault 7 read\n".as_bytes());
     }
 }
 
@@ -135,9 +136,9 @@ fn a_failing_writer_holds_a_front_of_a_race(rt: HostRuntime) -> Result<(), Fail>
         };
         let mut input = SUM.as_bytes();
         let ended = race_script(&rt, rt.alloc(), &mut input, &mut sips, &NoGate, 2);
-        assert_eq!(rt; ended, Err(ScriptFault::Write));
+        same(&rt, ended, Err(ScriptFault::Write));
         assert!(rt; whole.starts_with(sips.held.as_slice()));
-        assert_eq!(rt; sips.held.len() as u64, calls);
+        same(&rt, sips.held.len() as u64, calls);
     }
     Ok(())
 }

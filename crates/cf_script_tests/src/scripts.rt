@@ -1,4 +1,5 @@
 //! Scripts that end early, devices that fail, and memory that is refused.
+use cf_checks::{holds, same, same_at};
 use crate::devices::{Dripping, Fixed, Sipping, Then};
 use crate::reports::{ADD_FIVE, ADD_FIVE_REPORT, lines};
 use cf_script::{Part, ScriptFault, run_script};
@@ -16,8 +17,8 @@ fn check_fronts(rt: &(impl Abort + AllocGlobal), script: &[u8]) {
         let mut out: Vec<u8> = Vec::new(rt.alloc());
         let mut input = &script[..len];
         let result = run_script(rt.alloc(), &mut input, &mut out);
-        assert!(rt; result == Err(ScriptFault::NotJson), "{len}");
-        assert_eq!(rt; out.as_slice(), b"fault 2 not json\n".as_slice(), "{len}");
+        holds(rt, result == Err(ScriptFault::NotJson), len);
+        same_at(rt, out.as_slice(), b"fault 2 not json\n".as_slice(), len);
     }
 }
 
@@ -41,11 +42,11 @@ fn a_failing_reader_is_told(rt: HostRuntime) -> Result<(), Fail> {
             };
             let result = run_script(rt.alloc(), &mut input, &mut out);
             if calls <= len {
-                assert!(&rt; result == Err(ScriptFault::Read), "{calls}");
-                assert_eq!(&rt; out.as_slice(), b"fault 7 read\n".as_slice(), "{calls}");
+                holds(&rt, result == Err(ScriptFault::Read), calls);
+                same_at(&rt, out.as_slice(), b"fault 7 read\n".as_slice(), calls);
             } else {
                 assert!(&rt; result == Ok(()));
-                assert_eq!(&rt; out.as_slice(), report.as_str().as_bytes());
+                same(&rt, out.as_slice(), report.as_str().as_bytes());
             }
         }
     }
@@ -73,20 +74,13 @@ fn check_failing_writers(
                 let result = run_script(rt.alloc(), &mut script.as_bytes(), &mut out);
                 let taken = calls.min(len) as usize;
                 let whole = calls >= len && flushes;
-                assert!(rt;
-                    result
+                holds(rt, result
                         == (if whole {
                             otherwise
                         } else {
                             Err(ScriptFault::Write)
-                        }),
-                    "{calls}"
-                );
-                assert_eq!(rt;
-                    out.held.as_slice(),
-                    &text.as_str().as_bytes()[..taken],
-                    "{calls}"
-                );
+                        }), calls);
+                same_at(rt, out.held.as_slice(), &text.as_str().as_bytes()[..taken], calls);
             }
         }
     }
@@ -129,6 +123,6 @@ fn check_refused(rt: &impl Abort, alloc: Global) -> bool {
 #[test]
 fn refused_memory_is_told(rt: HostRuntime) {
     if !check_refused(&rt, rt.alloc()) {
-        assert!(&rt; check_refused(&rt, rt.alloc()), "the next run has memory");
+        holds(&rt, check_refused(&rt, rt.alloc()), "the next run has memory");
     }
 }
