@@ -60,6 +60,12 @@ HaveCalled tells calls ps ms left =
 abbrev pub IsAsBefore : {M : Type 0} → Desk → List Pass → List M → Unbegun M → Type 0
 IsAsBefore d ps ms unbegun = (unbegun.desk ≡ d) × (unbegun.passes.items ≡ ps) × (unbegun.workers.items ≡ ms)
 
+-- memory or a thread was refused: no desk's fault
+abbrev pub IsForRoom : {M : Type 0} → PoolFault M → Type 0
+IsForRoom (NoMemory unbegun) = Unit {0}
+IsForRoom (NoThread left) = Unit {0}
+IsForRoom (ToldDesk fault left) = ⊥
+
 -- Why a run tells a fault, and what it leaves then: memory was refused, and nothing has begun; a thread was refused, and all have worked; or the desk's.
 abbrev pub IsRefused : {M : Type 0} → TellsOf M → CallsOf M → Meanings → Desk → List Pass → List M → PoolFault M → Type 0
 IsRefused tells calls meanings d ps ms (NoMemory unbegun) = IsAsBefore d ps ms unbegun

@@ -7,6 +7,7 @@ ghost use Rattle.std.specs.Prelude.{◌≡◌, ◌+◌, ◌<◌, ◌≤◌, IfEr
 ghost use Rattle.cf_plan.specs.Plans.{has_place, with_room};
 ghost use Rattle.cf_pool.specs.Calling.{MeanAlike, first_meanings};
 ghost use Rattle.cf_pool.specs.Beginnings.{HaveCalledInRace};
+ghost use Rattle.cf_pool.specs.Closings.{IsForRoom};
 ghost use Rattle.cf_pool.specs.Races.{AreSteps, IsDueToRefuse, IsRaced, RacedIsExpression, RacesEndAlike, log_words};
 
 use crate::faults::PoolFault;
@@ -63,9 +64,28 @@ pub fn race<R: Threads + Wait + Sync, W: Worker + Send + Drop>(
     };
     match run(rt, desk, passes, hands) {
         Ok(left) => Ok(left),
-        Err(PoolFault::NoMemory(_)) => Err(RaceFault::NoMemory),
-        Err(PoolFault::NoThread(_)) => Err(RaceFault::NoMemory),
-        Err(PoolFault::Desk(..)) => unreachable!(),
+        Err(fault) => Err(fault_of(fault)),
+    }
+}
+
+/// What a race tells where its run was refused memory or a thread, both of which it gives up.
+fn fault_of<W: Drop>(fault: PoolFault<W>) -> RaceFault
+    requires { IsForRoom fault }
+    ensures { result ≡ RaceFault.NoMemory }
+{
+    let told = told_of(&fault);
+    drop(fault);
+    told
+}
+
+fn told_of<W>(fault: &PoolFault<W>) -> RaceFault
+    requires { IsForRoom fault.now }
+    ensures { result ≡ RaceFault.NoMemory }
+{
+    match fault {
+        PoolFault::NoMemory(_) => RaceFault::NoMemory,
+        PoolFault::NoThread(_) => RaceFault::NoMemory,
+        PoolFault::Desk(..) => unreachable!(),
     }
 }
 

@@ -1,10 +1,9 @@
-use Rattle.std.proofs.Common.{◌+◌, ◌*◌, ◌∙◌, ap, length, ℕ, subst}
-use Rattle.cf_pool.specs.Closings.{IsRefused}
+use Rattle.std.proofs.Common.{◌+◌, ◌*◌, ◌∙◌, ap, length, ℕ}
 use Rattle.cf_pool.specs.Calling.{first_meanings}
 use Rattle.cf_plan.specs.Plans.{with_room}
 use Rattle.cf_plan.proofs.PlanLemmas.{place_is}
 use Rattle.cf_pool.specs.Races.{log_words}
-use Rattle.cf_pool.proofs.Racing.Raced.{IsSized, growing-with_room, never_full, raced}
+use Rattle.cf_pool.proofs.Racing.Raced.{IsSized, growing-with_room, only_for_room, raced}
 use Rattle.cf_pool.proofs.races.race.Given.{Over}
 use Rattle.cf_pool.proofs.races.race.Goals as goal
 use Rattle.cf_pool.proofs.races.race.Goals.{In-Ok}
@@ -31,7 +30,6 @@ returns-in-Ok-run-clause-called g c = record {
   called = c.in-Ok-run.ensures.called;
 }
 
-pub unreachable-requires : goal.unreachable-requires
-unreachable-requires g c =
-    let told = subst (IsRefused g.W.Worker.tells g.W.Functions.calls (first_meanings g.W.Worker.meanings c.args.hands.items) c.in-Ok.begun.0 c.in-Ok.begun.1.items c.args.hands.items) c.in-Err-Desk.field-0-is c.in-Err-Desk.ensures.refused in
-    never_full _ c.in-Ok.begun.0 (with_room c.args.plan c.args.room) c.args.steps.now c.in-Some.sizes.1 c.args.workers c.in-Ok.begun.1.items _ _ _ (sized g (goal.at.unreachable-requires g c).In-Ok) c.in-Ok.ensures.begun c.in-Err-Desk.field-0-0 told.0.ran told.0.due
+pub fault_of-requires : goal.fault_of-requires
+fault_of-requires g c =
+    only_for_room _ c.in-Ok.begun.0 (with_room c.args.plan c.args.room) c.args.steps.now c.in-Some.sizes.1 c.args.workers c.in-Ok.begun.1.items _ _ _ (sized g (goal.at.fault_of-requires g c).In-Ok) c.in-Ok.ensures.begun c.in-Err-run.fault c.in-Err-run.ensures.refused
