@@ -8,7 +8,6 @@ use cf_outcome::{Cause, Outcome, Value};
 use cf_plan::{Answer, Args, Form, Of, Plan};
 use std::alloc::Global;
 use std::process::Abort;
-use std::test::Fail;
 
 const TWO_SOURCES: [Row<'static>; 2] = [SOURCE, SOURCE];
 
@@ -27,7 +26,7 @@ const ATTACHES_EITHER: Step = Step::Attach(
 const ATTACHES_COMBINE: Step = Step::Attach(Form::Combine, Of::Two(0, 1), Some(0), Attached::At(2));
 
 #[test]
-fn the_first_argument_that_is_there_decides(rt: HostRuntime) -> Result<(), Fail> {
+fn the_first_argument_that_is_there_decides(rt: HostRuntime) {
     let any_of = [
         Step::Complete(0, 1, true),
         Step::Complete(1, 2, true),
@@ -36,7 +35,7 @@ fn the_first_argument_that_is_there_decides(rt: HostRuntime) -> Result<(), Fail>
         Step::Claim(2, Claimed::Settled),
         Step::Outcome(2, gives(2)),
     ];
-    play_growing(&rt, rt.alloc(), &TWO_SOURCES, 1, &any_of)?;
+    play_growing(&rt, rt.alloc(), &TWO_SOURCES, 1, &any_of);
     let either = [
         Step::Complete(1, 5, true),
         ATTACHES_EITHER,
@@ -45,7 +44,7 @@ fn the_first_argument_that_is_there_decides(rt: HostRuntime) -> Result<(), Fail>
         Step::Claim(2, granted(5)),
         Step::Outcome(2, None),
     ];
-    play_growing(&rt, rt.alloc(), &TWO_SOURCES, 1, &either)?;
+    play_growing(&rt, rt.alloc(), &TWO_SOURCES, 1, &either);
     let fails = [
         Step::Complete(1, 5, true),
         Step::Fail(0, 7, true),
@@ -54,11 +53,11 @@ fn the_first_argument_that_is_there_decides(rt: HostRuntime) -> Result<(), Fail>
         Step::Claim(2, Claimed::Settled),
         Step::Outcome(2, fault(Cause::Thrown(7), true)),
     ];
-    play_growing(&rt, rt.alloc(), &TWO_SOURCES, 1, &fails)
+    play_growing(&rt, rt.alloc(), &TWO_SOURCES, 1, &fails);
 }
 
 #[test]
-fn the_first_that_settles_later_decides(rt: HostRuntime) -> Result<(), Fail> {
+fn the_first_that_settles_later_decides(rt: HostRuntime) {
     let steps = [
         ATTACHES_EITHER,
         Step::Turns(0),
@@ -67,11 +66,11 @@ fn the_first_that_settles_later_decides(rt: HostRuntime) -> Result<(), Fail> {
         Step::Claim(2, granted(6)),
         Step::Outcome(2, None),
     ];
-    play_growing(&rt, rt.alloc(), &TWO_SOURCES, 1, &steps)
+    play_growing(&rt, rt.alloc(), &TWO_SOURCES, 1, &steps);
 }
 
 #[test]
-fn both_sources_are_waited_for(rt: HostRuntime) -> Result<(), Fail> {
+fn both_sources_are_waited_for(rt: HostRuntime) {
     let waits = [
         Step::Complete(1, 2, true),
         ATTACHES_COMBINE,
@@ -79,7 +78,7 @@ fn both_sources_are_waited_for(rt: HostRuntime) -> Result<(), Fail> {
         Step::Claim(2, Claimed::NotReady),
         Step::Outcome(2, None),
     ];
-    play_growing(&rt, rt.alloc(), &TWO_SOURCES, 1, &waits)?;
+    play_growing(&rt, rt.alloc(), &TWO_SOURCES, 1, &waits);
     let both = Claimed::Granted(Args::Two(Value::Int(1), Value::Int(2)));
     let is_ready = [
         Step::Complete(1, 2, true),
@@ -89,11 +88,11 @@ fn both_sources_are_waited_for(rt: HostRuntime) -> Result<(), Fail> {
         Step::Claim(2, both),
         Step::Outcome(2, None),
     ];
-    play_growing(&rt, rt.alloc(), &TWO_SOURCES, 1, &is_ready)
+    play_growing(&rt, rt.alloc(), &TWO_SOURCES, 1, &is_ready);
 }
 
 #[test]
-fn one_source_is_taken_twice(rt: HostRuntime) -> Result<(), Fail> {
+fn one_source_is_taken_twice(rt: HostRuntime) {
     let twice = Claimed::Granted(Args::Two(Value::Int(3), Value::Int(3)));
     let steps = [
         Step::Complete(0, 3, true),
@@ -102,7 +101,7 @@ fn one_source_is_taken_twice(rt: HostRuntime) -> Result<(), Fail> {
         Step::Claim(2, twice),
         Step::Outcome(2, None),
     ];
-    play_growing(&rt, rt.alloc(), &TWO_SOURCES, 1, &steps)
+    play_growing(&rt, rt.alloc(), &TWO_SOURCES, 1, &steps);
 }
 
 /// A stage of no source is attached, and started or not.
@@ -122,7 +121,7 @@ fn starts(
 }
 
 #[test]
-fn stages_of_no_source_start(rt: HostRuntime) -> Result<(), Fail> {
+fn stages_of_no_source_start(rt: HostRuntime) {
     let called = Claimed::Granted(Args::None);
     let nil = Some(Outcome::Value(Value::Nil));
     let all = [
@@ -133,13 +132,12 @@ fn stages_of_no_source_start(rt: HostRuntime) -> Result<(), Fail> {
         starts(Form::AnyOf, None, 0, Claimed::NotReady, None),
     ];
     for steps in &all {
-        play_growing(&rt, rt.alloc(), &TWO_SOURCES, 1, steps)?;
+        play_growing(&rt, rt.alloc(), &TWO_SOURCES, 1, steps);
     }
-    Ok(())
 }
 
 #[test]
-fn a_full_graph_attaches_no_more(rt: HostRuntime) -> Result<(), Fail> {
+fn a_full_graph_attaches_no_more(rt: HostRuntime) {
     let steps = [
         Step::Complete(0, 1, true),
         Step::Complete(1, 2, true),
@@ -156,12 +154,12 @@ fn a_full_graph_attaches_no_more(rt: HostRuntime) -> Result<(), Fail> {
         Step::Has(4, false),
         Step::PlanStages(2),
     ];
-    play_growing(&rt, rt.alloc(), &TWO_SOURCES, 2, &steps)
+    play_growing(&rt, rt.alloc(), &TWO_SOURCES, 2, &steps);
 }
 
 /// What waits is treated first: the source has failed, and the apply of it was not asked for yet.
 #[test]
-fn what_waits_is_treated_first(rt: HostRuntime) -> Result<(), Fail> {
+fn what_waits_is_treated_first(rt: HostRuntime) {
     let rows = [SOURCE, (Form::Apply, &[0], Some(0))];
     let steps = [
         Step::Fail(0, 7, true),
@@ -170,7 +168,7 @@ fn what_waits_is_treated_first(rt: HostRuntime) -> Result<(), Fail> {
         Step::Nudge(3, 0),
         Step::Outcome(2, fault(Cause::Thrown(7), true)),
     ];
-    play_growing(&rt, rt.alloc(), &rows, 1, &steps)
+    play_growing(&rt, rt.alloc(), &rows, 1, &steps);
 }
 
 /// A source is attached as stage 2.
@@ -180,7 +178,7 @@ const ATTACHES_SOURCE: Step = Step::Attach(Form::Source, Of::None, None, Attache
 const ATTACHES_COMPOSE: Step = Step::Attach(Form::Compose, Of::One(0), Some(0), Attached::At(3));
 
 #[test]
-fn an_attached_compose_links_lower(rt: HostRuntime) -> Result<(), Fail> {
+fn an_attached_compose_links_lower(rt: HostRuntime) {
     for (link, lands) in [(1, None), (3, fault(Cause::BadAnswer, true))] {
         let steps = [
             Step::Complete(0, 1, true),
@@ -190,13 +188,12 @@ fn an_attached_compose_links_lower(rt: HostRuntime) -> Result<(), Fail> {
             Step::Finish(3, Answer::Link(link), Finished::Won),
             Step::Outcome(3, lands),
         ];
-        play_growing(&rt, rt.alloc(), &TWO_SOURCES, 2, &steps)?;
+        play_growing(&rt, rt.alloc(), &TWO_SOURCES, 2, &steps);
     }
-    Ok(())
 }
 
 #[test]
-fn a_link_to_an_attached_stage_is_followed(rt: HostRuntime) -> Result<(), Fail> {
+fn a_link_to_an_attached_stage_is_followed(rt: HostRuntime) {
     let steps = [
         Step::Complete(0, 1, true),
         ATTACHES_SOURCE,
@@ -206,37 +203,36 @@ fn a_link_to_an_attached_stage_is_followed(rt: HostRuntime) -> Result<(), Fail> 
         Step::Complete(2, 8, true),
         Step::Outcome(3, gives(8)),
     ];
-    play_growing(&rt, rt.alloc(), &TWO_SOURCES, 2, &steps)
+    play_growing(&rt, rt.alloc(), &TWO_SOURCES, 2, &steps);
 }
 
 /// The graph of two sources with room. Where its memory is refused, one of another plan succeeds.
-fn growing_again(rt: &impl Abort, alloc: Global, plan: Plan) -> Result<Graph, Fail> {
+fn growing_again(rt: &impl Abort, alloc: Global, plan: Plan) -> Graph {
     assert!(rt; plan.stages() <= 4080 && plan.edges() <= 16352);
     match Graph::new_growing(alloc, plan, 2) {
-        Ok(graph) => Ok(graph),
+        Ok(graph) => graph,
         Err(fault) => {
             same(rt, fault, GraphFault::NoMemory);
-            with_room(rt, alloc, plan_of(alloc, &TWO_SOURCES)?, 2)
+            with_room(rt, alloc, plan_of(rt, alloc, &TWO_SOURCES), 2)
         }
     }
 }
 
 #[test]
-fn a_refused_growing_graph_can_be_made_again(rt: HostRuntime) -> Result<(), Fail> {
-    let plan = plan_of(rt.alloc(), &TWO_SOURCES)?;
-    let graph = growing_again(&rt, rt.alloc(), plan)?;
+fn a_refused_growing_graph_can_be_made_again(rt: HostRuntime) {
+    let plan = plan_of(&rt, rt.alloc(), &TWO_SOURCES);
+    let graph = growing_again(&rt, rt.alloc(), plan);
     let steps = [
         ATTACHES_EITHER,
         Step::Complete(1, 3, true),
         Step::Claim(2, granted(3)),
     ];
     play_in(&rt, graph, &steps);
-    Ok(())
 }
 
 /// What callers do as events has the same answers.
 #[test]
-fn an_event_attaches(rt: HostRuntime) -> Result<(), Fail> {
+fn an_event_attaches(rt: HostRuntime) {
     let steps = [
         Step::Complete(1, 6, true),
         Step::AttachBy(3, Form::Apply, Of::One(1), Some(8), Attached::At(2)),
@@ -244,5 +240,5 @@ fn an_event_attaches(rt: HostRuntime) -> Result<(), Fail> {
         Step::Claim(2, granted(6)),
         Step::AttachBy(3, Form::Apply, Of::One(1), Some(8), Attached::StagesFull),
     ];
-    play_growing(&rt, rt.alloc(), &TWO_SOURCES, 1, &steps)
+    play_growing(&rt, rt.alloc(), &TWO_SOURCES, 1, &steps);
 }

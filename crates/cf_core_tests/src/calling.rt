@@ -3,13 +3,12 @@ ghost use Rattle.std.specs.Prelude.{⊤};
 
 use crate::plans::{Row, SOURCE};
 use crate::steps::{Step, gives, granted, graph_of, take};
-use cf_checks::{holds, same};
+use cf_checks::{holds, must, same};
 use cf_core::Graph;
 use cf_outcome::Value;
 use cf_plan::{Answer, Args, Closure, Form, Functions};
 use std::alloc::Global;
 use std::process::Abort;
-use std::test::Fail;
 
 /// Functions that keep which was called with what, in turn. Each gives how many calls there were by then.
 #[derive(Drop)]
@@ -56,15 +55,14 @@ fn notes(
     steps: &[Step],
     all: &[(u16, Args)],
     count: u32,
-) -> Result<(), Fail> {
-    let mut graph = graph_of(alloc, rows)?;
+) {
+    let mut graph = graph_of(rt, alloc, rows);
     take(rt, &mut graph, steps);
     let mut noting = Noting {
         calls: Vec::new(alloc),
         count: 0,
     };
     notes_in(rt, &mut graph, &mut noting, all, count);
-    Ok(())
 }
 
 fn one(n: i32) -> Args {
@@ -81,7 +79,7 @@ const ROWS: [Row<'static>; 6] = [
 ];
 
 #[test]
-fn calls_each_function_once(rt: HostRuntime) -> Result<(), Fail> {
+fn calls_each_function_once(rt: HostRuntime) {
     let three = Value::Int(3);
     let all = [
         (7, one(3)),
@@ -90,23 +88,23 @@ fn calls_each_function_once(rt: HostRuntime) -> Result<(), Fail> {
     ];
     // In a sweep, or the first by the marks and the others in a sweep.
     let swept = [Step::Complete(0, 3, true)];
-    notes(&rt, rt.alloc(), &ROWS, &swept, &all, 3)?;
+    notes(&rt, rt.alloc(), &ROWS, &swept, &all, 3);
     let few = [Step::Complete(0, 3, true), Step::Nudge(9, 2)];
-    notes(&rt, rt.alloc(), &ROWS, &few, &all, 3)
+    notes(&rt, rt.alloc(), &ROWS, &few, &all, 3);
 }
 
 #[test]
-fn calls_no_function_that_another_has_claimed(rt: HostRuntime) -> Result<(), Fail> {
+fn calls_no_function_that_another_has_claimed(rt: HostRuntime) {
     let steps = [
         Step::Complete(0, 3, true),
         Step::Complete(4, 8, true),
         Step::Claim(1, granted(3)),
     ];
-    notes(&rt, rt.alloc(), &ROWS, &steps, &[(9, one(8))], 1)
+    notes(&rt, rt.alloc(), &ROWS, &steps, &[(9, one(8))], 1);
 }
 
 #[test]
-fn calls_a_few_functions_of_many(rt: HostRuntime) -> Result<(), Fail> {
+fn calls_a_few_functions_of_many(rt: HostRuntime) {
     let mut rows = [SOURCE; 256];
     rows[200] = (Form::Apply, &[199], Some(7));
     rows[201] = (Form::Apply, &[200], Some(5));
@@ -118,28 +116,30 @@ fn calls_a_few_functions_of_many(rt: HostRuntime) -> Result<(), Fail> {
         &steps,
         &[(7, one(3)), (5, one(1))],
         2,
-    )
+    );
 }
 
 /// A closure counts its calls, and keeps which function was called last.
 #[test]
-fn a_closure_remembers_its_calls(rt: HostRuntime) -> Result<(), Fail> {
+fn a_closure_remembers_its_calls(rt: HostRuntime) {
     let mut count = 0i32;
     let mut last = 0u16;
-    let call = Box::new(rt.alloc(), move |number: u16, _args: Args| {
-        let before = i32::from(last);
-        last = number;
-        count = count.wrapping_add(1);
-        Answer::Give(Value::Int(count.wrapping_mul(10).wrapping_add(before)))
-    })?;
+    let call = must(
+        &rt,
+        Box::new(rt.alloc(), move |number: u16, _args: Args| {
+            let before = i32::from(last);
+            last = number;
+            count = count.wrapping_add(1);
+            Answer::Give(Value::Int(count.wrapping_mul(10).wrapping_add(before)))
+        }),
+    );
     let mut closure = Closure::new(call);
-    remembers(&rt, rt.alloc(), &mut closure)
+    remembers(&rt, rt.alloc(), &mut closure);
 }
 
-fn remembers(rt: &impl Abort, alloc: Global, closure: &mut Closure) -> Result<(), Fail> {
-    let mut graph = graph_of(alloc, &ROWS)?;
+fn remembers(rt: &impl Abort, alloc: Global, closure: &mut Closure) {
+    let mut graph = graph_of(rt, alloc, &ROWS);
     works_twice(rt, &mut graph, closure);
-    Ok(())
 }
 
 /// The closure is called three times, and once more when stage 4 is there.

@@ -1,16 +1,15 @@
 //! Graphs that start again, beside new ones.
 use crate::plans::{SOURCE, limited, supplies};
-use crate::steps::{Step, fault, gives, granted, play, take, with_room};
+use crate::steps::{Step, fault, gives, granted, graph_in, play, take, with_room};
 use cf_core::Graph;
 use cf_model::{Attached, Claimed, Finished, Ticked};
 use cf_outcome::Cause;
-use cf_plan::{Answer, Args, Form, Limit, LimitKind, Of, Plan, PlanFault};
+use cf_plan::{Answer, Args, Form, Limit, LimitKind, Of, Plan};
 use std::alloc::Global;
 use std::process::Abort;
-use std::test::Fail;
 
 /// Two sources, a supply, an apply and a compose of the first source, and a limit on the second.
-fn opening(alloc: Global) -> Result<Plan, PlanFault> {
+fn opening(rt: &impl Abort, alloc: Global) -> Plan {
     let rows = [
         SOURCE,
         SOURCE,
@@ -23,7 +22,7 @@ fn opening(alloc: Global) -> Result<Plan, PlanFault> {
         at: 5,
         kind: LimitKind::Timeout,
     };
-    limited(alloc, &rows, &[limit])
+    limited(rt, alloc, &rows, &[limit])
 }
 
 /// A new graph answers so, up to an open claim of stage 3 and a link of stage 4 to stage 1.
@@ -78,11 +77,11 @@ fn take_parts(rt: &impl Abort, mut graph: Graph, parts: &[&[Step]]) {
 }
 
 #[test]
-fn a_restarted_graph_is_new(rt: HostRuntime) -> Result<(), Fail> {
+fn a_restarted_graph_is_new(rt: HostRuntime) {
     let (new, fill, expire) = (is_new(), fills(), expires());
     let late = Step::Outcome(6, fault(Cause::TimedOut, true));
-    let plan = opening(rt.alloc())?;
-    let graph = with_room(&rt, rt.alloc(), plan, 2)?;
+    let plan = opening(&rt, rt.alloc());
+    let graph = with_room(&rt, rt.alloc(), plan, 2);
     let parts = [
         &new[..],
         &[Step::Restart],
@@ -99,33 +98,31 @@ fn a_restarted_graph_is_new(rt: HostRuntime) -> Result<(), Fail> {
         &[Step::PlanStages(5)],
     ];
     take_parts(&rt, graph, &parts);
-    Ok(())
 }
 
 #[test]
-fn a_graph_without_room_restarts(rt: HostRuntime) -> Result<(), Fail> {
+fn a_graph_without_room_restarts(rt: HostRuntime) {
     let (new, expire) = (is_new(), expires());
     let full = [
         Step::Attach(Form::AllOf, Of::None, None, Attached::StagesFull),
         Step::Restart,
     ];
-    let plan = opening(rt.alloc())?;
-    let graph = Graph::new(rt.alloc(), plan)?;
+    let plan = opening(&rt, rt.alloc());
+    let graph = graph_in(&rt, rt.alloc(), plan);
     let parts = [&new[..], &expire, &full, &new, &expire, &full, &new];
     take_parts(&rt, graph, &parts);
-    Ok(())
 }
 
 #[test]
-fn an_empty_graph_restarts(rt: HostRuntime) -> Result<(), Fail> {
+fn an_empty_graph_restarts(rt: HostRuntime) {
     let steps = [Step::Restart, Step::Stages(0), Step::LowestReady(None)];
-    play(&rt, rt.alloc(), &[], &steps)
+    play(&rt, rt.alloc(), &[], &steps);
 }
 
 /// Marks and ready stages are left over, in all words of their sets.
 #[test]
-fn the_greatest_graph_restarts(rt: HostRuntime) -> Result<(), Fail> {
-    let mut graph = with_room(&rt, rt.alloc(), supplies(rt.alloc(), 4080)?, 16)?;
+fn the_greatest_graph_restarts(rt: HostRuntime) {
+    let mut graph = with_room(&rt, rt.alloc(), supplies(&rt, rt.alloc(), 4080), 16);
     for taken in [2000, 4080, 0, 4080] {
         for at in 4080..4096 {
             let attach = Step::Attach(Form::Source, Of::None, None, Attached::At(at));
@@ -145,5 +142,4 @@ fn the_greatest_graph_restarts(rt: HostRuntime) -> Result<(), Fail> {
         ];
         take(&rt, &mut graph, &steps);
     }
-    Ok(())
 }

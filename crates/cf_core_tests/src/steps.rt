@@ -1,14 +1,13 @@
 //! What is done to a graph and asked of it, as rows: a call, and what it is answered.
 
 use crate::plans::{Row, plan_of};
-use cf_checks::holds;
+use cf_checks::{holds, must};
 use cf_core::Graph;
 use cf_model::{Attached, Claimed, Event, Finished, Reply, Ticked};
 use cf_outcome::{Cause, Now, Outcome, Value};
 use cf_plan::{Answer, Args, Form, Of, Plan, fits_form};
 use std::alloc::Global;
 use std::process::Abort;
-use std::test::Fail;
 
 /// A call of `Graph` with its answer last. Of several callers it is caller 0.
 #[derive(Clone, Copy)]
@@ -111,45 +110,30 @@ pub(crate) fn play_in(rt: &impl Abort, mut graph: Graph, steps: &[Step]) {
     take(rt, &mut graph, steps);
 }
 
+/// The graph of a plan.
+pub(crate) fn graph_in(rt: &impl Abort, alloc: Global, plan: Plan) -> Graph {
+    must(rt, Graph::new(alloc, plan))
+}
+
 /// The graph of these stages.
-pub(crate) fn graph_of(alloc: Global, rows: &[Row<'_>]) -> Result<Graph, Fail> {
-    let plan = plan_of(alloc, rows)?;
-    Ok(Graph::new(alloc, plan)?)
+pub(crate) fn graph_of(rt: &impl Abort, alloc: Global, rows: &[Row<'_>]) -> Graph {
+    graph_in(rt, alloc, plan_of(rt, alloc, rows))
 }
 
 /// The graph of these stages takes these steps.
-pub(crate) fn play(
-    rt: &impl Abort,
-    alloc: Global,
-    rows: &[Row<'_>],
-    steps: &[Step],
-) -> Result<(), Fail> {
-    let graph = graph_of(alloc, rows)?;
-    play_in(rt, graph, steps);
-    Ok(())
+pub(crate) fn play(rt: &impl Abort, alloc: Global, rows: &[Row<'_>], steps: &[Step]) {
+    play_in(rt, graph_of(rt, alloc, rows), steps);
 }
 
 /// The graph of a plan takes these steps.
-pub(crate) fn play_on(
-    rt: &impl Abort,
-    alloc: Global,
-    plan: Plan,
-    steps: &[Step],
-) -> Result<(), Fail> {
-    let graph = Graph::new(alloc, plan)?;
-    play_in(rt, graph, steps);
-    Ok(())
+pub(crate) fn play_on(rt: &impl Abort, alloc: Global, plan: Plan, steps: &[Step]) {
+    play_in(rt, graph_in(rt, alloc, plan), steps);
 }
 
 /// The graph of a plan, with room for so many stages.
-pub(crate) fn with_room(
-    rt: &impl Abort,
-    alloc: Global,
-    plan: Plan,
-    room: u16,
-) -> Result<Graph, Fail> {
+pub(crate) fn with_room(rt: &impl Abort, alloc: Global, plan: Plan, room: u16) -> Graph {
     assert!(rt; room <= 16 && plan.stages() <= 4080 && plan.edges() <= 16352);
-    Ok(Graph::new_growing(alloc, plan, room)?)
+    must(rt, Graph::new_growing(alloc, plan, room))
 }
 
 /// The graph of these stages, with room for so many more, takes these steps.
@@ -159,11 +143,9 @@ pub(crate) fn play_growing(
     rows: &[Row<'_>],
     room: u16,
     steps: &[Step],
-) -> Result<(), Fail> {
-    let plan = plan_of(alloc, rows)?;
-    let graph = with_room(rt, alloc, plan, room)?;
-    play_in(rt, graph, steps);
-    Ok(())
+) {
+    let plan = plan_of(rt, alloc, rows);
+    play_in(rt, with_room(rt, alloc, plan, room), steps);
 }
 
 /// What a stage is settled with that gives this number.

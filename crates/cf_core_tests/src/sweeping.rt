@@ -6,7 +6,6 @@ use cf_core::{Stop, Sweep};
 use cf_outcome::{Cause, Value};
 use cf_plan::{Answer, Args, Form};
 use std::process::Abort;
-use std::test::Fail;
 
 /// Whether a sweep stops at these places, one after another, and at none behind them, where each function answers so.
 fn stops(sweep: &mut Sweep, all: &[(Stop, Answer)]) -> bool {
@@ -39,7 +38,7 @@ fn at(stage: u16, function: u16, n: i32) -> Stop {
 }
 
 #[test]
-fn stops_at_each_function(rt: HostRuntime) -> Result<(), Fail> {
+fn stops_at_each_function(rt: HostRuntime) {
     let rows: [Row<'_>; 6] = [
         SOURCE,
         (Form::Apply, &[0], Some(7)),
@@ -48,7 +47,7 @@ fn stops_at_each_function(rt: HostRuntime) -> Result<(), Fail> {
         (Form::Apply, &[3], Some(4)),
         SOURCE,
     ];
-    let mut graph = graph_of(rt.alloc(), &rows)?;
+    let mut graph = graph_of(&rt, rt.alloc(), &rows);
     take(&rt, &mut graph, &[Step::Complete(0, 2, true)]);
     let mut sweep = Sweep::begin(graph);
     let all = [
@@ -67,13 +66,12 @@ fn stops_at_each_function(rt: HostRuntime) -> Result<(), Fail> {
         Step::Outcome(5, None),
     ];
     ends(&rt, sweep, &steps);
-    Ok(())
 }
 
 #[test]
-fn stops_nowhere_where_nothing_is_ready(rt: HostRuntime) -> Result<(), Fail> {
+fn stops_nowhere_where_nothing_is_ready(rt: HostRuntime) {
     let rows: [Row<'_>; 2] = [SOURCE, (Form::Apply, &[0], Some(7))];
-    let graph = graph_of(rt.alloc(), &rows)?;
+    let graph = graph_of(&rt, rt.alloc(), &rows);
     let mut sweep = Sweep::begin(graph);
     holds(&rt, !sweep.is_over(), "begun");
     holds(&rt, stops(&mut sweep, &[]), "stops");
@@ -83,5 +81,4 @@ fn stops_nowhere_where_nothing_is_ready(rt: HostRuntime) -> Result<(), Fail> {
         Step::Outcome(1, None),
     ];
     ends(&rt, sweep, &steps);
-    Ok(())
 }

@@ -4,7 +4,7 @@ ghost use Rattle.cf_plan.specs.declared.forms.Answer.TheVariants.{Give};
 ghost use Rattle.cf_outcome.specs.declared.outcome.Value.TheVariants.{Int};
 
 use crate::plans::{Row, SOURCE, longest_chain};
-use crate::steps::{Step, fault, give, gives, granted, graph_of, take};
+use crate::steps::{Step, fault, give, gives, granted, graph_in, graph_of, take};
 use cf_checks::same;
 use cf_core::Graph;
 use cf_model::{Claimed, Finished};
@@ -12,7 +12,6 @@ use cf_outcome::{Cause, Outcome, Value};
 use cf_plan::{Answer, Args, Each, Form, StageFn};
 use std::alloc::Global;
 use std::process::Abort;
-use std::test::Fail;
 
 /// Answers the same, whatever it is called with.
 #[derive(Drop)]
@@ -58,20 +57,13 @@ fn take_turns(rt: &impl Abort, graph: &mut Graph, functions: &[Fixed], turns: &[
 }
 
 /// The graph of these stages takes these turns, with these functions.
-fn works(
-    rt: &impl Abort,
-    alloc: Global,
-    rows: &[Row<'_>],
-    functions: &[Fixed],
-    turns: &[Turn],
-) -> Result<(), Fail> {
-    let mut graph = graph_of(alloc, rows)?;
+fn works(rt: &impl Abort, alloc: Global, rows: &[Row<'_>], functions: &[Fixed], turns: &[Turn]) {
+    let mut graph = graph_of(rt, alloc, rows);
     take_turns(rt, &mut graph, functions, turns);
-    Ok(())
 }
 
 #[test]
-fn works_down_a_chain(rt: HostRuntime) -> Result<(), Fail> {
+fn works_down_a_chain(rt: HostRuntime) {
     let rows = [
         SOURCE,
         (Form::Apply, &[0], Some(0)),
@@ -91,11 +83,11 @@ fn works_down_a_chain(rt: HostRuntime) -> Result<(), Fail> {
         Turn::Takes(Step::Claim(3, Claimed::Settled)),
     ];
     let functions = [giving(4), giving(5), giving(6)];
-    works(&rt, rt.alloc(), &rows, &functions, &turns)
+    works(&rt, rt.alloc(), &rows, &functions, &turns);
 }
 
 #[test]
-fn works_through_links(rt: HostRuntime) -> Result<(), Fail> {
+fn works_through_links(rt: HostRuntime) {
     let rows = [
         SOURCE,
         SOURCE,
@@ -120,11 +112,11 @@ fn works_through_links(rt: HostRuntime) -> Result<(), Fail> {
     let links = Fixed {
         answer: Answer::Link(1),
     };
-    works(&rt, rt.alloc(), &rows, &[links], &turns)
+    works(&rt, rt.alloc(), &rows, &[links], &turns);
 }
 
 #[test]
-fn works_on_what_fails(rt: HostRuntime) -> Result<(), Fail> {
+fn works_on_what_fails(rt: HostRuntime) {
     let rows = [
         (Form::Supply, &[][..], Some(0)),
         (Form::Apply, &[0], Some(1)),
@@ -143,24 +135,23 @@ fn works_on_what_fails(rt: HostRuntime) -> Result<(), Fail> {
     let throws = Fixed {
         answer: Answer::Throw(7),
     };
-    works(&rt, rt.alloc(), &rows, &[throws, giving(4)], &turns)
+    works(&rt, rt.alloc(), &rows, &[throws, giving(4)], &turns);
 }
 
 #[test]
-fn works_on_the_most_stages(rt: HostRuntime) -> Result<(), Fail> {
-    let plan = longest_chain(rt.alloc())?;
-    let mut graph = Graph::new(rt.alloc(), plan)?;
+fn works_on_the_most_stages(rt: HostRuntime) {
+    let plan = longest_chain(&rt, rt.alloc());
+    let mut graph = graph_in(&rt, rt.alloc(), plan);
     let turns = [
         Turn::Takes(Step::Complete(0, 3, true)),
         Turn::Works(63, 4095),
         Turn::Takes(Step::Outcome(4095, gives(4))),
     ];
     take_turns(&rt, &mut graph, &[giving(4)], &turns);
-    Ok(())
 }
 
 #[test]
-fn works_past_what_others_claimed(rt: HostRuntime) -> Result<(), Fail> {
+fn works_past_what_others_claimed(rt: HostRuntime) {
     let rows = [
         SOURCE,
         (Form::Apply, &[0], Some(0)),
@@ -177,11 +168,11 @@ fn works_past_what_others_claimed(rt: HostRuntime) -> Result<(), Fail> {
         Turn::Works(1, 1),
         Turn::Takes(Step::Outcome(3, gives(4))),
     ];
-    works(&rt, rt.alloc(), &rows, &[giving(4)], &turns)
+    works(&rt, rt.alloc(), &rows, &[giving(4)], &turns);
 }
 
 #[test]
-fn works_on_a_few_of_many(rt: HostRuntime) -> Result<(), Fail> {
+fn works_on_a_few_of_many(rt: HostRuntime) {
     let mut rows = [SOURCE; 256];
     rows[1] = (Form::Apply, &[0], Some(0));
     rows[200] = (Form::Apply, &[199], Some(0));
@@ -195,5 +186,5 @@ fn works_on_a_few_of_many(rt: HostRuntime) -> Result<(), Fail> {
         Turn::Takes(Step::Outcome(1, gives(4))),
         Turn::Takes(Step::Outcome(2, None)),
     ];
-    works(&rt, rt.alloc(), &rows, &[giving(4)], &turns)
+    works(&rt, rt.alloc(), &rows, &[giving(4)], &turns);
 }

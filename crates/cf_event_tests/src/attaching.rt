@@ -1,8 +1,8 @@
 //! Events that attach stages: the words of all of them, and what they do to a graph with room.
-ghost use Rattle.std.specs.Prelude.{◌≡◌, ◌<◌, IfOk, length};
+ghost use Rattle.std.specs.Prelude.{◌≡◌, ◌<◌, length};
 
 use crate::words::is_word;
-use cf_checks::{same, same_at};
+use cf_checks::{holds, must, same, same_at};
 use cf_core::Graph;
 use cf_event::{Event, Reply, apply, decode, encode, is_event, replay};
 use cf_model::{Attached, Claimed};
@@ -10,7 +10,6 @@ use cf_outcome::{Outcome, Value};
 use cf_plan::{Args, Form, Of, PlanBuilder, fits_form};
 use std::alloc::Global;
 use std::process::Abort;
-use std::test::Fail;
 
 /// Each form by its number, how many sources it takes at least and at most, and whether it has a function.
 const FORMS: [(Form, u16, u16, bool); 19] = [
@@ -156,15 +155,15 @@ fn words_have_no_room_for_greater_numbers(rt: HostRuntime) {
 }
 
 /// The graph of one source, with room for two stages.
-fn growing(rt: &impl Abort, alloc: Global) -> Result<Graph, Fail>
-    ensures room { IfOk result (λ graph. graph.state.plan.room ≡ 2) }
-    ensures stages { IfOk result (λ graph. 0 < length graph.state.plan.stages) }
+fn growing(rt: &impl Abort, alloc: Global) -> Graph
+    ensures room { result.state.plan.room ≡ 2 }
+    ensures stages { 0 < length result.state.plan.stages }
 {
     let mut builder = PlanBuilder::new(alloc);
-    builder.stage(Form::Source, &[], None)?;
-    let plan = builder.build()?;
+    must(rt, builder.stage(Form::Source, &[], None));
+    let plan = must(rt, builder.build());
     assert!(rt; plan.stages() > 0 && plan.stages() <= 4094 && plan.edges() <= 16380);
-    Ok(Graph::new_growing(alloc, plan, 2)?)
+    must(rt, Graph::new_growing(alloc, plan, 2))
 }
 
 /// What the event of a word is answered, if it is one's that fits.
@@ -193,19 +192,28 @@ const WORDS: [(u64, Option<Reply>); 6] = [
     ),
 ];
 
-#[test]
-fn events_of_words_name_attached_stages(rt: HostRuntime) -> Result<(), Fail> {
-    let mut graph = growing(&rt, rt.alloc())?;
+/// The graph takes these words, and each is answered as it says.
+fn answer_all(rt: &impl Abort, graph: &mut Graph) {
     for (word, wanted) in &WORDS {
-        same_at(&rt, answer(&mut graph, *word), *wanted, word);
+        same_at(rt, answer(graph, *word), *wanted, word);
     }
-    same(&rt, graph.stages(), 3);
-    Ok(())
 }
 
 #[test]
-fn replayed_events_name_stages_attached_before(rt: HostRuntime) -> Result<(), Fail> {
-    let mut graph = growing(&rt, rt.alloc())?;
+fn events_of_words_name_attached_stages(rt: HostRuntime) {
+    let mut graph = growing(&rt, rt.alloc());
+    answer_all(&rt, &mut graph);
+    same(&rt, graph.stages(), 3);
+}
+
+/// Whether a stage is there, and has this outcome.
+fn is_settled(graph: &mut Graph, i: u16, outcome: Outcome) -> bool {
+    graph.has(i) && graph.outcome(i) == Some(outcome)
+}
+
+#[test]
+fn replayed_events_name_stages_attached_before(rt: HostRuntime) {
+    let mut graph = growing(&rt, rt.alloc());
     let events = [
         Event::Attach {
             who: 0,
@@ -220,7 +228,6 @@ fn replayed_events_name_stages_attached_before(rt: HostRuntime) -> Result<(), Fa
         },
     ];
     replay(&mut graph, &events, &[1]);
-    assert!(rt; graph.has(1));
-    same(&rt, graph.outcome(1), Some(Outcome::Value(Value::Int(4))));
-    Ok(())
+    let four = Outcome::Value(Value::Int(4));
+    holds(&rt, is_settled(&mut graph, 1, four), four);
 }

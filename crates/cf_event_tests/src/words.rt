@@ -1,13 +1,12 @@
 //! Events and their words, and what events do to a graph.
-use cf_checks::{holds, same, same_at};
+use cf_checks::{holds, must, same, same_at};
 use cf_core::Graph;
 use cf_event::{Event, Reply, apply, decode, encode, is_event, replay};
 use cf_model::{Claimed, Ticked};
 use cf_outcome::Value;
-use cf_plan::{Answer, Args, Form, Of, Plan, PlanBuilder, PlanFault};
+use cf_plan::{Answer, Args, Form, Of, Plan, PlanBuilder};
 use std::alloc::Global;
 use std::process::Abort;
-use std::test::Fail;
 
 /// Events with their words.
 const ROWS: [(Event, u64); 14] = [
@@ -190,35 +189,39 @@ fn one_bit_off_is_another_event_or_none(rt: HostRuntime) {
 }
 
 /// The plan of one supply.
-fn supply(alloc: Global) -> Result<Plan, PlanFault> {
+fn supply(rt: &impl Abort, alloc: Global) -> Plan {
     let mut builder = PlanBuilder::new(alloc);
-    builder.stage(Form::Supply, &[], Some(0))?;
-    builder.build()
+    must(rt, builder.stage(Form::Supply, &[], Some(0)));
+    must(rt, builder.build())
 }
 
 /// A source, and an anyOf of it.
-fn pair(alloc: Global) -> Result<Plan, PlanFault> {
+fn pair(rt: &impl Abort, alloc: Global) -> Plan {
     let mut builder = PlanBuilder::new(alloc);
-    builder.stage(Form::Source, &[], None)?;
-    builder.stage(Form::AnyOf, &[0], None)?;
-    builder.build()
+    must(rt, builder.stage(Form::Source, &[], None));
+    must(rt, builder.stage(Form::AnyOf, &[0], None));
+    must(rt, builder.build())
 }
 
-#[test]
-fn turns_are_taken_before_their_event(rt: HostRuntime) -> Result<(), Fail> {
+/// Completes the first stage of a graph, which then ticks. With these turns before, so many are counted.
+fn complete_and_tick(rt: &impl Abort, graph: &mut Graph, nudges: &[u32], turns: u64) {
     let complete = Event::Complete {
         who: 0,
         stage: 0,
         value: Value::Nil,
     };
     let tick = Event::Tick { who: 0, moment: 5 };
+    assert!(rt; graph.takes(&complete));
+    replay(graph, &[complete, tick], nudges);
+    same(rt, graph.turns(), turns);
+}
+
+#[test]
+fn turns_are_taken_before_their_event(rt: HostRuntime) {
     for (nudges, turns) in [(&[][..], 0), (&[9], 0), (&[9, 0], 0), (&[0, 9], 1)] {
-        let mut graph = Graph::new(rt.alloc(), pair(rt.alloc())?)?;
-        assert!(rt; graph.takes(&complete));
-        replay(&mut graph, &[complete, tick], nudges);
-        same(&rt, graph.turns(), turns);
+        let mut graph = must(&rt, Graph::new(rt.alloc(), pair(&rt, rt.alloc())));
+        complete_and_tick(&rt, &mut graph, nudges, turns);
     }
-    Ok(())
 }
 
 /// Whether an event fits a graph, and is answered so.
@@ -226,14 +229,19 @@ fn is_answered(graph: &mut Graph, event: &Event, answer: Reply) -> bool {
     graph.takes(event) && apply(graph, event) == answer
 }
 
-#[test]
-fn events_are_done_to_a_graph(rt: HostRuntime) -> Result<(), Fail> {
-    let mut graph = Graph::new(rt.alloc(), supply(rt.alloc())?)?;
+/// A claim is granted, and a tick behind a later one is past.
+fn claim_and_tick(rt: &impl Abort, graph: &mut Graph) {
     let claim = Event::Claim { who: 1, stage: 0 };
     let granted = Reply::Claim(Claimed::Granted(Args::None));
-    assert!(rt; is_answered(&mut graph, &claim, granted));
-    replay(&mut graph, &[Event::Tick { who: 0, moment: 5 }], &[2, 3]);
+    holds(rt, is_answered(graph, &claim, granted), claim);
+    replay(graph, &[Event::Tick { who: 0, moment: 5 }], &[2, 3]);
     let earlier = Event::Tick { who: 1, moment: 4 };
-    assert!(rt; is_answered(&mut graph, &earlier, Reply::Tick(Ticked::Past)));
-    Ok(())
+    let past = Reply::Tick(Ticked::Past);
+    holds(rt, is_answered(graph, &earlier, past), earlier);
+}
+
+#[test]
+fn events_are_done_to_a_graph(rt: HostRuntime) {
+    let mut graph = must(&rt, Graph::new(rt.alloc(), supply(&rt, rt.alloc())));
+    claim_and_tick(&rt, &mut graph);
 }

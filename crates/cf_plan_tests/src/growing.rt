@@ -1,12 +1,9 @@
 //! Plans to which stages are attached, beside plans that were built whole.
-use cf_checks::{holds, same};
 use crate::rows::are_same;
-use cf_plan::{
-    Form, GrowingPlan, LimitKind, MAX_STAGES, Of, Plan, PlanBuilder, PlanFault, fits_form,
-};
+use cf_checks::{holds, must, same};
+use cf_plan::{Form, GrowingPlan, LimitKind, MAX_STAGES, Of, Plan, PlanBuilder, fits_form};
 use std::alloc::{AllocError, Global};
 use std::process::Abort;
-use std::test::Fail;
 
 /// A stage that is attached to the one plan and added to the other: its form, its sources as each takes them, and its
 /// function.
@@ -25,38 +22,26 @@ fn attaches(plan: &mut GrowingPlan, form: Form, of: Of, function: Option<u16>) -
 }
 
 /// Attaches a stage to the one plan, and adds it to the other.
-fn add(
-    rt: &impl Abort,
-    plan: &mut GrowingPlan,
-    builder: &mut PlanBuilder,
-    row: Row<'_>,
-) -> Result<(), PlanFault> {
+fn add(rt: &impl Abort, plan: &mut GrowingPlan, builder: &mut PlanBuilder, row: Row<'_>) {
     let Row(form, of, list, function) = row;
     holds(rt, attaches(plan, form, of, function), row);
-    builder.stage(form, list, function)?;
-    Ok(())
+    must(rt, builder.stage(form, list, function));
 }
 
 /// Attaches these stages to the one plan, and adds them to the other.
-fn add_all(
-    rt: &impl Abort,
-    plan: &mut GrowingPlan,
-    builder: &mut PlanBuilder,
-    rows: &[Row<'_>],
-) -> Result<(), PlanFault> {
+fn add_all(rt: &impl Abort, plan: &mut GrowingPlan, builder: &mut PlanBuilder, rows: &[Row<'_>]) {
     for row in rows {
-        add(rt, plan, builder, *row)?;
+        add(rt, plan, builder, *row);
     }
-    Ok(())
 }
 
 /// The dependents of a stage in rising order, as those of a plan that was built whole, and none of a stage that isn't
 /// there.
-fn dependents(alloc: Global, plan: &GrowingPlan, i: u16) -> Result<Vec<u16>, AllocError> {
+fn dependents(rt: &impl Abort, alloc: Global, plan: &GrowingPlan, i: u16) -> Vec<u16> {
     if i >= plan.stages() {
-        return Ok(Vec::new(alloc));
+        return Vec::new(alloc);
     }
-    let mut all = Vec::from_slice(alloc, plan.dependents(i))?;
+    let mut all = must(rt, Vec::from_slice(alloc, plan.dependents(i)));
     let first = all.len();
     let mut later = plan.attached_dependents(i);
     for _ in 0..plan.edges() {
@@ -64,9 +49,9 @@ fn dependents(alloc: Global, plan: &GrowingPlan, i: u16) -> Result<Vec<u16>, All
             break;
         };
         let place = first.min(all.len());
-        all.insert(place, k)?;
+        must(rt, all.insert(place, k));
     }
-    Ok(all)
+    all
 }
 
 /// Whether a stage is there and has the form, the function and the sources that it has in the plan that was built whole.
@@ -91,32 +76,19 @@ fn has_counts(plan: &GrowingPlan, whole: &Plan) -> bool {
 }
 
 /// The plan is the one that was built whole.
-fn assert_same(
-    rt: &impl Abort,
-    alloc: Global,
-    plan: &GrowingPlan,
-    whole: &Plan,
-) -> Result<(), AllocError> {
+fn assert_same(rt: &impl Abort, alloc: Global, plan: &GrowingPlan, whole: &Plan) {
     assert!(rt; has_counts(plan, whole));
     for i in 0..whole.stages() {
-        let named = dependents(alloc, plan, i)?;
+        let named = dependents(rt, alloc, plan, i);
         let same = is_same(plan, whole, i) && has_dependents(whole, i, named.as_slice());
         holds(rt, same, ("stage", i));
     }
-    Ok(())
 }
 
 /// The plan is the one that is built here, with no room left.
-fn assert_full(
-    rt: &impl Abort,
-    alloc: Global,
-    plan: &GrowingPlan,
-    builder: PlanBuilder,
-) -> Result<(), Fail> {
+fn assert_full(rt: &impl Abort, alloc: Global, plan: &GrowingPlan, builder: PlanBuilder) {
     same(rt, plan.room(), 0);
-    let whole = builder.build()?;
-    assert_same(rt, alloc, plan, &whole)?;
-    Ok(())
+    assert_same(rt, alloc, plan, &must(rt, builder.build()));
 }
 
 const SOURCE: Row<'static> = Row(Form::Source, Of::None, &[], None);
@@ -124,13 +96,13 @@ const SOURCE: Row<'static> = Row(Form::Source, Of::None, &[], None);
 const OPENING: [Row<'static>; 3] = [SOURCE, SOURCE, Row(Form::Apply, Of::One(0), &[0], Some(4))];
 
 /// Two sources, an apply, and a limit.
-fn opening(alloc: Global) -> Result<PlanBuilder, PlanFault> {
+fn opening(rt: &impl Abort, alloc: Global) -> PlanBuilder {
     let mut builder = PlanBuilder::new(alloc);
     for Row(form, _, of, function) in &OPENING {
-        builder.stage(*form, of, *function)?;
+        must(rt, builder.stage(*form, of, *function));
     }
-    builder.limit(2, 5, LimitKind::Timeout)?;
-    Ok(builder)
+    must(rt, builder.limit(2, 5, LimitKind::Timeout));
+    builder
 }
 
 /// The plan with room for so many stages.
@@ -140,21 +112,21 @@ fn with_room(
     plan: Plan,
     room: u16,
 ) -> Result<GrowingPlan, AllocError> {
-    assert!(rt; plan.has_place(room));
+    holds(rt, plan.has_place(room), room);
     GrowingPlan::new(alloc, plan, room)
 }
 
 /// The opening with room for four stages.
-fn roomy(rt: &impl Abort, alloc: Global) -> Result<Result<GrowingPlan, AllocError>, PlanFault> {
-    let plan = opening(alloc)?.build()?;
-    Ok(with_room(rt, alloc, plan, 4))
+fn roomy(rt: &impl Abort, alloc: Global) -> Result<GrowingPlan, AllocError> {
+    let plan = must(rt, opening(rt, alloc).build());
+    with_room(rt, alloc, plan, 4)
 }
 
 /// The same. Where memory is refused, it is asked for again.
-fn with_four(rt: &impl Abort, alloc: Global) -> Result<GrowingPlan, Fail> {
-    match roomy(rt, alloc)? {
-        Ok(plan) => Ok(plan),
-        Err(_) => Ok(roomy(rt, alloc)??),
+fn with_four(rt: &impl Abort, alloc: Global) -> GrowingPlan {
+    match roomy(rt, alloc) {
+        Ok(plan) => plan,
+        Err(_) => must(rt, roomy(rt, alloc)),
     }
 }
 
@@ -173,23 +145,17 @@ const EACH_COUNT: [Row<'static>; 4] = [
 
 /// Attaches these stages to the opening, and adds them to the same builder, whose plan is then the same. There is no room
 /// left.
-fn fill(
-    rt: &impl Abort,
-    alloc: Global,
-    plan: &mut GrowingPlan,
-    rows: &[Row<'_>],
-) -> Result<(), Fail> {
-    let mut builder = opening(alloc)?;
-    add_all(rt, plan, &mut builder, rows)?;
-    assert_full(rt, alloc, plan, builder)
+fn fill(rt: &impl Abort, alloc: Global, plan: &mut GrowingPlan, rows: &[Row<'_>]) {
+    let mut builder = opening(rt, alloc);
+    add_all(rt, plan, &mut builder, rows);
+    assert_full(rt, alloc, plan, builder);
 }
 
 #[test]
-fn stages_are_attached_behind_the_opening(rt: HostRuntime) -> Result<(), Fail> {
-    let mut plan = with_four(&rt, rt.alloc())?;
-    fill(&rt, rt.alloc(), &mut plan, &EACH_COUNT)?;
-    assert!(rt; is_left(&plan, 0, 3, 1));
-    Ok(())
+fn stages_are_attached_behind_the_opening(rt: HostRuntime) {
+    let mut plan = with_four(&rt, rt.alloc());
+    fill(&rt, rt.alloc(), &mut plan, &EACH_COUNT);
+    holds(&rt, is_left(&plan, 0, 3, 1), "opening");
 }
 
 /// Whether stage 1 has these attached dependents in this order, no other attached, and none in the opening.
@@ -214,19 +180,14 @@ fn attach_to_one(plan: &mut GrowingPlan) -> bool {
 }
 
 #[test]
-fn the_newest_comes_first(rt: HostRuntime) -> Result<(), Fail> {
-    let mut plan = with_four(&rt, rt.alloc())?;
-    assert!(rt; attach_to_one(&mut plan));
-    Ok(())
+fn the_newest_comes_first(rt: HostRuntime) {
+    let mut plan = with_four(&rt, rt.alloc());
+    holds(&rt, attach_to_one(&mut plan), "dependents");
 }
 
 /// Adds a source to both plans, and an allOf of stage `i / 2` and the last, `i - 1`, for each `i` from 1 on below 4,096.
-fn add_most(
-    rt: &impl Abort,
-    plan: &mut GrowingPlan,
-    builder: &mut PlanBuilder,
-) -> Result<(), PlanFault> {
-    add(rt, plan, builder, SOURCE)?;
+fn add_most(rt: &impl Abort, plan: &mut GrowingPlan, builder: &mut PlanBuilder) {
+    add(rt, plan, builder, SOURCE);
     for i in 1..4_096u16 {
         let (half, last) = (i / 2, i - 1);
         add(
@@ -234,37 +195,30 @@ fn add_most(
             plan,
             builder,
             Row(Form::AllOf, Of::Two(half, last), &[half, last], None),
-        )?;
+        );
     }
-    Ok(())
 }
 
 /// Attaches those, and is then the plan that was built of them.
-fn fill_with_most(rt: &impl Abort, alloc: Global, plan: &mut GrowingPlan) -> Result<(), Fail> {
+fn fill_with_most(rt: &impl Abort, alloc: Global, plan: &mut GrowingPlan) {
     let mut builder = PlanBuilder::new(alloc);
-    add_most(rt, plan, &mut builder)?;
-    assert_full(rt, alloc, plan, builder)
+    add_most(rt, plan, &mut builder);
+    assert_full(rt, alloc, plan, builder);
 }
 
 #[test]
-fn as_many_are_attached_as_there_may_be(rt: HostRuntime) -> Result<(), Fail> {
-    let empty = PlanBuilder::new(rt.alloc()).build()?;
-    let mut plan = with_room(&rt, rt.alloc(), empty, MAX_STAGES as u16)?;
-    fill_with_most(&rt, rt.alloc(), &mut plan)?;
+fn as_many_are_attached_as_there_may_be(rt: HostRuntime) {
+    let empty = must(&rt, PlanBuilder::new(rt.alloc()).build());
+    let mut plan = must(&rt, with_room(&rt, rt.alloc(), empty, MAX_STAGES as u16));
+    fill_with_most(&rt, rt.alloc(), &mut plan);
     same(&rt, plan.edges(), 8_190);
-    Ok(())
 }
 
 /// The plan is restarted, and then it is the one that was built whole, with room for four stages.
-fn restart(
-    rt: &impl Abort,
-    alloc: Global,
-    plan: &mut GrowingPlan,
-    whole: &Plan,
-) -> Result<(), AllocError> {
+fn restart(rt: &impl Abort, alloc: Global, plan: &mut GrowingPlan, whole: &Plan) {
     plan.restart();
     same(rt, plan.room(), 4);
-    assert_same(rt, alloc, plan, whole)
+    assert_same(rt, alloc, plan, whole);
 }
 
 /// Attaches three stages, after which there is room for one more and there are five edges.
@@ -277,31 +231,24 @@ fn attach_three(plan: &mut GrowingPlan) -> bool {
 }
 
 /// Restarts the plan three times, each time after three stages were attached.
-fn restart_thrice(
-    rt: &impl Abort,
-    alloc: Global,
-    plan: &mut GrowingPlan,
-    whole: &Plan,
-) -> Result<(), AllocError> {
+fn restart_thrice(rt: &impl Abort, alloc: Global, plan: &mut GrowingPlan, whole: &Plan) {
     for _ in 0..3 {
         assert!(rt; attach_three(plan));
-        restart(rt, alloc, plan, whole)?;
+        restart(rt, alloc, plan, whole);
     }
-    Ok(())
 }
 
 /// Restarts the plan as it is, and after stages were attached.
-fn restart_often(rt: &impl Abort, alloc: Global, plan: &mut GrowingPlan) -> Result<(), Fail> {
-    let whole = opening(alloc)?.build()?;
-    restart(rt, alloc, plan, &whole)?;
-    restart_thrice(rt, alloc, plan, &whole)?;
-    Ok(())
+fn restart_often(rt: &impl Abort, alloc: Global, plan: &mut GrowingPlan) {
+    let whole = must(rt, opening(rt, alloc).build());
+    restart(rt, alloc, plan, &whole);
+    restart_thrice(rt, alloc, plan, &whole);
 }
 
 #[test]
-fn a_restart_takes_out_what_was_attached(rt: HostRuntime) -> Result<(), Fail> {
-    let mut plan = with_four(&rt, rt.alloc())?;
-    restart_often(&rt, rt.alloc(), &mut plan)?;
+fn a_restart_takes_out_what_was_attached(rt: HostRuntime) {
+    let mut plan = with_four(&rt, rt.alloc());
+    restart_often(&rt, rt.alloc(), &mut plan);
     let row = Row(Form::AllOf, Of::Two(0, 0), &[0, 0], None);
-    fill(&rt, rt.alloc(), &mut plan, &[row; 4])
+    fill(&rt, rt.alloc(), &mut plan, &[row; 4]);
 }

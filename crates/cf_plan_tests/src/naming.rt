@@ -1,7 +1,6 @@
 //! The numbers and the names of forms.
 use cf_checks::holds;
 use cf_plan::Form;
-use std::test::Fail;
 
 /// Each form with its number and its name.
 const FORMS: [(u8, Form, &str); 19] = [
@@ -37,30 +36,27 @@ fn has_name(form: Form, name: &str) -> bool {
 }
 
 #[test]
-fn each_form_has_its_number_and_its_name(rt: HostRuntime) -> Result<(), Fail> {
+fn each_form_has_its_number_and_its_name(rt: HostRuntime) {
     for (number, form, name) in &FORMS {
-        assert!(rt; has_number(*form, *number));
-        assert!(rt; has_name(*form, name));
+        holds(&rt, has_number(*form, *number), number);
+        holds(&rt, has_name(*form, name), name);
     }
-    Ok(())
 }
 
 const OTHER_NUMBERS: [u32; 3] = [19, 256, 4_294_967_295];
 
 #[test]
-fn other_numbers_are_none(rt: HostRuntime) -> Result<(), Fail> {
+fn other_numbers_are_none(rt: HostRuntime) {
     for number in &OTHER_NUMBERS {
         holds(&rt, Form::numbered(*number).is_none(), number);
     }
-    Ok(())
 }
 
 const OTHER_NAMES: [&str; 5] = ["", "Source", "apply ", "thenApply", "exceptionallycompose"];
 
 #[test]
-fn other_names_are_none(rt: HostRuntime) -> Result<(), Fail> {
+fn other_names_are_none(rt: HostRuntime) {
     for name in &OTHER_NAMES {
         holds(&rt, Form::named(name).is_none(), name);
     }
-    Ok(())
 }

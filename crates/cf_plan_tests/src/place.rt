@@ -1,8 +1,8 @@
 //! Which sources a plan has, and for how much room it has place.
-use cf_checks::same;
-use cf_plan::{Form, Of, Plan, PlanBuilder, PlanFault};
+use cf_checks::{must, same};
+use cf_plan::{Form, Of, Plan, PlanBuilder};
 use std::alloc::Global;
-use std::test::Fail;
+use std::process::Abort;
 
 /// Sources, a number of stages, and whether the sources are below it.
 const BELOW: [(Of, u16, bool); 6] = [
@@ -15,36 +15,39 @@ const BELOW: [(Of, u16, bool); 6] = [
 ];
 
 #[test]
-fn sources_are_below_the_stages(rt: HostRuntime) -> Result<(), Fail> {
+fn sources_are_below_the_stages(rt: HostRuntime) {
     for (of, stages, is_below) in &BELOW {
         same(&rt, of.are_below(*stages), *is_below);
     }
-    Ok(())
 }
 
 /// A source, and a stage of these sources.
-fn with_sources(alloc: Global, of: &[u16]) -> Result<Plan, PlanFault> {
+fn with_sources(rt: &impl Abort, alloc: Global, of: &[u16]) -> Plan {
     let mut builder = PlanBuilder::new(alloc);
-    builder.stage(Form::Source, &[], None)?;
-    builder.stage(Form::AllOf, of, None)?;
-    builder.build()
+    must(rt, builder.stage(Form::Source, &[], None));
+    must(rt, builder.stage(Form::AllOf, of, None));
+    must(rt, builder.build())
 }
 
 /// A plan with two stages, of which the second has so many sources.
-fn with_edges(alloc: Global, edges: usize) -> Result<Plan, PlanFault> {
-    let of = vec![in alloc; 0u16; edges]?;
-    with_sources(alloc, &of)
+fn with_edges(rt: &impl Abort, alloc: Global, edges: usize) -> Plan {
+    let of = must(rt, vec![in alloc; 0u16; edges]);
+    with_sources(rt, alloc, &of)
+}
+
+/// Copies a plan so often.
+fn copy_often(rt: &impl Abort, plan: &Plan, copies: &mut Vec<Plan>, times: u32) {
+    for _ in 0..times {
+        must(rt, copies.push(must(rt, plan.copy())));
+    }
 }
 
 #[test]
-fn a_plan_has_many_copies_at_once(rt: HostRuntime) -> Result<(), Fail> {
-    let plan = with_edges(rt.alloc(), 3)?;
+fn a_plan_has_many_copies_at_once(rt: HostRuntime) {
+    let plan = with_edges(&rt, rt.alloc(), 3);
     let mut copies = Vec::new(rt.alloc());
-    for _ in 0..20_000 {
-        copies.push(plan.copy()?)?;
-    }
+    copy_often(&rt, &plan, &mut copies, 20_000);
     same(&rt, copies.len(), 20_000);
-    Ok(())
 }
 
 /// Edges, room, and whether a plan with so many edges has place for it.
@@ -63,10 +66,9 @@ const PLACES: [(usize, u16, bool); 10] = [
 
 /// Stages and room are at most 4,096, and edges and twice the room at most 16,384.
 #[test]
-fn stages_edges_and_room_are_bounded(rt: HostRuntime) -> Result<(), Fail> {
+fn stages_edges_and_room_are_bounded(rt: HostRuntime) {
     for (edges, room, has) in &PLACES {
-        let plan = with_edges(rt.alloc(), *edges)?;
+        let plan = with_edges(&rt, rt.alloc(), *edges);
         same(&rt, plan.has_place(*room), *has);
     }
-    Ok(())
 }

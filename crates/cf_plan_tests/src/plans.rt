@@ -1,12 +1,11 @@
 //! Plans of every kind of size, and what is refused.
-use cf_checks::same;
-use crate::rows::{Ask, Step, check, check_after, check_built, take, taken};
+use crate::rows::{Ask, Step, check, check_after, check_both, check_built, take, taken};
+use cf_checks::{holds, must, same};
 use cf_outcome::{Value, WriteFault};
 use cf_plan::{Form, Limit, LimitKind, MAX_EDGES, Plan, PlanBuilder, PlanFault};
 use std::alloc::Global;
 use std::fmt::Display;
 use std::process::Abort;
-use std::test::Fail;
 
 const SOURCE: Step<'static> = Step::Stage(Form::Source, &[], None, Ok(0));
 
@@ -31,7 +30,7 @@ const LIMITS: [Limit; 3] = [
 ];
 
 #[test]
-fn limits_stand_in_firing_order(rt: HostRuntime) -> Result<(), Fail> {
+fn limits_stand_in_firing_order(rt: HostRuntime) {
     let steps = [
         SOURCE,
         Step::Stage(Form::Source, &[], None, Ok(1)),
@@ -40,12 +39,11 @@ fn limits_stand_in_firing_order(rt: HostRuntime) -> Result<(), Fail> {
         Step::Limit(1, 10, LimitKind::Timeout, Ok(())),
         Step::Limits(&LIMITS),
     ];
-    check_after(&rt, rt.alloc(), &steps, &[Ask::Limits(&LIMITS)])?;
-    Ok(())
+    check_after(&rt, rt.alloc(), &steps, &[Ask::Limits(&LIMITS)]);
 }
 
 #[test]
-fn a_plan_is_what_was_accepted(rt: HostRuntime) -> Result<(), Fail> {
+fn a_plan_is_what_was_accepted(rt: HostRuntime) {
     let steps = [
         SOURCE,
         Step::Stage(Form::Combine, &[0, 0], Some(9), Ok(1)),
@@ -63,8 +61,7 @@ fn a_plan_is_what_was_accepted(rt: HostRuntime) -> Result<(), Fail> {
         Ask::Dependents(1, &[2, 2]),
         Ask::Dependents(2, &[]),
     ];
-    check_after(&rt, rt.alloc(), &steps, &asks)?;
-    Ok(())
+    check_after(&rt, rt.alloc(), &steps, &asks);
 }
 
 #[test]
@@ -93,37 +90,47 @@ fn add_limits(rt: &impl Abort, builder: &mut PlanBuilder) {
     }
 }
 
-#[test]
-fn too_many_are_refused(rt: HostRuntime) -> Result<(), Fail> {
-    let of = vec![in rt.alloc(); 0u16; MAX_EDGES]?;
+/// A stage takes all edges that there may be, and no stage behind it takes one.
+fn take_edges(rt: &impl Abort, builder: &mut PlanBuilder, of: &[u16]) {
     let steps = [
         SOURCE,
-        Step::Stage(Form::AllOf, &of, None, Ok(1)),
+        Step::Stage(Form::AllOf, of, None, Ok(1)),
         Step::Stage(Form::AllOf, &[0], None, Err(PlanFault::TooManyEdges)),
         Step::Stage(Form::AllOf, &[], None, Ok(2)),
     ];
-    let mut builder = taken(&rt, rt.alloc(), &steps);
-    add_limits(&rt, &mut builder);
+    take(rt, builder, &steps);
+}
+
+/// As many limits are added as there may be, and no limit behind them is taken.
+fn take_limits(rt: &impl Abort, builder: &mut PlanBuilder) {
+    add_limits(rt, builder);
     let steps = [
         Step::Limit(0, 0, LimitKind::Timeout, Err(PlanFault::TooManyLimits)),
         Step::Limit(3, 0, LimitKind::Timeout, Err(PlanFault::NoSuchStage)),
     ];
-    take(&rt, &mut builder, &steps);
-    check_built(&rt, builder, &[Ask::Edges(16_384)])?;
-    Ok(())
+    take(rt, builder, &steps);
+}
+
+#[test]
+fn too_many_are_refused(rt: HostRuntime) {
+    let of = must(&rt, vec![in rt.alloc(); 0u16; MAX_EDGES]);
+    let mut builder = PlanBuilder::new(rt.alloc());
+    take_edges(&rt, &mut builder, &of);
+    take_limits(&rt, &mut builder);
+    check_built(&rt, builder, &[Ask::Edges(16_384)]);
 }
 
 /// 4,096 stages with 16,384 edges. Each but the first names three stages, one of them twice, and the last one four
 /// more.
-fn largest(alloc: Global) -> Result<PlanBuilder, PlanFault> {
+fn largest(rt: &impl Abort, alloc: Global) -> PlanBuilder {
     let mut builder = PlanBuilder::new(alloc);
-    builder.stage(Form::Source, &[], None)?;
+    must(rt, builder.stage(Form::Source, &[], None));
     for i in 1..4_096u16 {
         let of = [i - 1, i / 2, 0, i - 1, 3, 1, 2, 0];
         let count = if i == 4_095 { 8 } else { 4 };
-        builder.stage(Form::AllOf, &of[..count], None)?;
+        must(rt, builder.stage(Form::AllOf, &of[..count], None));
     }
-    Ok(builder)
+    builder
 }
 
 /// How often a number stands in a list.
@@ -154,14 +161,13 @@ fn is_largest(plan: &Plan) -> bool {
 }
 
 #[test]
-fn the_largest_plan_is_built_and_walked(rt: HostRuntime) -> Result<(), Fail> {
-    let mut builder = largest(rt.alloc())?;
+fn the_largest_plan_is_built_and_walked(rt: HostRuntime) {
+    let mut builder = largest(&rt, rt.alloc());
     let step = Step::Stage(Form::Source, &[], None, Err(PlanFault::TooManyStages));
     take(&rt, &mut builder, &[step]);
-    let plan = builder.build()?;
-    assert!(rt; is_largest(&plan));
-    assert!(rt; is_largest(&plan.copy()?));
-    Ok(())
+    let plan = must(&rt, builder.build());
+    holds(&rt, is_largest(&plan), "plan");
+    holds(&rt, is_largest(&must(&rt, plan.copy())), "copy");
 }
 
 /// Numbers of edges from none up to the most, and those beside the powers of two that blocks grow by.
@@ -171,7 +177,7 @@ const EDGES: [usize; 12] = [
 
 /// A source, and a stage that names it as often as said. One edge more than there may be, in one stage or in two, is
 /// refused.
-fn build_edges(rt: &impl Abort, alloc: Global, of: &[u16], edges: usize) -> Result<(), PlanFault> {
+fn build_edges(rt: &impl Abort, alloc: Global, of: &[u16], edges: usize) {
     let (named, one_too_many) = of.split_at(edges.min(of.len()));
     let steps = [
         SOURCE,
@@ -184,10 +190,13 @@ fn build_edges(rt: &impl Abort, alloc: Global, of: &[u16], edges: usize) -> Resu
             Err(PlanFault::TooManyEdges),
         ),
     ];
-    let plan = taken(rt, alloc, &steps).build()?;
-    assert!(rt; has_edges(&plan, edges));
-    assert!(rt; has_edges(&plan.copy()?, edges));
-    Ok(())
+    let plan = must(rt, taken(rt, alloc, &steps).build());
+    holds(rt, has_edges(&plan, edges), edges);
+    holds(
+        rt,
+        has_edges(&must(rt, plan.copy()), edges),
+        ("copy", edges),
+    );
 }
 
 /// Whether a plan has two stages, and so many edges from the first to the second.
@@ -199,12 +208,11 @@ fn has_edges(plan: &Plan, edges: usize) -> bool {
 }
 
 #[test]
-fn every_number_of_edges_is_built(rt: HostRuntime) -> Result<(), Fail> {
-    let of = vec![in rt.alloc(); 0u16; MAX_EDGES + 1]?;
+fn every_number_of_edges_is_built(rt: HostRuntime) {
+    let of = must(&rt, vec![in rt.alloc(); 0u16; MAX_EDGES + 1]);
     for edges in &EDGES {
-        build_edges(&rt, rt.alloc(), of.as_slice(), *edges)?;
+        build_edges(&rt, rt.alloc(), of.as_slice(), *edges);
     }
-    Ok(())
 }
 
 /// Adds so many supplies, each with the greatest number of a function.
@@ -215,25 +223,22 @@ fn add_supplies(rt: &impl Abort, builder: &mut PlanBuilder, stages: u16) {
     }
 }
 
-fn build_stages(rt: &impl Abort, alloc: Global, stages: u16) -> Result<(), PlanFault> {
+/// Builds a plan of so many supplies, which all start.
+fn build_stages(rt: &impl Abort, alloc: Global, stages: u16) {
     let mut builder = PlanBuilder::new(alloc);
     add_supplies(rt, &mut builder, stages);
-    let plan = builder.build()?;
-    let asks = [Ask::Stages(stages), Ask::Edges(0)];
-    check(rt, &plan, &asks);
+    let plan = must(rt, builder.build());
+    check_both(rt, &plan, &[Ask::Stages(stages), Ask::Edges(0)]);
     same(rt, plan.starts().len(), stages as usize);
-    check(rt, &plan.copy()?, &asks);
-    Ok(())
 }
 
 const STAGES: [u16; 8] = [0, 1, 2, 63, 64, 65, 4_095, 4_096];
 
 #[test]
-fn every_number_of_stages_is_built(rt: HostRuntime) -> Result<(), Fail> {
+fn every_number_of_stages_is_built(rt: HostRuntime) {
     for stages in &STAGES {
-        build_stages(&rt, rt.alloc(), *stages)?;
+        build_stages(&rt, rt.alloc(), *stages);
     }
-    Ok(())
 }
 
 /// A source with limits at each power of two, one before it, and as far from the greatest moment.
@@ -274,10 +279,9 @@ fn reach_all(limits: &[Limit]) -> bool {
 }
 
 #[test]
-fn moments_reach_from_the_least_to_the_greatest(rt: HostRuntime) -> Result<(), Fail> {
-    let plan = limited(&rt, rt.alloc()).build()?;
-    assert!(rt; reach_all(plan.limits()));
-    Ok(())
+fn moments_reach_from_the_least_to_the_greatest(rt: HostRuntime) {
+    let plan = must(&rt, limited(&rt, rt.alloc()).build());
+    holds(&rt, reach_all(plan.limits()), "limits");
 }
 
 /// Adds a limit to each stage of the largest plan, the earliest to the last.
@@ -308,10 +312,9 @@ fn is_fullest(plan: &Plan) -> bool {
     plan.stages() == 4_096 && plan.edges() == 16_384 && are_of_each(plan.limits())
 }
 
-#[test]
-fn the_fullest_plan_is_built(rt: HostRuntime) -> Result<(), Fail> {
-    let mut builder = largest(rt.alloc())?;
-    limit_each(&rt, &mut builder);
+/// Each stage has a limit, and no limit behind them is taken.
+fn fill_with_limits(rt: &impl Abort, builder: &mut PlanBuilder) {
+    limit_each(rt, builder);
     let steps = [
         Step::Limit(
             4_095,
@@ -326,11 +329,16 @@ fn the_fullest_plan_is_built(rt: HostRuntime) -> Result<(), Fail> {
             Err(PlanFault::NoSuchStage),
         ),
     ];
-    take(&rt, &mut builder, &steps);
-    let plan = builder.build()?;
-    assert!(rt; is_fullest(&plan));
-    assert!(rt; is_fullest(&plan.copy()?));
-    Ok(())
+    take(rt, builder, &steps);
+}
+
+#[test]
+fn the_fullest_plan_is_built(rt: HostRuntime) {
+    let mut builder = largest(&rt, rt.alloc());
+    fill_with_limits(&rt, &mut builder);
+    let plan = must(&rt, builder.build());
+    holds(&rt, is_fullest(&plan), "plan");
+    holds(&rt, is_fullest(&must(&rt, plan.copy())), "copy");
 }
 
 const FAULTS: [(PlanFault, &str); 9] = [
@@ -346,23 +354,17 @@ const FAULTS: [(PlanFault, &str); 9] = [
 ];
 
 /// A fault is written so.
-fn assert_written(
-    rt: &impl Abort,
-    alloc: Global,
-    fault: &impl Display,
-    text: &str,
-) -> Result<(), Fail> {
-    let written = format!(in alloc; "{fault}")?;
+fn assert_written(rt: &impl Abort, alloc: Global, fault: &impl Display, text: &str) {
+    let written = must(rt, format!(in alloc; "{fault}"));
     same(rt, written.as_str(), text);
-    Ok(())
 }
 
 #[test]
-fn faults_are_written_by_name(rt: HostRuntime) -> Result<(), Fail> {
+fn faults_are_written_by_name(rt: HostRuntime) {
     for (fault, text) in &FAULTS {
-        assert_written(&rt, rt.alloc(), fault, text)?;
+        assert_written(&rt, rt.alloc(), fault, text);
     }
-    assert_written(&rt, rt.alloc(), &WriteFault, "WriteFault")
+    assert_written(&rt, rt.alloc(), &WriteFault, "WriteFault");
 }
 
 /// Adds a stage. Where a growth is refused, there are as many stages as before, and it is tried again.
@@ -431,9 +433,9 @@ fn copied_in_the_end(plan: &Plan) -> Result<Plan, PlanFault> {
 }
 
 #[test]
-fn a_refused_growth_can_be_tried_again(rt: HostRuntime) -> Result<(), Fail> {
-    let plan = built_in_the_end(&rt, rt.alloc())?;
-    let copy = copied_in_the_end(&plan)?;
+fn a_refused_growth_can_be_tried_again(rt: HostRuntime) {
+    let plan = must(&rt, built_in_the_end(&rt, rt.alloc()));
+    let copy = must(&rt, copied_in_the_end(&plan));
     let asks = [
         Ask::Stages(3),
         Ask::Dependents(0, &[1, 2, 2]),
@@ -441,7 +443,6 @@ fn a_refused_growth_can_be_tried_again(rt: HostRuntime) -> Result<(), Fail> {
     ];
     check(&rt, &copy, &asks);
     same(&rt, copy.limits().len(), 1);
-    Ok(())
 }
 
 /// A plan of three stages with four edges, built with room for them. Once the room is made, none of the stages is refused.
@@ -467,10 +468,9 @@ fn built_with_room_in_the_end(rt: &impl Abort, alloc: Global) -> Result<Plan, Pl
 }
 
 #[test]
-fn stages_within_their_room_take_no_memory(rt: HostRuntime) -> Result<(), Fail> {
-    let plan = built_with_room_in_the_end(&rt, rt.alloc())?;
+fn stages_within_their_room_take_no_memory(rt: HostRuntime) {
+    let plan = must(&rt, built_with_room_in_the_end(&rt, rt.alloc()));
     check(&rt, &plan, &[Ask::Stages(3), Ask::Edges(4)]);
-    Ok(())
 }
 
 /// Adds 100 stages, of which the first names none, the second one and the others two.
@@ -482,30 +482,29 @@ fn add_hundred(rt: &impl Abort, builder: &mut PlanBuilder) {
 }
 
 /// A plan of 100 stages, whose builder had room for as many stages and edges as said.
-fn build_beyond(rt: &impl Abort, alloc: Global, stages: u16, edges: u16) -> Result<(), PlanFault> {
-    let mut builder = PlanBuilder::with_room(alloc, stages, edges)?;
+fn build_beyond(rt: &impl Abort, alloc: Global, stages: u16, edges: u16) {
+    let mut builder = must(rt, PlanBuilder::with_room(alloc, stages, edges));
     add_hundred(rt, &mut builder);
     take(
         rt,
         &mut builder,
         &[Step::Limit(99, 1, LimitKind::Timeout, Ok(()))],
     );
-    check(rt, &builder.build()?, &[Ask::Stages(100), Ask::Edges(197)]);
-    Ok(())
+    let plan = must(rt, builder.build());
+    check(rt, &plan, &[Ask::Stages(100), Ask::Edges(197)]);
 }
 
 const ROOMS: [(u16, u16); 3] = [(0, 0), (1, 1), (u16::MAX, u16::MAX)];
 
 #[test]
-fn room_is_no_bound(rt: HostRuntime) -> Result<(), Fail> {
+fn room_is_no_bound(rt: HostRuntime) {
     for (stages, edges) in &ROOMS {
-        build_beyond(&rt, rt.alloc(), *stages, *edges)?;
+        build_beyond(&rt, rt.alloc(), *stages, *edges);
     }
-    Ok(())
 }
 
 #[test]
-fn stages_that_start_are_told(rt: HostRuntime) -> Result<(), Fail> {
+fn stages_that_start_are_told(rt: HostRuntime) {
     let steps = [
         SOURCE,
         Step::Stage(Form::Supply, &[], Some(0), Ok(1)),
@@ -516,7 +515,6 @@ fn stages_that_start_are_told(rt: HostRuntime) -> Result<(), Fail> {
         Step::Stage(Form::RunAsync, &[], Some(2), Ok(6)),
         Step::Stage(Form::Source, &[], None, Ok(7)),
     ];
-    check_after(&rt, rt.alloc(), &steps, &[Ask::Starts(&[1, 2, 6])])?;
-    check_after(&rt, rt.alloc(), &[SOURCE], &[Ask::Starts(&[])])?;
-    Ok(())
+    check_after(&rt, rt.alloc(), &steps, &[Ask::Starts(&[1, 2, 6])]);
+    check_after(&rt, rt.alloc(), &[SOURCE], &[Ask::Starts(&[])]);
 }

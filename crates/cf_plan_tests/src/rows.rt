@@ -1,5 +1,5 @@
 //! What is done to a builder, and what a plan is asked, as rows that tests take.
-use cf_checks::holds;
+use cf_checks::{holds, must};
 use cf_plan::{Form, Limit, LimitKind, Plan, PlanBuilder, PlanFault};
 use std::alloc::Global;
 use std::process::Abort;
@@ -76,25 +76,18 @@ pub(crate) fn check(rt: &impl Abort, plan: &Plan, asks: &[Ask<'_>]) {
     }
 }
 
-/// Each question is answered as it says by the plan that is built, and by its copy.
-pub(crate) fn check_built(
-    rt: &impl Abort,
-    builder: PlanBuilder,
-    asks: &[Ask<'_>],
-) -> Result<(), PlanFault> {
-    let plan = builder.build()?;
-    check(rt, &plan, asks);
-    let copy = plan.copy()?;
-    check(rt, &copy, asks);
-    Ok(())
+/// Each question is answered as it says by the plan, and by its copy.
+pub(crate) fn check_both(rt: &impl Abort, plan: &Plan, asks: &[Ask<'_>]) {
+    check(rt, plan, asks);
+    check(rt, &must(rt, plan.copy()), asks);
+}
+
+/// The same of the plan that is built.
+pub(crate) fn check_built(rt: &impl Abort, builder: PlanBuilder, asks: &[Ask<'_>]) {
+    check_both(rt, &must(rt, builder.build()), asks);
 }
 
 /// The same of the plan that these steps build.
-pub(crate) fn check_after(
-    rt: &impl Abort,
-    alloc: Global,
-    steps: &[Step<'_>],
-    asks: &[Ask<'_>],
-) -> Result<(), PlanFault> {
-    check_built(rt, taken(rt, alloc, steps), asks)
+pub(crate) fn check_after(rt: &impl Abort, alloc: Global, steps: &[Step<'_>], asks: &[Ask<'_>]) {
+    check_built(rt, taken(rt, alloc, steps), asks);
 }

@@ -214,6 +214,11 @@ const FITTING: [(Form, Of, bool, bool); 12] = [
 #[test]
 fn stages_fit_their_form(rt: HostRuntime) {
     for (form, of, has_function, fits) in &FITTING {
-        same_at(&rt, fits_form(*form, of.count(), *has_function), *fits, form);
+        same_at(
+            &rt,
+            fits_form(*form, of.count(), *has_function),
+            *fits,
+            form,
+        );
     }
 }

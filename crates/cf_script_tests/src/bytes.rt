@@ -1,12 +1,10 @@
 //! Scripts that are read and written one byte a call.
-use cf_checks::holds;
 use crate::devices::{Dripping, Sipping, Then};
 use crate::reports::{ADD_FIVE, ADD_FIVE_REPORT, lines};
+use cf_checks::{holds, must};
 use cf_script::{Part, ScriptFault, run_script};
-use std::alloc::{AllocError, Global};
 use std::io::ErrorKind;
 use std::process::Abort;
-use std::test::Fail;
 
 /// A script, the lines of its report, separated by ` / `, and what the run answers.
 struct Row {
@@ -92,46 +90,43 @@ fn check_bytes(
 }
 
 #[test]
-fn texts_move_a_byte_a_call(rt: HostRuntime) -> Result<(), Fail> {
+fn texts_move_a_byte_a_call(rt: HostRuntime) {
     for row in &ROWS {
-        let printed = lines(rt.alloc(), row.report)?;
+        let printed = lines(&rt, rt.alloc(), row.report);
         check_bytes(&rt, row.name, row.script, printed.as_str(), row.ended);
     }
-    Ok(())
 }
 
 /// `head`, then `item` so many times, then `tail`.
 fn repeated(
-    alloc: Global,
+    rt: &(impl Abort + AllocGlobal),
     head: &str,
     item: &str,
     times: u32,
     tail: &str,
-) -> Result<String, AllocError> {
-    let mut text = String::new(alloc);
-    text.push_str(head)?;
+) -> String {
+    let mut text = String::new(rt.alloc());
+    must(rt, text.push_str(head));
     for _ in 0..times {
-        text.push_str(item)?;
+        must(rt, text.push_str(item));
     }
-    text.push_str(tail)?;
-    Ok(text)
+    must(rt, text.push_str(tail));
+    text
 }
 
 #[test]
-fn the_most_steps_move_a_byte_a_call(rt: HostRuntime) -> Result<(), Fail> {
+fn the_most_steps_move_a_byte_a_call(rt: HostRuntime) {
     let head = r#"{"cf":1,"stages":[],"steps":["#;
-    let script = repeated(rt.alloc(), head, r#"["work"],"#, 19_999, r#"["work"]]}"#)?;
-    let printed = repeated(rt.alloc(), "", "worked 0\n", 20_000, "")?;
+    let script = repeated(&rt, head, r#"["work"],"#, 19_999, r#"["work"]]}"#);
+    let printed = repeated(&rt, "", "worked 0\n", 20_000, "");
     let name = "20,000 steps";
     check_bytes(&rt, name, script.as_str(), printed.as_str(), Ok(()));
-    Ok(())
 }
 
 #[test]
-fn a_byte_too_many_is_told_a_byte_a_call(rt: HostRuntime) -> Result<(), Fail> {
-    let script = repeated(rt.alloc(), r#"{"cf":1,"stages":[]}"#, " ", 1_048_557, "")?;
+fn a_byte_too_many_is_told_a_byte_a_call(rt: HostRuntime) {
+    let script = repeated(&rt, r#"{"cf":1,"stages":[]}"#, " ", 1_048_557, "");
     let printed = "fault 1 too long\n";
     let ended = Err(ScriptFault::TooLong);
     check_bytes(&rt, "one byte too many", script.as_str(), printed, ended);
-    Ok(())
 }

@@ -1,8 +1,7 @@
 //! The line of each fault.
-use cf_checks::same;
+use cf_checks::{must, same};
 use cf_script::{Part, PlanFault, ScriptFault};
 use std::process::Abort;
-use std::test::Fail;
 
 type Row = (ScriptFault, &'static str);
 
@@ -82,25 +81,28 @@ const REFUSALS: [Row; 9] = [
     ),
 ];
 
-fn check_lines(rt: &(impl Abort + AllocGlobal), rows: &[Row]) -> Result<(), Fail> {
+fn check_line(rt: &(impl Abort + AllocGlobal), fault: ScriptFault, wanted: &str) {
+    let line = must(rt, format!(in rt.alloc(); "{fault}"));
+    same(rt, line.as_str(), wanted);
+}
+
+fn check_lines(rt: &(impl Abort + AllocGlobal), rows: &[Row]) {
     for row in rows {
-        let fault = row.0;
-        same(rt, format!(in rt.alloc(); "{fault}")?.as_str(), row.1);
+        check_line(rt, row.0, row.1);
     }
-    Ok(())
 }
 
 #[test]
-fn each_fault_has_its_line(rt: HostRuntime) -> Result<(), Fail> {
-    check_lines(&rt, &LONGEST)
+fn each_fault_has_its_line(rt: HostRuntime) {
+    check_lines(&rt, &LONGEST);
 }
 
 #[test]
-fn each_part_has_its_line(rt: HostRuntime) -> Result<(), Fail> {
-    check_lines(&rt, &PARTS)
+fn each_part_has_its_line(rt: HostRuntime) {
+    check_lines(&rt, &PARTS);
 }
 
 #[test]
-fn each_refusal_has_its_number(rt: HostRuntime) -> Result<(), Fail> {
-    check_lines(&rt, &REFUSALS)
+fn each_refusal_has_its_number(rt: HostRuntime) {
+    check_lines(&rt, &REFUSALS);
 }

@@ -1,24 +1,24 @@
 //! What a gate is told in a race, and when functions are called.
-ghost use Rattle.std.specs.Prelude.{◌<◌, ◌≤◌};
+ghost use Rattle.std.specs.Prelude.{◌≡◌, ◌<◌, ◌≤◌, true};
+ghost use Rattle.cf_plan.specs.Plans.{has_place};
 
-use cf_checks::{holds, same, same_at};
+use cf_checks::{holds, must, same, same_at};
 use cf_outcome::Value;
 use cf_plan::{Answer, Args, Form, Plan, PlanBuilder, StageFn};
 use cf_pool::{race, share};
 use cf_script::{Gate, race_script};
-use std::alloc::{AllocError, Global};
+use std::alloc::Global;
 use std::process::Abort;
 use std::sync::Wait;
 use std::sync::atomic::{AtomicBool, AtomicU32, Ordering};
-use std::test::Fail;
 use std::thread::Threads;
 
-fn counters(alloc: Global, count: usize) -> Result<Vec<AtomicU32>, AllocError> {
+fn counters(rt: &impl Abort, alloc: Global, count: usize) -> Vec<AtomicU32> {
     let mut found = Vec::new(alloc);
     for _ in 0..count {
-        found.push(AtomicU32::new(0))?;
+        must(rt, found.push(AtomicU32::new(0)));
     }
-    Ok(found)
+    found
 }
 
 /// Keeps each stage and worker that it is told, in order. The first of them wait until so many were told.
@@ -60,25 +60,38 @@ impl Gate for Told {
 /// fault, 5 to 40 are supplies, and 41 to 44 applies over four of these.
 const STAGES: usize = 45;
 
-fn stages(alloc: Global) -> Result<String, AllocError> {
+fn stages(rt: &impl Abort, alloc: Global) -> String {
     let mut text = String::new(alloc);
-    write!(
-        text,
-        r#"{{"cf":1,"steps":[["fail",1,7]],"stages":[{{"form":"source"}},{{"form":"source"}}"#
-    )?;
-    write!(
-        text,
-        r#",{{"form":"apply","of":[0],"fn":"neg"}},{{"form":"apply","of":[1],"fn":"neg"}}"#
-    )?;
-    write!(text, r#",{{"form":"handle","of":[1],"fn":"neg"}}"#)?;
+    push(
+        rt,
+        &mut text,
+        r#"{"cf":1,"steps":[["fail",1,7]],"stages":[{"form":"source"},{"form":"source"}"#,
+    );
+    push(
+        rt,
+        &mut text,
+        r#",{"form":"apply","of":[0],"fn":"neg"},{"form":"apply","of":[1],"fn":"neg"}"#,
+    );
+    push(rt, &mut text, r#",{"form":"handle","of":[1],"fn":"neg"}"#);
     for _ in 5..41 {
-        write!(text, r#",{{"form":"supply","fn":{{"const":4}}}}"#)?;
+        push(rt, &mut text, r#",{"form":"supply","fn":{"const":4}}"#);
     }
     for source in 5..9 {
-        write!(text, r#",{{"form":"apply","of":[{source}],"fn":"neg"}}"#)?;
+        push_apply(rt, &mut text, source);
     }
-    write!(text, "]}}")?;
-    Ok(text)
+    push(rt, &mut text, "]}");
+    text
+}
+
+fn push(rt: &impl Abort, text: &mut String, more: &str) {
+    must(rt, text.push_str(more));
+}
+
+fn push_apply(rt: &impl Abort, text: &mut String, source: u16) {
+    must(
+        rt,
+        write!(text, r#",{{"form":"apply","of":[{source}],"fn":"neg"}}"#),
+    );
 }
 
 /// Checks that stages 4 to 44 were told once each, and of workers 1 to so many all, the first ones one each.
@@ -89,35 +102,67 @@ fn check_told(rt: &impl Abort, gate: &Told, workers: u8) {
         let word = word.load(Ordering::SeqCst);
         let stage = (word / 256) as usize;
         let worker = (word % 256) as usize;
-        holds(rt, stage >= 4 && stage < STAGES, ("stage", stage, "is told"));
+        holds(
+            rt,
+            stage >= 4 && stage < STAGES,
+            ("stage", stage, "is told"),
+        );
         holds(rt, !stages[stage], ("stage", stage, "is told twice"));
         stages[stage] = true;
-        holds(rt, worker >= 1 && worker <= workers as usize && worker < 33, worker);
-        holds(rt, at >= workers as usize || !first[worker], (worker, "is told twice"));
+        holds(
+            rt,
+            worker >= 1 && worker <= workers as usize && worker < 33,
+            worker,
+        );
+        holds(
+            rt,
+            at >= workers as usize || !first[worker],
+            (worker, "is told twice"),
+        );
         first[worker] = true;
     }
 }
 
+/// Races the script before a gate, which sees so many workers work at once.
+fn race_before(
+    rt: &(impl Abort + Threads + Wait + Sync + AllocGlobal),
+    script: &str,
+    gate: &Told,
+    workers: u8,
+)
+    requires { (0 < workers) × (workers ≤ 32) }
+{
+    let mut out: Vec<u8> = Vec::new(rt.alloc());
+    let mut input = script.as_bytes();
+    let ended = race_script(rt, rt.alloc(), &mut input, &mut out, gate, workers);
+    same(rt, ended, Ok(()));
+    holds(
+        rt,
+        !gate.is_late.load(Ordering::SeqCst),
+        (workers, "work at once"),
+    );
+    same(rt, gate.count.load(Ordering::SeqCst), STAGES as u32 - 4);
+}
+
+fn check_gate(rt: &(impl Abort + Threads + Wait + Sync + AllocGlobal), script: &str, workers: u8)
+    requires { (0 < workers) × (workers ≤ 32) }
+{
+    let gate = Told {
+        told: counters(rt, rt.alloc(), STAGES - 4),
+        count: AtomicU32::new(0),
+        together: u32::from(workers),
+        is_late: AtomicBool::new(false),
+    };
+    race_before(rt, script, &gate, workers);
+    check_told(rt, &gate, workers);
+}
+
 #[test]
-fn a_gate_is_told_each_claim_once(rt: HostRuntime) -> Result<(), Fail> {
-    let script = stages(rt.alloc())?;
-    for workers in [1, 4, 32u8] {
-        let gate = Told {
-            told: counters(rt.alloc(), STAGES - 4)?,
-            count: AtomicU32::new(0),
-            together: u32::from(workers),
-            is_late: AtomicBool::new(false),
-        };
-        let mut out: Vec<u8> = Vec::new(rt.alloc());
-        let mut input = script.as_str().as_bytes();
-        assert!(rt; workers >= 1 && workers <= 32);
-        let ended = race_script(&rt, rt.alloc(), &mut input, &mut out, &gate, workers);
-        same(&rt, ended, Ok(()));
-        holds(&rt, !gate.is_late.load(Ordering::SeqCst), (workers, "work at once"));
-        same(&rt, gate.count.load(Ordering::SeqCst), STAGES as u32 - 4);
-        check_told(&rt, &gate, workers);
-    }
-    Ok(())
+fn a_gate_is_told_each_claim_once(rt: HostRuntime) {
+    let script = stages(&rt, rt.alloc());
+    check_gate(&rt, script.as_str(), 1);
+    check_gate(&rt, script.as_str(), 4);
+    check_gate(&rt, script.as_str(), 32);
 }
 
 /// Counts how often a gate is told each stage, and how often the function of each is called.
@@ -163,40 +208,83 @@ impl StageFn for Counted<'_> {
 }
 
 /// Four supplies, and an apply over each.
-fn pairs(alloc: Global) -> Result<Plan, Fail> {
+fn pairs(rt: &impl Abort, alloc: Global) -> Plan
+    ensures { has_place result.stages 0 ≡ true }
+{
+    let plan = built_pairs(rt, alloc);
+    holds(rt, plan.has_place(0), "place");
+    plan
+}
+
+fn built_pairs(rt: &impl Abort, alloc: Global) -> Plan {
     let mut builder = PlanBuilder::new(alloc);
     for i in 0..4 {
-        builder.stage(Form::Supply, &[], Some(i))?;
+        must(rt, builder.stage(Form::Supply, &[], Some(i)));
     }
     for i in 0..4 {
-        builder.stage(Form::Apply, &[i], Some(i + 4))?;
+        must(rt, builder.stage(Form::Apply, &[i], Some(i + 4)));
     }
-    Ok(builder.build()?)
+    must(rt, builder.build())
+}
+
+/// The functions of the eight stages.
+fn functions_of<'a>(rt: &impl Abort, alloc: Global, calls: &'a Calls) -> Vec<Counted<'a>> {
+    let mut functions = Vec::new(alloc);
+    for number in 0..8 {
+        must(rt, functions.push(Counted { number, calls }));
+    }
+    functions
+}
+
+/// Races the pairs with these functions before a gate.
+fn race_pairs(
+    rt: &(impl Abort + Threads + Wait + Sync + AllocGlobal),
+    functions: &[Counted],
+    calls: &Calls,
+    workers: u8,
+)
+    requires { (0 < workers) × (workers ≤ 32) }
+{
+    let hands = must(rt, share(rt.alloc(), functions, calls, workers + 1));
+    let raced = race(
+        rt,
+        rt.alloc(),
+        pairs(rt, rt.alloc()),
+        0,
+        &[],
+        hands,
+        workers,
+    );
+    holds(rt, raced.is_ok(), (workers, "workers"));
+}
+
+/// Each function was called once, and none before the gate was told.
+fn check_called(rt: &impl Abort, calls: &Calls, workers: u8) {
+    holds(
+        rt,
+        !calls.is_early.load(Ordering::SeqCst),
+        (workers, "workers"),
+    );
+    for called in calls.called.iter() {
+        same_at(rt, called.load(Ordering::SeqCst), 1, (workers, "workers"));
+    }
+}
+
+fn check_calls(rt: &(impl Abort + Threads + Wait + Sync + AllocGlobal), workers: u8)
+    requires { (0 < workers) × (workers ≤ 32) }
+{
+    let calls = Calls {
+        told: counters(rt, rt.alloc(), 8),
+        called: counters(rt, rt.alloc(), 8),
+        is_early: AtomicBool::new(false),
+    };
+    let functions = functions_of(rt, rt.alloc(), &calls);
+    race_pairs(rt, &functions, &calls, workers);
+    check_called(rt, &calls, workers);
 }
 
 #[test]
-fn functions_are_called_once_behind_the_gate(rt: HostRuntime) -> Result<(), Fail> {
-    for workers in [1, 4u8] {
-        let calls = Calls {
-            told: counters(rt.alloc(), 8)?,
-            called: counters(rt.alloc(), 8)?,
-            is_early: AtomicBool::new(false),
-        };
-        let mut functions = Vec::new(rt.alloc());
-        for number in 0..8 {
-            let calls = &calls;
-            functions.push(Counted { number, calls })?;
-        }
-        assert!(rt; workers >= 1 && workers <= 32);
-        let plan = pairs(rt.alloc())?;
-        assert!(rt; plan.has_place(0));
-        let hands = share(rt.alloc(), &functions, &calls, workers + 1)?;
-        let raced = race(&rt, rt.alloc(), plan, 0, &[], hands, workers);
-        assert!(rt; raced.is_ok());
-        holds(&rt, !calls.is_early.load(Ordering::SeqCst), (workers, "workers"));
-        for called in calls.called.iter() {
-            same_at(&rt, called.load(Ordering::SeqCst), 1, (workers, "workers"));
-        }
-    }
-    Ok(())
+fn functions_are_called_once_behind_the_gate(rt: HostRuntime) {
+    check_calls(&rt, 1);
+    check_calls(&rt, 4);
 }

@@ -1,15 +1,14 @@
 //! Races of whole scripts: functions that are called at once, and devices that fail.
 ghost use Rattle.std.specs.Prelude.{◌<◌, ◌≤◌};
 
-use cf_checks::same;
 use crate::devices::{Dripping, Sipping, Then};
 use crate::reports::lines;
+use cf_checks::{holds, same};
 use cf_script::{Gate, NoGate, ScriptFault, race_script};
 use std::io::ErrorKind;
 use std::process::Abort;
 use std::sync::Wait;
 use std::sync::atomic::{AtomicBool, AtomicU32, Ordering};
-use std::test::Fail;
 use std::thread::Threads;
 
 const SUM: &str =
@@ -76,69 +75,82 @@ fn check_meeting(
     together: u8,
     script: &str,
     report: &str,
-) -> Result<(), Fail>
+)
     requires { (0 < together) × (together ≤ 32) }
 {
     let gate = Meeting::new(u16::from(together));
-    let report = lines(rt.alloc(), report)?;
+    let report = lines(rt, rt.alloc(), report);
     let mut out: Vec<u8> = Vec::new(rt.alloc());
     let mut input = script.as_bytes();
     let ended = race_script(rt, rt.alloc(), &mut input, &mut out, &gate, together);
     same(rt, ended, Ok(()));
     same(rt, out.as_slice(), report.as_str().as_bytes());
     same(rt, gate.met.load(Ordering::SeqCst), u32::from(together));
-    Ok(())
 }
 
 #[test]
-fn two_functions_at_once(rt: HostRuntime) -> Result<(), Fail> {
-    check_meeting(&rt, 2, SUM, SUM_REPORT)
+fn two_functions_at_once(rt: HostRuntime) {
+    check_meeting(&rt, 2, SUM, SUM_REPORT);
 }
 
 const FOUR: &str =
     r#"{"cf":1,"stages":[{"form":"supply","fn":{"const":1}},{"form":"supply","fn":{"const":2}},{"form":"supply","fn":{"const":3}},{"form":"supply","fn":{"const":4}}]}"#;
 
 #[test]
-fn four_functions_at_once(rt: HostRuntime) -> Result<(), Fail> {
+fn four_functions_at_once(rt: HostRuntime) {
     let report = "stage 0 value 1 / stage 1 value 2 / stage 2 value 3 / stage 3 value 4";
-    check_meeting(&rt, 4, FOUR, report)
+    check_meeting(&rt, 4, FOUR, report);
+}
+
+/// Races the sum by a reader that fails once it was called so many times.
+fn check_reader(rt: &(impl Abort + Threads + Wait + Sync + AllocGlobal), calls: u64) {
+    let mut drops = Dripping {
+        rest: SUM.as_bytes(),
+        calls,
+        kind: ErrorKind::Interrupted,
+    };
+    let mut out: Vec<u8> = Vec::new(rt.alloc());
+    let ended = race_script(rt, rt.alloc(), &mut drops, &mut out, &NoGate, 2);
+    same(rt, ended, Err(ScriptFault::Read));
+    same(rt, out.as_slice(), "fault 7 read\n".as_bytes());
 }
 
 #[test]
 fn a_failing_reader_is_told_of_a_race(rt: HostRuntime) {
     for calls in 0..3u64 {
-        let mut drops = Dripping {
-            rest: SUM.as_bytes(),
-            calls,
-            kind: ErrorKind::Interrupted,
-        };
-        let mut out: Vec<u8> = Vec::new(rt.alloc());
-        let ended = race_script(&rt, rt.alloc(), &mut drops, &mut out, &NoGate, 2);
-        same(&rt, ended, Err(ScriptFault::Read));
-        same(&rt, out.as_slice(), "fault 7 read\n".as_bytes());
+        check_reader(&rt, calls);
     }
 }
 
+/// Races the sum to a writer that fails once it was called so many times.
+fn check_writer(
+    rt: &(impl Abort + Threads + Wait + Sync + AllocGlobal),
+    whole: &[u8],
+    calls: u64,
+    then: Then,
+) {
+    let mut sips = Sipping {
+        held: Vec::new(rt.alloc()),
+        calls,
+        then,
+        flushes: true,
+    };
+    let mut input = SUM.as_bytes();
+    let ended = race_script(rt, rt.alloc(), &mut input, &mut sips, &NoGate, 2);
+    same(rt, ended, Err(ScriptFault::Write));
+    holds(rt, whole.starts_with(sips.held.as_slice()), calls);
+    same(rt, sips.held.len() as u64, calls);
+}
+
 #[test]
-fn a_failing_writer_holds_a_front_of_a_race(rt: HostRuntime) -> Result<(), Fail> {
-    let report = lines(rt.alloc(), SUM_REPORT)?;
-    let whole = report.as_str().as_bytes();
+fn a_failing_writer_holds_a_front_of_a_race(rt: HostRuntime) {
+    let report = lines(&rt, rt.alloc(), SUM_REPORT);
     for calls in 0..9u64 {
-        let mut sips = Sipping {
-            held: Vec::new(rt.alloc()),
-            calls,
-            then: if calls % 2 == 0 {
-                Then::Fails
-            } else {
-                Then::TakesNothing
-            },
-            flushes: true,
+        let then = if calls % 2 == 0 {
+            Then::Fails
+        } else {
+            Then::TakesNothing
         };
-        let mut input = SUM.as_bytes();
-        let ended = race_script(&rt, rt.alloc(), &mut input, &mut sips, &NoGate, 2);
-        same(&rt, ended, Err(ScriptFault::Write));
-        assert!(rt; whole.starts_with(sips.held.as_slice()));
-        same(&rt, sips.held.len() as u64, calls);
+        check_writer(&rt, report.as_str().as_bytes(), calls, then);
     }
-    Ok(())
 }

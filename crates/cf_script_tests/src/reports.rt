@@ -1,5 +1,7 @@
 //! A script with its report, and the text of a report.
-use std::alloc::{AllocError, Global};
+use cf_checks::must;
+use std::alloc::Global;
+use std::process::Abort;
 
 /// The script of a source and an apply that adds 5, and its report.
 pub(crate) const ADD_FIVE: &str =
@@ -9,12 +11,12 @@ pub(crate) const ADD_FIVE_REPORT: &str =
     "true / worked 1 / value 8 / stage 0 value 3 / stage 1 value 8";
 
 /// The lines of a report, which ` / ` separates.
-pub(crate) fn lines(alloc: Global, report: &str) -> Result<String, AllocError> {
+pub(crate) fn lines(rt: &impl Abort, alloc: Global, report: &str) -> String {
     let mut text = String::new(alloc);
     if !report.is_empty() {
         for line in report.split(" / ") {
-            writeln!(text, "{line}")?;
+            must(rt, writeln!(text, "{line}"));
         }
     }
-    Ok(text)
+    text
 }
