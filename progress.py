@@ -22,8 +22,8 @@ PROOFS = {
     "cf_script": 151, "cf_picture": 127, "cf_example": 105, "cf": 87, "cf_event": 64, "cf_command": 60, "cf_model": 56, "cf_outcome": 53,
 }  # fmt: skip
 TESTS = {
-    "cf_script_tests": 500, "cf_desk_tests": 475, "cf_pool_tests": 409, "cf_plan_tests": 262, "cf_plain_tests": 248, "cf_core_tests": 203, "cf_event": 194, "cf_reading_tests": 110,
-    "cf_outcome": 98, "cf_ledger_tests": 83, "cf_explore_tests": 73, "cf": 70, "cf_bits": 38,
+    "cf_script_tests": 200, "cf_desk_tests": 475, "cf_pool_tests": 409, "cf_plan_tests": 262, "cf_plain_tests": 248, "cf_core_tests": 203, "cf_event_tests": 130, "cf_reading_tests": 110,
+    "cf_outcome_tests": 60, "cf_ledger_tests": 83, "cf_explore_tests": 73, "cf": 70, "cf_bits": 38,
 }  # fmt: skip
 OF_TESTS = 9  # to prove a crate that holds tests alone
 CALLERS = 420  # seconds, for the library for C and its callers, where they don't run beside rt ci

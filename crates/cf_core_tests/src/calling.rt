@@ -1,9 +1,9 @@
 //! Work with functions that remember: which are called, with what, and in which order.
 ghost use Rattle.std.specs.Prelude.{⊤};
 
+use crate::checks::{holds, must, same};
 use crate::plans::{Row, SOURCE};
 use crate::steps::{Step, gives, granted, graph_of, take};
-use cf_checks::{holds, must, same};
 use cf_core::Graph;
 use cf_outcome::Value;
 use cf_plan::{Answer, Args, Closure, Form, Functions};

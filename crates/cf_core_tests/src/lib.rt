@@ -9,6 +9,8 @@ mod attaching;
 #[cfg(test)]
 mod calling;
 #[cfg(test)]
+mod checks;
+#[cfg(test)]
 mod graphs;
 #[cfg(test)]
 mod plans;

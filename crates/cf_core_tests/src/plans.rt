@@ -1,5 +1,5 @@
 //! Plans of a few stages from rows, and the long ones.
-use cf_checks::must;
+use crate::checks::must;
 use cf_plan::{Form, Limit, Plan, PlanBuilder, PlanFault};
 use std::alloc::Global;
 use std::process::Abort;

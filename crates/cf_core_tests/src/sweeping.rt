@@ -1,7 +1,7 @@
 //! A sweep that stops at each function: where it stops, and what the graph is then.
+use crate::checks::holds;
 use crate::plans::{Row, SOURCE};
 use crate::steps::{Step, fault, gives, graph_of, take};
-use cf_checks::holds;
 use cf_core::{Stop, Sweep};
 use cf_outcome::{Cause, Value};
 use cf_plan::{Answer, Args, Form};

@@ -3,9 +3,9 @@ ghost use Rattle.std.specs.Prelude.{◌≡◌};
 ghost use Rattle.cf_plan.specs.declared.forms.Answer.TheVariants.{Give};
 ghost use Rattle.cf_outcome.specs.declared.outcome.Value.TheVariants.{Int};
 
+use crate::checks::same;
 use crate::plans::{Row, SOURCE, longest_chain};
 use crate::steps::{Step, fault, give, gives, granted, graph_in, graph_of, take};
-use cf_checks::same;
 use cf_core::Graph;
 use cf_model::{Claimed, Finished};
 use cf_outcome::{Cause, Outcome, Value};

@@ -1,7 +1,6 @@
 //! Desks of each size up to the greatest, and those that are refused.
 ghost use Rattle.std.specs.Prelude.{◌≡◌, All, OnOk, vec_len};
 
-use cf_checks::{holds, same};
 use crate::desks::last_of;
 use crate::plans::{SOURCE_AND_SUPPLY, plan_of};
 use cf_desk::{Call, Closed, Desk, DeskFault, OpenFault, Pass};
@@ -96,7 +95,10 @@ fn has_its_size(
 #[test]
 fn opens_for_each_number_of_callers(rt: HostRuntime) -> Result<(), Fail> {
     for callers in 1..=64u8 {
-        holds(&rt, has_its_size(rt.alloc(), 1, callers, 1, 2)?, (callers, "callers"));
+        assert!(rt;
+            has_its_size(rt.alloc(), 1, callers, 1, 2)?,
+            "{callers} callers"
+        );
     }
     Ok(())
 }
@@ -106,14 +108,23 @@ fn opens_at_each_kind_of_size(rt: HostRuntime) -> Result<(), Fail> {
     for bits in 0..=16u32 {
         for size in [(1u32 << bits) - 1, 1 << bits, (1 << bits) + 1] {
             let size = size.clamp(1, 65_535) as u16;
-            holds(&rt, has_its_size(rt.alloc(), 1, 1, size, 2)?, (size, "words"));
-            holds(&rt, has_its_size(rt.alloc(), 1, 1, 2, size)?, (size, "records"));
+            assert!(rt; has_its_size(rt.alloc(), 1, 1, size, 2)?, "{size} words");
+            assert!(rt; has_its_size(rt.alloc(), 1, 1, 2, size)?, "{size} records");
             let stages = size.min(4_096);
-            holds(&rt, has_its_size(rt.alloc(), stages, 1, 2, 2)?, (stages, "stages"));
+            assert!(rt;
+                has_its_size(rt.alloc(), stages, 1, 2, 2)?,
+                "{stages} stages"
+            );
         }
     }
-    holds(&rt, has_its_size(rt.alloc(), 4_096, 64, 65_535, 1_000)?, "the greatest log");
-    holds(&rt, has_its_size(rt.alloc(), 1, 2, 65_535, 65_535)?, "the greatest pass");
+    assert!(rt;
+        has_its_size(rt.alloc(), 4_096, 64, 65_535, 1_000)?,
+        "the greatest log"
+    );
+    assert!(rt;
+        has_its_size(rt.alloc(), 1, 2, 65_535, 65_535)?,
+        "the greatest pass"
+    );
     Ok(())
 }
 
@@ -142,8 +153,8 @@ fn refuses_to_open(rt: HostRuntime) -> Result<(), Fail> {
         (1, 0, 0, OpenFault::Log, "Log"),
         (64, 1, 0, OpenFault::Calls, "Calls"),
     ] {
-        same(&rt, refused(rt.alloc(), callers, log, calls)?, Some(fault));
-        same(&rt, format!(in rt.alloc(); "{fault}")?.as_str(), text);
+        assert_eq!(rt; refused(rt.alloc(), callers, log, calls)?, Some(fault));
+        assert_eq!(rt; format!(in rt.alloc(); "{fault}")?.as_str(), text);
     }
     Ok(())
 }

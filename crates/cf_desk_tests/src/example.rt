@@ -1,5 +1,4 @@
 //! That two callers take their turns. tests/check.rows has what the closed desk hands out as an account, which is judged.
-use cf_checks::same;
 use crate::ends::{End, check_ends};
 use cf_desk::{Ask, Call, Closed, Rec, Told};
 use cf_example::take_turns;
@@ -79,7 +78,7 @@ fn settled(closed: &mut Closed) -> Option<Outcome> {
 #[test]
 fn the_first_of_two_settles(rt: HostRuntime) -> Result<(), Fail> {
     let mut closed = taken(rt.alloc())?;
-    same(&rt, settled(&mut closed), Some(Outcome::Value(THREE)));
+    assert_eq!(rt; settled(&mut closed), Some(Outcome::Value(THREE)));
     let ends = [
         End::Stages(3),
         End::History(&HISTORY),

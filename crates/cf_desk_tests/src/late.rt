@@ -1,5 +1,4 @@
 //! A desk leaves all work that nobody's question needs; and the texts of its faults.
-use cf_checks::same;
 use crate::desks::Opening;
 use crate::ends::End;
 use crate::plans::Row;
@@ -50,9 +49,12 @@ fn the_text_of_a_fault_is_its_name(rt: HostRuntime) -> Result<(), Fail> {
         (DeskFault::LogFull, "LogFull"),
         (DeskFault::PassFull, "PassFull"),
     ] {
-        same(&rt, format!(in rt.alloc(); "{fault}")?.as_str(), name);
+        assert_eq!(rt; format!(in rt.alloc(); "{fault}")?.as_str(), name);
     }
     let (refused, disagrees) = (OpenFault::NoMemory, CloseFault::Mismatch);
-    same(&rt, format!(in rt.alloc(); "{refused} {disagrees}")?.as_str(), "NoMemory Mismatch");
+    assert_eq!(rt;
+        format!(in rt.alloc(); "{refused} {disagrees}")?.as_str(),
+        "NoMemory Mismatch"
+    );
     Ok(())
 }

@@ -1,7 +1,6 @@
 //! The listing of README.md, which shows what stands here from `source_and_apply` on: keep both the same text.
 ghost use Rattle.std.specs.Prelude.{◌≡◌, All, length};
 
-use cf_checks::same;
 use cf_core::Graph;
 use cf_desk::{Call, Desk, Pass};
 use cf_model::{Claimed, Finished};
@@ -26,12 +25,12 @@ fn calls_the_graph(rt: HostRuntime) -> Result<(), Fail> {
     assert!(rt; graph.has(1));
     assert!(rt; graph.complete(0, Value::Int(3)));
     let granted = Claimed::Granted(Args::One(Value::Int(3)));
-    same(&rt, graph.claim(0, 1), granted);
+    assert_eq!(rt; graph.claim(0, 1), granted);
     assert!(rt; graph.has(1));
     let finished = graph.finish(0, 1, Answer::Give(Value::Int(8)));
-    same(&rt, finished, Finished::Won);
+    assert_eq!(rt; finished, Finished::Won);
     assert!(rt; graph.has(1));
-    same(&rt, graph.outcome(1), Some(Outcome::Value(Value::Int(8))));
+    assert_eq!(rt; graph.outcome(1), Some(Outcome::Value(Value::Int(8))));
     Ok(())
 }
 
@@ -56,6 +55,6 @@ fn calls_the_desk(rt: HostRuntime) -> Result<(), Fail> {
     let (desk, mut passes) = Desk::open(rt.alloc(), plan, 2, 8, 4)?;
     complete_by_each(&rt, &desk, passes.as_mut_slice());
     let closed = desk.close(passes)?;
-    same(&rt, closed.history.len(), 2);
+    assert_eq!(rt; closed.history.len(), 2);
     Ok(())
 }

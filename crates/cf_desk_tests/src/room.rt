@@ -1,7 +1,6 @@
 //! Desks with room for more stages, of each size up to the greatest, and those that are refused.
 ghost use Rattle.std.specs.Prelude.{◌≡◌};
 
-use cf_checks::{same, same_at};
 use crate::desks::last_of;
 use crate::growing::ATTACHES;
 use crate::plans::{SOURCE, plan_of};
@@ -41,7 +40,10 @@ fn any_room_is_there(rt: HostRuntime) -> Result<(), Fail> {
             for size in [(1u32 << bits) - 1, 1 << bits, (1 << bits) + 1] {
                 let room = size.min(4_095) as u16;
                 let all = room + 1;
-                same(&rt, filled(rt.alloc(), room, functions)?, (true, all, usize::from(all)));
+                assert_eq!(rt;
+                    filled(rt.alloc(), room, functions)?,
+                    (true, all, usize::from(all))
+                );
             }
         }
     }
@@ -123,10 +125,10 @@ fn refuses_too_much_room(rt: HostRuntime) -> Result<(), Fail> {
     ] {
         let plan = with_edges(rt.alloc(), edges)?;
         let answered = opened(rt.alloc(), plan, small(room, 0));
-        same_at(&rt, answered, answer, (edges, "edges and room", room));
+        assert_eq!(rt; answered, answer, "{edges} edges and room {room}");
     }
     let source = plan_of(rt.alloc(), &SOURCE)?;
-    same(&rt, opened(rt.alloc(), source, small(4_096, 0)), full);
+    assert_eq!(rt; opened(rt.alloc(), source, small(4_096, 0)), full);
     Ok(())
 }
 
@@ -139,12 +141,12 @@ fn refuses_too_few_functions(rt: HostRuntime) -> Result<(), Fail> {
         (&[65_535, 1], 65_536),
     ] {
         let plan = supplies(rt.alloc(), functions)?;
-        same(&rt, functions_of(rt.alloc(), plan), Ok(bound));
+        assert_eq!(rt; functions_of(rt.alloc(), plan), Ok(bound));
         let plan = supplies(rt.alloc(), functions)?;
         let few = opened(rt.alloc(), plan, small(1, bound - 1));
-        same(&rt, few, Err(OpenFault::Functions));
+        assert_eq!(rt; few, Err(OpenFault::Functions));
         let plan = supplies(rt.alloc(), functions)?;
-        same(&rt, opened(rt.alloc(), plan, small(1, bound)), Ok(bound));
+        assert_eq!(rt; opened(rt.alloc(), plan, small(1, bound)), Ok(bound));
     }
     Ok(())
 }
@@ -167,8 +169,8 @@ fn the_first_wrong_count_is_told(rt: HostRuntime) -> Result<(), Fail> {
             room,
             functions: 0,
         };
-        same(&rt, opened(rt.alloc(), plan, sizes), Err(fault));
-        same(&rt, format!(in rt.alloc(); "{fault}")?.as_str(), text);
+        assert_eq!(rt; opened(rt.alloc(), plan, sizes), Err(fault));
+        assert_eq!(rt; format!(in rt.alloc(); "{fault}")?.as_str(), text);
     }
     Ok(())
 }

@@ -1,7 +1,6 @@
 //! What two callers do in turn, and what they are answered, as rows.
 ghost use Rattle.std.specs.Prelude.{◌≡◌};
 
-use cf_checks::holds;
 use crate::beside::{Work, join_beside};
 use crate::desks::{Opening, act_all, act_on_threads, close_two, open_two};
 use crate::ends::{End, check_ends};
@@ -128,7 +127,7 @@ fn take<R: Threads + Sync + Abort>(
     ensures { (a.new.table ≡ a.old.table) × (b.new.table ≡ b.old.table) }
 {
     'turns: for (at, turn) in turns.iter().enumerate() {
-        holds(rt, is_taken(rt, desk, a, b, *turn), ("turn", at));
+        assert!(rt; is_taken(rt, desk, a, b, *turn), "turn {at}");
     }
 }
 

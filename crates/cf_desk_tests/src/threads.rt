@@ -1,7 +1,6 @@
 //! Callers on threads of their own.
 ghost use Rattle.std.specs.Prelude.{◌≡◌, ◌<◌, All, IfOk, length, vec_len};
 
-use cf_checks::same;
 use crate::beside::Work;
 use crate::desks::small;
 use crate::ends::{End, calls_in_order, replied_to_all};
@@ -96,7 +95,10 @@ fn four_callers(rt: HostRuntime) -> Result<(), Fail> {
         let in_order = calls_in_order(&closed, &[each, each, each, each]);
         let fired = replied_to_all(&closed, Reply::Tick(Ticked::Fired(0)));
         let all = log as usize;
-        same(&rt, (full, closed.history.len(), in_order, fired), (refused, all, all, all));
+        assert_eq!(rt;
+            (full, closed.history.len(), in_order, fired),
+            (refused, all, all, all)
+        );
     }
     Ok(())
 }

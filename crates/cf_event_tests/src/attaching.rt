@@ -1,8 +1,8 @@
 //! Events that attach stages: the words of all of them, and what they do to a graph with room.
 ghost use Rattle.std.specs.Prelude.{◌≡◌, ◌<◌, length};
 
+use crate::checks::{holds, must, same, same_at};
 use crate::words::is_word;
-use cf_checks::{holds, must, same, same_at};
 use cf_core::Graph;
 use cf_event::{Event, Reply, apply, decode, encode, is_event, replay};
 use cf_model::{Attached, Claimed};

@@ -4,4 +4,6 @@
 #[cfg(test)]
 mod attaching;
 #[cfg(test)]
+mod checks;
+#[cfg(test)]
 mod words;

@@ -1,5 +1,5 @@
 //! Events and their words, and what events do to a graph.
-use cf_checks::{holds, must, same, same_at};
+use crate::checks::{holds, must, same, same_at};
 use cf_core::Graph;
 use cf_event::{Event, Reply, apply, decode, encode, is_event, replay};
 use cf_model::{Claimed, Ticked};

@@ -1,5 +1,4 @@
 //! What small programs can come to.
-use cf_checks::{holds, same_at};
 use crate::programs::{Rows, functions_of, program};
 use cf_explore::{Call, Condition, Fact, Found, How, Program, Step, When};
 use cf_model::Ask;
@@ -196,12 +195,22 @@ fn explore(alloc: Global, row: &Row, program: &Program) -> Result<Found, Fail> {
 /// Whether a program comes to what its row says.
 fn check(rt: &impl Abort, alloc: Global, row: &Row) -> Result<(), Fail> {
     let made = program(alloc, &row.rows)?;
-    holds(rt, made.is_some(), row.name);
+    assert!(rt; made.is_some(), "{}", row.name);
     if let Some(program) = made {
         let found = explore(alloc, row, &program)?;
         let twice = moves_to(alloc, &found)?;
-        same_at(rt, (found.ends.len(), orders_to(&found)), (row.ends, row.orders), row.name);
-        same_at(rt, (found.trail.len(), found.whole, twice), (row.situations, row.whole, row.twice), row.name);
+        assert_eq!(rt;
+            (found.ends.len(), orders_to(&found)),
+            (row.ends, row.orders),
+            "{}",
+            row.name
+        );
+        assert_eq!(rt;
+            (found.trail.len(), found.whole, twice),
+            (row.situations, row.whole, row.twice),
+            "{}",
+            row.name
+        );
     }
     Ok(())
 }

@@ -1,7 +1,6 @@
 ghost use Rattle.std.specs.Prelude.{◌≡◌, true};
 ghost use Rattle.cf_plan.specs.Plans.{has_place};
 
-use cf_checks::holds;
 use crate::steps::{Step, plan, take};
 use cf_ledger::{Finish, Held, Ledger, LedgerFault, Misfit, Reply, Stage, StepFault, Taken};
 use cf_model::{Attached, Claimed, Finished};
@@ -125,7 +124,7 @@ fn the_first_misfit_is_told(rt: HostRuntime) -> Result<(), Fail> {
             place: *place,
             why: *why,
         };
-        holds(&rt, is_misfit(rt.alloc(), &plan, words, misfit), misfit);
+        assert!(rt; is_misfit(rt.alloc(), &plan, words, misfit), "{misfit:?}");
     }
     Ok(())
 }

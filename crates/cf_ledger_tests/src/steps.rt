@@ -1,5 +1,4 @@
 //! What is done to a ledger and asked of it, as rows: a call, and what it is answered.
-use cf_checks::holds;
 use cf_ledger::{Held, Ledger, LedgerFault, Misfit, Reply, Stage, StepFault};
 use cf_outcome::Outcome;
 use cf_plan::{Form, Plan, PlanBuilder, PlanFault};
@@ -72,6 +71,6 @@ fn is_answered(alloc: Global, ledger: &mut Ledger, step: Step) -> bool {
 /// The ledger takes these steps, and each is answered as it says.
 pub(crate) fn take(rt: &impl Abort, alloc: Global, ledger: &mut Ledger, steps: &[Step]) {
     for (at, step) in steps.iter().enumerate() {
-        holds(rt, is_answered(alloc, ledger, *step), ("step", at));
+        assert!(rt; is_answered(alloc, ledger, *step), "step {at}");
     }
 }

@@ -1,5 +1,5 @@
 //! Outcomes, what becomes of them, and their texts, in memory, cut short and where a writer stumbles.
-use cf_checks::{holds, same};
+use crate::checks::{holds, same};
 use cf_outcome::{
     Cause, Now, Outcome, SHORT_ROOM, ShortText, Value, WriteFault, is_cancelled, is_exceptional,
     now_of, wrap, write_outcome, write_text,

@@ -1,18 +1,18 @@
 //! Graphs to which stages are attached between the calls.
-ghost use Rattle.std.specs.Prelude.{◌<◌};
+ghost use Rattle.std.specs.Prelude.{◌<◌, ◌≡◌, true};
+ghost use Rattle.cf_plan.specs.Plans.{has_place};
 
-use cf_checks::same;
 use crate::both::{answer, assert_alike, nudge};
 use crate::calls::{call_of, caller_of, finishing};
+use crate::checks::{must, same};
 use crate::plans::{New, larger_plan, new_choice, new_of, numbers_of, two_sources};
-use cf_core::{Graph, GraphFault};
+use cf_core::Graph;
 use cf_model::{Attached, Event, Reply};
 use cf_plain::Plain;
-use cf_plan::{Of, Plan, PlanFault};
+use cf_plan::{Of, Plan};
 use rand_core::Rng;
 use std::alloc::Global;
 use std::process::Abort;
-use std::test::Fail;
 
 /// How many lists of calls are run on each two attached stages, and how many calls each has.
 const LISTS: u32 = 2;
@@ -24,23 +24,25 @@ const PLANS: u32 = 2000;
 
 const LARGER_CALLS: u32 = 40;
 
-/// The graph of a plan that is given away, with room for so many stages.
-fn graph_from(rt: &impl Abort, alloc: Global, plan: Plan, room: u16) -> Result<Graph, GraphFault> {
+/// A plan has place for so many stages more.
+fn check_place(rt: &impl Abort, plan: &Plan, room: u16)
+    ensures { has_place plan.now.stages room ≡ true }
+{
     assert!(rt; plan.stages() <= 4080 && plan.edges() <= 16352 && room <= 16);
-    Graph::new_growing(alloc, plan, room)
 }
 
 /// The graph of a plan, with room for so many stages.
-fn graph_of(rt: &impl Abort, alloc: Global, plan: &Plan, room: u16) -> Result<Graph, Fail> {
-    let plan = plan.copy()?;
-    Ok(graph_from(rt, alloc, plan, room)?)
+fn graph_of(rt: &impl Abort, alloc: Global, plan: &Plan, room: u16) -> Graph {
+    let plan = must(rt, plan.copy());
+    check_place(rt, &plan, room);
+    must(rt, Graph::new_growing(alloc, plan, room))
 }
 
 /// The plain graph of a plan, with room for so many stages.
-fn plain_of(rt: &impl Abort, alloc: Global, plan: &Plan, room: u16) -> Result<Plain, Fail> {
-    let plan = plan.copy()?;
-    assert!(rt; plan.stages() <= 4080 && plan.edges() <= 16352 && room <= 16);
-    Ok(Plain::start_growing(alloc, plan, room)?)
+fn plain_of(rt: &impl Abort, alloc: Global, plan: &Plan, room: u16) -> Plain {
+    let plan = must(rt, plan.copy());
+    check_place(rt, &plan, room);
+    must(rt, Plain::start_growing(alloc, plan, room))
 }
 
 /// Attaches a stage to both, and says what was answered.
@@ -50,7 +52,7 @@ fn attach_to_both(
     graph: &mut Graph,
     plain: &mut Plain,
     new: New,
-) -> Result<Attached, Fail> {
+) -> Attached {
     let New { form, of, function } = new;
     let event = Event::Attach {
         who: 1,
@@ -58,48 +60,34 @@ fn attach_to_both(
         of,
         function,
     };
-    let Reply::Attach(told) = answer(rt, alloc, graph, plain, event)? else {
-        return Err(Fail::from("another reply"));
+    let Reply::Attach(told) = answer(rt, alloc, graph, plain, event) else {
+        panic!(rt; "another reply");
     };
     same(rt, graph.stages(), plain.stages());
-    Ok(told)
+    told
 }
 
 /// Claims the lowest ready stage of both, if there is one, and finishes it, by the bits of a number.
-fn work_on_both(
-    rt: &impl Abort,
-    alloc: Global,
-    graph: &mut Graph,
-    plain: &mut Plain,
-    x: u32,
-) -> Result<(), Fail> {
+fn work_on_both(rt: &impl Abort, alloc: Global, graph: &mut Graph, plain: &mut Plain, x: u32) {
     if let Some(stage) = plain.lowest_ready() {
         let who = caller_of(x);
-        answer(rt, alloc, graph, plain, Event::Claim { who, stage })?;
-        answer(rt, alloc, graph, plain, finishing(who, stage, x))?;
+        answer(rt, alloc, graph, plain, Event::Claim { who, stage });
+        answer(rt, alloc, graph, plain, finishing(who, stage, x));
     }
-    Ok(())
 }
 
 /// Lets the graph take up to three turns, does the call of a number on both, and looks at all stages now and then.
-fn nudged_call(
-    rt: &impl Abort,
-    alloc: Global,
-    graph: &mut Graph,
-    plain: &mut Plain,
-    x: u32,
-) -> Result<(), Fail> {
+fn nudged_call(rt: &impl Abort, alloc: Global, graph: &mut Graph, plain: &mut Plain, x: u32) {
     let stages = graph.stages();
     nudge(rt, graph, x >> 9 & 3);
     if x >> 28 < 5 {
-        work_on_both(rt, alloc, graph, plain, x)?;
+        work_on_both(rt, alloc, graph, plain, x);
     } else {
-        answer(rt, alloc, graph, plain, call_of(stages, x))?;
+        answer(rt, alloc, graph, plain, call_of(stages, x));
     }
     if x >> 26 & 3 == 0 {
         assert_alike(rt, graph, plain, stages);
     }
-    Ok(())
 }
 
 /// A stage that is attached to both before the call of this step, and what is answered.
@@ -111,16 +99,9 @@ struct Due {
 }
 
 /// Attaches a stage to both, which is answered so.
-fn attach_told(
-    rt: &impl Abort,
-    alloc: Global,
-    graph: &mut Graph,
-    plain: &mut Plain,
-    due: Due,
-) -> Result<(), Fail> {
-    let told = attach_to_both(rt, alloc, graph, plain, due.new)?;
+fn attach_told(rt: &impl Abort, alloc: Global, graph: &mut Graph, plain: &mut Plain, due: Due) {
+    let told = attach_to_both(rt, alloc, graph, plain, due.new);
     same(rt, told, due.told);
-    Ok(())
 }
 
 /// Attaches the stages of this step.
@@ -131,13 +112,12 @@ fn attach_due(
     plain: &mut Plain,
     dues: &[Due],
     step: u32,
-) -> Result<(), Fail> {
+) {
     for due in dues {
         if due.step == step {
-            attach_told(rt, alloc, graph, plain, *due)?;
+            attach_told(rt, alloc, graph, plain, *due);
         }
     }
-    Ok(())
 }
 
 /// Lets the graph take up to three turns, attaches the stages of this step, and does the call of a number.
@@ -149,10 +129,10 @@ fn do_step(
     dues: &[Due],
     step: u32,
     x: u32,
-) -> Result<(), Fail> {
+) {
     nudge(rt, graph, x >> 16 & 3);
-    attach_due(rt, alloc, graph, plain, dues, step)?;
-    nudged_call(rt, alloc, graph, plain, x)
+    attach_due(rt, alloc, graph, plain, dues, step);
+    nudged_call(rt, alloc, graph, plain, x);
 }
 
 /// The two stages, each before a step by the bits of a number, and the first once more behind all steps, when there is no
@@ -189,29 +169,22 @@ fn do_steps(
     plain: &mut Plain,
     news: [New; 2],
     list: u32,
-) -> Result<(), Fail> {
+) {
     let mut numbers = numbers_of(list);
     let dues = dues_of(news, numbers.next_u32());
     for step in 0..CALLS {
         let x = numbers.next_u32();
-        do_step(rt, alloc, graph, plain, &dues, step, x)?;
+        do_step(rt, alloc, graph, plain, &dues, step, x);
     }
-    attach_due(rt, alloc, graph, plain, &dues, CALLS)
+    attach_due(rt, alloc, graph, plain, &dues, CALLS);
 }
 
 /// Does so on new graphs of a plan, and looks at all stages at the end.
-fn compare_attached(
-    rt: &impl Abort,
-    alloc: Global,
-    plan: &Plan,
-    news: [New; 2],
-    list: u32,
-) -> Result<(), Fail> {
-    let mut graph = graph_of(rt, alloc, plan, 2)?;
-    let mut plain = plain_of(rt, alloc, plan, 2)?;
-    do_steps(rt, alloc, &mut graph, &mut plain, news, list)?;
+fn compare_attached(rt: &impl Abort, alloc: Global, plan: &Plan, news: [New; 2], list: u32) {
+    let mut graph = graph_of(rt, alloc, plan, 2);
+    let mut plain = plain_of(rt, alloc, plan, 2);
+    do_steps(rt, alloc, &mut graph, &mut plain, news, list);
     assert_alike(rt, &mut graph, &plain, 4);
-    Ok(())
 }
 
 /// Compares a pair of attached stages by so many lists, of which so many were done before.
@@ -221,12 +194,12 @@ fn compare_pair(
     plan: &Plan,
     news: [New; 2],
     mut pairs: u32,
-) -> Result<u32, Fail> {
+) -> u32 {
     for _ in 0..LISTS {
         pairs = pairs.wrapping_add(1);
-        compare_attached(rt, alloc, plan, news, pairs)?;
+        compare_attached(rt, alloc, plan, news, pairs);
     }
-    Ok(pairs)
+    pairs
 }
 
 /// Compares this first stage with each second one of this form.
@@ -237,54 +210,41 @@ fn compare_second(
     first: New,
     form: usize,
     mut pairs: u32,
-) -> Result<u32, Fail> {
+) -> u32 {
     for choice in 0..13 {
         if let Some(second) = new_choice(form, 3, choice) {
-            pairs = compare_pair(rt, alloc, plan, [first, second], pairs)?;
+            pairs = compare_pair(rt, alloc, plan, [first, second], pairs);
         }
     }
-    Ok(pairs)
+    pairs
 }
 
 /// Compares this first stage with each second one.
-fn compare_behind(
-    rt: &impl Abort,
-    alloc: Global,
-    plan: &Plan,
-    first: New,
-    mut pairs: u32,
-) -> Result<u32, Fail> {
+fn compare_behind(rt: &impl Abort, alloc: Global, plan: &Plan, first: New, mut pairs: u32) -> u32 {
     for form in 0..19 {
-        pairs = compare_second(rt, alloc, plan, first, form, pairs)?;
+        pairs = compare_second(rt, alloc, plan, first, form, pairs);
     }
-    Ok(pairs)
+    pairs
 }
 
 /// Compares each first stage of this form with each second one.
-fn compare_first(
-    rt: &impl Abort,
-    alloc: Global,
-    plan: &Plan,
-    form: usize,
-    mut pairs: u32,
-) -> Result<u32, Fail> {
+fn compare_first(rt: &impl Abort, alloc: Global, plan: &Plan, form: usize, mut pairs: u32) -> u32 {
     for choice in 0..7 {
         if let Some(first) = new_choice(form, 2, choice) {
-            pairs = compare_behind(rt, alloc, plan, first, pairs)?;
+            pairs = compare_behind(rt, alloc, plan, first, pairs);
         }
     }
-    Ok(pairs)
+    pairs
 }
 
 #[test]
-fn two_stages_are_attached(rt: HostRuntime) -> Result<(), Fail> {
-    let plan = two_sources(rt.alloc())?;
+fn two_stages_are_attached(rt: HostRuntime) {
+    let plan = two_sources(&rt, rt.alloc());
     let mut pairs: u32 = 0;
     for form in 0..19 {
-        pairs = compare_first(&rt, rt.alloc(), &plan, form, pairs)?;
+        pairs = compare_first(&rt, rt.alloc(), &plan, form, pairs);
     }
     same(&rt, pairs, 12198);
-    Ok(())
 }
 
 /// What was attached: by what its sources held, a bit for each form that had such ones, and how often there was no room.
@@ -343,12 +303,11 @@ fn attach_by(
     plain: &mut Plain,
     seen: &mut Seen,
     x: u32,
-) -> Result<(), Fail> {
+) {
     let (place, new) = new_of(x, graph.stages());
     let kind = kind_of(plain, new.of);
-    let told = attach_to_both(rt, alloc, graph, plain, new)?;
+    let told = attach_to_both(rt, alloc, graph, plain, new);
     see(seen, told, kind, place);
-    Ok(())
 }
 
 /// Attaches the stages of some numbers to both.
@@ -359,11 +318,9 @@ fn attach_at_times(
     plain: &mut Plain,
     seen: &mut Seen,
     x: u32,
-) -> Result<(), Fail> {
+) {
     if x >> 28 < 3 {
-        attach_by(rt, alloc, graph, plain, seen, x)
-    } else {
-        Ok(())
+        attach_by(rt, alloc, graph, plain, seen, x);
     }
 }
 
@@ -376,10 +333,10 @@ fn grow(
     seen: &mut Seen,
     x: u32,
     y: u32,
-) -> Result<(), Fail> {
+) {
     nudge(rt, graph, x >> 9 & 3);
-    attach_at_times(rt, alloc, graph, plain, seen, x)?;
-    nudged_call(rt, alloc, graph, plain, y)
+    attach_at_times(rt, alloc, graph, plain, seen, x);
+    nudged_call(rt, alloc, graph, plain, y);
 }
 
 /// Does one list of calls on both, between which stages are attached.
@@ -390,61 +347,51 @@ fn grow_all(
     plain: &mut Plain,
     seen: &mut Seen,
     number: u32,
-) -> Result<(), Fail> {
+) {
     let mut numbers = numbers_of(number);
     for _ in 0..LARGER_CALLS {
         let x = numbers.next_u32();
         let y = numbers.next_u32();
-        grow(rt, alloc, graph, plain, seen, x, y)?;
+        grow(rt, alloc, graph, plain, seen, x, y);
     }
-    Ok(())
 }
 
 /// Does so on new graphs of a plan, in some of which there is less room than stages that are attached, and looks at all
 /// stages at the end.
-fn compare_growing(
-    rt: &impl Abort,
-    alloc: Global,
-    plan: &Plan,
-    seen: &mut Seen,
-    number: u32,
-) -> Result<(), Fail> {
+fn compare_growing(rt: &impl Abort, alloc: Global, plan: &Plan, seen: &mut Seen, number: u32) {
     let room = (number % 9) as u16;
-    let mut graph = graph_of(rt, alloc, plan, room)?;
-    let mut plain = plain_of(rt, alloc, plan, room)?;
-    grow_all(rt, alloc, &mut graph, &mut plain, seen, number)?;
+    let mut graph = graph_of(rt, alloc, plan, room);
+    let mut plain = plain_of(rt, alloc, plan, room);
+    grow_all(rt, alloc, &mut graph, &mut plain, seen, number);
     let stages = graph.stages();
     assert_alike(rt, &mut graph, &plain, stages);
-    Ok(())
 }
 
 /// Two sources, or the larger plan of an odd number.
-fn plan_by(alloc: Global, number: u32) -> Result<Plan, PlanFault> {
+fn plan_by(rt: &impl Abort, alloc: Global, number: u32) -> Plan {
     if number & 1 == 0 {
-        two_sources(alloc)
+        two_sources(rt, alloc)
     } else {
-        larger_plan(alloc, number)
+        larger_plan(rt, alloc, number)
     }
 }
 
 /// Compares on all plans.
-fn compare_plans(rt: &impl Abort, alloc: Global, seen: &mut Seen) -> Result<(), Fail> {
+fn compare_plans(rt: &impl Abort, alloc: Global, seen: &mut Seen) {
     for number in 0..PLANS {
-        let plan = plan_by(alloc, number)?;
-        compare_growing(rt, alloc, &plan, seen, number)?;
+        let plan = plan_by(rt, alloc, number);
+        compare_growing(rt, alloc, &plan, seen, number);
     }
-    Ok(())
 }
 
 #[test]
-fn stages_are_attached_by_rule(rt: HostRuntime) -> Result<(), Fail> {
+fn stages_are_attached_by_rule(rt: HostRuntime) {
     let mut seen = Seen {
         forms: [0; 4],
         attached: 0,
         full: 0,
     };
-    compare_plans(&rt, rt.alloc(), &mut seen)?;
+    compare_plans(&rt, rt.alloc(), &mut seen);
     same(&rt, seen.forms, [0x30007, 0x7fff8, 0x30fc0, 0x7fff8]);
     same(&rt, (seen.attached, seen.full), (7439, 7664));
-    Ok(())
 }

@@ -2,56 +2,41 @@
 ghost use Rattle.std.specs.Prelude.{length};
 ghost use Rattle.cf_model.specs.Ranges.{EventFits};
 
-use cf_checks::{holds, same, same_at};
+use crate::checks::{holds, must, same, same_at};
 use cf_core::Graph;
-use cf_model::{Attached, Event, Finished, Reply, Ticked};
+use cf_model::{Event, Reply};
 use cf_outcome::{Cause, Outcome};
 use cf_plain::Plain;
-use std::alloc::{AllocError, Global};
+use std::alloc::Global;
 use std::process::Abort;
-use std::test::Fail;
-
-fn flagged(done: Result<bool, AllocError>) -> Result<Reply, AllocError> {
-    Ok(Reply::Flag(done?))
-}
-
-fn finished(done: Result<Finished, AllocError>) -> Result<Reply, AllocError> {
-    Ok(Reply::Finish(done?))
-}
-
-fn ticked(done: Result<Ticked, AllocError>) -> Result<Reply, AllocError> {
-    Ok(Reply::Tick(done?))
-}
-
-fn attached(done: Result<Attached, AllocError>) -> Result<Reply, AllocError> {
-    Ok(Reply::Attach(done?))
-}
 
 /// What the plain graph answers to an event.
-fn plain_reply(alloc: Global, plain: &mut Plain, event: &Event) -> Result<Reply, AllocError>
+fn plain_reply(rt: &impl Abort, alloc: Global, plain: &mut Plain, event: &Event) -> Reply
     requires { EventFits (length plain.old.plan.stages) event.now }
 {
     match *event {
         Event::Complete { stage, value, .. } => {
-            flagged(plain.settle(alloc, stage, Outcome::Value(value)))
+            Reply::Flag(must(rt, plain.settle(alloc, stage, Outcome::Value(value))))
         }
         Event::Fail { stage, code, .. } => {
             let thrown = Outcome::Fault {
                 cause: Cause::Thrown(code),
                 wrapped: false,
             };
-            flagged(plain.settle(alloc, stage, thrown))
+            Reply::Flag(must(rt, plain.settle(alloc, stage, thrown)))
         }
-        Event::Cancel { stage, .. } => flagged(plain.cancel(alloc, stage)),
-        Event::Claim { who, stage } => Ok(Reply::Claim(plain.claim(who, stage))),
-        Event::Finish { who, stage, answer } => finished(plain.finish(alloc, who, stage, answer)),
-        Event::Tick { moment, .. } => ticked(plain.tick(alloc, moment)),
+        Event::Cancel { stage, .. } => Reply::Flag(must(rt, plain.cancel(alloc, stage))),
+        Event::Claim { who, stage } => Reply::Claim(plain.claim(who, stage)),
+        Event::Finish { who, stage, answer } => {
+            Reply::Finish(must(rt, plain.finish(alloc, who, stage, answer)))
+        }
+        Event::Tick { moment, .. } => Reply::Tick(must(rt, plain.tick(alloc, moment))),
         Event::Attach {
             form,
             of,
             function,
             ..
-        } => { attached(plain.attach(alloc, form, of, function)) }
+        } => { Reply::Attach(must(rt, plain.attach(alloc, form, of, function))) }
     }
 }
 
@@ -62,12 +47,12 @@ pub(crate) fn answer(
     graph: &mut Graph,
     plain: &mut Plain,
     event: Event,
-) -> Result<Reply, Fail> {
+) -> Reply {
     assert!(rt; graph.takes(&event) && event.fits(plain.stages()));
-    let wanted = plain_reply(alloc, plain, &event)?;
+    let wanted = plain_reply(rt, alloc, plain, &event);
     let reply = graph.answer(&event);
     same_at(rt, reply, wanted, event);
-    Ok(reply)
+    reply
 }
 
 /// Lets the graph take up to three turns, which it counts.

@@ -10,6 +10,8 @@ mod both;
 #[cfg(test)]
 mod calls;
 #[cfg(test)]
+mod checks;
+#[cfg(test)]
 mod opened;
 #[cfg(test)]
 mod plans;

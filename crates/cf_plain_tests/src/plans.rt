@@ -1,9 +1,11 @@
 //! Plans that are made by rule, small ones of each choice of forms and sources, and larger ones by random numbers.
+use crate::checks::must;
 use cf_outcome::Value;
 use cf_plan::{Form, LimitKind, Of, Plan, PlanBuilder, PlanFault};
 use rand_core::{Rng, SeedableRng};
 use rand_pcg::Pcg32;
 use std::alloc::Global;
+use std::process::Abort;
 
 /// How many sources a form takes.
 #[derive(Clone, Copy)]
@@ -106,20 +108,20 @@ pub(crate) fn new_of(x: u32, stages: u16) -> (u32, New) {
 }
 
 /// Two sources, to which stages are added.
-fn builder_of(alloc: Global) -> Result<PlanBuilder, PlanFault> {
+fn builder_of(rt: &impl Abort, alloc: Global) -> PlanBuilder {
     let mut builder = PlanBuilder::new(alloc);
     for _ in 0..2 {
-        builder.stage(Form::Source, &[], None)?;
+        must(rt, builder.stage(Form::Source, &[], None));
     }
-    Ok(builder)
+    builder
 }
 
 /// The plan that was begun so, with these limits.
-fn limited(mut builder: PlanBuilder, limits: &[(u16, u32, LimitKind)]) -> Result<Plan, PlanFault> {
+fn limited(rt: &impl Abort, mut builder: PlanBuilder, limits: &[(u16, u32, LimitKind)]) -> Plan {
     for (stage, at, kind) in limits {
-        builder.limit(*stage, *at, *kind)?;
+        must(rt, builder.limit(*stage, *at, *kind));
     }
-    builder.build()
+    must(rt, builder.build())
 }
 
 /// Adds a stage.
@@ -135,23 +137,23 @@ fn add(builder: &mut PlanBuilder, new: New) -> Result<u16, PlanFault> {
 const GIVE: LimitKind = LimitKind::Give(Value::Int(9));
 
 /// Two sources with a limit each.
-pub(crate) fn two_sources(alloc: Global) -> Result<Plan, PlanFault> {
+pub(crate) fn two_sources(rt: &impl Abort, alloc: Global) -> Plan {
     let limits = [(0, 1, GIVE), (1, 2, LimitKind::Timeout)];
-    limited(builder_of(alloc)?, &limits)
+    limited(rt, builder_of(rt, alloc), &limits)
 }
 
 /// Two sources, these stages, and three limits.
-pub(crate) fn plan_of(alloc: Global, news: &[New]) -> Result<Plan, PlanFault> {
-    let mut builder = builder_of(alloc)?;
+pub(crate) fn plan_of(rt: &impl Abort, alloc: Global, news: &[New]) -> Plan {
+    let mut builder = builder_of(rt, alloc);
     for new in news {
-        add(&mut builder, *new)?;
+        must(rt, add(&mut builder, *new));
     }
     let limits = [
         (2, 2, LimitKind::Timeout),
         (0, 1, GIVE),
         (1, 2, LimitKind::Timeout),
     ];
-    limited(builder, &limits)
+    limited(rt, builder, &limits)
 }
 
 /// The stream of random numbers of a list of calls or of a plan, the same each time.
@@ -178,16 +180,16 @@ fn add_by(builder: &mut PlanBuilder, k: u16, x: u32) -> Result<u16, PlanFault> {
 }
 
 /// The larger plan of a number: two sources, 6 to 14 stages of all forms over lower ones, and three limits.
-pub(crate) fn larger_plan(alloc: Global, number: u32) -> Result<Plan, PlanFault> {
-    let mut builder = builder_of(alloc)?;
+pub(crate) fn larger_plan(rt: &impl Abort, alloc: Global, number: u32) -> Plan {
+    let mut builder = builder_of(rt, alloc);
     let mut numbers = numbers_of(number);
     for k in 2..8 + (number % 9) as u16 {
-        add_by(&mut builder, k, numbers.next_u32())?;
+        must(rt, add_by(&mut builder, k, numbers.next_u32()));
     }
     let limits = [
         (2, 2, LimitKind::Timeout),
         (0, 1, GIVE),
         (4, 2, LimitKind::Timeout),
     ];
-    limited(builder, &limits)
+    limited(rt, builder, &limits)
 }

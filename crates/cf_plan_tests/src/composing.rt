@@ -1,5 +1,5 @@
 //! Which forms' functions answer with a stage.
-use cf_checks::same;
+use crate::checks::same;
 use cf_plan::{Form, composes};
 
 /// Each form, and whether it is one of them.

@@ -1,6 +1,6 @@
 //! Plans to which stages are attached, beside plans that were built whole.
+use crate::checks::{holds, must, same};
 use crate::rows::are_same;
-use cf_checks::{holds, must, same};
 use cf_plan::{Form, GrowingPlan, LimitKind, MAX_STAGES, Of, Plan, PlanBuilder, fits_form};
 use std::alloc::{AllocError, Global};
 use std::process::Abort;

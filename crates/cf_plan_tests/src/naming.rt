@@ -1,5 +1,5 @@
 //! The numbers and the names of forms.
-use cf_checks::holds;
+use crate::checks::holds;
 use cf_plan::Form;
 
 /// Each form with its number and its name.

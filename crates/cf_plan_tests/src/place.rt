@@ -1,5 +1,5 @@
 //! Which sources a plan has, and for how much room it has place.
-use cf_checks::{must, same};
+use crate::checks::{must, same};
 use cf_plan::{Form, Of, Plan, PlanBuilder};
 use std::alloc::Global;
 use std::process::Abort;

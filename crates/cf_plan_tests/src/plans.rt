@@ -1,6 +1,6 @@
 //! Plans of every kind of size, and what is refused.
+use crate::checks::{holds, must, same};
 use crate::rows::{Ask, Step, check, check_after, check_both, check_built, take, taken};
-use cf_checks::{holds, must, same};
 use cf_outcome::{Value, WriteFault};
 use cf_plan::{Form, Limit, LimitKind, MAX_EDGES, Plan, PlanBuilder, PlanFault};
 use std::alloc::Global;

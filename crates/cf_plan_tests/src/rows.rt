@@ -1,5 +1,5 @@
 //! What is done to a builder, and what a plan is asked, as rows that tests take.
-use cf_checks::{holds, must};
+use crate::checks::{holds, must};
 use cf_plan::{Form, Limit, LimitKind, Plan, PlanBuilder, PlanFault};
 use std::alloc::Global;
 use std::process::Abort;

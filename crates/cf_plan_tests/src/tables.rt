@@ -1,7 +1,7 @@
 //! The tables of forms: what a stage does by its sources, where an answer lands, and which stages fit their form.
 ghost use Rattle.std.specs.Prelude.{◌≡◌};
 
-use cf_checks::{same, same_at};
+use crate::checks::{same, same_at};
 use cf_outcome::{Cause, Outcome, Value};
 use cf_plan::{
     Answer, Args, Due, Form, Landing, Of, StageFn, due_one, due_two, fits_form, landing,

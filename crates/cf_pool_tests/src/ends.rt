@@ -1,5 +1,4 @@
 //! What a graph and work over a desk come to, as rows.
-use cf_checks::holds;
 use cf_core::Graph;
 use cf_desk::{Closed, DeskFault};
 use cf_model::Event;
@@ -78,7 +77,7 @@ fn is_so(ended: &mut Ended, end: End<'_>) -> bool {
 /// Work came to all of this.
 pub(crate) fn check_ends(rt: &impl Abort, mut ended: Ended, ends: &[End<'_>]) {
     for (at, end) in ends.iter().enumerate() {
-        holds(rt, is_so(&mut ended, *end), ("end", at));
+        assert!(rt; is_so(&mut ended, *end), "end {at}");
     }
 }
 
@@ -89,9 +88,12 @@ pub(crate) fn check_outcomes(
     outcomes: &[Option<Outcome>],
     workers: u8,
 ) {
-    holds(rt, graph.stages() as usize == outcomes.len(), (workers, "workers"));
+    assert!(rt;
+        graph.stages() as usize == outcomes.len(),
+        "{workers} workers"
+    );
     for (stage, outcome) in outcomes.iter().enumerate() {
         let holds = has_outcome(graph, stage as u16, *outcome);
-        holds(rt, holds, ("stage", stage, workers, "workers"));
+        assert!(rt; holds, "stage {stage}, {workers} workers");
     }
 }

@@ -1,7 +1,6 @@
 //! Races of few workers and of many, and how large a race may be.
 ghost use Rattle.std.specs.Prelude.{◌≡◌, ◌<◌, ◌≤◌, IfOk, replicate};
 
-use cf_checks::same;
 use crate::ends::{check_outcomes, gives};
 use crate::plans::{Row, plan_of, sources};
 use crate::pools::raced;
@@ -184,7 +183,7 @@ fn the_log_has_at_most_65_535_words(rt: HostRuntime) -> Result<(), Fail> {
         (1_928, 0, Some(RaceFault::Size)),
     ] {
         let plan = sources(rt.alloc(), stages)?;
-        same(&rt, race_behind(&rt, rt.alloc(), plan, steps)?, fault);
+        assert_eq!(rt; race_behind(&rt, rt.alloc(), plan, steps)?, fault);
     }
     Ok(())
 }
@@ -192,6 +191,6 @@ fn the_log_has_at_most_65_535_words(rt: HostRuntime) -> Result<(), Fail> {
 #[test]
 fn steps_may_be_many(rt: HostRuntime) -> Result<(), Fail> {
     let raced = race_behind(&rt, rt.alloc(), sources(rt.alloc(), 1)?, 65_500)?;
-    same(&rt, raced, None);
+    assert_eq!(rt; raced, None);
     Ok(())
 }

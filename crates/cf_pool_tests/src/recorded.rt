@@ -1,7 +1,6 @@
 //! Workers that keep what they are told and called with, beside what their passes hold.
 ghost use Rattle.std.specs.Prelude.{◌≡◌, ◌+◌, ◌<◌, ◌≤◌, IfOk, vec_len};
 
-use cf_checks::holds;
 use crate::plans::{Row, Stages, plan_of};
 use crate::pools::{Opening, open};
 use cf_desk::{Call, Kept, Rec};
@@ -163,8 +162,14 @@ fn race_agrees<R: Threads + Wait + Sync>(rt: &R, alloc: Global, workers: u8) -> 
 #[test]
 fn workers_note_what_their_passes_were_granted(rt: HostRuntime) -> Result<(), Fail> {
     for workers in [1, 4] {
-        holds(&rt, run_agrees(&rt, rt.alloc(), workers)?, ("a run of", workers, "workers"));
-        holds(&rt, race_agrees(&rt, rt.alloc(), workers)?, ("a race of", workers, "workers"));
+        assert!(rt;
+            run_agrees(&rt, rt.alloc(), workers)?,
+            "a run of {workers} workers"
+        );
+        assert!(rt;
+            race_agrees(&rt, rt.alloc(), workers)?,
+            "a race of {workers} workers"
+        );
     }
     Ok(())
 }

@@ -2,7 +2,6 @@
 ghost use Rattle.std.specs.Prelude.{◌<◌, ◌≤◌};
 ghost use Rattle.cf_desk.specs.Views.{IsOf};
 
-use cf_checks::holds;
 use crate::ends::Ended;
 use crate::plans::supplies;
 use crate::pools::{Opening, last_of, open, over_supplies, raced, run_over};
@@ -309,7 +308,7 @@ fn work_calls_each_function_once_after_the_gate(rt: HostRuntime) -> Result<(), F
 #[test]
 fn runs_call_each_function_once_after_the_gate(rt: HostRuntime) -> Result<(), Fail> {
     for workers in [1, 4, 32] {
-        holds(&rt, watch_run(&rt, rt.alloc(), workers)?, (workers, "workers"));
+        assert!(rt; watch_run(&rt, rt.alloc(), workers)?, "{workers} workers");
     }
     Ok(())
 }
@@ -323,7 +322,7 @@ fn a_caller_tells_the_gate_of_its_own_work(rt: HostRuntime) -> Result<(), Fail> 
 #[test]
 fn races_call_each_function_once_after_the_gate(rt: HostRuntime) -> Result<(), Fail> {
     for workers in [1, 4, 32] {
-        holds(&rt, watch_race(&rt, rt.alloc(), workers)?, (workers, "workers"));
+        assert!(rt; watch_race(&rt, rt.alloc(), workers)?, "{workers} workers");
     }
     Ok(())
 }

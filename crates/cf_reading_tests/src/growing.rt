@@ -1,53 +1,51 @@
 //! Scripts of version 2: room, and steps that attach stages.
-use cf_checks::holds;
+use crate::checks::{holds, must};
 use cf_model::{Ask, Event};
 use cf_outcome::Value;
 use cf_plan::{Form, Of, PlanFault};
 use cf_reading::{Func, Part, ReadingFault, Script, Step, read_race, read_script};
-use std::alloc::{AllocError, Global};
+use std::alloc::Global;
 use std::process::Abort;
-use std::test::Fail;
 
 /// Adds a piece so often, with commas between.
-fn add_pieces(text: &mut String, piece: &str, count: u32) -> Result<(), AllocError> {
+fn add_pieces(rt: &impl Abort, text: &mut String, piece: &str, count: u32) {
     for i in 0..count {
         if i > 0 {
-            text.push_str(",")?;
+            must(rt, text.push_str(","));
         }
-        text.push_str(piece)?;
+        must(rt, text.push_str(piece));
     }
-    Ok(())
 }
 
 /// Why a text in which one piece stands so often, with commas between, is refused, if it is.
 fn refused(
+    rt: &impl Abort,
     alloc: Global,
     before: &str,
     piece: &str,
     count: u32,
     after: &str,
-) -> Result<Option<ReadingFault>, AllocError> {
-    let mut text = String::from_str(alloc, before)?;
-    add_pieces(&mut text, piece, count)?;
-    text.push_str(after)?;
-    Ok(read_script(alloc, text.as_bytes()).err())
+) -> Option<ReadingFault> {
+    let mut text = must(rt, String::from_str(alloc, before));
+    add_pieces(rt, &mut text, piece, count);
+    must(rt, text.push_str(after));
+    read_script(alloc, text.as_bytes()).err()
 }
 
 /// A text in which one piece stands so often, with commas between, and why it is refused, if it is.
 type Row<'a> = (&'a str, &'a str, u32, &'a str, Option<ReadingFault>);
 
 /// Whether a text is read, or refused so.
-fn is_refused(alloc: Global, row: Row<'_>) -> Result<bool, AllocError> {
+fn is_refused(rt: &impl Abort, alloc: Global, row: Row<'_>) -> bool {
     let (before, piece, count, after, fault) = row;
-    Ok(refused(alloc, before, piece, count, after)? == fault)
+    refused(rt, alloc, before, piece, count, after) == fault
 }
 
 /// These texts are read, or refused so.
-fn assert_texts(rt: &impl Abort, alloc: Global, rows: &[Row<'_>]) -> Result<(), Fail> {
+fn assert_texts(rt: &impl Abort, alloc: Global, rows: &[Row<'_>]) {
     for (at, row) in rows.iter().enumerate() {
-        holds(rt, is_refused(alloc, *row)?, ("text", at));
+        holds(rt, is_refused(rt, alloc, *row), ("text", at));
     }
-    Ok(())
 }
 
 /// Each of these pieces, alone in its text, is read, or refused so.
@@ -58,26 +56,20 @@ fn assert_pieces(
     pieces: &[&str],
     after: &str,
     fault: Option<ReadingFault>,
-) -> Result<(), Fail> {
+) {
     for piece in pieces {
         holds(
             rt,
-            is_refused(alloc, (before, *piece, 1, after, fault))?,
+            is_refused(rt, alloc, (before, *piece, 1, after, fault)),
             piece,
         );
     }
-    Ok(())
 }
 
 /// Each of these steps of a script of two sources and room for two stages is read, or refused so.
-fn assert_steps(
-    rt: &impl Abort,
-    alloc: Global,
-    steps: &[&str],
-    fault: Option<ReadingFault>,
-) -> Result<(), Fail> {
+fn assert_steps(rt: &impl Abort, alloc: Global, steps: &[&str], fault: Option<ReadingFault>) {
     let before = r#"{"cf":2,"room":2,"stages":[{"form":"source"},{"form":"source"}],"steps":["#;
-    assert_pieces(rt, alloc, before, steps, "]}", fault)
+    assert_pieces(rt, alloc, before, steps, "]}", fault);
 }
 
 /// Whether a text is refused so.
@@ -136,14 +128,13 @@ fn is_read(script: Script) -> bool {
 }
 
 #[test]
-fn reads_attached_stages(rt: HostRuntime) -> Result<(), Fail> {
-    let script = read_script(rt.alloc(), ATTACHED.as_bytes())?;
+fn reads_attached_stages(rt: HostRuntime) {
+    let script = must(&rt, read_script(rt.alloc(), ATTACHED.as_bytes()));
     assert!(rt; is_read(script));
-    Ok(())
 }
 
 #[test]
-fn room_is_a_whole_number_up_to_4096(rt: HostRuntime) -> Result<(), Fail> {
+fn room_is_a_whole_number_up_to_4096(rt: HostRuntime) {
     let wrong = [
         "4097",
         "-1",
@@ -158,19 +149,19 @@ fn room_is_a_whole_number_up_to_4096(rt: HostRuntime) -> Result<(), Fail> {
     ];
     let before = r#"{"cf":2,"stages":0,"room":"#;
     let fault = Some(ReadingFault::Shape(Part::Room));
-    assert_pieces(&rt, rt.alloc(), before, &wrong, "}", fault)
+    assert_pieces(&rt, rt.alloc(), before, &wrong, "}", fault);
 }
 
 #[test]
-fn fitting_room_is_taken(rt: HostRuntime) -> Result<(), Fail> {
+fn fitting_room_is_taken(rt: HostRuntime) {
     let rooms = ["0", "1", "4096"];
     let (wrong, right) = (
         r#"{"cf":2,"stages":0,"room":"#,
         r#"{"cf":2,"stages":[],"room":"#,
     );
     let stages = Some(ReadingFault::Shape(Part::Stages));
-    assert_pieces(&rt, rt.alloc(), wrong, &rooms, "}", stages)?;
-    assert_pieces(&rt, rt.alloc(), right, &rooms, "}", None)
+    assert_pieces(&rt, rt.alloc(), wrong, &rooms, "}", stages);
+    assert_pieces(&rt, rt.alloc(), right, &rooms, "}", None);
 }
 
 #[test]
@@ -212,7 +203,7 @@ fn room_is_checked_in_its_place(rt: HostRuntime) {
 
 /// Stages and room together are at most 4,096, edges and twice the room at most 16,384.
 #[test]
-fn room_has_its_place_beside_the_plan(rt: HostRuntime) -> Result<(), Fail> {
+fn room_has_its_place_beside_the_plan(rt: HostRuntime) {
     let room = Some(ReadingFault::Shape(Part::Room));
     let source = r#"{"form":"source"}"#;
     let sources = r#"{"cf":2,"room":96,"stages":["#;
@@ -224,7 +215,7 @@ fn room_has_its_place_beside_the_plan(rt: HostRuntime) -> Result<(), Fail> {
         (edges, "0", 16_383, "]}]}", room),
         (edges, "0", 16_384, "]}]}", room),
     ];
-    assert_texts(&rt, rt.alloc(), &rows)
+    assert_texts(&rt, rt.alloc(), &rows);
 }
 
 /// Version 1 is read as if there were no other.
@@ -250,23 +241,22 @@ fn version_one_knows_neither_room_nor_attach(rt: HostRuntime) {
 
 /// In version 1 room is a word like any other.
 #[test]
-fn version_one_leaves_room_unread(rt: HostRuntime) -> Result<(), Fail> {
+fn version_one_leaves_room_unread(rt: HostRuntime) {
     let rooms = ["\"x\"", "1", "4096", "4097", "-1", "null", "[]"];
     let before = r#"{"cf":1,"stages":[{"form":"source"}],"room":"#;
-    assert_pieces(&rt, rt.alloc(), before, &rooms, "}", None)
+    assert_pieces(&rt, rt.alloc(), before, &rooms, "}", None);
 }
 
 /// It makes no room.
 #[test]
-fn version_one_has_no_room(rt: HostRuntime) -> Result<(), Fail> {
+fn version_one_has_no_room(rt: HostRuntime) {
     let text = r#"{"cf":1,"room":7,"stages":[{"form":"source"}]}"#;
-    let script = read_script(rt.alloc(), text.as_bytes())?;
+    let script = must(&rt, read_script(rt.alloc(), text.as_bytes()));
     assert!(rt; has(script, 0, 0));
-    Ok(())
 }
 
 #[test]
-fn attaches_of_a_wrong_shape_are_no_steps(rt: HostRuntime) -> Result<(), Fail> {
+fn attaches_of_a_wrong_shape_are_no_steps(rt: HostRuntime) {
     let steps = [
         r#"["attach"]"#,
         r#"["attach",{"form":"source"},0]"#,
@@ -281,11 +271,11 @@ fn attaches_of_a_wrong_shape_are_no_steps(rt: HostRuntime) -> Result<(), Fail> {
         r#"["attach",{"form":"allOf","of":[0,"1"]}]"#,
         r#"["attach",{"form":"apply","of":[0],"fn":null}]"#,
     ];
-    assert_steps(&rt, rt.alloc(), &steps, Some(ReadingFault::Step(0)))
+    assert_steps(&rt, rt.alloc(), &steps, Some(ReadingFault::Step(0)));
 }
 
 #[test]
-fn attaches_that_fit_no_form_are_no_steps(rt: HostRuntime) -> Result<(), Fail> {
+fn attaches_that_fit_no_form_are_no_steps(rt: HostRuntime) {
     let steps = [
         r#"["attach",{"form":"allOf","of":[0,1,0]}]"#,
         r#"["attach",{"form":"allOf","of":[2]}]"#,
@@ -300,11 +290,11 @@ fn attaches_that_fit_no_form_are_no_steps(rt: HostRuntime) -> Result<(), Fail> {
         r#"["attach",{"form":"source","fn":"neg"}]"#,
         r#"["attach",{"form":"supply","fn":{"add":1,"mul":2}}]"#,
     ];
-    assert_steps(&rt, rt.alloc(), &steps, Some(ReadingFault::Step(0)))
+    assert_steps(&rt, rt.alloc(), &steps, Some(ReadingFault::Step(0)));
 }
 
 #[test]
-fn attaches_that_fit_are_steps(rt: HostRuntime) -> Result<(), Fail> {
+fn attaches_that_fit_are_steps(rt: HostRuntime) {
     let steps = [
         r#"["attach",{"form":"source"}]"#,
         r#"["attach",{"form":"source","of":[],"who":7}]"#,
@@ -317,12 +307,12 @@ fn attaches_that_fit_are_steps(rt: HostRuntime) -> Result<(), Fail> {
         r#"["attach",{"form":"exceptionallyCompose","of":[0],"fn":{"goto":1}}]"#,
         r#"["attach",{"form":"runEither","of":[1,0],"fn":{"rescue":null}}]"#,
     ];
-    assert_steps(&rt, rt.alloc(), &steps, None)
+    assert_steps(&rt, rt.alloc(), &steps, None);
 }
 
 /// A step names a stage that was attached before it, as far as there was room.
 #[test]
-fn stages_are_there_once_they_are_attached(rt: HostRuntime) -> Result<(), Fail> {
+fn stages_are_there_once_they_are_attached(rt: HostRuntime) {
     let source = r#"["attach",{"form":"source"}]"#;
     let room = r#"{"cf":2,"room":1,"stages":[{"form":"source"}],"steps":["#;
     let (first, second) = (Some(ReadingFault::Step(0)), Some(ReadingFault::Step(1)));
@@ -342,21 +332,21 @@ fn stages_are_there_once_they_are_attached(rt: HostRuntime) -> Result<(), Fail> 
         (room, source, 2, of_third, third),
         (room, source, 0, first_of_second, first),
     ];
-    assert_texts(&rt, rt.alloc(), &rows)
+    assert_texts(&rt, rt.alloc(), &rows);
 }
 
 /// A stage for which there is no room is there for no later step.
 #[test]
-fn without_room_no_stage_is_attached(rt: HostRuntime) -> Result<(), Fail> {
+fn without_room_no_stage_is_attached(rt: HostRuntime) {
     let steps = [r#"["attach",{"form":"source"}],["outcome",1]"#];
     let before = r#"{"cf":2,"stages":[{"form":"source"}],"steps":["#;
     let refused = Some(ReadingFault::Step(1));
-    assert_pieces(&rt, rt.alloc(), before, &steps, "]}", refused)
+    assert_pieces(&rt, rt.alloc(), before, &steps, "]}", refused);
 }
 
 /// Functions are numbered on through the steps, up to 4,095, also of stages for which there is no room.
 #[test]
-fn functions_number_on_up_to_4095(rt: HostRuntime) -> Result<(), Fail> {
+fn functions_number_on_up_to_4095(rt: HostRuntime) {
     let supply = r#"{"form":"supply","fn":"neg"}"#;
     let stages = r#"{"cf":2,"room":0,"stages":["#;
     let once = r#"],"steps":[["attach",{"form":"supply","fn":"neg"}]]}"#;
@@ -375,11 +365,11 @@ fn functions_number_on_up_to_4095(rt: HostRuntime) -> Result<(), Fail> {
         (steps, attach, 4_096, "]}", None),
         (steps, attach, 4_097, "]}", Some(ReadingFault::Step(4_096))),
     ];
-    assert_texts(&rt, rt.alloc(), &rows)
+    assert_texts(&rt, rt.alloc(), &rows);
 }
 
 #[test]
-fn attaches_count_as_steps(rt: HostRuntime) -> Result<(), Fail> {
+fn attaches_count_as_steps(rt: HostRuntime) {
     let source = r#"["attach",{"form":"source"}]"#;
     let steps = r#"{"cf":2,"room":4096,"stages":[],"steps":["#;
     let last = r#",["outcome",4095]]}"#;
@@ -395,7 +385,7 @@ fn attaches_count_as_steps(rt: HostRuntime) -> Result<(), Fail> {
         (steps, source, 4_096, last, None),
         (steps, source, 4_095, last, Some(ReadingFault::Step(4_095))),
     ];
-    assert_texts(&rt, rt.alloc(), &rows)
+    assert_texts(&rt, rt.alloc(), &rows);
 }
 
 /// Whether a script is read that has so much room and so many steps.
@@ -405,12 +395,11 @@ fn has(script: Script, wanted: u16, count: usize) -> bool {
 }
 
 #[test]
-fn races_attach(rt: HostRuntime) -> Result<(), Fail> {
+fn races_attach(rt: HostRuntime) {
     let text =
         r#"{"cf":2,"room":1,"stages":[],"steps":[["attach",{"form":"source"}],["complete",0,3]]}"#;
-    let script = read_race(rt.alloc(), text.as_bytes())?;
+    let script = must(&rt, read_race(rt.alloc(), text.as_bytes()));
     assert!(rt; has(script, 1, 2));
-    Ok(())
 }
 
 #[test]

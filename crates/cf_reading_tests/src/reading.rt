@@ -1,13 +1,13 @@
 //! What scripts are read as, what is refused, and the ten functions.
-use cf_checks::holds;
+use crate::checks::{holds, must};
 use cf_model::{Ask, Event};
 use cf_outcome::{Cause, Outcome, Value};
 use cf_plan::{Answer, Args, Limit, LimitKind, Plan, PlanFault, StageFn};
 use cf_reading::{Func, MAX_BYTES, Part, ReadingFault, Script, Step, read_input, read_script};
-use std::alloc::{AllocError, Global};
+use std::alloc::Global;
 use std::io;
 use std::io::{ErrorKind, Read};
-use std::test::Fail;
+use std::process::Abort;
 
 const NOTHING: Args = Args::None;
 
@@ -194,27 +194,26 @@ fn reads_whole_or_not(rt: HostRuntime) {
 
 /// How many of so many blanks are read, and how many are left then.
 fn blanks_read(
+    rt: &impl Abort,
     alloc: Global,
     count: usize,
-) -> Result<(Result<usize, ReadingFault>, usize), AllocError> {
-    let blanks = vec![in alloc; b' '; count]?;
+) -> (Result<usize, ReadingFault>, usize) {
+    let blanks = must(rt, vec![in alloc; b' '; count]);
     let mut input = blanks.as_slice();
     let read = length_read(alloc, &mut input);
-    Ok((read, input.len()))
+    (read, input.len())
 }
 
 #[test]
-fn as_many_bytes_are_read_as_there_may_be(rt: HostRuntime) -> Result<(), Fail> {
-    let (read, left) = blanks_read(rt.alloc(), MAX_BYTES)?;
+fn as_many_bytes_are_read_as_there_may_be(rt: HostRuntime) {
+    let (read, left) = blanks_read(&rt, rt.alloc(), MAX_BYTES);
     assert!(rt; read == Ok(MAX_BYTES) && left == 0);
-    Ok(())
 }
 
 #[test]
-fn one_byte_too_many_is_read(rt: HostRuntime) -> Result<(), Fail> {
-    let (read, left) = blanks_read(rt.alloc(), MAX_BYTES + 3)?;
+fn one_byte_too_many_is_read(rt: HostRuntime) {
+    let (read, left) = blanks_read(&rt, rt.alloc(), MAX_BYTES + 3);
     assert!(rt; read == Err(ReadingFault::TooLong) && left == 2);
-    Ok(())
 }
 
 const LIMIT: ReadingFault = ReadingFault::Shape(Part::Limit(0));
@@ -309,8 +308,7 @@ fn is_read(script: Script) -> bool {
 }
 
 #[test]
-fn reads_a_script(rt: HostRuntime) -> Result<(), Fail> {
-    let script = read_script(rt.alloc(), SCRIPT.as_bytes())?;
+fn reads_a_script(rt: HostRuntime) {
+    let script = must(&rt, read_script(rt.alloc(), SCRIPT.as_bytes()));
     assert!(rt; is_read(script));
-    Ok(())
 }

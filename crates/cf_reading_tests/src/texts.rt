@@ -1,23 +1,21 @@
 //! The text of each part of a script, and of each reason why bytes are none.
-use cf_checks::holds;
+use crate::checks::{holds, must};
 use cf_plan::PlanFault;
 use cf_reading::{Part, ReadingFault};
-use std::alloc::{AllocError, Global};
+use std::alloc::Global;
 use std::fmt::Display;
 use std::process::Abort;
-use std::test::Fail;
 
 /// Whether this is written so.
-fn is_written<T: Display>(alloc: Global, said: &T, text: &str) -> Result<bool, AllocError> {
-    Ok(format!(in alloc; "{said}")?.as_str() == text)
+fn is_written<T: Display>(rt: &impl Abort, alloc: Global, said: &T, text: &str) -> bool {
+    must(rt, format!(in alloc; "{said}")).as_str() == text
 }
 
 /// Each of these is written so.
-fn check<T: Display>(rt: &impl Abort, alloc: Global, rows: &[(T, &str)]) -> Result<(), Fail> {
+fn check<T: Display>(rt: &impl Abort, alloc: Global, rows: &[(T, &str)]) {
     for (said, text) in rows {
-        holds(rt, is_written(alloc, said, text)?, text);
+        holds(rt, is_written(rt, alloc, said, text), text);
     }
-    Ok(())
 }
 
 const PARTS: [(Part, &str); 10] = [
@@ -34,8 +32,8 @@ const PARTS: [(Part, &str); 10] = [
 ];
 
 #[test]
-fn each_part_has_its_text(rt: HostRuntime) -> Result<(), Fail> {
-    check(&rt, rt.alloc(), &PARTS)
+fn each_part_has_its_text(rt: HostRuntime) {
+    check(&rt, rt.alloc(), &PARTS);
 }
 
 const FAULTS: [(ReadingFault, &str); 9] = [
@@ -54,6 +52,6 @@ const FAULTS: [(ReadingFault, &str); 9] = [
 ];
 
 #[test]
-fn each_fault_has_its_text(rt: HostRuntime) -> Result<(), Fail> {
-    check(&rt, rt.alloc(), &FAULTS)
+fn each_fault_has_its_text(rt: HostRuntime) {
+    check(&rt, rt.alloc(), &FAULTS);
 }

@@ -1,7 +1,7 @@
 //! Scripts that are read and written one byte a call.
+use crate::checks::{holds, must};
 use crate::devices::{Dripping, Sipping, Then};
 use crate::reports::{ADD_FIVE, ADD_FIVE_REPORT, lines};
-use cf_checks::{holds, must};
 use cf_script::{Part, ScriptFault, run_script};
 use std::io::ErrorKind;
 use std::process::Abort;

@@ -1,5 +1,5 @@
 //! The line of each fault.
-use cf_checks::{must, same};
+use crate::checks::{must, same};
 use cf_script::{Part, PlanFault, ScriptFault};
 use std::process::Abort;
 

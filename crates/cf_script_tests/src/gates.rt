@@ -2,7 +2,7 @@
 ghost use Rattle.std.specs.Prelude.{◌≡◌, ◌<◌, ◌≤◌, true};
 ghost use Rattle.cf_plan.specs.Plans.{has_place};
 
-use cf_checks::{holds, must, same, same_at};
+use crate::checks::{holds, must, same, same_at};
 use cf_outcome::Value;
 use cf_plan::{Answer, Args, Form, Plan, PlanBuilder, StageFn};
 use cf_pool::{race, share};

@@ -1,9 +1,9 @@
 //! Races of whole scripts: functions that are called at once, and devices that fail.
 ghost use Rattle.std.specs.Prelude.{◌<◌, ◌≤◌};
 
+use crate::checks::{holds, same};
 use crate::devices::{Dripping, Sipping, Then};
 use crate::reports::lines;
-use cf_checks::{holds, same};
 use cf_script::{Gate, NoGate, ScriptFault, race_script};
 use std::io::ErrorKind;
 use std::process::Abort;

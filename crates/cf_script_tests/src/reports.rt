@@ -1,5 +1,5 @@
 //! A script with its report, and the text of a report.
-use cf_checks::must;
+use crate::checks::must;
 use std::alloc::Global;
 use std::process::Abort;
 

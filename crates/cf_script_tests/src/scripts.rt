@@ -1,7 +1,7 @@
 //! Scripts that end early, devices that fail, and memory that is refused.
+use crate::checks::{holds, same, same_at};
 use crate::devices::{Dripping, Fixed, Sipping, Then};
 use crate::reports::{ADD_FIVE, ADD_FIVE_REPORT, lines};
-use cf_checks::{holds, same, same_at};
 use cf_script::{Part, ScriptFault, run_script};
 use std::alloc::Global;
 use std::io::ErrorKind;

@@ -1,21 +1,16 @@
-//! How a test says what it wants.
-//!
-//! Each call ends the program where what it says doesn't hold. A function that says so by calls is proved in a third of the time that
-//! it takes with `?`, and in a tenth of that with `assert_eq!` and a name: those stand in line, and each is a way out.
-#![tactic(auto)]
-
+//! How a test says what it wants: each call ends the test where that doesn't hold. The same in line is a way out, and dear to prove.
 ghost use Rattle.std.specs.Prelude.{◌≡◌, IsTrue, Ok};
 
 use std::fmt::Debug;
 use std::process::Abort;
 
 /// Both are alike.
-pub fn same<T: PartialEq + Debug + Drop>(rt: &impl Abort, told: T, wanted: T) {
+pub(crate) fn same<T: PartialEq + Debug + Drop>(rt: &impl Abort, told: T, wanted: T) {
     assert_eq!(rt; told, wanted);
 }
 
 /// Both are alike. The name tells which of several doesn't hold.
-pub fn same_at<T: PartialEq + Debug + Drop, N: Debug + Drop>(
+pub(crate) fn same_at<T: PartialEq + Debug + Drop, N: Debug + Drop>(
     rt: &impl Abort,
     told: T,
     wanted: T,
@@ -25,14 +20,14 @@ pub fn same_at<T: PartialEq + Debug + Drop, N: Debug + Drop>(
 }
 
 /// This holds. The name tells what doesn't.
-pub fn holds<N: Debug + Drop>(rt: &impl Abort, is_so: bool, name: N)
+pub(crate) fn holds<N: Debug + Drop>(rt: &impl Abort, is_so: bool, name: N)
     ensures { IsTrue is_so }
 {
     assert!(rt; is_so, "{name:?}");
 }
 
 /// What was answered, which is no error.
-pub fn must<T: Drop, E: Debug + Drop>(rt: &impl Abort, told: Result<T, E>) -> T
+pub(crate) fn must<T: Drop, E: Debug + Drop>(rt: &impl Abort, told: Result<T, E>) -> T
     ensures { told ≡ Ok result }
 {
     match told {
