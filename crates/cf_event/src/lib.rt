@@ -16,6 +16,5 @@ mod record;
 
 pub use applying::{apply, replay};
 pub use cf_model::{Event, Reply};
-
 pub use codec::{decode, encode, is_event};
 pub use record::Record;
