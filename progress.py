@@ -2,8 +2,8 @@
 
 rt says when a crate or its tests are proved, when it begins with a crate's must-fail edits, and what it takes from earlier runs. Of the
 edits it tells the end only when all is done. So what is left is told by the seconds of a processor: those that the whole takes by the
-tables below, less those that rt and what it started have taken. They were measured on four cores of 2.5 GHz; a crate that isn't in a
-table counts as OTHER.
+tables below, less those that rt and what it started have taken. They were measured on four cores of 2.5 GHz, but for the tests of
+cf_event_tests, cf_outcome_tests and cf_script_tests, which are guessed; a crate that isn't in a table counts as OTHER.
 """
 import os
 import re
