@@ -1,7 +1,7 @@
 //! The callers of a desk, which is a graph that they share.
 ghost use Rattle.std.specs.Prelude.{Ok};
 ghost use Rattle.cf_model.specs.declared.asks.Ask.TheVariants.{Now as AsksNow, Outcome as AsksOutcome};
-ghost use Rattle.cf_desk.specs.declared.calls.Call.TheVariants.{Complete as Completes, Fail as Fails, Cancel as Cancels, Claim as Claims, Finish as Finishes, Tick as Ticks};
+ghost use Rattle.cf_model.specs.declared.calls.Call.TheVariants.{Complete as Completes, Fail as Fails, Cancel as Cancels, Claim as Claims, Finish as Finishes, Tick as Ticks};
 ghost use Rattle.cf_handles.specs.Answers.{Does, Tells};
 ghost use Rattle.cf_handles.specs.DeskTasks.{CompletesMany, StepsCaller};
 ghost use Rattle.cf_handles.specs.Desks.{Acts, ByCaller, FindsReady, IsLeft, Joins, Knows, Reads, call_with, function_known, number_told, seen_told, told_now, told_outcome};

@@ -15,7 +15,7 @@ use Rattle.cf_plan.specs.declared.forms.Of.TheVariants.{None as NoSource, One, T
 use Rattle.cf_model.specs.declared.events.Event.{Event}
 use Rattle.cf_model.specs.declared.events.Event.TheVariants.{Complete as Completes, Fail as Fails, Cancel as Cancels, Claim as Claims, Finish as Finishes, Tick as Ticks, Attach as Attaches}
 use Rattle.cf_model.specs.declared.events.Reply.{Reply}
-use Rattle.cf_model.specs.Calls.{who_of}
+use Rattle.cf_model.specs.Calls.{as_call, event_by, who_of}
 use Rattle.cf_model.specs.Ranges.{EventFits}
 use Rattle.cf_model.specs.States.{State, start}
 use Rattle.cf_model.specs.Events.{answered, state_after, state_at}
@@ -27,8 +27,8 @@ use Rattle.cf_explore.specs.declared.step.Move.TheVariants as moving
 use Rattle.cf_explore.specs.declared.step.Place.{Place}
 use Rattle.cf_explore.specs.declared.step.Step.{Step}
 use Rattle.cf_explore.specs.Programs.{Programmed, Situated, place_at, step_of}
-use Rattle.cf_explore.specs.Moves.{are_there, call_event, caller_moves, calling, carried_out, event_by, moved, moves, onward, own_moves, step_moves, stepped, takes, worker_moves}
-use Rattle.cf_covers.specs.Tellings.{but_vain, call_of, grants, is_vain, step_for}
+use Rattle.cf_explore.specs.Moves.{are_there, call_event, caller_moves, calling, carried_out, moved, moves, onward, own_moves, step_moves, stepped, takes, worker_moves}
+use Rattle.cf_covers.specs.Tellings.{but_vain, grants, is_vain, step_for}
 use Rattle.cf_covers.proofs.Lists.{contains-first, same-first, slice_get-behind, slice_get-mapped}
 
 -- ---- the move of a caller
@@ -92,7 +92,7 @@ onward-other s c d other =
 
 -- ---- what its calls are
 
-pub call-is : (e : Event) → event_by (who_of e) (call_of e) ≡ e
+pub call-is : (e : Event) → event_by (who_of e) (as_call e) ≡ e
 call-is (Completes who i v) = refl
 call-is (Fails who i code) = refl
 call-is (Cancels who i) = refl
@@ -112,7 +112,7 @@ are-there n (Two a b) h =
     let other = is-below b n (All-head (λ j. j < n) b [] (All-tail (λ j. j < n) a (b ∷ []) h)) in
     rw one other
 
-pub call-taken : (n : ℕ) (e : Event) → EventFits n e → takes n (call_of e) ≡ true
+pub call-taken : (n : ℕ) (e : Event) → EventFits n e → takes n (as_call e) ≡ true
 call-taken n (Completes who i v) h = is-below i n h
 call-taken n (Fails who i code) h = is-below i n h
 call-taken n (Cancels who i) h = is-below i n h
@@ -231,11 +231,11 @@ no-step p s c so_far steps at =
     ∙ slice_get-behind step_for so_far
 
 -- a call that fits is carried out, and is its event
-pub calling-is : (s : Situated) (e : Event) → EventFits (length s.state.plan.stages) e → calling s (who_of e) (call_of e) ≡ carried_out s e (answered s.state e)
+pub calling-is : (s : Situated) (e : Event) → EventFits (length s.state.plan.stages) e → calling s (who_of e) (as_call e) ≡ carried_out s e (answered s.state e)
 calling-is s e fits =
-    ap (λ (b : Bool). if b then carried_out s (event_by (who_of e) (call_of e)) (answered s.state (event_by (who_of e) (call_of e))) else s) (call-taken (length s.state.plan.stages) e fits)
+    ap (λ (b : Bool). if b then carried_out s (event_by (who_of e) (as_call e)) (answered s.state (event_by (who_of e) (as_call e))) else s) (call-taken (length s.state.plan.stages) e fits)
     ∙ ap (λ (x : Event). carried_out s x (answered s.state x)) (call-is e)
 
-pub event-is : (n : ℕ) (e : Event) → EventFits n e → call_event (call_of e) n (who_of e) ≡ Some e
+pub event-is : (n : ℕ) (e : Event) → EventFits n e → call_event (as_call e) n (who_of e) ≡ Some e
 event-is n e fits =
-    ap (λ (b : Bool). if b then Some (event_by (who_of e) (call_of e)) else None) (call-taken n e fits) ∙ ap (λ (x : Event). Some x) (call-is e)
+    ap (λ (b : Bool). if b then Some (event_by (who_of e) (as_call e)) else None) (call-taken n e fits) ∙ ap (λ (x : Event). Some x) (call-is e)

@@ -10,7 +10,7 @@ use Rattle.cf_model.specs.declared.asks.Ask.{Ask}
 use Rattle.cf_model.specs.declared.asks.Told.{Told}
 use Rattle.cf_model.specs.declared.events.Event.{Event}
 use Rattle.cf_model.specs.declared.events.Reply.{Reply}
-use Rattle.cf_model.specs.Calls.{who_of}
+use Rattle.cf_model.specs.Calls.{as_call, who_of}
 use Rattle.cf_model.specs.Ranges.{EventFits}
 use Rattle.cf_model.specs.States.{State, start}
 use Rattle.cf_model.specs.Events.{answered, state_after, state_at, told}
@@ -27,7 +27,7 @@ use Rattle.cf_explore.specs.declared.step.Step.TheVariants as steps
 use Rattle.cf_explore.specs.Programs.{Programmed, Situated, hand_at, place_at, start_of, step_of}
 use Rattle.cf_explore.specs.Moves.{carried_out, event_of, moved, moves, onward, step_event}
 use Rattle.cf_explore.specs.Orders.{AreMoves, led}
-use Rattle.cf_covers.specs.Tellings.{AreWork, IsToldBy, IsToldIn, TellsEach, and_event, but_vain, call_of, came_before, events_by, step_for}
+use Rattle.cf_covers.specs.Tellings.{AreWork, IsToldBy, IsToldIn, TellsEach, and_event, but_vain, came_before, events_by, step_for}
 use Rattle.cf_covers.proofs.Lists.{same-rest, slice_get-push}
 use Rattle.cf_covers.proofs.Orders.{events-push, led-push, moves-push}
 use Rattle.cf_covers.proofs.Callers.{IsNextDid, IsPast, after-push, at-done, but_vain-took, caller-took, calling-is, event-is, may-step, mine, moved-step, next-did, next-step, onward-other, onward-self, order-later, other-number, same_number, taken-done}
@@ -337,10 +337,10 @@ event-told w k done e rest whole l fits h reply more stands =
     let r : Record = Did (suc k) e reply in
     let now : s.state ≡ state_after (start p.plan) done = h.comes.state in
     let there : EventFits (length s.state.plan.stages) e = subst (λ (x : State). EventFits (length x.plan.stages) e) (sym now) fits in
-    let step : step_of p s c ≡ Some (steps.Do (call_of e)) = next-step p s c stands.so_far more r stands.steps stands.at in
+    let step : step_of p s c ≡ Some (steps.Do (as_call e)) = next-step p s c stands.so_far more r stands.steps stands.at in
     let u : Situated = carried_out s e (answered s.state e) in
     let t : Situated = led_on s e in
-    let is : moved w.meanings p s (moving.Step c) ≡ t = moved-step w.meanings p s c (steps.Do (call_of e)) step ∙ ap (λ (x : Situated). onward x c) (calling-is s e there) in
+    let is : moved w.meanings p s (moving.Step c) ≡ t = moved-step w.meanings p s c (steps.Do (as_call e)) step ∙ ap (λ (x : Situated). onward x c) (calling-is s e there) in
     let event : event_of p s (moving.Step c) ≡ Some e = ap (λ (o : Option Step). step_event o (length s.state.plan.stages) c) step ∙ event-is (length s.state.plan.stages) e there in
     let within : c < length s.places = (let so = h.comes.places in omega arith) in
     let says : reply ≡ (answered s.state e).0 = says-now w k done e rest h.order s reply whole h.comes (All-head (IsAnswered p.plan w.history) r more stands.answers) in
@@ -349,7 +349,7 @@ event-told w k done e rest whole l fits h reply more stands =
     record {
       order = h.order ++ moving.Step c ∷ [];
       s = t;
-      comes = comes-more w k (suc k) done (done ++ e ∷ []) h.order s t (moving.Step c) (Some e) h.comes (may-step p s c (steps.Do (call_of e)) step l) is event
+      comes = comes-more w k (suc k) done (done ++ e ∷ []) h.order s t (moving.Step c) (Some e) h.comes (may-step p s c (steps.Do (as_call e)) step l) is event
           (but_vain-took (length p.callers) (start p.plan) done e (caller-took (length p.callers) e _ l))
           (let so = h.comes.so_many in omega (arith, length-append done (e ∷ [])))
           (ap (λ (x : State). (answered x e).1) now ∙ sym (after-push (start p.plan) done e))

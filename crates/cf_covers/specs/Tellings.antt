@@ -7,13 +7,11 @@ use Rattle.cf_model.specs.declared.events.Event.TheVariants as kinds
 use Rattle.cf_model.specs.declared.events.Reply.{Reply}
 use Rattle.cf_model.specs.declared.events.Reply.TheVariants.{Claim as ToldClaim}
 use Rattle.cf_model.specs.declared.replies.Claimed.TheVariants as claimed
-use Rattle.cf_model.specs.Calls.{who_of}
+use Rattle.cf_model.specs.Calls.{as_call, who_of}
 use Rattle.cf_model.specs.States.{State, lowest_ready_of, start}
 use Rattle.cf_model.specs.Events.{answered, state_after, state_at, told}
 use Rattle.cf_event.specs.declared.record.Record.{Record}
 use Rattle.cf_event.specs.declared.record.Record.TheVariants.{Did, Saw}
-use Rattle.cf_explore.specs.declared.step.Call.{Call}
-use Rattle.cf_explore.specs.declared.step.Call.TheVariants as calls
 use Rattle.cf_explore.specs.declared.step.Hand.{Hand}
 use Rattle.cf_explore.specs.declared.step.Hand.TheVariants as hands
 use Rattle.cf_explore.specs.declared.step.Move.{Move}
@@ -24,19 +22,9 @@ use Rattle.cf_explore.specs.Programs.{Programmed, Situated, place_at, start_of}
 use Rattle.cf_explore.specs.Moves.{event_of, hand_of, is_end, moved}
 use Rattle.cf_explore.specs.Orders.{IsOrder, led}
 
--- the call that an event is, whoever makes it
-abbrev pub call_of : Event → Call
-call_of (kinds.Complete who i v) = calls.Complete i v
-call_of (kinds.Fail who i code) = calls.Fail i code
-call_of (kinds.Cancel who i) = calls.Cancel i
-call_of (kinds.Claim who i) = calls.Claim i
-call_of (kinds.Finish who i answer) = calls.Finish i answer
-call_of (kinds.Tick who now) = calls.Tick now
-call_of (kinds.Attach who form of function) = calls.Attach form of function
-
 -- the step in which a caller is told what a record says
 abbrev pub step_for : Record → Step
-step_for (Did place event reply) = steps.Do (call_of event)
+step_for (Did place event reply) = steps.Do (as_call event)
 step_for (Saw place ask answer) = steps.Look ask
 
 -- a caller of this number was told of just these steps, in this order

@@ -18,7 +18,7 @@ use Rattle.cf_model.specs.declared.events.Reply.{Reply}
 use Rattle.cf_model.specs.declared.asks.Ask.TheVariants.{Outcome as AsksOutcome}
 use Rattle.cf_model.specs.declared.asks.Told.TheVariants.{Outcome as ToldOutcome}
 use Rattle.cf_outcome.specs.declared.outcome.Outcome.{Outcome}
-use Rattle.cf_desk.specs.declared.calls.Call.{Call}
+use Rattle.cf_model.specs.declared.calls.Call.{Call}
 use Rattle.cf_desk.specs.declared.calls.Joined.{Joined}
 use Rattle.cf_desk.specs.declared.calls.Rec.{Rec}
 use Rattle.cf_desk.specs.declared.calls.Rec.TheVariants.{Did, Saw}
@@ -26,7 +26,7 @@ use Rattle.cf_model.specs.States.{State, lowest_ready_of, outcome_at, start}
 use Rattle.cf_model.specs.Events.{answered, told}
 use Rattle.cf_model.specs.Ranges.{AskFits, EventFits}
 use Rattle.cf_model.proofs.LowestReady.{lowest_ready-within}
-use Rattle.cf_model.specs.Calls.{who_of}
+use Rattle.cf_model.specs.Calls.{event_by, who_of}
 use Rattle.cf_event.specs.Words.{word_of}
 use Rattle.cf_event.specs.Events.{own}
 use Rattle.cf_desk.specs.Log.{IsDeskEvent, AreLogged, state_from, Catches}
@@ -34,7 +34,7 @@ use Rattle.cf_desk.specs.Faults.{AsksStage, AttachFits, IsFitting, IsOnStage}
 use Rattle.cf_model.proofs.Closed.{reached_length}
 use Rattle.cf_event.proofs.Events.{event_at, events_push}
 use Rattle.cf_desk.proofs.Events.{asks_more, fits_more as event_fits_more, names_more, stages_grow_on}
-use Rattle.cf_desk.specs.Calls.{event_by, joined}
+use Rattle.cf_desk.specs.Calls.{joined}
 use Rattle.cf_desk.specs.Records.{Fits}
 use Rattle.cf_desk.specs.Rule.{holds, saw, looked, looks_next, adds_next, finds, longer_if, longest, with_seen, level, AllCatch, AllLogged, head_of, rest_of}
 use Rattle.cf_desk.specs.Views.{known_of, Pass, IsSamePass, state_of, AddedByOther, AddedOwn, IsBetween, Follows, Acts, Reads, Joins, IsOne, Levelled, longer_of}

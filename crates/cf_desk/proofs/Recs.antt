@@ -11,14 +11,13 @@ use Rattle.cf_model.specs.Ranges.{AskFits}
 use Rattle.cf_model.specs.States.{State}
 use Rattle.cf_event.specs.declared.record.Record.{Record}
 use Rattle.cf_event.specs.Histories.{AreRecordsOf}
-use Rattle.cf_model.specs.Calls.{who_of}
+use Rattle.cf_model.specs.Calls.{event_by, who_of}
 use Rattle.cf_event.proofs.Histories.{records_did, records_more, records_none, records_saw}
-use Rattle.cf_desk.specs.declared.calls.Call.{Call}
-use Rattle.cf_desk.specs.declared.calls.Call.TheVariants.{Complete, Fail, Cancel, Claim, Finish, Tick, Attach}
+use Rattle.cf_model.specs.declared.calls.Call.{Call}
+use Rattle.cf_model.specs.declared.calls.Call.TheVariants.{Complete, Fail, Cancel, Claim, Finish, Tick, Attach}
 use Rattle.cf_desk.specs.declared.calls.Rec.{Rec}
 use Rattle.cf_desk.specs.declared.calls.Rec.TheVariants.{Did, Saw}
 use Rattle.cf_desk.specs.Log.{Catches, state_from}
-use Rattle.cf_desk.specs.Calls.{event_by}
 use Rattle.cf_desk.specs.Records.{Fits, record_by, records_by}
 
 -- the fact on the graph that the desk needs: one more event

@@ -2,12 +2,12 @@
 use Rattle.std.proofs.Common.{◌≡◌, ◌⊎◌, ◌+◌, ◌<◌, ◌≤◌, ◌∙◌, ◌∷◌, ◌++◌, [], inl, inr, Bool, true, false, rules, List, length, length-append, sym, ap, arith, subst}
 use Rattle.std.specs.Bool.{IsTrue}
 use Rattle.cf_model.specs.declared.events.Reply.{Reply}
-use Rattle.cf_desk.specs.declared.calls.Call.{Call}
+use Rattle.cf_model.specs.declared.calls.Call.{Call}
 use Rattle.cf_desk.specs.declared.calls.Rec.{Rec}
 use Rattle.cf_desk.specs.declared.calls.Rec.TheVariants.{Did}
 use Rattle.cf_desk.specs.declared.faults.DeskFault.{DeskFault}
 use Rattle.cf_desk.specs.declared.faults.DeskFault.TheVariants.{LogFull}
-use Rattle.cf_desk.specs.Calls.{event_by}
+use Rattle.cf_model.specs.Calls.{event_by}
 use Rattle.cf_desk.specs.Faults.{HasRoom, IsDue, IsFitting, IsOnStage}
 use Rattle.cf_desk.specs.Results.{Answers, CaughtUp, IsRecorded, Refuses}
 use Rattle.cf_desk.specs.Views.{Acts, Desk, Follows, IsSamePass, Pass, SeesFull}

@@ -7,7 +7,7 @@ use Rattle.cf_event.specs.declared.record.Record.TheVariants.{Did as DidSo, Saw 
 use Rattle.cf_event.specs.Histories.{AreRecordsOf, dids as calls_among}
 use Rattle.cf_desk.specs.declared.calls.Rec.{Rec}
 use Rattle.cf_desk.specs.declared.calls.Rec.TheVariants.{Did, Saw}
-use Rattle.cf_desk.specs.Calls.{event_by}
+use Rattle.cf_model.specs.Calls.{event_by}
 
 -- a pass keeps its records without their caller
 abbrev pub record_by : ℕ → Rec → Record

@@ -4,12 +4,12 @@ use Rattle.cf_model.specs.declared.asks.Ask.{Ask}
 use Rattle.cf_model.specs.declared.asks.Ask.TheVariants.{Outcome as AsksOutcome}
 use Rattle.cf_model.specs.declared.asks.Told.{Told}
 use Rattle.cf_model.specs.declared.events.Reply.{Reply}
-use Rattle.cf_desk.specs.declared.calls.Call.{Call}
+use Rattle.cf_model.specs.declared.calls.Call.{Call}
 use Rattle.cf_desk.specs.declared.calls.Joined.{Joined}
 use Rattle.cf_desk.specs.declared.calls.Rec.TheVariants.{Did}
 use Rattle.cf_desk.specs.declared.faults.DeskFault.{DeskFault}
 use Rattle.cf_desk.specs.declared.faults.DeskFault.TheVariants.{LogFull}
-use Rattle.cf_desk.specs.Calls.{event_by}
+use Rattle.cf_model.specs.Calls.{event_by}
 use Rattle.cf_desk.specs.Faults.{AsksStage, HasRoom, IsDue, IsDueToRead, IsFitting, IsOnStage}
 use Rattle.cf_desk.specs.Views.{Acts, Desk, Follows, Joins, LooksFor, LooksOnce, Pass, Reads}
 

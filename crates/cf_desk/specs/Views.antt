@@ -11,13 +11,14 @@ use Rattle.cf_model.specs.declared.events.Event.{Event}
 use Rattle.cf_model.specs.declared.events.Reply.{Reply}
 use Rattle.cf_model.specs.States.{State, claim_at, outcome_at}
 use Rattle.cf_model.specs.Events.{answered, state_at, told}
-use Rattle.cf_desk.specs.declared.calls.Call.{Call}
+use Rattle.cf_model.specs.declared.calls.Call.{Call}
 use Rattle.cf_desk.specs.declared.calls.Joined.{Joined}
 use Rattle.cf_desk.specs.declared.calls.Rec.{Rec}
 use Rattle.cf_desk.specs.declared.calls.Rec.TheVariants.{Did, Saw}
 use Rattle.cf_desk.specs.declared.row.Known.{Known}
 use Rattle.cf_desk.specs.declared.row.Setting.{Setting}
-use Rattle.cf_desk.specs.Calls.{event_by, joined}
+use Rattle.cf_model.specs.Calls.{event_by}
+use Rattle.cf_desk.specs.Calls.{joined}
 use Rattle.cf_event.specs.Events.{own}
 use Rattle.cf_desk.specs.Log.{IsDeskEvent, AreLogged, Catches, state_from}
 use Rattle.cf_desk.specs.Records.{Fits}

@@ -30,8 +30,8 @@ pub mod laws;
 mod pass;
 mod row;
 
-pub use calls::{Call, Closed, Joined, Kept, Rec, event_by};
-pub use cf_model::{Ask, Told};
+pub use calls::{Closed, Joined, Kept, Rec};
+pub use cf_model::{Ask, Call, Told, event_by};
 pub use desk::Desk;
 pub use faults::{CloseFault, DeskFault, OpenFault};
 pub use pass::Pass;

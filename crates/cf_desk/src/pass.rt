@@ -3,17 +3,17 @@ ghost use Rattle.std.specs.Prelude.{◌≡◌, ◌<◌, ◌≤◌, ◌+◌, ◌�
 ghost use Rattle.std.specs.Bool.{OnTrue};
 ghost use Rattle.cf_plan.specs.Plans.{function_at};
 ghost use Rattle.cf_model.specs.States.{lowest_ready_of, outcome_at};
-ghost use Rattle.cf_desk.specs.Calls.{event_by};
+ghost use Rattle.cf_model.specs.Calls.{event_by};
 ghost use Rattle.cf_desk.specs.Faults.{AsksStage, IsFitting, IsOnStage};
 ghost use Rattle.cf_event.specs.Events.{IsFunctionBelow};
 ghost use Rattle.cf_desk.specs.Log.{IsDeskEvent};
 ghost use Rattle.cf_desk.specs.Views.{HoldsClaim, Joins, Reads, state_of};
 
-use crate::calls::{Call, Joined, Rec, joined_as};
+use crate::calls::{Joined, Rec, joined_as};
 use crate::row::View;
 use atomic_table::Seat;
 use cf_core::Graph;
-use cf_model::{Ask, Told};
+use cf_model::{Ask, Call, Told};
 use cf_outcome::Outcome;
 use cf_plan::fits_form;
 use std::marker::Model;

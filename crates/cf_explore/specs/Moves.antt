@@ -17,10 +17,11 @@ use Rattle.cf_model.specs.declared.replies.Claimed.TheVariants as claimed
 use Rattle.cf_model.specs.declared.replies.Attached.TheVariants.{At}
 use Rattle.cf_model.specs.declared.stage.Stage.{Stage}
 use Rattle.cf_model.specs.declared.stage.Stage.TheVariants.{Ready}
+use Rattle.cf_model.specs.declared.calls.Call.{Call}
+use Rattle.cf_model.specs.declared.calls.Call.TheVariants as calls
+use Rattle.cf_model.specs.Calls.{event_by}
 use Rattle.cf_model.specs.States.{State, outcome_at, stage_at}
 use Rattle.cf_model.specs.Events.{answered, claiming, finishing, ticking}
-use Rattle.cf_explore.specs.declared.step.Call.{Call}
-use Rattle.cf_explore.specs.declared.step.Call.TheVariants as calls
 use Rattle.cf_explore.specs.declared.step.Step.{Step}
 use Rattle.cf_explore.specs.declared.step.Step.TheVariants as steps
 use Rattle.cf_explore.specs.declared.step.Hand.{Hand}
@@ -28,16 +29,6 @@ use Rattle.cf_explore.specs.declared.step.Hand.TheVariants as hands
 use Rattle.cf_explore.specs.declared.step.Move.{Move}
 use Rattle.cf_explore.specs.declared.step.Move.TheVariants as moving
 use Rattle.cf_explore.specs.Programs.{Programmed, Situated, hand_at, place_at, step_of}
-
--- the event that a caller's call is
-abbrev pub event_by : ℕ → Call → Event
-event_by who (calls.Complete i v) = events.Complete who i v
-event_by who (calls.Fail i code) = events.Fail who i code
-event_by who (calls.Cancel i) = events.Cancel who i
-event_by who (calls.Claim i) = events.Claim who i
-event_by who (calls.Finish i answer) = events.Finish who i answer
-event_by who (calls.Tick now) = events.Tick who now
-event_by who (calls.Attach form of function) = events.Attach who form of function
 
 -- whether a graph of n stages takes a call: the stages that it names are there, and one that it attaches fits its form
 abbrev pub are_there : ℕ → Of → Bool

@@ -35,5 +35,5 @@ pub use layer::{Entry, Layer};
 pub use program::{Caller, MAX_CALLERS, Program};
 pub use search::Search;
 pub use situation::Situation;
-pub use step::{Call, Hand, Move, Place, Step, event_by};
+pub use step::{Hand, Move, Place, Step};
 pub use trail::Trace;

@@ -9,8 +9,8 @@ ghost use Rattle.cf_explore.specs.Moves.{call_by, caller_moves, claim_answer, cl
 use crate::program::Program;
 use crate::situation::Situation;
 use crate::situation::changes::{next_moment, put_called, put_hand, takes};
-use crate::step::{Call, Hand, Move, Step, event_by};
-use cf_model::{Event, Stage};
+use crate::step::{Hand, Move, Step};
+use cf_model::{Call, Event, Stage, event_by};
 use cf_outcome::Value;
 use cf_plain::Plain;
 use cf_plan::{Answer, Args, Limit, StageFn};

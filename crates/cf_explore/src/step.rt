@@ -1,29 +1,7 @@
 //! What a caller does, and in which moves.
-ghost use Rattle.std.specs.Prelude.{◌≡◌};
-ghost use Rattle.cf_explore.specs.Moves.{event_by, takes};
 
-use cf_model::{Ask, Event};
-use cf_outcome::Value;
-use cf_plan::{Answer, Args, Form, Of};
-
-/// One changing call of a caller.
-#[derive(Clone, Copy, Debug, Drop, PartialEq, Eq)]
-pub enum Call {
-    /// Completes a stage with a value.
-    Complete(u16, Value),
-    /// Fails a stage with a thrown code.
-    Fail(u16, u32),
-    /// Cancels a stage.
-    Cancel(u16),
-    /// Claims a stage. Where that is granted, the caller calls the stage's function.
-    Claim(u16),
-    /// Finishes a stage with what its function answered.
-    Finish(u16, Answer),
-    /// Lets it be this moment, in milliseconds.
-    Tick(u32),
-    /// Attaches a stage of this form to these sources, with this function's number where the form calls one.
-    Attach(Form, Of, Option<u16>),
-}
+use cf_model::{Ask, Call};
+use cf_plan::{Answer, Args};
 
 /// One step of a caller.
 #[derive(Clone, Copy, Debug, Drop, PartialEq, Eq)]
@@ -66,24 +44,4 @@ pub enum Move {
     Finish(u8),
     /// It is the moment of the next unused limit.
     Tick,
-}
-
-/// The event that a caller's call is.
-pub fn event_by(who: u8, call: Call) -> Event
-    ensures { result ≡ event_by who call }
-{
-    match call {
-        Call::Complete(stage, value) => Event::Complete { who, stage, value },
-        Call::Fail(stage, code) => Event::Fail { who, stage, code },
-        Call::Cancel(stage) => Event::Cancel { who, stage },
-        Call::Claim(stage) => Event::Claim { who, stage },
-        Call::Finish(stage, answer) => Event::Finish { who, stage, answer },
-        Call::Tick(moment) => Event::Tick { who, moment },
-        Call::Attach(form, of, function) => Event::Attach {
-            who,
-            form,
-            of,
-            function,
-        },
-    }
 }

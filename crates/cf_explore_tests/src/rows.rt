@@ -1,7 +1,7 @@
 //! What small programs can come to.
 use crate::programs::{Rows, functions_of, program};
-use cf_explore::{Call, Condition, Fact, Found, How, Program, Step, When};
-use cf_model::Ask;
+use cf_explore::{Condition, Fact, Found, How, Program, Step, When};
+use cf_model::{Ask, Call};
 use cf_outcome::Value;
 use cf_plan::{Answer, Form, Limit, LimitKind};
 use std::alloc::Global;

@@ -6,14 +6,13 @@ use Rattle.std.proofs.lemmas.List.Elements.{All-append, All-nil, All-cons, All-h
 use Rattle.cf_plan.specs.Plans.{Planned}
 use Rattle.cf_model.specs.declared.events.Event.{Event}
 use Rattle.cf_model.specs.States.{start}
-use Rattle.cf_model.specs.Calls.{who_of}
+use Rattle.cf_model.specs.Calls.{event_by, who_of}
 use Rattle.cf_event.specs.Words.{IsEvent, word_of}
 use Rattle.cf_event.proofs.WordLemmas.{event_of_is, event_of_own_word}
 use Rattle.cf_desk.specs.declared.calls.Kept.{Kept as KeptPass}
 use Rattle.cf_desk.specs.declared.calls.Rec.{Rec}
 use Rattle.cf_desk.specs.declared.calls.Rec.TheVariants.{Did, Saw}
 use Rattle.cf_desk.specs.declared.row.Setting.{Setting}
-use Rattle.cf_desk.specs.Calls.{event_by}
 use Rattle.cf_desk.specs.Keepings.{IsKeptFit, pass_kept}
 use Rattle.cf_event.specs.Events.{placed}
 use Rattle.cf_desk.specs.Log.{AreLogged}

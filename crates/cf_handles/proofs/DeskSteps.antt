@@ -15,7 +15,7 @@ use Rattle.cf_model.specs.declared.replies.Finished.{Finished}
 use Rattle.cf_model.specs.declared.replies.Finished.TheVariants.{Won, Late, NotYours}
 use Rattle.cf_model.specs.Events.{finished_by, finishing}
 use Rattle.cf_model.specs.States.{State, claim_at, lowest_ready_of, outcome_at}
-use Rattle.cf_desk.specs.declared.calls.Call.TheVariants.{Claim, Finish}
+use Rattle.cf_model.specs.declared.calls.Call.TheVariants.{Claim, Finish}
 use Rattle.cf_desk.specs.Log.{state_from}
 use Rattle.cf_desk.specs.declared.faults.DeskFault.{DeskFault}
 use Rattle.cf_desk.specs.Results.{Answers, Refuses}

@@ -10,8 +10,8 @@ use Rattle.cf_model.specs.declared.replies.Finished.{Finished}
 use Rattle.cf_model.specs.declared.replies.Finished.TheVariants.{Late}
 use Rattle.cf_model.specs.States.{claim_at, lowest_ready_of}
 use Rattle.cf_ledger.specs.declared.step.Held.{Held}
-use Rattle.cf_desk.specs.declared.calls.Call.{Call}
-use Rattle.cf_desk.specs.declared.calls.Call.TheVariants.{Claim, Complete, Finish}
+use Rattle.cf_model.specs.declared.calls.Call.{Call}
+use Rattle.cf_model.specs.declared.calls.Call.TheVariants.{Claim, Complete, Finish}
 use Rattle.cf_desk.specs.declared.faults.DeskFault.{DeskFault}
 use Rattle.cf_desk.specs.Results.{Answers, Refuses}
 use Rattle.cf_desk.specs.Views.{Desk, Follows, HoldsClaim, LooksOnce, Pass, state_of}

@@ -9,8 +9,8 @@ use Rattle.cf_model.specs.declared.asks.Told.{Told}
 use Rattle.cf_model.specs.declared.asks.Told.TheVariants.{Outcome as ToldOutcome, Now as ToldNow}
 use Rattle.cf_model.specs.declared.events.Reply.{Reply}
 use Rattle.cf_model.specs.States.{lowest_ready_of}
-use Rattle.cf_desk.specs.declared.calls.Call.{Call}
-use Rattle.cf_desk.specs.declared.calls.Call.TheVariants.{Attach}
+use Rattle.cf_model.specs.declared.calls.Call.{Call}
+use Rattle.cf_model.specs.declared.calls.Call.TheVariants.{Attach}
 use Rattle.cf_desk.specs.declared.calls.Joined.{Joined}
 use Rattle.cf_desk.specs.declared.calls.Joined.TheVariants.{Value as GotValue, Completion as Fails, Cancellation as Cancels, NotYet}
 use Rattle.cf_desk.specs.declared.faults.DeskFault.{DeskFault}

@@ -13,7 +13,7 @@ use Rattle.cf_event.specs.Words.{word_of}
 use Rattle.cf_desk.specs.declared.calls.Kept.{Kept as KeptPass}
 use Rattle.cf_desk.specs.declared.calls.Rec.{Rec}
 use Rattle.cf_desk.specs.declared.calls.Rec.TheVariants.{Did, Saw}
-use Rattle.cf_desk.specs.Calls.{event_by}
+use Rattle.cf_model.specs.Calls.{event_by}
 use Rattle.cf_desk.specs.Records.{dids}
 use Rattle.cf_handles.specs.Replies.{as_reply, reply_with}
 use Rattle.cf_handles.specs.Values.{as_now, as_outcome, as_value}

@@ -1,7 +1,9 @@
--- Whose calls events are.
+-- Whose calls events are, and which.
 use Rattle.std.specs.Prelude.{ℕ, ◌==◌, Bool, true, false}
 use Rattle.cf_model.specs.declared.events.Event.{Event}
 use Rattle.cf_model.specs.declared.events.Event.TheVariants.{Complete as Completes, Fail as Fails, Cancel as Cancels, Claim as Claims, Finish as Finishes, Tick as Ticks, Attach as Attaches}
+use Rattle.cf_model.specs.declared.calls.Call.{Call}
+use Rattle.cf_model.specs.declared.calls.Call.TheVariants.{Complete, Fail, Cancel, Claim, Finish, Tick, Attach}
 
 -- whether it comes from outside, and is no work: what caller 0 completes, fails, cancels and attaches, and its ticks
 abbrev pub is_from_outside : Event → Bool
@@ -26,3 +28,23 @@ who_of (Claims who i) = who
 who_of (Finishes who i answer) = who
 who_of (Ticks who now) = who
 who_of (Attaches who form of function) = who
+
+-- the event of a caller's call
+abbrev pub event_by : ℕ → Call → Event
+event_by who (Complete i v) = Completes who i v
+event_by who (Fail i code) = Fails who i code
+event_by who (Cancel i) = Cancels who i
+event_by who (Claim i) = Claims who i
+event_by who (Finish i answer) = Finishes who i answer
+event_by who (Tick now) = Ticks who now
+event_by who (Attach form of function) = Attaches who form of function
+
+-- the call that an event is, whoever's it is
+abbrev pub as_call : Event → Call
+as_call (Completes who i v) = Complete i v
+as_call (Fails who i code) = Fail i code
+as_call (Cancels who i) = Cancel i
+as_call (Claims who i) = Claim i
+as_call (Finishes who i answer) = Finish i answer
+as_call (Ticks who now) = Tick now
+as_call (Attaches who form of function) = Attach form of function

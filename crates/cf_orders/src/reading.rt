@@ -7,8 +7,8 @@ use crate::fault::{QuestionFault, Spot};
 use crate::joined::{Joined, joined_of, shared_of};
 use crate::planning::with_shared;
 use crate::question::Question;
-use cf_explore::{Call, Caller, Program, Step};
-use cf_model::{Ask, Event};
+use cf_explore::{Caller, Program, Step};
+use cf_model::{Ask, Call, Event};
 use cf_plan::Plan;
 use cf_reading::{Func, Part, ReadingFault, Script, Step as Said, script_of};
 use serde_json::Value as Json;
@@ -258,25 +258,7 @@ fn step_of(said: Said, join: Option<u16>) -> Option<Step> {
     match (said, join) {
         (Said::Asks(Ask::Outcome(stage)), Some(most)) => Some(Step::Join(stage, most)),
         (Said::Asks(ask), None) => Some(Step::Look(ask)),
-        (Said::Does(event), None) => Some(Step::Do(call_of(event))),
+        (Said::Does(event), None) => Some(Step::Do(Call::of(&event))),
         _ => None,
-    }
-}
-
-/// An event without its caller.
-fn call_of(event: Event) -> Call {
-    match event {
-        Event::Complete { stage, value, .. } => Call::Complete(stage, value),
-        Event::Fail { stage, code, .. } => Call::Fail(stage, code),
-        Event::Cancel { stage, .. } => Call::Cancel(stage),
-        Event::Claim { stage, .. } => Call::Claim(stage),
-        Event::Finish { stage, answer, .. } => Call::Finish(stage, answer),
-        Event::Tick { moment, .. } => Call::Tick(moment),
-        Event::Attach {
-            form,
-            of,
-            function,
-            ..
-        } => Call::Attach(form, of, function),
     }
 }

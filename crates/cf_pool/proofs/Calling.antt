@@ -11,7 +11,7 @@ use Rattle.cf_plan.specs.Plans.{Planned, PlannedStage}
 use Rattle.cf_model.specs.declared.events.Reply.{Reply}
 use Rattle.cf_model.specs.States.{State}
 use Rattle.cf_model.specs.Growth.{Grows}
-use Rattle.cf_desk.specs.declared.calls.Call.TheVariants.{Claim, Finish}
+use Rattle.cf_model.specs.declared.calls.Call.TheVariants.{Claim, Finish}
 use Rattle.cf_desk.specs.declared.calls.Rec.{Rec}
 use Rattle.cf_desk.specs.declared.calls.Rec.TheVariants.{Did}
 use Rattle.cf_desk.specs.Views.{Acts, Follows, Pass, state_of}

@@ -18,13 +18,13 @@ use Rattle.cf_model.proofs.Claimable.{state_after-not_claimable}
 use Rattle.cf_model.proofs.Histories.{claiming-not_claimable, is_pending, ready-claimable, ready-not_pending, state_after-append, state_after-not_pending}
 use Rattle.cf_model.proofs.LowestReady.{lowest_ready-is_ready}
 use Rattle.cf_plan.specs.Meanings.{Meanings, stage_answer}
-use Rattle.cf_desk.specs.declared.calls.Call.{Call}
-use Rattle.cf_desk.specs.declared.calls.Call.TheVariants.{Claim, Finish}
+use Rattle.cf_model.specs.declared.calls.Call.{Call}
+use Rattle.cf_model.specs.declared.calls.Call.TheVariants.{Claim, Finish}
 use Rattle.cf_desk.specs.declared.calls.Rec.{Rec}
 use Rattle.cf_desk.specs.declared.calls.Rec.TheVariants.{Did}
 use Rattle.cf_desk.specs.declared.faults.DeskFault.{DeskFault}
 use Rattle.cf_desk.specs.declared.row.Known.{Known}
-use Rattle.cf_desk.specs.Calls.{event_by}
+use Rattle.cf_model.specs.Calls.{event_by}
 use Rattle.cf_desk.specs.Faults.{HasRoom, IsOnStage}
 use Rattle.cf_desk.specs.Results.{Refuses}
 use Rattle.cf_desk.specs.Views.{Acts, Follows, Pass, Desk, state_of}

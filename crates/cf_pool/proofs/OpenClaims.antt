@@ -27,7 +27,7 @@ use Rattle.cf_model.specs.declared.events.Reply.TheVariants.{Flag as ToldFlag, C
 use Rattle.cf_model.specs.States.{State, start, stage_at, claim_at, outcome_at}
 use Rattle.cf_model.specs.Events.{answered, state_after, claimed_by, finished_by, settled_by, settling, cancelled_by, firing, due_limits, limit_outcome, source_outcome, attached_by}
 use Rattle.cf_model.specs.Calls.{who_of}
-use Rattle.cf_desk.specs.declared.calls.Call.TheVariants.{Claim, Finish}
+use Rattle.cf_model.specs.declared.calls.Call.TheVariants.{Claim, Finish}
 use Rattle.cf_desk.specs.declared.calls.Rec.{Rec}
 use Rattle.cf_desk.specs.declared.calls.Rec.TheVariants.{Did, Saw}
 use Rattle.cf_desk.specs.Keepings.{IsKeptFit, pass_did}

@@ -6,14 +6,13 @@ use Rattle.std.specs.List.{AllZip, Contains, insert}
 use Rattle.std.proofs.lemmas.List.Elements.{All-head, All-tail, All-nil, All-cons, All-contains, Contains-append_cases, Contains-append_left, Contains-append_right}
 use Rattle.cf_model.specs.declared.events.Event.{Event}
 use Rattle.cf_model.specs.States.{State, lowest_ready_of, start}
-use Rattle.cf_model.specs.Calls.{who_of}
-use Rattle.cf_desk.specs.declared.calls.Call.{Call}
+use Rattle.cf_model.specs.Calls.{event_by, who_of}
+use Rattle.cf_model.specs.declared.calls.Call.{Call}
 use Rattle.cf_desk.specs.declared.calls.Closed.{Closed}
 use Rattle.cf_desk.specs.declared.calls.Kept.{Kept}
 use Rattle.cf_desk.specs.declared.faults.DeskFault.{DeskFault}
 use Rattle.cf_desk.specs.declared.faults.DeskFault.TheVariants.{BadAttach, LogFull, NoStage, PassFull}
 use Rattle.cf_desk.specs.declared.row.Known.{Known}
-use Rattle.cf_desk.specs.Calls.{event_by}
 use Rattle.cf_desk.specs.Faults.{AttachFits, IsDue, IsOnStage}
 use Rattle.cf_desk.specs.Keepings.{AllFit, AreKept, IsKeptFit, pass_did, pass_kept}
 use Rattle.cf_desk.specs.Log.{Catches, state_from}

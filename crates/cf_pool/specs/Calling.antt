@@ -8,7 +8,7 @@ use Rattle.cf_plan.specs.declared.forms.Args.{Args}
 use Rattle.cf_plan.specs.Meanings.{Meanings}
 use Rattle.cf_plan.specs.Plans.{PlannedStage, function_at}
 use Rattle.cf_model.specs.Calling.{CallsOf}
-use Rattle.cf_desk.specs.declared.calls.Call.TheVariants.{Finish}
+use Rattle.cf_model.specs.declared.calls.Call.TheVariants.{Finish}
 use Rattle.cf_desk.specs.declared.calls.Rec.{Rec}
 use Rattle.cf_desk.specs.declared.calls.Rec.TheVariants.{Did}
 use Rattle.cf_desk.specs.Views.{Pass}

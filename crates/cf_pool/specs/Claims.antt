@@ -4,7 +4,7 @@ use Rattle.std.specs.List.{Contains}
 use Rattle.cf_model.specs.declared.events.Reply.TheVariants.{Claim as ToldClaim}
 use Rattle.cf_model.specs.declared.replies.Claimed.TheVariants.{Granted}
 use Rattle.cf_model.specs.States.{State, claim_at}
-use Rattle.cf_desk.specs.declared.calls.Call.TheVariants.{Claim, Finish}
+use Rattle.cf_model.specs.declared.calls.Call.TheVariants.{Claim, Finish}
 use Rattle.cf_desk.specs.declared.calls.Rec.{Rec}
 use Rattle.cf_desk.specs.declared.calls.Rec.TheVariants.{Did}
 use Rattle.cf_desk.specs.Views.{Pass}

@@ -3,10 +3,9 @@ use Rattle.std.specs.Prelude.{ℕ, suc, eqb, List, [], ◌∷◌, if◌then◌el
 use Rattle.cf_model.specs.declared.events.Event.{Event}
 use Rattle.cf_model.specs.States.{State}
 use Rattle.cf_model.specs.Events.{answered}
-use Rattle.cf_model.specs.Calls.{who_of}
+use Rattle.cf_model.specs.Calls.{as_call, who_of}
 use Rattle.cf_desk.specs.declared.calls.Rec.{Rec}
 use Rattle.cf_desk.specs.declared.calls.Rec.TheVariants.{Did}
-use Rattle.cf_desk.specs.Calls.{as_call}
 
 -- what the pass of caller c records of these events, the first of which is at place n + 1, after this state
 abbrev pub recorded : ℕ → ℕ → State → List Event → List Rec

@@ -2,10 +2,10 @@
 use Rattle.std.specs.Prelude.{◌≡◌, ℕ, Some, None}
 use Rattle.cf_model.specs.States.{lowest_ready_of}
 use Rattle.cf_plan.specs.Meanings.{Meanings, stage_answer}
-use Rattle.cf_desk.specs.declared.calls.Call.{Call}
-use Rattle.cf_desk.specs.declared.calls.Call.TheVariants.{Claim, Finish}
+use Rattle.cf_model.specs.declared.calls.Call.{Call}
+use Rattle.cf_model.specs.declared.calls.Call.TheVariants.{Claim, Finish}
 use Rattle.cf_desk.specs.declared.faults.DeskFault.{DeskFault}
-use Rattle.cf_desk.specs.Calls.{event_by}
+use Rattle.cf_model.specs.Calls.{event_by}
 use Rattle.cf_desk.specs.Faults.{IsDue, IsOnStage}
 use Rattle.cf_desk.specs.Views.{Desk, Follows, Pass, state_of}
 use Rattle.cf_pool.specs.Works.{Owed, Works, owed_after}

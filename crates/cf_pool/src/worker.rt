@@ -1,8 +1,8 @@
 //! What one worker does with its pass.
 ghost use Rattle.std.specs.Prelude.{◌≡◌, ◌<◌, IfErr, IfOk, IfSome, None, OnOk, Some, length, unwrap_or};
 ghost use Rattle.cf_model.specs.States.{lowest_ready_of};
-ghost use Rattle.cf_desk.specs.declared.calls.Call.TheVariants.{Claim, Finish};
-ghost use Rattle.cf_desk.specs.Calls.{event_by};
+ghost use Rattle.cf_model.specs.declared.calls.Call.TheVariants.{Claim, Finish};
+ghost use Rattle.cf_model.specs.Calls.{event_by};
 ghost use Rattle.cf_desk.specs.Faults.{HasRoom, IsOnStage};
 ghost use Rattle.cf_desk.specs.Views.{Acts, Follows, IsOf, IsSamePass, state_of};
 ghost use Rattle.cf_pool.specs.Calling.{Calls, CallsOnce, RunsStage};

@@ -1,16 +1,15 @@
 //! The call that changes the graph.
 ghost use Rattle.std.specs.Prelude.{◌≡◌, IfErr, IfOk, IsTrue, MatchOption};
-ghost use Rattle.cf_desk.specs.Calls.{event_by};
+ghost use Rattle.cf_model.specs.Calls.{event_by};
 ghost use Rattle.cf_desk.specs.Faults.{HasRoom, IsFitting, IsOnStage};
 ghost use Rattle.cf_desk.specs.Log.{IsDeskEvent};
 ghost use Rattle.cf_desk.specs.Results.{Answers, CaughtUp, IsRecorded, Refuses};
 ghost use Rattle.cf_desk.specs.Views.{Acts, Follows, IsSamePass, SeesFull, state_of};
 
-use crate::calls::Call;
 use crate::desk::Desk;
 use crate::faults::DeskFault;
 use crate::pass::Pass;
-use cf_model::Reply;
+use cf_model::{Call, Reply};
 
 impl Desk {
     /// Does a call of the pass's caller: adds its event to the log and its record to the pass, and gives the reply. The

@@ -2,8 +2,8 @@
 ghost use Rattle.std.specs.Prelude.{◌≡◌, ◌<◌, ◌≤◌, IfErr, IfOk, IfSome, length};
 ghost use Rattle.cf_model.specs.declared.asks.Ask.TheVariants.{Outcome as AsksOutcome};
 ghost use Rattle.cf_model.specs.States.{lowest_ready_of};
-ghost use Rattle.cf_desk.specs.Calls.{event_by};
-ghost use Rattle.cf_desk.specs.declared.calls.Call.TheVariants.{Claim};
+ghost use Rattle.cf_model.specs.Calls.{event_by};
+ghost use Rattle.cf_model.specs.declared.calls.Call.TheVariants.{Claim};
 ghost use Rattle.cf_desk.specs.Faults.{IsOnStage};
 ghost use Rattle.cf_desk.specs.Results.{RefusesToTell, Tells, TellsJoined};
 ghost use Rattle.cf_desk.specs.Views.{Follows, IsSamePass, LooksFor, LooksOnce, Meets, state_of};

@@ -1,18 +1,18 @@
 //! The calls that make single steps on the row.
 ghost use Rattle.std.specs.Prelude.{◌≡◌, ◌<◌, ◌≤◌, length, MatchBool, MatchOption, take};
-ghost use Rattle.cf_desk.specs.Calls.{event_by};
+ghost use Rattle.cf_model.specs.Calls.{event_by};
 ghost use Rattle.cf_desk.specs.Log.{AreLogged, IsDeskEvent, state_from};
 ghost use Rattle.cf_desk.specs.Rule.{looked};
 ghost use Rattle.cf_desk.specs.Views.{AddedByOther, AddedOwn, IsOne, Levelled, known_of, state_of};
 
-use crate::calls::{Call, Rec, event_by};
+use crate::calls::Rec;
 use crate::desk::Desk;
 use crate::pass::Pass;
 use crate::row::{Adds, Finds, KeepsFirst, Levels, Looks, Sits, StandsForBoth, View};
 use atomic_table::Seat;
 use cf_core::Graph;
 use cf_event::{apply, decode, encode};
-use cf_model::Reply;
+use cf_model::{Call, Reply, event_by};
 use std::mem;
 
 impl Desk {

@@ -4,11 +4,12 @@ ghost use Rattle.cf_model.specs.Events.{answered, claiming, finishing, ticking};
 ghost use Rattle.cf_model.specs.States.{outcome_at};
 ghost use Rattle.cf_explore.specs.declared.step.Step.TheVariants.{Join};
 ghost use Rattle.cf_explore.specs.Programs.{hand_at, place_at};
-ghost use Rattle.cf_explore.specs.Moves.{are_there, calling, claim_answer, claim_by, event_by, finish_by, finished, hand_of, is_settled, marked, next_moment, once_more, onward, stepped, takes, ticked};
+ghost use Rattle.cf_model.specs.Calls.{event_by};
+ghost use Rattle.cf_explore.specs.Moves.{are_there, calling, claim_answer, claim_by, finish_by, finished, hand_of, is_settled, marked, next_moment, once_more, onward, stepped, takes, ticked};
 
 use crate::situation::Situation;
-use crate::step::{Call, Hand, Place};
-use cf_model::{Attached, Claimed, Reply};
+use crate::step::{Hand, Place};
+use cf_model::{Attached, Call, Claimed, Reply};
 use cf_outcome::{Cause, Outcome};
 use cf_plain::Plain;
 use cf_plan::{Answer, Of, fits_form};

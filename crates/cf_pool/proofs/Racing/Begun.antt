@@ -12,7 +12,7 @@ use Rattle.cf_model.specs.States.{State, start}
 use Rattle.cf_model.proofs.Shape.{state_after-grows}
 use Rattle.cf_pool.proofs.Working.{more_stages}
 use Rattle.std.proofs.lemmas.Bool.Decides.{nat_tests}
-use Rattle.cf_desk.specs.declared.calls.Call.{Call}
+use Rattle.cf_model.specs.declared.calls.Call.{Call}
 use Rattle.cf_desk.specs.declared.calls.Rec.{Rec}
 use Rattle.cf_desk.specs.declared.calls.Rec.TheVariants.{Did, Saw}
 use Rattle.cf_desk.specs.declared.faults.DeskFault.{DeskFault}
@@ -28,8 +28,7 @@ use Rattle.cf_desk.specs.Rule.{blank, fresh, with_seen}
 use Rattle.cf_desk.specs.Views.{Acts, Follows, IsOf, Pass, Meets, Desk, SeesFull, new_pass, opened, state_of}
 use Rattle.cf_desk.proofs.Events.{fits_more as event_fits_more}
 use Rattle.cf_desk.proofs.Recs.{fits_did, fits_more, fits_new, own_call}
-use Rattle.cf_desk.specs.Calls.{as_call, event_by}
-use Rattle.cf_model.specs.Calls.{is_from_outside}
+use Rattle.cf_model.specs.Calls.{as_call, event_by, is_from_outside}
 use Rattle.cf_pool.specs.Races.{AreSteps, IsStep, race_functions}
 use Rattle.cf_pool.specs.Beginnings.{HasTaken, HaveBegun, IsApart, IsHeldUp, IsIdle, HasDoneSteps}
 

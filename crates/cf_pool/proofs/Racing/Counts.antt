@@ -15,14 +15,13 @@ use Rattle.cf_model.specs.Claims.{claimable_count}
 use Rattle.cf_model.specs.Events.{answered, claiming, state_after}
 use Rattle.cf_model.proofs.Claimable.{answered-claimable, claiming-claimable}
 use Rattle.cf_model.proofs.Shape.{answered-shape}
-use Rattle.cf_model.specs.Calls.{who_of}
+use Rattle.cf_model.specs.Calls.{as_call, who_of}
 use Rattle.cf_plan.specs.Meanings.{Meanings}
-use Rattle.cf_desk.specs.declared.calls.Call.TheVariants.{Complete, Fail, Cancel, Claim, Finish, Tick, Attach}
+use Rattle.cf_model.specs.declared.calls.Call.TheVariants.{Complete, Fail, Cancel, Claim, Finish, Tick, Attach}
 use Rattle.cf_desk.specs.declared.calls.Rec.{Rec}
 use Rattle.cf_desk.specs.declared.calls.Rec.TheVariants.{Did, Saw}
 use Rattle.cf_pool.specs.Counting.{grant_at, total_by}
 use Rattle.cf_pool.specs.Works.{Owed, owed_by, IsNext, AreWork, claims_of}
-use Rattle.cf_desk.specs.Calls.{as_call}
 use Rattle.cf_pool.specs.Records.{recorded}
 use Rattle.cf_pool.proofs.Working.{by_record}
 use Rattle.cf_pool.proofs.Racing.Totals.{total, total_zero, total_most, total_more}

@@ -12,7 +12,7 @@ use Rattle.cf_model.specs.declared.events.Event.TheVariants.{Complete as Complet
 use Rattle.cf_model.specs.declared.events.Reply.{Reply}
 use Rattle.cf_model.specs.declared.events.Reply.TheVariants.{Claim as ToldClaim, Flag as ToldFlag, Finish as ToldFinish, Tick as ToldTick, Attach as ToldAttach}
 use Rattle.cf_model.specs.States.{State}
-use Rattle.cf_model.specs.Calls.{is_attach, who_of}
+use Rattle.cf_model.specs.Calls.{as_call, is_attach, who_of}
 use Rattle.cf_model.specs.Events.{answered, state_after}
 use Rattle.cf_model.proofs.Shape.{answered-shape}
 use Rattle.cf_plan.specs.Meanings.{Meanings, stage_answer}
@@ -21,7 +21,6 @@ use Rattle.cf_expr.proofs.Parts.{granted_with-other}
 use Rattle.cf_desk.specs.declared.calls.Rec.{Rec}
 use Rattle.cf_desk.specs.declared.calls.Rec.TheVariants.{Did}
 use Rattle.cf_pool.specs.Works.{Owed, owed_by, IsNext, AreWork}
-use Rattle.cf_desk.specs.Calls.{as_call}
 use Rattle.cf_pool.specs.Records.{recorded}
 use Rattle.cf_pool.specs.Races.{IsWorkEvent, IsWorkHistory}
 

@@ -8,10 +8,10 @@ use Rattle.cf_model.specs.declared.events.Event.{Event}
 use Rattle.cf_model.specs.declared.events.Reply.{Reply}
 use Rattle.cf_model.specs.States.{State, start}
 use Rattle.cf_model.specs.Events.{answered, state_after, state_at}
-use Rattle.cf_model.specs.Calls.{who_of}
+use Rattle.cf_model.specs.Calls.{as_call, event_by, who_of}
 use Rattle.cf_plan.specs.Meanings.{Meanings}
-use Rattle.cf_desk.specs.declared.calls.Call.{Call}
-use Rattle.cf_desk.specs.declared.calls.Call.TheVariants.{Complete, Fail, Cancel, Claim, Finish, Tick, Attach}
+use Rattle.cf_model.specs.declared.calls.Call.{Call}
+use Rattle.cf_model.specs.declared.calls.Call.TheVariants.{Complete, Fail, Cancel, Claim, Finish, Tick, Attach}
 use Rattle.cf_desk.specs.declared.calls.Rec.{Rec}
 use Rattle.cf_desk.specs.declared.calls.Rec.TheVariants.{Did, Saw}
 use Rattle.cf_event.specs.Events.{placed}
@@ -21,7 +21,6 @@ use Rattle.cf_desk.specs.Records.{dids, Fits, record_by, records_by}
 use Rattle.cf_desk.proofs.Recs.{state_snoc}
 use Rattle.std.specs.Prelude.{Some, None}
 use Rattle.cf_pool.specs.Works.{Owed, AreWork, owed_by}
-use Rattle.cf_desk.specs.Calls.{as_call, event_by}
 use Rattle.cf_pool.specs.Records.{recorded}
 
 -- the changing calls among records

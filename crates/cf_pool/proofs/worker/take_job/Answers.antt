@@ -1,5 +1,5 @@
 use Rattle.std.proofs.Common.{◌∙◌, sym, Some, rules}
-use Rattle.cf_desk.specs.declared.calls.Call.TheVariants.{Claim}
+use Rattle.cf_model.specs.declared.calls.Call.TheVariants.{Claim}
 use Rattle.cf_desk.specs.Faults.{HasRoom}
 use Rattle.cf_desk.specs.Views.{Acts, state_of}
 use Rattle.cf_plan.specs.Meanings.{stage_answer}

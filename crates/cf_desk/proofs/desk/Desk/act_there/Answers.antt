@@ -1,6 +1,6 @@
 use Rattle.std.proofs.Common.{Option, Some, None, ◌≢◌, MatchOption, refl, ◌∙◌}
 use Rattle.cf_model.specs.declared.events.Reply.{Reply}
-use Rattle.cf_desk.specs.declared.calls.Call.{Call}
+use Rattle.cf_model.specs.declared.calls.Call.{Call}
 use Rattle.cf_desk.specs.Views.{Pass, AddedByOther, AddedOwn}
 use Rattle.cf_desk.proofs.Passes.{follows_itself, follows_more, looks_same, still_event}
 use Rattle.cf_desk.proofs.desk.Desk.act_there.Goals as goal

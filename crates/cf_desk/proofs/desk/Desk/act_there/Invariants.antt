@@ -1,5 +1,5 @@
 use Rattle.std.proofs.Common.{◌≡◌, ◌-◌, length}
-use Rattle.cf_desk.specs.Calls.{event_by}
+use Rattle.cf_model.specs.Calls.{event_by}
 use Rattle.cf_desk.specs.Log.{IsDeskEvent}
 use Rattle.cf_desk.specs.Views.{Follows, state_of}
 use Rattle.cf_desk.proofs.desk.Desk.act_there.Given as goal

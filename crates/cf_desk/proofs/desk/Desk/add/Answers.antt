@@ -4,9 +4,8 @@ use Rattle.cf_model.specs.declared.events.Event.{Event}
 use Rattle.cf_model.specs.declared.events.Reply.{Reply}
 use Rattle.cf_model.specs.States.{State}
 use Rattle.cf_model.specs.Events.{answered}
-use Rattle.cf_model.specs.Calls.{who_of}
+use Rattle.cf_model.specs.Calls.{event_by, who_of}
 use Rattle.cf_desk.specs.declared.row.Known.{Known}
-use Rattle.cf_desk.specs.Calls.{event_by}
 use Rattle.cf_desk.specs.Log.{IsDeskEvent}
 use Rattle.cf_desk.specs.Rule.{saw, AddsNext}
 use Rattle.cf_desk.specs.declared.calls.Rec.TheVariants.{Did}
