@@ -1,14 +1,16 @@
 -- Plans whose stages are listed, and one more stage of them.
-use Rattle.std.proofs.Common.{◌≡◌, ℕ, ◌+◌, ◌<◌, ◌∷◌, ◌++◌, [], List, All, Option, None, true, length, length-append, ap, add-one, arith, refl, suc, sym, take, zero, ◌∙◌}
+use Rattle.std.proofs.Common.{◌≡◌, ℕ, ◌+◌, ◌<◌, ◌∷◌, ◌++◌, [], List, All, Option, None, true, length, length-append, ap, add-one, arith, drop, refl, suc, sym, take, zero, ◌∙◌}
 use Rattle.std.specs.Prelude.{is_some}
+use Rattle.std.proofs.Math.Seq.{drop-append_seam, take-append_seam}
 use Rattle.std.proofs.lemmas.List.{take_all}
 use Rattle.cf_plan.specs.declared.forms.Form.{Form}
 use Rattle.cf_plan.specs.declared.forms.Of.{Of}
+use Rattle.cf_plan.specs.declared.limits.Limit.{Limit}
 use Rattle.cf_plan.specs.Plans.{Planned, PlannedStage, and_stage, attached_stage, fits_form, form_at, function_at, plan_of, sources_at, sources_of}
 use Rattle.cf_model.specs.declared.stage.Stage.{Stage}
 use Rattle.cf_model.specs.declared.stage.Stage.TheVariants.{Pending}
 use Rattle.cf_plan.proofs.GrowingLemmas.{growing-and_stage}
-use Rattle.cf_plain.specs.Plains.{IsInStep}
+use Rattle.cf_plain.specs.Plains.{IsInStep, grown}
 
 -- one more of a plan's stages
 take_next : (plan : List PlannedStage) (i : ℕ) → i < length plan →
@@ -52,3 +54,27 @@ in_step-attached plan stages claims used form of function h room fits lower =
       all_claims = both_longer claims plan.stages None new h.all_claims;
       few_used = h.few_used;
     }
+
+-- two plans that have grown alike: with the same stages at their opening, and the same attached
+pub record GrownAlike (a b : Planned) (xs ys : List PlannedStage) (m n : ℕ) : Type 0 where
+  pub stages : a.stages ≡ b.stages
+  pub limits : a.limits ≡ b.limits
+  pub attached : xs ≡ ys
+  pub room : m ≡ n
+
+pub grown_alike : (a b : Planned) (xs ys : List PlannedStage) (m n : ℕ) → grown a xs m ≡ grown b ys n → GrownAlike a b xs ys m n
+grown_alike a b xs ys m n e =
+    let opened : length a.stages ≡ length b.stages = ap (λ (p : Planned). p.opened) e in
+    let all : a.stages ++ xs ≡ b.stages ++ ys = ap (λ (p : Planned). p.stages) e in
+    record {
+      stages = sym (take-append_seam a.stages xs) ∙ ap (λ (l : List PlannedStage). take (length a.stages) l) all ∙ ap (λ (k : ℕ). take k (b.stages ++ ys)) opened ∙ take-append_seam b.stages ys;
+      limits = ap (λ (p : Planned). p.limits) e;
+      attached = sym (drop-append_seam a.stages xs) ∙ ap (λ (l : List PlannedStage). drop (length a.stages) l) all ∙ ap (λ (k : ℕ). drop k (b.stages ++ ys)) opened ∙ drop-append_seam b.stages ys;
+      room = ap (λ (p : Planned). p.room) e;
+    }
+
+pub alike_grown : (a b : Planned) (xs ys : List PlannedStage) (m n : ℕ) → GrownAlike a b xs ys m n → grown a xs m ≡ grown b ys n
+alike_grown a b xs ys m n same =
+    ap (λ (l : List PlannedStage). grown a l m) same.attached ∙ ap (λ (k : ℕ). grown a ys k) same.room
+    ∙ ap (λ (l : List PlannedStage). record { stages = l ++ ys; limits = a.limits; opened = length l; room = n }) same.stages
+    ∙ ap (λ (l : List Limit). record { stages = b.stages ++ ys; limits = l; opened = length b.stages; room = n }) same.limits

@@ -146,7 +146,7 @@ impl Plain {
 
     /// Whether it is the same graph in the same state.
     pub fn is_same(&self, other: &Plain) -> bool
-        ensures { result ≡ true → self.now ≡ other.now }
+        ensures { IsTrue result ↔ (self.now ≡ other.now) }
     {
         if self.moment != other.moment || self.used != other.used {
             return false;
@@ -181,7 +181,7 @@ fn no_claims(alloc: Global, count: usize) -> Result<Vec<Option<u8>>, AllocError>
 
 /// Whether they are the same states.
 fn same_states(a: &[Stage], b: &[Stage]) -> bool
-    ensures { result ≡ true → a.now ≡ b.now }
+    ensures { IsTrue result ↔ (a.now ≡ b.now) }
 {
     if a.len() != b.len() {
         return false;
@@ -196,14 +196,14 @@ fn same_states(a: &[Stage], b: &[Stage]) -> bool
 
 /// Whether it is the same state.
 fn same_state(a: Stage, b: Stage) -> bool
-    ensures { result ≡ true → a ≡ b }
+    ensures { IsTrue result ↔ (a ≡ b) }
 {
     a == b
 }
 
 /// Whether they are the same claims.
 fn same_claims(a: &[Option<u8>], b: &[Option<u8>]) -> bool
-    ensures { result ≡ true → a.now ≡ b.now }
+    ensures { IsTrue result ↔ (a.now ≡ b.now) }
 {
     if a.len() != b.len() {
         return false;

@@ -1,5 +1,5 @@
 //! A plan that grows: the one that it was opened with, and a list of the stages that were attached.
-ghost use Rattle.std.specs.Prelude.{◌≡◌, ◌<◌, true, All, IfOk, OnErr, is_some, length};
+ghost use Rattle.std.specs.Prelude.{◌≡◌, ◌<◌, ◌↔◌, All, IfOk, IsTrue, OnErr, is_some, length, true};
 ghost use Rattle.cf_plan.specs.Plans.{IsGrowing, and_stage, attached_stage, fits_form, form_at, function_at, has_place, sources_at, sources_of, with_room};
 
 use cf_plan::{Form, Limit, Of, Plan};
@@ -136,11 +136,15 @@ impl PlainPlan {
 
     /// Whether it is the same plan.
     pub fn is_same(&self, other: &PlainPlan) -> bool
-        ensures { result ≡ true → self.now ≡ other.now }
+        ensures { IsTrue result ↔ (self.now ≡ other.now) }
     {
-        self.room == other.room
-            && same_plans(&self.opening, &other.opening)
-            && same_stages(&self.attached, &other.attached)
+        if self.room != other.room {
+            return false;
+        }
+        if !same_plans(&self.opening, &other.opening) {
+            return false;
+        }
+        same_stages(&self.attached, &other.attached)
     }
 
     /// Puts a stage behind the others.
@@ -194,7 +198,8 @@ fn copied_stage(alloc: Global, stage: &PlainStage) -> Result<PlainStage, AllocEr
 
 /// Whether it is the same plan.
 fn same_plans(a: &Plan, b: &Plan) -> bool
-    ensures { result ≡ true → a.now ≡ b.now }
+    ensures same { IsTrue result → a.now ≡ b.now }
+    ensures all { a.now.stages ≡ b.now.stages → a.now.limits ≡ b.now.limits → IsTrue result }
 {
     if a.stages() != b.stages() || !same_limits(a.limits(), b.limits()) {
         return false;
@@ -211,16 +216,17 @@ fn same_plans(a: &Plan, b: &Plan) -> bool
 fn same_planned(a: &Plan, b: &Plan, i: u16) -> bool
     requires first { i < length a.now.stages }
     requires other { i < length b.now.stages }
-    ensures form { result ≡ true → form_at a.now.stages i ≡ form_at b.now.stages i }
-    ensures sources { result ≡ true → sources_at a.now.stages i ≡ sources_at b.now.stages i }
-    ensures function { result ≡ true → function_at a.now.stages i ≡ function_at b.now.stages i }
+    ensures form { IsTrue result → form_at a.now.stages i ≡ form_at b.now.stages i }
+    ensures sources { IsTrue result → sources_at a.now.stages i ≡ sources_at b.now.stages i }
+    ensures function { IsTrue result → function_at a.now.stages i ≡ function_at b.now.stages i }
+    ensures all { a.now.stages ≡ b.now.stages → IsTrue result }
 {
     a.form(i) == b.form(i) && a.function(i) == b.function(i) && a.sources(i) == b.sources(i)
 }
 
 /// Whether they are the same limits.
 fn same_limits(a: &[Limit], b: &[Limit]) -> bool
-    ensures { result ≡ true → a.now ≡ b.now }
+    ensures { IsTrue result ↔ (a.now ≡ b.now) }
 {
     if a.len() != b.len() {
         return false;
@@ -235,14 +241,14 @@ fn same_limits(a: &[Limit], b: &[Limit]) -> bool
 
 /// Whether they are the same limit.
 fn same_limit(a: Limit, b: Limit) -> bool
-    ensures { result ≡ true → a ≡ b }
+    ensures { IsTrue result ↔ (a ≡ b) }
 {
     a.stage == b.stage && a.at == b.at && a.kind == b.kind
 }
 
 /// Whether they are the same stages.
 fn same_stages(a: &[PlainStage], b: &[PlainStage]) -> bool
-    ensures { result ≡ true → a.now ≡ b.now }
+    ensures { IsTrue result ↔ (a.now ≡ b.now) }
 {
     if a.len() != b.len() {
         return false;
@@ -257,7 +263,7 @@ fn same_stages(a: &[PlainStage], b: &[PlainStage]) -> bool
 
 /// Whether they are the same stage.
 fn same_stage(a: &PlainStage, b: &PlainStage) -> bool
-    ensures { result ≡ true → a.now ≡ b.now }
+    ensures { IsTrue result ↔ (a.now ≡ b.now) }
 {
     a.form == b.form && a.function == b.function && a.sources.as_slice() == b.sources.as_slice()
 }

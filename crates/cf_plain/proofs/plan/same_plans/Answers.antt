@@ -17,7 +17,7 @@ loop-i-preserved c =
       limits = so_far.limits;
     }
 
-pub returns : goal.returns
-returns c = λ yes.
+pub returns-clause-same : goal.returns-clause-same
+returns-clause-same c = λ yes.
     let so_far = c.loop-i.invariant in
     same_built c.args.a.now c.args.b.now c.loop-i.i so_far.first so_far.other (omega (arith, so_far.so_many)) (omega (arith, so_far.as_many)) so_far.same so_far.limits
