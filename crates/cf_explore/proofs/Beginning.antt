@@ -60,4 +60,5 @@ begun m p conditions search s is added start ends decisions so_many moves whole 
     whole = λ right k le. absurd (false≢true (sym whole ∙ right));
   };
   layer = λ on. subst (λ (k : ℕ). IsLayer m p search.found.trail.items k search.layer.entries.items) (sym moves) (layer-begun m p search.found.trail.items search.layer.entries.items s is added start);
+  on = λ on. whole;
 }

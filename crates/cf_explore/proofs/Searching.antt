@@ -175,6 +175,7 @@ advance-keeps m p conditions k old new found at layer h =
             stand = next-stands m p k old.layer.entries.items new.layer.entries.items layer.stand (h.next on);
             led = h.led on k layer.led;
           });
+      on = h.on;
     }
 
 pub go-on-keeps : (m : Meanings) (p : Programmed) (conditions : List Condition) (old mid new : Search) → old.is_on ≡ true → IsSearch m p conditions old →

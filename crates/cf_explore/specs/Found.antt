@@ -58,14 +58,28 @@ pub record IsFound (m : Meanings) (p : Programmed) (conditions : List Condition)
   pub decisions : AreDecisions m p found.trail.items found.moves conditions found.decisions.items
   pub whole : found.whole ≡ true → (k : ℕ) → found.moves ≤ k → after m p k ≡ []
 
--- a search has found what it says, and while it is on, its layer is the next one
+-- a search has found what it says, and while it is on, its layer is the next one, and not all orders were seen
 pub record IsSearch (m : Meanings) (p : Programmed) (conditions : List Condition) (search : Search) : Type 0 where
   pub found : IsFound m p conditions search.found
   pub layer : search.is_on ≡ true → IsLayer m p search.found.trail.items search.found.moves search.layer.entries.items
+  pub on : search.is_on ≡ true → search.found.whole ≡ false
 
 -- a search that is over has seen all orders, or as many situations as the bound
 abbrev pub IsOver : ℕ → Search → Type 0
 IsOver bound search = search.is_on ≡ false → (search.found.whole ≡ true) ⊎ (bound ≤ length search.found.trail.items)
+
+-- nor has it seen more of them, where the bound is one at all
+abbrev pub IsWithin : ℕ → Search → Type 0
+IsWithin bound search = 0 < bound → length search.found.trail.items ≤ bound
+
+-- a search that is on sees all orders of one move more, of which there are at most 2^32 - 1
+abbrev pub GoesOn : Search → Search → Type 0
+GoesOn old new = old.is_on ≡ true → old.found.moves < 4294967295 → new.found.moves ≡ old.found.moves + 1
+
+-- what is found where a bound is given: all orders, or as many situations as the bound, or all orders of fewer moves than it; never more situations
+pub record IsAsked (bound : ℕ) (found : Found) : Type 0 where
+  pub over : found.whole ≡ false → length found.trail.items < bound → bound ≤ found.moves
+  pub within : 0 < bound → length found.trail.items ≤ bound
 
 -- What one layer brings. Of these situations the first that decides a condition, if one does.
 abbrev pub IsFirst : Programmed → List Entry → ℕ → Condition → Option Witness → Type 0
@@ -130,3 +144,4 @@ pub record IsAdvance (m : Meanings) (p : Programmed) (old new : Search) : Type 0
   pub next : new.is_on ≡ true → IsNext m p old.layer.entries.items new.layer.entries.items
   pub led : new.is_on ≡ true → LeadsOn m p old.found.trail.items new.found.trail.items old.layer.entries.items new.layer.entries.items
   pub whole : new.found.whole ≡ true → (old.found.whole ≡ true) ⊎ IsNext m p old.layer.entries.items []
+  pub on : new.is_on ≡ true → new.found.whole ≡ false

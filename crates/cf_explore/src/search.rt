@@ -4,7 +4,7 @@ ghost use Rattle.cf_plan.specs.Meanings.{Meanings, meanings_of};
 ghost use Rattle.cf_explore.specs.Programs.{Situated};
 ghost use Rattle.cf_explore.specs.Moves.{moved, moves};
 ghost use Rattle.cf_explore.specs.Layers.{IsLonger, IsNext, IsSpread, KeepsLed, LeadsOn, counted, weigh};
-ghost use Rattle.cf_explore.specs.Found.{AreUpdates, IsAdvance, IsFirst, IsFound, IsLook, IsOver, IsSearch, IsUpdate};
+ghost use Rattle.cf_explore.specs.Found.{AreUpdates, GoesOn, IsAdvance, IsAsked, IsFirst, IsFound, IsLook, IsOver, IsSearch, IsUpdate, IsWithin};
 
 use crate::condition::Condition;
 use crate::found::{Found, Witness};
@@ -33,10 +33,11 @@ impl Program {
         conditions: &[Condition],
         bound: u32,
     ) -> Result<Found, AllocError>
-        ensures { IfOk result (λ found. IsFound (meanings_of F.meaning functions.now) self.now conditions.now found) }
+        ensures found { IfOk result (λ found. IsFound (meanings_of F.meaning functions.now) self.now conditions.now found) }
+        ensures asked { IfOk result (IsAsked bound) }
     {
         let mut search = self.begin(alloc, conditions)?;
-        for _ in 0..bound {
+        for turn in 0..bound {
             if !search.is_on {
                 break;
             }
@@ -49,6 +50,8 @@ impl Program {
     pub fn begin(&self, alloc: Global, conditions: &[Condition]) -> Result<Search, AllocError>
         ensures search { IfOk result (λ search. (m : Meanings) → IsSearch m self.now conditions.now search) }
         ensures over { IfOk result (λ search. (bound : ℕ) → IsOver bound search) }
+        ensures within { IfOk result (λ search. (bound : ℕ) → IsWithin bound search) }
+        ensures begins { IfOk result (λ search. search.found.moves ≡ 0) }
     {
         let mut layer = Layer::new(alloc);
         let start = self.start(alloc)?;
@@ -84,6 +87,8 @@ impl Program {
     ) -> Result<(), AllocError>
         ensures search { IsSearch (meanings_of F.meaning functions.now) self.now conditions.now search.old → IfOk result (λ _. IsSearch (meanings_of F.meaning functions.now) self.now conditions.now search.new) }
         ensures over { IsOver bound search.old → IfOk result (λ _. IsOver bound search.new) }
+        ensures within { IsWithin bound search.old → IfOk result (λ _. IsWithin bound search.new) }
+        ensures goes_on { IsSearch (meanings_of F.meaning functions.now) self.now conditions.now search.old → IfOk result (λ _. GoesOn search.old search.new) }
     {
         if search.is_on
             && search.found.moves < u32::MAX
@@ -130,6 +135,7 @@ impl Program {
     ) -> Result<(), AllocError>
         ensures advance { IfOk result (λ _. IsAdvance (meanings_of F.meaning functions.now) self.now search.old search.new) }
         ensures over { IfOk result (λ _. IsOver bound search.new) }
+        ensures within { IsWithin bound search.old → IfOk result (λ _. IsWithin bound search.new) }
     {
         let next = self.next_layer(
             alloc,
@@ -166,6 +172,7 @@ impl Program {
         ensures led { IfOk result (λ made. IfSome made (λ layer. LeadsOn (meanings_of F.meaning functions.now) self.now trail.old.items trail.new.items entries.now layer.entries.items)) }
         ensures longer { IfOk result (λ _. IsLonger trail.old.items trail.new.items) }
         ensures full { IfOk result (λ made. IfNone made (bound ≤ length trail.new.items)) }
+        ensures within { length trail.old.items ≤ bound → IfOk result (λ _. length trail.new.items ≤ bound) }
     {
         let mut next = Layer::new(alloc);
         for entry in entries {
@@ -191,6 +198,7 @@ impl Program {
         ensures led { IfOk result (λ whole. KeepsLed (meanings_of F.meaning functions.now) self.now trail.old.items trail.new.items next.old.entries.items next.new.entries.items entry.now) }
         ensures longer { IfOk result (λ _. IsLonger trail.old.items trail.new.items) }
         ensures full { IfOk result (λ whole. whole ≡ false → bound ≤ length trail.new.items) }
+        ensures within { length trail.old.items ≤ bound → IfOk result (λ _. length trail.new.items ≤ bound) }
     {
         let moves = self.moves(alloc, &entry.situation)?;
         for by in &moves {
@@ -217,6 +225,7 @@ impl Program {
         ensures weighs { IfOk result (λ _. (f : Situated → ℕ) → counted (weigh f next.new.entries.items) ≡ counted (weigh f next.old.entries.items + entry.now.orders * f (moved (meanings_of F.meaning functions.now) self.now entry.now.situation by))) }
         ensures led { IfOk result (λ _. Contains (moves self.now entry.now.situation) by → KeepsLed (meanings_of F.meaning functions.now) self.now trail.old.items trail.new.items next.old.entries.items next.new.entries.items entry.now) }
         ensures longer { IfOk result (λ _. IsLonger trail.old.items trail.new.items) }
+        ensures one { IfOk result (λ _. length trail.new.items ≤ length trail.old.items + 1) }
     {
         let situation = self.moved(alloc, functions, &entry.situation, by)?;
         let number = trail.len() as u32;

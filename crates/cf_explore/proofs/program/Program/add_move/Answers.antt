@@ -1,4 +1,4 @@
-use Rattle.std.proofs.Common.{◌∷◌, [], arith, rules}
+use Rattle.std.proofs.Common.{◌∷◌, [], ap, arith, length, length-append, rules}
 use Rattle.cf_plan.specs.Meanings.{meanings_of}
 use Rattle.cf_explore.specs.declared.trail.Trace.{Trace}
 use Rattle.cf_explore.proofs.Adding.{move-weighs, move-led-old, move-led-new}
@@ -58,3 +58,20 @@ returns-else-new-clause-led g c = λ can.
 
 pub returns-else-new-clause-longer : goal.returns-else-new-clause-longer
 returns-else-new-clause-longer g c = longer-none c.args.trail.now.items
+
+pub returns-in_err-situation-clause-one : goal.returns-in_err-situation-clause-one
+returns-in_err-situation-clause-one g c = search rules
+
+pub returns-in_err-new-clause-one : goal.returns-in_err-new-clause-one
+returns-in_err-new-clause-one g c = search rules
+
+pub returns-in_err-push-clause-one : goal.returns-in_err-push-clause-one
+returns-in_err-push-clause-one g c = search rules
+
+pub returns-in_ok-push-clause-one : goal.returns-in_ok-push-clause-one
+returns-in_ok-push-clause-one g c =
+    let one : Trace = record { before = c.args.entry.now.number; by = c.args.by } in
+    omega (arith, ap length c.in_ok-push.ensures.items, length-append c.args.trail.now.items (one ∷ []))
+
+pub returns-else-new-clause-one : goal.returns-else-new-clause-one
+returns-else-new-clause-one g c = omega arith

@@ -1,6 +1,6 @@
 use Rattle.std.proofs.Common.{◌≡◌, ℕ, List, [], ◌∷◌, Option, Some, true, length, refl, inl, inr, sym, ◌∙◌, subst, arith}
 use Rattle.std.specs.Prelude.{◌==◌, IfSome}
-use Rattle.std.proofs.lemmas.Bool.{eqb-true, false≢true}
+use Rattle.std.proofs.lemmas.Bool.{eqb-true, false≢true, not-true}
 use Rattle.cf_plan.specs.Meanings.{meanings_of}
 use Rattle.cf_explore.specs.declared.layer.Entry.{Entry}
 use Rattle.cf_explore.specs.declared.layer.Layer.{Layer}
@@ -26,6 +26,7 @@ returns-in-None-clause-advance g c = record {
   next = λ wrong. absurd (false≢true wrong);
   led = λ wrong. absurd (false≢true wrong);
   whole = λ w. inl w;
+  on = λ wrong. absurd (false≢true wrong);
 }
 
 pub returns-in-Some-clause-advance : goal.returns-in-Some-clause-advance
@@ -53,4 +54,5 @@ returns-in-Some-clause-advance g c =
           let none = none-there layer.entries.len (sym c.is_empty-whole.ensures ∙ w) in
           let nothing : layer.entries.items ≡ [] = no-entries layer.entries.items (omega (arith, layer.entries.ok.0)) in
           inr (subst (λ (es : List Entry). IsNext m p old.layer.entries.items es) nothing next);
+      on = λ on. not-true _ on;
     }
