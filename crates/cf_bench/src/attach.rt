@@ -1,11 +1,12 @@
 //! Attaching a stage to each stage of a graph of which the first half is settled.
-use crate::shape::{Shape, plan_of};
+use crate::graphs::graph_or_none;
+use crate::shape::{Shape, no_plan, plan_of};
 use crate::times::{Shown, Times};
 use crate::work::{checksum, settle};
-use anyhow::{Result, anyhow};
 use cf_core::Graph;
-use cf_plan::{Form, Of};
+use cf_plan::{Form, Of, Plan};
 use std::alloc::Global;
+use std::io::{Error, Result};
 use std::time::{Clock, Instant};
 
 /// How many stages the graph is opened with, and how many are attached.
@@ -15,14 +16,25 @@ const ROUNDS: u32 = 200;
 
 /// A chain whose first half is settled, with room for as many stages as it has.
 fn half_settled(alloc: Global) -> Result<Graph> {
-    let plan = plan_of(alloc, Shape::Chain, STAGES).map_err(|_| anyhow!("the plan was refused"))?;
-    if plan.stages() > STAGES || plan.edges() > u32::from(STAGES) {
-        return Err(anyhow!("the plan is another one"));
+    match plan_of(alloc, Shape::Chain, STAGES) {
+        Ok(plan) => half_settled_of(alloc, plan),
+        Err(_) => Err(no_plan()),
     }
-    let graph = Graph::new_growing(alloc, plan, STAGES);
-    let mut graph = graph.map_err(|_| anyhow!("no memory for the graph"))?;
+}
+
+fn half_settled_of(alloc: Global, plan: Plan) -> Result<Graph> {
+    let mut graph = roomy(alloc, plan)?;
     settle(&mut graph, Shape::Chain, STAGES / 2);
     Ok(graph)
+}
+
+/// A graph of the chain, with room for as many stages as it has.
+fn roomy(alloc: Global, plan: Plan) -> Result<Graph> {
+    if plan.stages() <= STAGES && plan.edges() <= u32::from(STAGES) {
+        graph_or_none(Graph::new_growing(alloc, plan, STAGES))
+    } else {
+        Err(Error::other("the plan is another one"))
+    }
 }
 
 /// Attaches an apply of each stage that the graph was opened with.
@@ -44,9 +56,14 @@ fn attach_round<R: Clock>(rt: &R, alloc: Global, times: &mut Times) -> Result<()
 
 /// What attaching a stage took.
 pub(crate) fn measured_attach<R: Clock>(rt: &R, alloc: Global) -> Result<Shown> {
-    let mut times = Times::new(alloc, ROUNDS)?;
+    let mut times = Times::new(alloc);
+    attach_rounds(rt, alloc, &mut times)
+}
+
+fn attach_rounds<R: Clock>(rt: &R, alloc: Global, times: &mut Times) -> Result<Shown> {
+    times.reserve(ROUNDS)?;
     for _ in 0..ROUNDS {
-        attach_round(rt, alloc, &mut times)?;
+        attach_round(rt, alloc, times)?;
     }
     Ok(times.a_part(STAGES))
 }

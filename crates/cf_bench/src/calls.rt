@@ -1,16 +1,17 @@
 //! Single calls over a fan-out whose source is completed: of a graph, and of a desk's one caller. And completions of a graph's sources.
 ghost use Rattle.std.specs.Prelude.{◌≡◌, All, IfOk};
 
+use crate::desk::no_desk;
 use crate::graphs::graph_of;
-use crate::shape::{Shape, plan_of};
+use crate::shape::{Shape, no_plan, plan_of};
 use crate::times::{Shown, Times};
-use anyhow::{Result, anyhow};
 use cf_core::Graph;
 use cf_desk::{Ask, Call, Desk, Pass};
 use cf_model::{Claimed, Finished, Reply, Told};
 use cf_outcome::{Outcome, Value};
-use cf_plan::Answer;
+use cf_plan::{Answer, Plan};
 use std::alloc::Global;
+use std::io::{Error, Result};
 use std::time::{Clock, Instant};
 
 /// How many stages the fan-out has: a source, and applies of it.
@@ -27,7 +28,7 @@ const SOURCE: Value = Value::Int(1);
 const GIVEN: Value = Value::Int(2);
 
 /// What a claim, a finish, a question for the lowest ready stage and one for an outcome took.
-#[derive(Clone, Copy, Debug)]
+#[derive(Clone, Copy)]
 pub(crate) struct Calls {
     pub(crate) ready: Shown,
     pub(crate) claim: Shown,
@@ -45,15 +46,20 @@ struct Rounds {
 }
 
 impl Rounds {
-    fn new(alloc: Global) -> Result<Rounds> {
-        let (ready, claim) = two_times(alloc)?;
-        let (finish, outcome) = two_times(alloc)?;
-        Ok(Rounds {
-            ready,
-            claim,
-            finish,
-            outcome,
-        })
+    fn new(alloc: Global) -> Rounds {
+        Rounds {
+            ready: Times::new(alloc),
+            claim: Times::new(alloc),
+            finish: Times::new(alloc),
+            outcome: Times::new(alloc),
+        }
+    }
+
+    fn reserve(&mut self) -> Result<()> {
+        self.ready.reserve(ROUNDS)?;
+        self.claim.reserve(ROUNDS)?;
+        self.finish.reserve(ROUNDS)?;
+        self.outcome.reserve(ROUNDS)
     }
 
     /// What each kind of call took.
@@ -67,18 +73,13 @@ impl Rounds {
     }
 }
 
-fn two_times(alloc: Global) -> Result<(Times, Times)> {
-    let first = Times::new(alloc, ROUNDS)?;
-    let second = Times::new(alloc, ROUNDS)?;
-    Ok((first, second))
-}
-
-/// That as many calls were answered as there are applies.
-fn all_right(right: u16) -> Result<()> {
+/// Notes a round from when it began until now, in which as many calls were to be answered rightly as there are applies.
+fn note<R: Clock>(rt: &R, times: &mut Times, start: Instant, right: u16) -> Result<()> {
+    times.add_since(rt, start)?;
     if right == STAGES - 1 {
         Ok(())
     } else {
-        Err(anyhow!("a call was answered otherwise"))
+        Err(Error::other("a call was answered otherwise"))
     }
 }
 
@@ -131,29 +132,25 @@ fn outcomes_in(graph: &mut Graph) -> u16 {
 fn ready_round<R: Clock>(rt: &R, times: &mut Times, graph: &mut Graph) -> Result<()> {
     let start = Instant::now(rt)?;
     let ready = ready_in(graph);
-    times.add_since(rt, start)?;
-    all_right(ready)
+    note(rt, times, start, ready)
 }
 
 fn claim_round<R: Clock>(rt: &R, times: &mut Times, graph: &mut Graph) -> Result<()> {
     let start = Instant::now(rt)?;
     let claimed = claimed_in(graph);
-    times.add_since(rt, start)?;
-    all_right(claimed)
+    note(rt, times, start, claimed)
 }
 
 fn finish_round<R: Clock>(rt: &R, times: &mut Times, graph: &mut Graph) -> Result<()> {
     let start = Instant::now(rt)?;
     let finished = finished_in(graph);
-    times.add_since(rt, start)?;
-    all_right(finished)
+    note(rt, times, start, finished)
 }
 
 fn outcome_round<R: Clock>(rt: &R, times: &mut Times, graph: &mut Graph) -> Result<()> {
     let start = Instant::now(rt)?;
     let outcomes = outcomes_in(graph);
-    times.add_since(rt, start)?;
-    all_right(outcomes)
+    note(rt, times, start, outcomes)
 }
 
 /// A round of each kind of call.
@@ -170,10 +167,19 @@ fn call_graph<R: Clock>(rt: &R, rounds: &mut Rounds, graph: &mut Graph) -> Resul
 
 /// What each kind of call of a graph took.
 pub(crate) fn measured_graph_calls<R: Clock>(rt: &R, alloc: Global) -> Result<Calls> {
-    let mut rounds = Rounds::new(alloc)?;
     let mut graph = graph_of(alloc, Shape::FanOut, STAGES)?;
+    measured_graph(rt, alloc, &mut graph)
+}
+
+fn measured_graph<R: Clock>(rt: &R, alloc: Global, graph: &mut Graph) -> Result<Calls> {
+    let mut rounds = Rounds::new(alloc);
+    graph_rounds(rt, &mut rounds, graph)
+}
+
+fn graph_rounds<R: Clock>(rt: &R, rounds: &mut Rounds, graph: &mut Graph) -> Result<Calls> {
+    rounds.reserve()?;
     for _ in 0..ROUNDS {
-        call_graph(rt, &mut rounds, &mut graph)?;
+        call_graph(rt, rounds, graph)?;
     }
     Ok(rounds.a_call())
 }
@@ -195,16 +201,24 @@ fn complete_round<R: Clock>(rt: &R, times: &mut Times, graph: &mut Graph) -> Res
     graph.restart();
     let start = Instant::now(rt)?;
     let completed = completed_in(graph);
-    times.add_since(rt, start)?;
-    all_right(completed)
+    note(rt, times, start, completed)
 }
 
 /// What a completion of a source took, of those of an allOf.
 pub(crate) fn measured_completions<R: Clock>(rt: &R, alloc: Global) -> Result<Shown> {
-    let mut times = Times::new(alloc, ROUNDS)?;
     let mut graph = graph_of(alloc, Shape::AllOf, STAGES)?;
+    measured_sources(rt, alloc, &mut graph)
+}
+
+fn measured_sources<R: Clock>(rt: &R, alloc: Global, graph: &mut Graph) -> Result<Shown> {
+    let mut times = Times::new(alloc);
+    complete_rounds(rt, &mut times, graph)
+}
+
+fn complete_rounds<R: Clock>(rt: &R, times: &mut Times, graph: &mut Graph) -> Result<Shown> {
+    times.reserve(ROUNDS)?;
     for _ in 0..ROUNDS {
-        complete_round(rt, &mut times, &mut graph)?;
+        complete_round(rt, times, graph)?;
     }
     Ok(times.a_part(STAGES - 1))
 }
@@ -268,8 +282,7 @@ fn ready_round_on<R: Clock>(rt: &R, times: &mut Times, desk: &Desk, p: &mut Pass
 {
     let start = Instant::now(rt)?;
     let ready = ready_on(desk, p);
-    times.add_since(rt, start)?;
-    all_right(ready)
+    note(rt, times, start, ready)
 }
 
 fn claim_round_on<R: Clock>(rt: &R, times: &mut Times, desk: &Desk, p: &mut Pass) -> Result<()>
@@ -278,8 +291,7 @@ fn claim_round_on<R: Clock>(rt: &R, times: &mut Times, desk: &Desk, p: &mut Pass
 {
     let start = Instant::now(rt)?;
     let claimed = claimed_on(desk, p);
-    times.add_since(rt, start)?;
-    all_right(claimed)
+    note(rt, times, start, claimed)
 }
 
 fn finish_round_on<R: Clock>(rt: &R, times: &mut Times, desk: &Desk, p: &mut Pass) -> Result<()>
@@ -288,8 +300,7 @@ fn finish_round_on<R: Clock>(rt: &R, times: &mut Times, desk: &Desk, p: &mut Pas
 {
     let start = Instant::now(rt)?;
     let finished = finished_on(desk, p);
-    times.add_since(rt, start)?;
-    all_right(finished)
+    note(rt, times, start, finished)
 }
 
 fn outcome_round_on<R: Clock>(rt: &R, times: &mut Times, desk: &Desk, p: &mut Pass) -> Result<()>
@@ -298,8 +309,7 @@ fn outcome_round_on<R: Clock>(rt: &R, times: &mut Times, desk: &Desk, p: &mut Pa
 {
     let start = Instant::now(rt)?;
     let outcomes = outcomes_on(desk, p);
-    times.add_since(rt, start)?;
-    all_right(outcomes)
+    note(rt, times, start, outcomes)
 }
 
 /// A round of each kind of call.
@@ -319,7 +329,7 @@ fn call_first<R: Clock>(rt: &R, rounds: &mut Rounds, desk: &Desk, passes: &mut [
 {
     match passes.first_mut() {
         Some(p) => call_desk(rt, rounds, desk, p),
-        None => Err(anyhow!("the desk has no caller")),
+        None => Err(Error::other("the desk has no caller")),
     }
 }
 
@@ -327,9 +337,19 @@ fn call_first<R: Clock>(rt: &R, rounds: &mut Rounds, desk: &Desk, passes: &mut [
 fn open(alloc: Global) -> Result<(Desk, Vec<Pass>)>
     ensures table { IfOk result (λ r. All (λ p. p.table ≡ r.0.table) r.1.items) }
 {
-    let plan = plan_of(alloc, Shape::FanOut, STAGES);
-    let plan = plan.map_err(|_| anyhow!("the plan was refused"))?;
-    Desk::open(alloc, plan, 1, 2 * STAGES, 3 * STAGES).map_err(|_| anyhow!("the desk was refused"))
+    match plan_of(alloc, Shape::FanOut, STAGES) {
+        Ok(plan) => open_of(alloc, plan),
+        Err(_) => Err(no_plan()),
+    }
+}
+
+fn open_of(alloc: Global, plan: Plan) -> Result<(Desk, Vec<Pass>)>
+    ensures table { IfOk result (λ r. All (λ p. p.table ≡ r.0.table) r.1.items) }
+{
+    match Desk::open(alloc, plan, 1, 2 * STAGES, 3 * STAGES) {
+        Ok(opened) => Ok(opened),
+        Err(_) => Err(no_desk()),
+    }
 }
 
 /// The same of a desk that is opened for it.
@@ -340,9 +360,14 @@ fn call_new_desk<R: Clock>(rt: &R, alloc: Global, rounds: &mut Rounds) -> Result
 
 /// What each kind of call of a desk's one caller took.
 pub(crate) fn measured_desk_calls<R: Clock>(rt: &R, alloc: Global) -> Result<Calls> {
-    let mut rounds = Rounds::new(alloc)?;
+    let mut rounds = Rounds::new(alloc);
+    desk_rounds(rt, alloc, &mut rounds)
+}
+
+fn desk_rounds<R: Clock>(rt: &R, alloc: Global, rounds: &mut Rounds) -> Result<Calls> {
+    rounds.reserve()?;
     for _ in 0..ROUNDS {
-        call_new_desk(rt, alloc, &mut rounds)?;
+        call_new_desk(rt, alloc, rounds)?;
     }
     Ok(rounds.a_call())
 }

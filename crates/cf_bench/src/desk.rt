@@ -1,16 +1,16 @@
 //! Desks over a few stages, opened, used and closed.
-ghost use Rattle.std.specs.Prelude.{◌≡◌, All, length};
+ghost use Rattle.std.specs.Prelude.{◌≡◌, All, length, vec_len};
 ghost use Rattle.cf_desk.specs.Views.{IsOf};
 
-use crate::shape::{Shape, plan_of};
+use crate::shape::{Shape, no_plan, plan_of};
 use crate::times::{Shown, Times};
 use crate::work::{OneMore, checksum};
-use anyhow::{Result, anyhow};
 use cf_desk::{Call, Closed, Desk, Pass};
 use cf_outcome::Value;
 use cf_plan::Plan;
 use cf_pool::{NoGate, Shared, work};
 use std::alloc::Global;
+use std::io::{Error, Result};
 use std::time::{Clock, Instant};
 
 /// How many stages the desk is over: a chain.
@@ -52,23 +52,55 @@ fn use_in_turn(desk: &Desk, passes: &mut [Pass])
 
 /// A desk of the plan, opened for so many callers, used by each and closed.
 fn used(alloc: Global, plan: &Plan, callers: u8) -> Result<Closed> {
-    let plan = plan.copy().map_err(|_| anyhow!("no memory for the plan"))?;
-    let opened = Desk::open(alloc, plan, callers, ROOM, ROOM);
-    let (desk, mut passes) = opened.map_err(|_| anyhow!("the desk was refused"))?;
+    match plan.copy() {
+        Ok(plan) => used_of(alloc, plan, callers),
+        Err(_) => Err(Error::other("no memory for the plan")),
+    }
+}
+
+fn used_of(alloc: Global, plan: Plan, callers: u8) -> Result<Closed> {
+    match Desk::open(alloc, plan, callers, ROOM, ROOM) {
+        Ok((desk, passes)) => closed(desk, passes),
+        Err(_) => Err(no_desk()),
+    }
+}
+
+fn closed(desk: Desk, mut passes: Vec<Pass>) -> Result<Closed>
+    requires all { All (IsOf desk) passes.items }
+    requires count { vec_len passes ≡ desk.setting.callers }
+{
     use_in_turn(&desk, passes.as_mut_slice());
-    desk.close(passes)
-        .map_err(|_| anyhow!("the desk wasn't closed"))
+    match desk.close(passes) {
+        Ok(closed) => Ok(closed),
+        Err(_) => Err(not_closed()),
+    }
+}
+
+pub(crate) fn no_desk() -> Error {
+    Error::other("the desk was refused")
+}
+
+pub(crate) fn not_closed() -> Error {
+    Error::other("the desk wasn't closed")
 }
 
 fn chain(alloc: Global) -> Result<Plan> {
-    plan_of(alloc, Shape::Chain, STAGES).map_err(|_| anyhow!("the plan was refused"))
+    match plan_of(alloc, Shape::Chain, STAGES) {
+        Ok(plan) => Ok(plan),
+        Err(_) => Err(no_plan()),
+    }
 }
 
 /// A checksum of all outcomes of a desk that was used, and the number of its events.
 pub(crate) fn desk_checksum(alloc: Global, callers: u8) -> Result<(u64, usize)> {
     let plan = chain(alloc)?;
-    let mut closed = used(alloc, &plan, callers)?;
-    Ok((checksum(&mut closed.graph, STAGES), closed.history.len()))
+    checksum_of(used(alloc, &plan, callers), STAGES)
+}
+
+/// A checksum of the first outcomes of a closed desk, and the number of its events.
+pub(crate) fn checksum_of(closed: Result<Closed>, stages: u16) -> Result<(u64, usize)> {
+    let mut closed = closed?;
+    Ok((checksum(&mut closed.graph, stages), closed.history.len()))
 }
 
 /// A round of a desk.
@@ -87,9 +119,24 @@ fn use_round<R: Clock>(
 /// What a desk took that was opened of a plan that is there, used and closed, and let go.
 pub(crate) fn measured_desk<R: Clock>(rt: &R, alloc: Global, callers: u8) -> Result<Shown> {
     let plan = chain(alloc)?;
-    let mut times = Times::new(alloc, ROUNDS)?;
+    measured_desk_of(rt, alloc, &plan, callers)
+}
+
+fn measured_desk_of<R: Clock>(rt: &R, alloc: Global, plan: &Plan, callers: u8) -> Result<Shown> {
+    let mut times = Times::new(alloc);
+    use_rounds(rt, alloc, plan, callers, &mut times)
+}
+
+fn use_rounds<R: Clock>(
+    rt: &R,
+    alloc: Global,
+    plan: &Plan,
+    callers: u8,
+    times: &mut Times,
+) -> Result<Shown> {
+    times.reserve(ROUNDS)?;
     for _ in 0..ROUNDS {
-        use_round(rt, alloc, &plan, callers, &mut times)?;
+        use_round(rt, alloc, plan, callers, times)?;
     }
     Ok(times.a_part(1))
 }

@@ -1,6 +1,6 @@
 //! A gate at which threads wait until all of them are there, so that they begin together.
-use anyhow::{Result, anyhow};
 use std::io;
+use std::io::Result;
 use std::sync::atomic::{AtomicU64, Ordering};
 use std::time::{Clock, Duration, Instant};
 
@@ -20,7 +20,7 @@ pub(crate) struct Gate {
 
 impl Gate {
     /// A closed gate for so many threads.
-    pub(crate) fn new<R: Clock>(rt: &R, threads: u8) -> io::Result<Gate> {
+    pub(crate) fn new<R: Clock>(rt: &R, threads: u8) -> Result<Gate> {
         Ok(Gate {
             threads: u64::from(threads),
             since: Instant::now(rt)?,
@@ -66,7 +66,7 @@ impl Gate {
         let opened = self.opened.load(Ordering::SeqCst);
         let ended = self.ended.load(Ordering::SeqCst);
         if opened == 0 || ended < opened {
-            return Err(anyhow!("the threads didn't run together"));
+            return Err(io::Error::other("the threads didn't run together"));
         }
         Ok(Duration::from_nanos(ended - opened))
     }

@@ -33,7 +33,6 @@ mod shape;
 mod times;
 mod work;
 
-use anyhow::Result;
 use args::{Words, read_words};
 use attach::{attach_checksum, measured_attach};
 use calls::{Calls, measured_completions, measured_desk_calls, measured_graph_calls};
@@ -43,6 +42,7 @@ use race::{measured_race, measured_read, race_checksum};
 use script::{measured_json, measured_script, report_checksum, script_text};
 use shape::Shape;
 use std::alloc::Global;
+use std::io::{Error, Result};
 use std::process::ExitCode;
 use std::thread::Threads;
 use std::time::Clock;
@@ -62,8 +62,7 @@ const SHAPES: [Shape; 5] = [
 fn show_sums<R: Print>(rt: &R, alloc: Global, shape: Shape, stages: u16) -> Result<()> {
     let sums = sums_of(alloc, shape, stages)?;
     let (calls, work, again) = (sums.calls, sums.work, sums.again);
-    println!(rt; "{shape} {stages}: checksum {calls}, by work {work}, after a restart {again}")?;
-    Ok(())
+    println!(rt; "{shape} {stages}: checksum {calls}, by work {work}, after a restart {again}")
 }
 
 /// Prints how long a shape takes at a size, from scratch and per request.
@@ -75,14 +74,12 @@ fn show_graphs<R: Clock + Print>(rt: &R, alloc: Global, shape: Shape, stages: u1
 }
 
 fn show_graph<R: Print>(rt: &R, what: &str, shape: Shape, stages: u16, took: Shown) -> Result<()> {
-    println!(rt; "{what} {shape} {stages}: {took}")?;
-    Ok(())
+    println!(rt; "{what} {shape} {stages}: {took}")
 }
 
 /// Prints how long something takes.
 fn show_took<R: Print>(rt: &R, what: &str, took: Shown) -> Result<()> {
-    println!(rt; "{what}: {took}")?;
-    Ok(())
+    println!(rt; "{what}: {took}")
 }
 
 /// Prints what came of a shape at a size: how long it took, or checksums.
@@ -117,8 +114,7 @@ fn show_script_times<R: Clock + Print>(rt: &R, alloc: Global, text: &str) -> Res
 
 fn show_script_sum<R: Print>(rt: &R, alloc: Global, text: &str) -> Result<()> {
     let sum = report_checksum(alloc, text)?;
-    println!(rt; "script: checksum {sum}")?;
-    Ok(())
+    println!(rt; "script: checksum {sum}")
 }
 
 /// The same for stages that are attached.
@@ -132,8 +128,7 @@ fn show_attach<R: Clock + Print>(rt: &R, alloc: Global, timed: bool) -> Result<(
 
 fn show_attach_sum<R: Print>(rt: &R, alloc: Global) -> Result<()> {
     let (stages, sum) = attach_checksum(alloc)?;
-    println!(rt; "attach: {stages} stages, checksum {sum}")?;
-    Ok(())
+    println!(rt; "attach: {stages} stages, checksum {sum}")
 }
 
 /// The same for threads over one desk.
@@ -152,15 +147,13 @@ fn show_race<R: Clock + Print + Threads + Sync>(
 
 /// Prints how long something takes that so many share.
 fn show_shared_time<R: Print>(rt: &R, what: &str, count: u8, took: Shown) -> Result<()> {
-    println!(rt; "{what} {count}: {took}")?;
-    Ok(())
+    println!(rt; "{what} {count}: {took}")
 }
 
 /// Prints the checksum of something that so many share, and its number of events.
 fn show_shared_sum<R: Print>(rt: &R, what: &str, count: u8, gave: (u64, usize)) -> Result<()> {
     let (sum, events) = gave;
-    println!(rt; "{what} {count}: {events} events, checksum {sum}")?;
-    Ok(())
+    println!(rt; "{what} {count}: {events} events, checksum {sum}")
 }
 
 /// The same for a desk over a few stages.
@@ -186,25 +179,33 @@ fn show_calls<R: Print>(rt: &R, of: &str, calls: Calls) -> Result<()> {
 }
 
 fn show_call<R: Print>(rt: &R, of: &str, call: &str, took: Shown) -> Result<()> {
-    println!(rt; "call {of} {call}: {took}")?;
-    Ok(())
+    println!(rt; "call {of} {call}: {took}")
 }
 
 fn show_shapes<R: Clock + Print>(rt: &R, alloc: Global, timed: bool) -> Result<()> {
-    for shape in SHAPES {
-        for stages in SIZES {
-            show_shape(rt, alloc, timed, shape, stages)?;
-        }
+    for shape in &SHAPES {
+        show_sizes(rt, alloc, timed, *shape)?;
     }
     Ok(())
 }
 
-fn show_desks<R: Clock + Print + Threads + Sync>(rt: &R, alloc: Global, timed: bool) -> Result<()> {
-    for threads in [1, 2, 4] {
-        show_race(rt, alloc, timed, threads)?;
+fn show_sizes<R: Clock + Print>(rt: &R, alloc: Global, timed: bool, shape: Shape) -> Result<()> {
+    for stages in &SIZES {
+        show_shape(rt, alloc, timed, shape, *stages)?;
     }
-    for callers in [1, 4] {
-        show_desk(rt, alloc, timed, callers)?;
+    Ok(())
+}
+
+fn show_races<R: Clock + Print + Threads + Sync>(rt: &R, alloc: Global, timed: bool) -> Result<()> {
+    for threads in &[1, 2, 4] {
+        show_race(rt, alloc, timed, *threads)?;
+    }
+    Ok(())
+}
+
+fn show_desks<R: Clock + Print>(rt: &R, alloc: Global, timed: bool) -> Result<()> {
+    for callers in &[1, 4] {
+        show_desk(rt, alloc, timed, *callers)?;
     }
     Ok(())
 }
@@ -214,11 +215,13 @@ fn show_all<R: Clock + Print + Threads + Sync>(rt: &R, alloc: Global, timed: boo
     show_shapes(rt, alloc, timed)?;
     show_script(rt, alloc, timed)?;
     show_attach(rt, alloc, timed)?;
+    show_races(rt, alloc, timed)?;
     show_desks(rt, alloc, timed)?;
     if timed {
-        show_all_calls(rt, alloc)?;
+        show_all_calls(rt, alloc)
+    } else {
+        Ok(())
     }
-    Ok(())
 }
 
 /// How long single calls take.
@@ -229,12 +232,23 @@ fn show_all_calls<R: Clock + Print>(rt: &R, alloc: Global) -> Result<()> {
     show_calls(rt, "desk", measured_desk_calls(rt, alloc)?)
 }
 
-fn main(rt: HostRuntime) -> Result<ExitCode> {
-    match read_words(&rt)? {
-        Words::Nothing(status) => Ok(ExitCode::from(status)),
-        Words::Show { timed } => {
-            show_all(&rt, rt.alloc(), timed)?;
-            Ok(ExitCode::SUCCESS)
-        }
+fn main(rt: HostRuntime) -> ExitCode {
+    match read_words(&rt) {
+        Ok(Words::Show { timed }) => ended(&rt, show_all(&rt, rt.alloc(), timed)),
+        Ok(Words::Nothing(status)) => ExitCode::from(status),
+        Err(fault) => ended(&rt, Err(fault)),
     }
+}
+
+/// The status to end with. It says why not everything was shown.
+fn ended<R: Eprint>(rt: &R, shown: Result<()>) -> ExitCode {
+    match shown {
+        Ok(()) => ExitCode::SUCCESS,
+        Err(fault) => failed(rt, fault),
+    }
+}
+
+fn failed<R: Eprint>(rt: &R, fault: Error) -> ExitCode {
+    let _ = eprintln!(rt; "Error: {fault}");
+    ExitCode::FAILURE
 }

@@ -1,17 +1,17 @@
 //! Threads that complete the same stages through one desk, and reads that find nothing new.
 ghost use Rattle.std.specs.Prelude.{◌≡◌, All, IfOk, length, vec_len};
 
+use crate::desk::{checksum_of, no_desk, not_closed};
 use crate::gate::Gate;
+use crate::shape::no_plan;
 use crate::times::{Shown, Times};
-use crate::work::checksum;
-use anyhow::{Result, anyhow};
 use cf_desk::{Ask, Call, Closed, Desk, Pass};
 use cf_outcome::Value;
 use cf_plan::{Form, Plan, PlanBuilder, PlanFault};
 use std::alloc::Global;
-use std::thread;
 use std::thread::Threads;
 use std::time::{Clock, Duration, Instant};
+use std::{io, thread};
 
 /// How many stages are completed, each by every thread.
 const STAGES: u16 = 4095;
@@ -23,21 +23,34 @@ const READS: u16 = 60_000;
 const ROUNDS: u32 = 300;
 
 /// A plan of sources.
-fn sources(alloc: Global) -> Result<Plan, PlanFault> {
+fn sources(alloc: Global) -> io::Result<Plan> {
     let mut builder = PlanBuilder::new(alloc);
+    if add_sources(&mut builder).is_err() {
+        return Err(no_plan());
+    }
+    match builder.build() {
+        Ok(plan) => Ok(plan),
+        Err(_) => Err(no_plan()),
+    }
+}
+
+fn add_sources(builder: &mut PlanBuilder) -> Result<(), PlanFault> {
     for _ in 0..STAGES {
         builder.stage(Form::Source, &[], None)?;
     }
-    builder.build()
+    Ok(())
 }
 
 /// A desk over sources, and its passes.
-fn open(alloc: Global, callers: u8, log: u16, calls: u16) -> Result<(Desk, Vec<Pass>)>
+fn open(alloc: Global, callers: u8, log: u16, calls: u16) -> io::Result<(Desk, Vec<Pass>)>
     ensures table { IfOk result (λ r. All (λ p. p.table ≡ r.0.table) r.1.items) }
     ensures count { IfOk result (λ r. vec_len r.1 ≡ r.0.setting.callers) }
 {
-    let plan = sources(alloc).map_err(|_| anyhow!("the plan was refused"))?;
-    Ok(Desk::open(alloc, plan, callers, log, calls).map_err(|_| anyhow!("the desk was refused"))?)
+    let plan = sources(alloc)?;
+    match Desk::open(alloc, plan, callers, log, calls) {
+        Ok(opened) => Ok(opened),
+        Err(_) => Err(no_desk()),
+    }
 }
 
 /// Completes each stage with its number.
@@ -75,25 +88,20 @@ fn race<R: Clock + Threads + Sync>(rt: &R, gate: &Gate, desk: &Desk, passes: &mu
     );
 }
 
-/// What the desk holds after a race, and the gate at which its threads met.
-fn raced<R: Clock + Threads + Sync>(rt: &R, alloc: Global, callers: u8) -> Result<(Gate, Closed)> {
-    let gate = Gate::new(rt, callers)?;
-    let closed = raced_through(rt, alloc, &gate, callers)?;
-    Ok((gate, closed))
-}
-
 /// What the desk holds after a race whose threads meet at a gate.
 fn raced_through<R: Clock + Threads + Sync>(
     rt: &R,
     alloc: Global,
     gate: &Gate,
     callers: u8,
-) -> Result<Closed> {
+) -> io::Result<Closed> {
     let log = u16::from(callers).saturating_mul(STAGES);
     let (desk, mut passes) = open(alloc, callers, log, STAGES)?;
     race(rt, gate, &desk, passes.as_mut_slice());
-    desk.close(passes)
-        .map_err(|_| anyhow!("the desk wasn't closed"))
+    match desk.close(passes) {
+        Ok(closed) => Ok(closed),
+        Err(_) => Err(not_closed()),
+    }
 }
 
 /// A sum over the outcomes after a race, and the number of its events.
@@ -101,14 +109,19 @@ pub(crate) fn race_checksum<R: Clock + Threads + Sync>(
     rt: &R,
     alloc: Global,
     callers: u8,
-) -> Result<(u64, usize)> {
-    let (_, mut closed) = raced(rt, alloc, callers)?;
-    Ok((checksum(&mut closed.graph, STAGES), closed.history.len()))
+) -> io::Result<(u64, usize)> {
+    let gate = Gate::new(rt, callers)?;
+    checksum_of(raced_through(rt, alloc, &gate, callers), STAGES)
 }
 
 /// How long the threads of a race took together.
-fn race_time<R: Clock + Threads + Sync>(rt: &R, alloc: Global, callers: u8) -> Result<Duration> {
-    let (gate, _) = raced(rt, alloc, callers)?;
+fn race_time<R: Clock + Threads + Sync>(
+    rt: &R,
+    alloc: Global,
+    callers: u8,
+) -> io::Result<Duration> {
+    let gate = Gate::new(rt, callers)?;
+    drop(raced_through(rt, alloc, &gate, callers)?);
     gate.took()
 }
 
@@ -117,8 +130,18 @@ pub(crate) fn measured_race<R: Clock + Threads + Sync>(
     rt: &R,
     alloc: Global,
     callers: u8,
-) -> Result<Shown> {
-    let mut times = Times::new(alloc, ROUNDS)?;
+) -> io::Result<Shown> {
+    let mut times = Times::new(alloc);
+    race_rounds(rt, alloc, callers, &mut times)
+}
+
+fn race_rounds<R: Clock + Threads + Sync>(
+    rt: &R,
+    alloc: Global,
+    callers: u8,
+    times: &mut Times,
+) -> io::Result<Shown> {
+    times.reserve(ROUNDS)?;
     for _ in 0..ROUNDS {
         times.add(race_time(rt, alloc, callers)?)?;
     }
@@ -145,7 +168,7 @@ fn read_first(desk: &Desk, passes: &mut [Pass])
 }
 
 /// A round of reads.
-fn read_round<R: Clock>(rt: &R, alloc: Global, times: &mut Times) -> Result<()> {
+fn read_round<R: Clock>(rt: &R, alloc: Global, times: &mut Times) -> io::Result<()> {
     let (desk, mut passes) = open(alloc, 1, 1, READS)?;
     let start = Instant::now(rt)?;
     read_first(&desk, passes.as_mut_slice());
@@ -153,10 +176,15 @@ fn read_round<R: Clock>(rt: &R, alloc: Global, times: &mut Times) -> Result<()> 
 }
 
 /// What a read took which found nothing new.
-pub(crate) fn measured_read<R: Clock>(rt: &R, alloc: Global) -> Result<Shown> {
-    let mut times = Times::new(alloc, ROUNDS)?;
+pub(crate) fn measured_read<R: Clock>(rt: &R, alloc: Global) -> io::Result<Shown> {
+    let mut times = Times::new(alloc);
+    read_rounds(rt, alloc, &mut times)
+}
+
+fn read_rounds<R: Clock>(rt: &R, alloc: Global, times: &mut Times) -> io::Result<Shown> {
+    times.reserve(ROUNDS)?;
     for _ in 0..ROUNDS {
-        read_round(rt, alloc, &mut times)?;
+        read_round(rt, alloc, times)?;
     }
     Ok(times.a_part(READS))
 }

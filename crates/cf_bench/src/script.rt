@@ -1,9 +1,9 @@
 //! A script as large as scripts may be, and what running it takes beside reading its bytes as JSON alone.
 use crate::times::{Shown, Times};
-use anyhow::{Result, anyhow};
 use cf_script::run_script;
 use serde_json::Value as Json;
 use std::alloc::{AllocError, Global};
+use std::io;
 use std::time::{Clock, Instant};
 
 const STAGES: u16 = 4096;
@@ -19,14 +19,21 @@ const ROUNDS: u32 = 20;
 /// Sources, and combines of two stages each up to the root; each source is completed, all functions are called, and the
 /// other steps ask for outcomes. It is filled with blanks to 1 MiB.
 pub(crate) fn script_text(alloc: Global) -> Result<String, AllocError> {
-    let mut text = String::with_capacity(alloc, BYTES)?;
+    let mut text = String::new(alloc);
+    match write_script(&mut text) {
+        Ok(()) => Ok(text),
+        Err(refused) => Err(refused),
+    }
+}
+
+fn write_script(text: &mut String) -> Result<(), AllocError> {
+    text.reserve(BYTES)?;
     text.push_str("{\"cf\":1,\"stages\":[")?;
-    write_stages(&mut text)?;
+    write_stages(text)?;
     text.push_str("],\"steps\":[")?;
-    write_steps(&mut text)?;
+    write_steps(text)?;
     text.push_str("]}")?;
-    fill(&mut text)?;
-    Ok(text)
+    fill(text)
 }
 
 fn write_stages(text: &mut String) -> Result<(), AllocError> {
@@ -95,20 +102,27 @@ fn fill(text: &mut String) -> Result<(), AllocError> {
 }
 
 /// The report of a script.
-fn report(alloc: Global, text: &str) -> Result<Vec<u8>> {
+fn report(alloc: Global, text: &str) -> io::Result<Vec<u8>> {
     let mut out = Vec::new(alloc);
     let mut input = text.as_bytes();
-    run_script(alloc, &mut input, &mut out).map_err(|_| anyhow!("the script was refused"))?;
-    Ok(out)
+    match run_script(alloc, &mut input, &mut out) {
+        Ok(()) => Ok(out),
+        Err(_) => Err(io::Error::other("the script was refused")),
+    }
 }
 
 /// A sum over the bytes of the script's report, in which their order counts.
-pub(crate) fn report_checksum(alloc: Global, text: &str) -> Result<u64> {
+pub(crate) fn report_checksum(alloc: Global, text: &str) -> io::Result<u64> {
+    let report = report(alloc, text)?;
+    Ok(sum_of(report.as_slice()))
+}
+
+fn sum_of(bytes: &[u8]) -> u64 {
     let mut sum = 0u64;
-    for byte in report(alloc, text)?.iter() {
+    for byte in bytes {
         sum = sum.wrapping_mul(31).wrapping_add(u64::from(*byte));
     }
-    Ok(sum)
+    sum
 }
 
 /// Reads the bytes as JSON and lets the value go again. It says whether they are JSON.
@@ -118,37 +132,57 @@ fn is_json(alloc: Global, text: &str) -> bool {
 }
 
 /// A round of JSON.
-fn json_round<R: Clock>(rt: &R, alloc: Global, text: &str, times: &mut Times) -> Result<()> {
+fn json_round<R: Clock>(rt: &R, alloc: Global, text: &str, times: &mut Times) -> io::Result<()> {
     let start = Instant::now(rt)?;
     let read = is_json(alloc, text);
     times.add_since(rt, start)?;
     if !read {
-        return Err(anyhow!("the bytes are no JSON"));
+        return Err(io::Error::other("the bytes are no JSON"));
     }
     Ok(())
 }
 
 /// What reading the bytes as JSON and letting the value go again took.
-pub(crate) fn measured_json<R: Clock>(rt: &R, alloc: Global, text: &str) -> Result<Shown> {
-    let mut times = Times::new(alloc, ROUNDS)?;
+pub(crate) fn measured_json<R: Clock>(rt: &R, alloc: Global, text: &str) -> io::Result<Shown> {
+    let mut times = Times::new(alloc);
+    json_rounds(rt, alloc, text, &mut times)
+}
+
+fn json_rounds<R: Clock>(
+    rt: &R,
+    alloc: Global,
+    text: &str,
+    times: &mut Times,
+) -> io::Result<Shown> {
+    times.reserve(ROUNDS)?;
     for _ in 0..ROUNDS {
-        json_round(rt, alloc, text, &mut times)?;
+        json_round(rt, alloc, text, times)?;
     }
     Ok(times.a_part(1))
 }
 
 /// A round of the script.
-fn script_round<R: Clock>(rt: &R, alloc: Global, text: &str, times: &mut Times) -> Result<()> {
+fn script_round<R: Clock>(rt: &R, alloc: Global, text: &str, times: &mut Times) -> io::Result<()> {
     let start = Instant::now(rt)?;
-    report(alloc, text)?;
+    drop(report(alloc, text)?);
     times.add_since(rt, start)
 }
 
 /// What running the script took.
-pub(crate) fn measured_script<R: Clock>(rt: &R, alloc: Global, text: &str) -> Result<Shown> {
-    let mut times = Times::new(alloc, ROUNDS)?;
+pub(crate) fn measured_script<R: Clock>(rt: &R, alloc: Global, text: &str) -> io::Result<Shown> {
+    let mut times = Times::new(alloc);
+    script_rounds(rt, alloc, text, &mut times)
+}
+
+fn script_rounds<R: Clock>(
+    rt: &R,
+    alloc: Global,
+    text: &str,
+    times: &mut Times,
+) -> io::Result<Shown> {
+    times.reserve(ROUNDS)?;
     for _ in 0..ROUNDS {
-        script_round(rt, alloc, text, &mut times)?;
+        script_round(rt, alloc, text, times)?;
     }
     Ok(times.a_part(1))
 }

@@ -2,9 +2,10 @@
 use cf_plan::{Form, Plan, PlanBuilder, PlanFault};
 use std::alloc::Global;
 use std::fmt;
+use std::io::Error;
 
 /// The shape of a graph.
-#[derive(Clone, Copy, Debug, PartialEq, Eq)]
+#[derive(Clone, Copy, PartialEq, Eq)]
 pub(crate) enum Shape {
     /// A source, and behind each stage an apply of it. The source is completed.
     Chain,
@@ -27,7 +28,7 @@ impl fmt::Display for Shape {
             Shape::CombineTree => "combine tree",
             Shape::AllOf => "allOf",
         };
-        write!(f, "{name}")
+        f.write_str(name)
     }
 }
 
@@ -40,25 +41,63 @@ pub(crate) fn sources_of(shape: Shape, stages: u16) -> u16 {
     }
 }
 
+/// That a plan of a shape was refused, which none is but for want of memory.
+pub(crate) fn no_plan() -> Error {
+    Error::other("the plan was refused")
+}
+
 /// The plan of a shape.
 pub(crate) fn plan_of(alloc: Global, shape: Shape, stages: u16) -> Result<Plan, PlanFault> {
     let mut builder = PlanBuilder::with_room(alloc, stages, stages.saturating_mul(2))?;
-    let sources = sources_of(shape, stages);
+    match add_all(alloc, &mut builder, shape, stages) {
+        Ok(()) => builder.build(),
+        Err(fault) => Err(fault),
+    }
+}
+
+fn add_all(
+    alloc: Global,
+    builder: &mut PlanBuilder,
+    shape: Shape,
+    stages: u16,
+) -> Result<(), PlanFault> {
     let mut all = Vec::new(alloc);
+    add_listed(builder, &mut all, shape, stages)
+}
+
+/// Adds all stages, and lists the sources of an allOf.
+fn add_listed(
+    builder: &mut PlanBuilder,
+    all: &mut Vec<u16>,
+    shape: Shape,
+    stages: u16,
+) -> Result<(), PlanFault> {
+    let sources = sources_of(shape, stages);
     if shape == Shape::AllOf {
         all.reserve(sources as usize)?;
     }
     for i in 0..stages {
         if i < sources {
-            builder.stage(Form::Source, &[], None)?;
-            if shape == Shape::AllOf {
-                all.push(i).map_err(|_| PlanFault::NoMemory)?;
-            }
+            add_source(builder, all, shape, i)?;
         } else {
-            add(&mut builder, shape, i, sources, all.as_slice())?;
+            add(builder, shape, i, sources, all.as_slice())?;
         }
     }
-    builder.build()
+    Ok(())
+}
+
+/// Adds a source, and lists it where it is an allOf's.
+fn add_source(
+    builder: &mut PlanBuilder,
+    all: &mut Vec<u16>,
+    shape: Shape,
+    i: u16,
+) -> Result<(), PlanFault> {
+    builder.stage(Form::Source, &[], None)?;
+    if shape == Shape::AllOf {
+        all.push(i)?;
+    }
+    Ok(())
 }
 
 /// Adds stage `i`, which is no source.

@@ -1,7 +1,7 @@
 //! The times of many rounds of the same work.
-use anyhow::Result;
-use std::alloc::{AllocError, Global};
+use std::alloc::Global;
 use std::fmt;
+use std::io::Result;
 use std::time::{Clock, Duration, Instant};
 
 /// How long each round took, in nanoseconds.
@@ -11,15 +11,20 @@ pub(crate) struct Times {
 }
 
 impl Times {
-    /// No times yet, with room for those of so many rounds.
-    pub(crate) fn new(alloc: Global, rounds: u32) -> Result<Times, AllocError> {
-        Ok(Times {
-            rounds: Vec::with_capacity(alloc, rounds as usize)?,
-        })
+    /// No times yet.
+    pub(crate) fn new(alloc: Global) -> Times {
+        Times {
+            rounds: Vec::new(alloc),
+        }
+    }
+
+    /// Makes room for the times of so many rounds.
+    pub(crate) fn reserve(&mut self, rounds: u32) -> Result<()> {
+        Ok(self.rounds.reserve(rounds as usize)?)
     }
 
     /// One more round.
-    pub(crate) fn add(&mut self, took: Duration) -> Result<(), AllocError> {
+    pub(crate) fn add(&mut self, took: Duration) -> Result<()> {
         let nanos = u64::try_from(took.as_nanos()).unwrap_or(u64::MAX);
         Ok(self.rounds.push(nanos)?)
     }
@@ -27,7 +32,7 @@ impl Times {
     /// One more round, from when it began until now.
     pub(crate) fn add_since<R: Clock>(&mut self, rt: &R, start: Instant) -> Result<()> {
         let took = start.elapsed(rt)?;
-        Ok(self.add(took)?)
+        self.add(took)
     }
 
     /// The best and the median of the rounds, each of which did so many parts of work.
@@ -49,7 +54,7 @@ impl Times {
 }
 
 /// What is shown of the times of some rounds, in picoseconds.
-#[derive(Clone, Copy, Debug)]
+#[derive(Clone, Copy)]
 pub(crate) struct Shown {
     best: u64,
     median: u64,

@@ -12,7 +12,7 @@ use cf_plan::{Answer, Args, Each, StageFn};
 const WORKER: u8 = 0;
 
 /// The function of all stages that have one, which the shapes give the number 0.
-#[derive(Clone, Copy, Debug)]
+#[derive(Clone, Copy)]
 pub(crate) struct OneMore;
 
 impl StageFn for OneMore {
