@@ -22,7 +22,7 @@ use Rattle.cf_history.specs.declared.shared.Entry.{Entry}
 use Rattle.cf_history.specs.declared.shared.Entry.TheVariants.{Known, Unanswered}
 use Rattle.cf_history.specs.declared.shared.SharedCaller.{SharedCaller}
 use Rattle.cf_history.specs.declared.shared.SharedHistory.{SharedHistory}
-use Rattle.cf_history.specs.Histories.{AreOutcomesOf, AreRead, FitsOneGraph, callers_from, said}
+use Rattle.cf_history.specs.Histories.{AreOutcomesOf, AreRead, AreWordsOf, FitsOneGraph, callers_from, said}
 use Rattle.cf_history.specs.Shared.{AreAllFilled, Fills, FitsWithSomeReplies, HasGraphsReplies, IsFilled, all_filled, entries_of, filled, records_of, replies_at, replies_from}
 use Rattle.cf_history.proofs.Accounts.{words_fit}
 
@@ -129,7 +129,7 @@ numbered_is : (c : ℕ) (callers : List Caller) → callers_from c callers ≡ n
 numbered_is c [] = refl
 numbered_is c (k ∷ ks) = ap (λ (ys : List (ℕ × List Record)). (c, k.records.items) ∷ ys) (numbered_is (c + 1) ks)
 
-fits_alike : (plan : Planned) (g h : History) → g.functions ≡ h.functions → g.words.items ≡ h.words.items → records_of g.callers.items ≡ records_of h.callers.items →
+pub fits_alike : (plan : Planned) (g h : History) → g.functions ≡ h.functions → g.words.items ≡ h.words.items → records_of g.callers.items ≡ records_of h.callers.items →
     said g ≡ said h → FitsOneGraph plan g → FitsOneGraph plan h
 fits_alike plan g h functions words records outcomes fits =
     let callers : callers_from 0 g.callers.items ≡ callers_from 0 h.callers.items =
@@ -145,21 +145,21 @@ length_of : {X Y : Type 0} (f : X → Y) (xs : List X) → length (map f xs) ≡
 length_of f [] = refl
 length_of f (x ∷ xs) = let r = length_of f xs in omega arith
 
-same_length : (callers : List SharedCaller) (told : List Caller) → AreAllFilled (entries_of callers) (records_of told) → length told ≡ length callers
+pub same_length : (callers : List SharedCaller) (told : List Caller) → AreAllFilled (entries_of callers) (records_of told) → length told ≡ length callers
 same_length [] [] f = refl
 same_length [] (k ∷ ks) f = absurd f
 same_length (x ∷ xs) [] f = absurd f
 same_length (x ∷ xs) (k ∷ ks) f = let r = same_length xs ks f.1 in omega arith
 
--- the events of a history that fits are those of the shared words, and the graph takes them
-taken_of : (plan : Planned) (shared : SharedHistory) (g : History) → Fills shared g → FitsOneGraph plan g →
+-- where the words are those of events, these are those of the shared words, and the graph takes them
+pub taken_words : (plan : Planned) (shared : SharedHistory) (g : History) (events : List Event) → Fills shared g →
+    AreWordsOf (length g.callers.items) g.functions (start plan) g.words.items events →
     AreEventsOf (length shared.callers.items) shared.functions (start plan) (decoded shared.words.items)
-taken_of plan shared g fills fits =
-    let words = words_fit plan g fits in
-    let events : fits.events ≡ decoded shared.words.items = fits.words.read ∙ ap decoded fills.words in
+taken_words plan shared g events fills words =
+    let same : events ≡ decoded shared.words.items = words.read ∙ ap decoded fills.words in
     subst (λ (n : ℕ). AreEventsOf n shared.functions (start plan) (decoded shared.words.items)) (same_length shared.callers.items g.callers.items fills.callers)
     (subst (λ (n : ℕ). AreEventsOf (length g.callers.items) n (start plan) (decoded shared.words.items)) fills.functions
-    (subst (AreEventsOf (length g.callers.items) g.functions (start plan)) events words.taken))
+    (subst (AreEventsOf (length g.callers.items) g.functions (start plan)) same words.taken))
 
 pub fits_as_any : (plan : Planned) (shared : SharedHistory) (h : History) → Fills shared h → HasGraphsReplies plan shared h → FitsOneGraph plan h ↔ FitsWithSomeReplies plan shared
 fits_as_any plan shared h fills replies = (
@@ -171,6 +171,6 @@ fits_as_any plan shared h fills replies = (
       same_all plan some.fits.events 0 (entries_of shared.callers.items) g.callers.items some.fills.callers some.fits.one.each
       ∙ ap (λ (es : List Event). all_filled (replies_at (start plan) es) (entries_of shared.callers.items)) events in
       fits_alike plan g h (some.fills.functions ∙ sym fills.functions) (some.fills.words ∙ sym fills.words)
-      (told ∙ sym (replies (taken_of plan shared g some.fills some.fits)))
+      (told ∙ sym (replies (taken_words plan shared g some.fits.events some.fills (words_fit plan g some.fits))))
       (some.fills.outcomes ∙ sym fills.outcomes) some.fits,
 )

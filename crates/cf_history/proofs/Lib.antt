@@ -9,3 +9,4 @@ pub mod Single
 pub mod Merges
 pub mod Fillings
 pub mod Replies
+pub mod Told

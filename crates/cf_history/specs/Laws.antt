@@ -10,8 +10,10 @@ use Rattle.cf_event.specs.Words.{word_of}
 use Rattle.cf_event.specs.Histories.{IsOneHistory}
 use Rattle.cf_history.specs.declared.history.Caller.{Caller}
 use Rattle.cf_history.specs.declared.history.History.{History}
+use Rattle.cf_history.specs.declared.shared.SharedHistory.{SharedHistory}
 use Rattle.cf_history.specs.declared.verdict.Verdict.{Verdict}
 use Rattle.cf_history.specs.Histories.{AreOutcomesOf, FitsOneGraph, said}
+use Rattle.cf_history.specs.Shared.{IsSharedVerdict}
 use Rattle.cf_history.specs.Verdicts.{IsVerdict}
 
 -- these callers are those of the list, which may stand there in any order, each under its number
@@ -29,6 +31,10 @@ pub record Tells (plan : Planned) (functions : ℕ) (events : List Event) (told 
 -- there is one verdict on a history
 abbrev pub OneVerdict : Type 0
 OneVerdict = (plan : Planned) (h : History) (v w : Verdict) → IsVerdict plan h v → IsVerdict plan h w → v ≡ w
+
+-- and one on what sessions tell
+abbrev pub OneSharedVerdict : Type 0
+OneSharedVerdict = (plan : Planned) (shared : SharedHistory) (v w : Verdict) → IsSharedVerdict plan shared v → IsSharedVerdict plan shared w → v ≡ w
 
 -- where what callers were told is one history, a history that says so fits
 abbrev pub OneHistoriesFit : Type 0

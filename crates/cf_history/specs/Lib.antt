@@ -2,5 +2,5 @@ pub mod Records
 pub mod Histories
 pub mod Verdicts
 pub mod Callers
-pub mod Laws
 pub mod Shared
+pub mod Laws

@@ -19,7 +19,9 @@ use Rattle.cf_history.specs.declared.shared.Entry.TheVariants.{Known, Unanswered
 use Rattle.cf_history.specs.declared.shared.Session.{Session}
 use Rattle.cf_history.specs.declared.shared.SharedCaller.{SharedCaller}
 use Rattle.cf_history.specs.declared.shared.SharedHistory.{SharedHistory}
+use Rattle.cf_history.specs.declared.verdict.Verdict.{Verdict}
 use Rattle.cf_history.specs.Histories.{FitsOneGraph, said}
+use Rattle.cf_history.specs.Verdicts.{IsVerdict}
 
 -- ---- the sessions under one number, as one caller
 
@@ -112,3 +114,10 @@ abbrev pub HasGraphsReplies : Planned → SharedHistory → History → Type 0
 HasGraphsReplies plan shared h =
     AreEventsOf (length shared.callers.items) shared.functions (start plan) (decoded shared.words.items)
     → records_of h.callers.items ≡ all_filled (replies_at (start plan) (decoded shared.words.items)) (entries_of shared.callers.items)
+
+-- What the verdict tells on what sessions tell: it is the one on a history that says the same, with the graph's replies.
+pub record IsSharedVerdict (plan : Planned) (shared : SharedHistory) (verdict : Verdict) : Type 0 where
+  pub history : History
+  pub fills : Fills shared history
+  pub replies : HasGraphsReplies plan shared history
+  pub tells : IsVerdict plan history verdict

@@ -7,7 +7,7 @@ ghost use Rattle.cf_model.specs.declared.events.Reply.TheVariants.{Flag};
 ghost use Rattle.cf_event.specs.Decoding.{decoded};
 ghost use Rattle.cf_event.specs.Events.{AreEventsOf};
 ghost use Rattle.cf_history.specs.Histories.{FitsOneGraph};
-ghost use Rattle.cf_history.specs.Shared.{Fills, FitsWithSomeReplies, HasGraphsReplies, all_filled, entries_of, filled, records_of, replies_at};
+ghost use Rattle.cf_history.specs.Shared.{Fills, FitsWithSomeReplies, HasGraphsReplies, IsSharedVerdict, all_filled, entries_of, filled, records_of, replies_at};
 ghost use Rattle.cf_history.specs.declared.verdict.Verdict.TheVariants.{Fits};
 
 use crate::checking::{check, graph_of};
@@ -32,6 +32,7 @@ pub fn check_shared(
 ) -> Result<Verdict, AllocError>
     requires place { has_place plan.now.stages room ≡ true }
     ensures fits { IfOk result (λ verdict. (verdict ≡ Fits) ↔ FitsWithSomeReplies (with_room plan.now room) shared) }
+    ensures tells { IfOk result (λ verdict. IsSharedVerdict (with_room plan.now room) shared verdict) }
 {
     let history = fill_in(alloc, plan, room, shared)?;
     check(alloc, plan, room, &history)
