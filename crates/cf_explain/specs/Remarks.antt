@@ -13,6 +13,7 @@ use Rattle.cf_explain.specs.declared.remark.Remark.TheVariants as remarks
 use Rattle.cf_explain.specs.Idles.{IsOfStep}
 use Rattle.cf_explain.specs.Limits.{behinds}
 use Rattle.cf_explain.specs.Places.{place_of}
+use Rattle.cf_explain.specs.Sights.{idles}
 
 -- a remark of how a script is written, and of none of its steps and limits
 abbrev pub IsOfWriting : Remark → Type 0
@@ -34,15 +35,16 @@ abbrev pub IsIdleIn : List Step → Remark → Type 0
 IsIdleIn steps (remarks.Idle place why) = IsAtStep steps place place.area why
 IsIdleIn steps remark = ⊥
 
--- the remarks on a script that is read: of how it is written, then of its limits, exactly, and then of its steps
-pub record AreRemarked (d : Data) (steps : List Step) (said : List Remark) : Type 0 where
+-- the remarks on a script that is read: of how it is written, then, exactly, of its limits, and then of its steps
+pub record AreRemarked (d : Data) (s : Script) (said : List Remark) : Type 0 where
   pub written : List Remark
   pub idle : List Remark
   pub all : said ≡ written ++ behinds d ++ idle
   pub of_writing : All IsOfWriting written
-  pub of_steps : All (IsIdleIn steps) idle
+  pub of_steps : All (IsIdleIn s.steps) idle
+  pub exact : idle ≡ idles s
 
 -- the remarks on bytes that are read so, and are this JSON value, if they are one
 abbrev pub AreRemarks : Result Script ReadingFault → Option Data → List Remark → Type 0
-AreRemarks (Ok s) (Some d) said = AreRemarked d s.steps said
+AreRemarks (Ok s) (Some d) said = AreRemarked d s said
 AreRemarks read json said = All IsOfWriting said

@@ -85,7 +85,7 @@ fn remarks_of(
     json: &Json,
     script: Script,
 ) -> Result<Vec<Remark>, AllocError>
-    ensures { IfOk result (λ v. AreRemarked (view json.now) script.steps v.items) }
+    ensures { IfOk result (λ v. AreRemarked (view json.now) script v.items) }
 {
     let mut remarks = Vec::new(alloc);
     remark_written(alloc, bytes, json, &mut remarks)?;

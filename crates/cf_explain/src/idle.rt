@@ -1,8 +1,9 @@
 //! The steps that never do anything.
-ghost use Rattle.std.specs.Prelude.{◌≡◌, All, IfOk, IfSome, OnOk};
-ghost use Rattle.cf_explain.specs.Idles.{IsOfEvent, IsOfStep, not_later};
+ghost use Rattle.std.specs.Prelude.{◌≡◌, ◌++◌, All, IfOk, OnOk, map};
+ghost use Rattle.cf_explain.specs.Idles.{not_later};
 ghost use Rattle.cf_explain.specs.Places.{place_of};
 ghost use Rattle.cf_explain.specs.Remarks.{IsIdleIn};
+ghost use Rattle.cf_explain.specs.Sights.{attached_to, bit_of, claimed_at, claimed_by, finished_at, finished_by, fired_to, idle_by, idle_claim, idle_event, idle_finish, idle_remarks, idles, idles_from, is_any_called, known_at, known_of, put_at, seen_after, seen_by, settled_at, settled_since, sight_of, since, ticked_by, untouched};
 
 use crate::place::{Area, Place};
 use crate::remark::{Idle, Remark};
@@ -10,6 +11,9 @@ use cf_model::Event;
 use cf_plan::{Limit, Plan};
 use cf_reading::{Script, Step};
 use std::alloc::{AllocError, Global};
+
+/// The last position that there is a number for.
+const LAST: usize = u32::MAX as usize;
 
 /// What is known of a stage before a step, whatever its functions answer.
 #[derive(Clone, Copy)]
@@ -34,7 +38,8 @@ struct Seen {
 
 /// What is remarked of the steps of a script that never do anything.
 pub(crate) fn idle_steps(alloc: Global, script: Script) -> Result<Vec<Remark>, AllocError>
-    ensures { IfOk result (λ v. All (IsIdleIn script.steps) v.items) }
+    ensures of_steps { IfOk result (λ v. All (IsIdleIn script.steps) v.items) }
+    ensures exact { IfOk result (λ v. v.items ≡ idles script) }
 {
     let (plan, room, _, steps) = script.into_parts();
     let seen = Seen {
@@ -52,35 +57,25 @@ fn idle_of(
     limits: &[Limit],
     steps: &[Step],
 ) -> Result<Vec<Remark>, AllocError>
-    ensures { IfOk result (λ v. All (IsIdleIn steps.now) v.items) }
+    ensures of_steps { IfOk result (λ v. All (IsIdleIn steps.now) v.items) }
+    ensures exact { IfOk result (λ v. v.items ≡ idles_from limits.now (sight_of seen) 0 steps.now) }
 {
     let mut remarks = Vec::new(alloc);
     'steps: for (k, step) in steps.iter().enumerate() {
-        let Ok(number) = u32::try_from(k) else {
-            break;
-        };
-        remark_step(&seen, steps, number, &mut remarks)?;
-        if let Step::Does(event) = *step {
-            seen.after(limits, event, number)?;
+        if k > LAST {
+            return Ok(remarks);
         }
+        remark_step(&seen, *step, k as u32, &mut remarks)?;
+        seen.after_step(limits, *step, k as u32)?;
     }
     Ok(remarks)
 }
 
 /// Remarks step k, if it is known never to do anything.
-fn remark_step(
-    seen: &Seen,
-    steps: &[Step],
-    k: u32,
-    remarks: &mut Vec<Remark>,
-) -> Result<(), AllocError>
-    requires { All (IsIdleIn steps.now) remarks.old.items }
-    ensures { OnOk result (All (IsIdleIn steps.now) remarks.new.items) }
+fn remark_step(seen: &Seen, step: Step, k: u32, remarks: &mut Vec<Remark>) -> Result<(), AllocError>
+    ensures { OnOk result (remarks.new.items ≡ remarks.old.items ++ idle_remarks k (idle_by (sight_of seen.now) step)) }
 {
-    let Some(step) = steps.get(k as usize) else {
-        return Ok(());
-    };
-    if let Some(why) = seen.idle(*step) {
+    if let Some(why) = seen.idle(step) {
         remarks.push(idle(k, why))?;
     }
     Ok(())
@@ -94,7 +89,9 @@ fn idle(k: u32, why: Idle) -> Remark
 }
 
 /// What is known of the stages of a plan before anything is done.
-fn stages_of(alloc: Global, plan: &Plan) -> Result<Vec<Known>, AllocError> {
+fn stages_of(alloc: Global, plan: &Plan) -> Result<Vec<Known>, AllocError>
+    ensures { IfOk result (λ v. v.items ≡ map known_of plan.now.stages) }
+{
     let mut stages = Vec::new(alloc);
     for i in 0..plan.stages() {
         stages.push(Known::new(plan.function(i).is_some()))?;
@@ -103,22 +100,104 @@ fn stages_of(alloc: Global, plan: &Plan) -> Result<Vec<Known>, AllocError> {
 }
 
 /// The bit of a caller.
-fn bit(who: u8) -> u64 {
+fn bit(who: u8) -> u64
+    ensures { result ≡ bit_of who }
+{
     1u64.wrapping_shl(u32::from(who))
 }
 
+/// Whether some stage has a function.
+fn is_any_called(stages: &[Known]) -> bool
+    ensures { result ≡ is_any_called stages.now }
+{
+    'stages: for known in stages {
+        if known.called {
+            return true;
+        }
+    }
+    false
+}
+
 impl Known {
-    fn new(called: bool) -> Known {
+    fn new(called: bool) -> Known
+        ensures { result ≡ untouched called }
+    {
         Known {
             called,
             settled: None,
             claims: 0,
         }
     }
+
+    /// It is settled since step k at the latest.
+    fn settled(self, k: u32) -> Known
+        ensures { result ≡ settled_since k self }
+    {
+        Known {
+            settled: Some(self.settled.unwrap_or(k)),
+            ..self
+        }
+    }
+
+    /// A caller may have claimed it.
+    fn claimed(self, who: u8) -> Known
+        ensures { result ≡ claimed_by who self }
+    {
+        if self.called && self.settled.is_none() {
+            Known {
+                claims: self.claims | bit(who),
+                ..self
+            }
+        } else {
+            self
+        }
+    }
+
+    /// A caller hasn't claimed it any more.
+    fn finished(self, who: u8) -> Known
+        ensures { result ≡ finished_by who self }
+    {
+        Known {
+            claims: self.claims & !bit(who),
+            ..self
+        }
+    }
+
+    /// That it is settled, if so.
+    fn since(self) -> Option<Idle>
+        ensures { result ≡ since self }
+    {
+        Some(Idle::Settled(self.settled?))
+    }
+
+    /// Why nobody can claim it, if so.
+    fn idle_claim(self) -> Option<Idle>
+        ensures { result ≡ idle_claim self }
+    {
+        if self.called {
+            self.since()
+        } else {
+            Some(Idle::NoFunction)
+        }
+    }
+
+    /// That this caller hasn't claimed it, if so.
+    fn idle_finish(self, who: u8) -> Option<Idle>
+        ensures { result ≡ idle_finish who self }
+    {
+        if self.claims & bit(who) == 0 {
+            Some(Idle::NotClaimed)
+        } else {
+            None
+        }
+    }
 }
 
 impl Seen {
-    fn stage(&self, i: u16) -> Known {
+    /// What is known of a stage.
+    fn stage(&self, i: u16) -> Known
+        ensures { result ≡ known_at self.now.stages.items i }
+    {
         match self.stages.get(i as usize) {
             Some(known) => *known,
             None => Known::new(true),
@@ -127,29 +206,36 @@ impl Seen {
 
     /// Why the step never does anything, if it is known not to.
     fn idle(&self, step: Step) -> Option<Idle>
-        ensures { IfSome result (IsOfStep step) }
+        ensures { result ≡ idle_by (sight_of self.now) step }
     {
         match step {
             Step::Does(event) => self.idle_event(event),
-            Step::Work if !self.stages.iter().any(|known| known.called) => Some(Idle::NoWork),
+            Step::Work => self.idle_work(),
             Step::Nudge(0) => Some(Idle::NoTurn),
-            Step::Work | Step::Nudge(_) | Step::Asks(_) => None,
+            Step::Nudge(_) | Step::Asks(_) => None,
+        }
+    }
+
+    /// That no stage has a function, if so.
+    fn idle_work(&self) -> Option<Idle>
+        ensures { result ≡ idle_by (sight_of self.now) Step.Work }
+    {
+        if is_any_called(&self.stages) {
+            None
+        } else {
+            Some(Idle::NoWork)
         }
     }
 
     fn idle_event(&self, event: Event) -> Option<Idle>
-        ensures { IfSome result (IsOfEvent event) }
+        ensures { result ≡ idle_event (sight_of self.now) event }
     {
         match event {
             Event::Complete { stage, .. }
             | Event::Fail { stage, .. }
-            | Event::Cancel { stage, .. } => Some(Idle::Settled(self.stage(stage).settled?)),
-            Event::Claim { stage, .. } if !self.stage(stage).called => Some(Idle::NoFunction),
-            Event::Claim { stage, .. } => Some(Idle::Settled(self.stage(stage).settled?)),
-            Event::Finish { who, stage, .. } if self.stage(stage).claims & bit(who) == 0 => {
-                Some(Idle::NotClaimed)
-            }
-            Event::Finish { .. } => None,
+            | Event::Cancel { stage, .. } => self.stage(stage).since(),
+            Event::Claim { stage, .. } => self.stage(stage).idle_claim(),
+            Event::Finish { who, stage, .. } => self.stage(stage).idle_finish(who),
             Event::Tick { moment, .. } => self.idle_tick(moment),
             Event::Attach { .. } if self.room == 0 => Some(Idle::NoRoom),
             Event::Attach { .. } => None,
@@ -165,56 +251,93 @@ impl Seen {
         }
     }
 
+    /// Takes step k.
+    fn after_step(&mut self, limits: &[Limit], step: Step, k: u32) -> Result<(), AllocError>
+        ensures { OnOk result (sight_of self.new ≡ seen_by limits.now step k (sight_of self.old)) }
+    {
+        match step {
+            Step::Does(event) => self.after(limits, event, k),
+            _ => Ok(()),
+        }
+    }
+
     /// Takes the event of step k.
-    fn after(&mut self, limits: &[Limit], event: Event, k: u32) -> Result<(), AllocError> {
+    fn after(&mut self, limits: &[Limit], event: Event, k: u32) -> Result<(), AllocError>
+        ensures { OnOk result (sight_of self.new ≡ seen_after limits.now event k (sight_of self.old)) }
+    {
         match event {
             Event::Complete { stage, .. }
             | Event::Fail { stage, .. }
             | Event::Cancel { stage, .. } => self.settle(stage, k),
-            Event::Claim { who, stage } => self.claim(stage, bit(who), true),
-            Event::Finish { who, stage, .. } => self.claim(stage, bit(who), false),
+            Event::Claim { who, stage } => self.claim(stage, who),
+            Event::Finish { who, stage, .. } => self.finish(stage, who),
             Event::Tick { moment, .. } => self.tick(limits, moment, k),
-            Event::Attach { function, .. } => self.attach(function.is_some())?,
+            Event::Attach { function, .. } => return self.attach(function.is_some()),
         }
         Ok(())
     }
 
+    /// Puts down what is known of a stage, if it is there.
+    fn put(&mut self, stage: u16, known: Known)
+        ensures { sight_of self.new ≡ put_at stage known (sight_of self.old) }
+    {
+        let i = stage as usize;
+        if i < self.stages.len() {
+            self.stages[i] = known;
+        }
+    }
+
     /// A stage is settled since step k at the latest.
-    fn settle(&mut self, stage: u16, k: u32) {
-        if let Some(known) = self.stages.get_mut(stage as usize) {
-            if known.settled.is_none() {
-                known.settled = Some(k);
-            }
-        }
+    fn settle(&mut self, stage: u16, k: u32)
+        ensures { sight_of self.new ≡ settled_at stage k (sight_of self.old) }
+    {
+        let known = self.stage(stage).settled(k);
+        self.put(stage, known);
     }
 
-    /// A caller may have claimed a stage, or hasn't claimed it any more.
-    fn claim(&mut self, stage: u16, caller: u64, claims: bool) {
-        if let Some(known) = self.stages.get_mut(stage as usize) {
-            if !claims {
-                known.claims &= !caller;
-            } else if known.called && known.settled.is_none() {
-                known.claims |= caller;
-            }
-        }
+    /// A caller may have claimed a stage.
+    fn claim(&mut self, stage: u16, who: u8)
+        ensures { sight_of self.new ≡ claimed_at stage who (sight_of self.old) }
+    {
+        let known = self.stage(stage).claimed(who);
+        self.put(stage, known);
     }
 
-    fn tick(&mut self, limits: &[Limit], now: u32, k: u32) {
+    /// A caller hasn't claimed a stage any more.
+    fn finish(&mut self, stage: u16, who: u8)
+        ensures { sight_of self.new ≡ finished_at stage who (sight_of self.old) }
+    {
+        let known = self.stage(stage).finished(who);
+        self.put(stage, known);
+    }
+
+    fn tick(&mut self, limits: &[Limit], now: u32, k: u32)
+        ensures { sight_of self.new ≡ ticked_by (not_later self.old.ticked now) limits.now now k (sight_of self.old) }
+    {
         if self.idle_tick(now).is_some() {
             return;
         }
         self.ticked = Some((k, now));
-        for limit in limits {
+        self.fire(limits, now, k);
+    }
+
+    /// The stages of the limits up to this moment are settled.
+    fn fire(&mut self, limits: &[Limit], now: u32, k: u32)
+        ensures { sight_of self.new ≡ fired_to now k limits.now (sight_of self.old) }
+    {
+        'limits: for limit in limits {
             if limit.at <= now {
                 self.settle(limit.stage, k);
             }
         }
     }
 
-    fn attach(&mut self, called: bool) -> Result<(), AllocError> {
+    fn attach(&mut self, called: bool) -> Result<(), AllocError>
+        ensures { OnOk result (sight_of self.new ≡ attached_to called (sight_of self.old)) }
+    {
         if self.room > 0 {
-            self.room -= 1;
             self.stages.push(Known::new(called))?;
+            self.room -= 1;
         }
         Ok(())
     }

@@ -66,28 +66,52 @@ impl fmt::Display for Remark {
                 name,
                 nearest,
             } => unread(f, place, name.as_str(), *nearest),
-            Remark::NoName(place) => {
-                write!(f, "{place}: has to be a text of at most 64 characters")
-            }
-            Remark::NoTitle(place) => write!(f, "{place}: has to be a text"),
-            Remark::NoList(place) => write!(f, "{place}: has to be an array"),
-            Remark::RoomInVersionOne => write!(f, "room: is read with \"cf\": 2 alone"),
-            Remark::ValueOfTimeout(place) => {
-                write!(f, "{place}: is read with the kind \"value\" alone")
-            }
-            Remark::Twice { name, line, column } => write!(
+            Remark::NoName(place) => said(f, place, "has to be a text of at most 64 characters"),
+            Remark::NoTitle(place) => said(f, place, "has to be a text"),
+            Remark::NoList(place) => said(f, place, "has to be an array"),
+            Remark::RoomInVersionOne => f.write_str("room: is read with \"cf\": 2 alone"),
+            Remark::ValueOfTimeout(place) => said(
                 f,
-                "line {line} column {column}: {name:?} is given twice in one object; the last is read"
+                place,
+                "is read with the kind \"value\" alone",
             ),
-            Remark::Behind(place, other) => {
-                write!(
-                    f,
-                    "{place}: never fires, since {other} settles its stage first"
-                )
-            }
-            Remark::Idle(place, why) => write!(f, "{place}: never does anything: {why}"),
+            Remark::Twice { name, line, column } => twice(f, name.as_str(), *line, *column),
+            Remark::Behind(place, other) => never_fires(f, place, other),
+            Remark::Idle(place, why) => never_does(f, place, *why),
         }
     }
+}
+
+/// Writes what is said of a place.
+fn said<W: fmt::Write>(f: &mut fmt::Formatter<W>, place: &Place, text: &str) -> fmt::Result {
+    write!(f, "{place}: {text}")
+}
+
+fn twice<W: fmt::Write>(
+    f: &mut fmt::Formatter<W>,
+    name: &str,
+    line: usize,
+    column: usize,
+) -> fmt::Result {
+    write!(
+        f,
+        "line {line} column {column}: {name:?} is given twice in one object; the last is read"
+    )
+}
+
+fn never_fires<W: fmt::Write>(
+    f: &mut fmt::Formatter<W>,
+    place: &Place,
+    other: &Place,
+) -> fmt::Result {
+    write!(
+        f,
+        "{place}: never fires, since {other} settles its stage first"
+    )
+}
+
+fn never_does<W: fmt::Write>(f: &mut fmt::Formatter<W>, place: &Place, why: Idle) -> fmt::Result {
+    write!(f, "{place}: never does anything: {why}")
 }
 
 fn unread<W: fmt::Write>(
@@ -105,13 +129,13 @@ fn unread<W: fmt::Write>(
 impl fmt::Display for Idle {
     fn fmt<W: fmt::Write>(&self, f: &mut fmt::Formatter<W>) -> fmt::Result {
         match *self {
-            Idle::NoFunction => write!(f, "its stage calls no function, so nobody can claim it"),
+            Idle::NoFunction => f.write_str("its stage calls no function, so nobody can claim it"),
             Idle::Settled(k) => write!(f, "its stage is settled since steps[{k}]"),
-            Idle::NotClaimed => write!(f, "its caller hasn't claimed the stage"),
+            Idle::NotClaimed => f.write_str("its caller hasn't claimed the stage"),
             Idle::NotLater(k) => write!(f, "steps[{k}] was as late or later"),
-            Idle::NoWork => write!(f, "no stage calls a function"),
-            Idle::NoRoom => write!(f, "there is no room for a stage more"),
-            Idle::NoTurn => write!(f, "it does no turn"),
+            Idle::NoWork => f.write_str("no stage calls a function"),
+            Idle::NoRoom => f.write_str("there is no room for a stage more"),
+            Idle::NoTurn => f.write_str("it does no turn"),
         }
     }
 }
