@@ -1,7 +1,7 @@
 -- The remarks on steps.
-use Rattle.std.proofs.Common.{◌≡◌, ℕ, zero, suc, ◌+◌, ◌<◌, ◌≤◌, Bool, true, false, List, [], ◌∷◌, ◌++◌, All, None, Option, Some, ap, append-nil, append_assoc, arith, cond, drop, eqb, is_some, length, map, refl, subst, sym, take, ◌∙◌}
+use Rattle.std.proofs.Common.{◌≡◌, ℕ, zero, suc, ◌+◌, ◌<◌, ◌≤◌, Bool, true, false, List, [], ◌∷◌, ◌++◌, All, None, Option, Some, ap, append-nil, arith, drop, is_some, length, map, refl, subst, sym, take, ◌∙◌}
 use Rattle.std.specs.Prelude.{nat_le, nat_lt, slice_get, if◌then◌else◌, ◌==◌, option_map}
-use Rattle.std.proofs.lemmas.Bool.{eqb-true, le-ltb, lt-ltb}
+use Rattle.std.proofs.lemmas.Bool.{eqb-true, le-ltb}
 use Rattle.std.proofs.lemmas.List.{drop_all}
 use Rattle.std.proofs.lemmas.List.Elements.{All-append, All-cons, All-nil}
 use Rattle.std.proofs.lemmas.Option.{none-some, same_Some}
@@ -20,7 +20,7 @@ use Rattle.cf_explain.specs.declared.remark.Remark.TheVariants as remarks
 use Rattle.cf_explain.specs.Idles.{IsOfEvent, IsOfStep, not_later}
 use Rattle.cf_explain.specs.Places.{place_of}
 use Rattle.cf_explain.specs.Remarks.{IsIdleIn, IsOfThat}
-use Rattle.cf_explain.specs.Sights.{Sight, bit_of, idle_by, idle_claim, idle_event, idle_finish, idle_remarks, idles_from, is_any_called, known_at, known_of, seen_by, since, unclaimed, untouched}
+use Rattle.cf_explain.specs.Sights.{Sight, idle_by, idle_event, idle_remarks, idles_from, is_any_called, known_at, known_of, seen_by, since, unclaimed, untouched}
 
 -- ---- a reason is one that steps of its kind have
 

@@ -1,5 +1,5 @@
 -- What is known of a script's stages before a step, whatever their functions answer, and which steps then never do anything.
-use Rattle.std.specs.Prelude.{ℕ, ◌+◌, ◌-◌, ◌*◌, ◌/◌, ◌%◌, ◌^◌, Bool, true, false, ◌&&◌, ◌==◌, nat_lt, nat_le, if◌then◌else◌, Option, None, Some, is_some, is_none, unwrap_or, option_map, slice_get, slice_set, List, [], ◌∷◌, ◌++◌, map, bit_and, bit_or}
+use Rattle.std.specs.Prelude.{ℕ, ◌+◌, ◌-◌, ◌*◌, ◌%◌, ◌^◌, Bool, true, ◌&&◌, ◌==◌, nat_lt, nat_le, if◌then◌else◌, Option, None, Some, is_some, is_none, unwrap_or, option_map, slice_get, slice_set, List, [], ◌∷◌, ◌++◌, map, bit_and, bit_or}
 use Rattle.std.specs.Int.{bit_not, w64}
 use Rattle.std.specs.List.{list_any}
 use Rattle.cf_plan.specs.declared.limits.Limit.{Limit}
