@@ -1,9 +1,10 @@
 //! What a call gave, or why it gave nothing.
 use cf_command::CommandFault;
 use cf_core::GraphFault;
-use cf_desk::{CloseFault, OpenFault};
+use cf_desk::OpenFault;
 use cf_plan::PlanFault;
-use std::fmt;
+use std::fmt::Debug;
+use std::io;
 
 /// Why a call gave nothing.
 #[derive(Clone, Copy)]
@@ -18,10 +19,9 @@ pub(crate) enum Want {
 #[derive(Clone, Copy)]
 pub(crate) struct Numbers(pub(crate) usize, pub(crate) usize, pub(crate) usize);
 
-impl fmt::Display for Numbers {
-    fn fmt<W: fmt::Write>(&self, f: &mut fmt::Formatter<W>) -> fmt::Result {
-        write!(f, "{}, {}, {}", self.0, self.1, self.2)
-    }
+/// Prints what a call told, on a line of its own below the name of what it stands in.
+pub(crate) fn show_told<R: Print, T: Debug>(rt: &R, told: &T) -> io::Result<()> {
+    println!(rt; "  {told:?}")
 }
 
 impl From<PlanFault> for Want {
@@ -47,12 +47,6 @@ impl From<OpenFault> for Want {
             OpenFault::NoMemory => Want::Memory,
             _ => Want::Other,
         }
-    }
-}
-
-impl From<CloseFault> for Want {
-    fn from(_: CloseFault) -> Want {
-        Want::Other
     }
 }
 

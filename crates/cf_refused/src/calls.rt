@@ -1,13 +1,13 @@
 //! Calls of a graph, which take no memory once it is opened, and the words of its events.
+use crate::answers::show_told;
 use crate::graphs::Four;
-use crate::rows::source_and_apply;
-use anyhow::Result;
 use cf_core::Graph;
 use cf_event::{decode, encode, is_event};
 use cf_model::{Event, Reply};
 use cf_outcome::Value;
 use cf_plan::{Answer, Each, Form, Of, Plan};
 use std::alloc::Global;
+use std::io;
 
 /// One event of each kind, and what comes of each in the order in which they stand.
 const EVENTS: [Event; 8] = [
@@ -45,24 +45,30 @@ const EVENTS: [Event; 8] = [
 
 /// Prints what a graph answers to each event, whether the event's word says the event, and what the other calls answer; or
 /// that memory was refused.
-pub(crate) fn show_calls<R: Print>(rt: &R, alloc: Global, plan: &Plan) -> Result<()> {
+pub(crate) fn show_calls<R: Print>(rt: &R, alloc: Global, plan: &Plan) -> io::Result<()> {
     match opened(alloc, plan) {
         Some(mut graph) => show_answers(rt, &mut graph),
-        None => Ok(println!(rt; "calls: no memory")?),
+        None => println!(rt; "calls: no memory"),
     }
 }
 
 /// A graph of the plan with room for one stage.
 fn opened(alloc: Global, plan: &Plan) -> Option<Graph> {
     match plan.copy() {
-        Ok(plan) if plan.stages() == 2 && plan.edges() == 1 => {
-            Graph::new_growing(alloc, plan, 1).ok()
-        }
-        _ => None,
+        Ok(plan) => opened_of(alloc, plan),
+        Err(_) => None,
     }
 }
 
-fn show_answers<R: Print>(rt: &R, graph: &mut Graph) -> Result<()> {
+fn opened_of(alloc: Global, plan: Plan) -> Option<Graph> {
+    if plan.stages() == 2 && plan.edges() == 1 {
+        Graph::new_growing(alloc, plan, 1).ok()
+    } else {
+        None
+    }
+}
+
+fn show_answers<R: Print>(rt: &R, graph: &mut Graph) -> io::Result<()> {
     println!(rt; "calls:")?;
     show_events(rt, graph)?;
     show_work(rt, graph)?;
@@ -70,7 +76,7 @@ fn show_answers<R: Print>(rt: &R, graph: &mut Graph) -> Result<()> {
     show_restarted(rt, graph)
 }
 
-fn show_events<R: Print>(rt: &R, graph: &mut Graph) -> Result<()> {
+fn show_events<R: Print>(rt: &R, graph: &mut Graph) -> io::Result<()> {
     for event in &EVENTS {
         show_event(rt, graph, event)?;
     }
@@ -78,11 +84,10 @@ fn show_events<R: Print>(rt: &R, graph: &mut Graph) -> Result<()> {
 }
 
 /// Prints what a graph answers to an event, and whether the event's word says the event.
-fn show_event<R: Print>(rt: &R, graph: &mut Graph, event: &Event) -> Result<()> {
+fn show_event<R: Print>(rt: &R, graph: &mut Graph, event: &Event) -> io::Result<()> {
     let is_told = is_told(event);
     let reply = reply_of(graph, event);
-    println!(rt; "  {reply:?}, its word says it: {is_told}")?;
-    Ok(())
+    println!(rt; "  {reply:?}, its word says it: {is_told}")
 }
 
 /// Whether the event's word says the event.
@@ -100,7 +105,7 @@ fn reply_of(graph: &mut Graph, event: &Event) -> Option<Reply> {
 }
 
 /// Prints what the calls answer that find and call ready functions, which no event makes.
-fn show_work<R: Print>(rt: &R, graph: &mut Graph) -> Result<()> {
+fn show_work<R: Print>(rt: &R, graph: &mut Graph) -> io::Result<()> {
     let turns = graph.nudge(100);
     let ready = graph.lowest_ready();
     let called = graph.work(
@@ -109,26 +114,30 @@ fn show_work<R: Print>(rt: &R, graph: &mut Graph) -> Result<()> {
             functions: [Four].as_slice(),
         },
     );
-    println!(rt; "  {turns} turns, ready {ready:?}, called {called}")?;
-    Ok(())
+    println!(rt; "  {turns} turns, ready {ready:?}, called {called}")
 }
 
 /// Prints what each stage has now.
-fn show_stages<R: Print>(rt: &R, graph: &mut Graph) -> Result<()> {
+fn show_stages<R: Print>(rt: &R, graph: &mut Graph) -> io::Result<()> {
     for i in 0..3 {
-        if graph.has(i) {
-            let now = graph.now(i, Value::Nil);
-            println!(rt; "  {now:?}")?;
-        }
+        show_stage(rt, graph, i)?;
     }
     Ok(())
 }
 
+/// Prints what a stage has now, if it is there.
+fn show_stage<R: Print>(rt: &R, graph: &mut Graph, i: u16) -> io::Result<()> {
+    if graph.has(i) {
+        show_told(rt, &graph.now(i, Value::Nil))
+    } else {
+        Ok(())
+    }
+}
+
 /// Restarts a graph, and prints what it has then.
-fn show_restarted<R: Print>(rt: &R, graph: &mut Graph) -> Result<()> {
+fn show_restarted<R: Print>(rt: &R, graph: &mut Graph) -> io::Result<()> {
     graph.restart();
     let stages = graph.stages();
     let turns = graph.turns();
-    println!(rt; "  restarted: {stages} stages, {turns} turns")?;
-    Ok(())
+    println!(rt; "  restarted: {stages} stages, {turns} turns")
 }

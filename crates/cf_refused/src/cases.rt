@@ -3,11 +3,10 @@ use crate::answers::{Numbers, Want};
 use crate::graphs::settled;
 use crate::shared::{run_by_three, used};
 use cf_command::{Command, read_command};
-use cf_core::Graph;
+use cf_core::{Graph, GraphFault};
 use cf_desk::Desk;
 use cf_plan::{Form, LimitKind, Plan, PlanBuilder, PlanFault};
 use std::alloc::Global;
-use std::fmt;
 use std::sync::Wait;
 use std::thread::Threads;
 
@@ -38,20 +37,18 @@ pub(crate) const CASES: [Case; 9] = [
     Case::Words,
 ];
 
-impl fmt::Display for Case {
-    fn fmt<W: fmt::Write>(&self, f: &mut fmt::Formatter<W>) -> fmt::Result {
-        let name = match self {
-            Case::Builder => "builder",
-            Case::RoomyBuilder => "builder with room",
-            Case::PlanCopy => "copy of a plan",
-            Case::Graph => "graph",
-            Case::GrowingGraph => "growing graph",
-            Case::Desk => "desk",
-            Case::GrowingDesk => "growing desk",
-            Case::Run => "run of three workers",
-            Case::Words => "words",
-        };
-        write!(f, "{name}")
+/// What a call is called in the lines.
+pub(crate) fn name_of(case: Case) -> &'static str {
+    match case {
+        Case::Builder => "builder",
+        Case::RoomyBuilder => "builder with room",
+        Case::PlanCopy => "copy of a plan",
+        Case::Graph => "graph",
+        Case::GrowingGraph => "growing graph",
+        Case::Desk => "desk",
+        Case::GrowingDesk => "growing desk",
+        Case::Run => "run of three workers",
+        Case::Words => "words",
     }
 }
 
@@ -65,9 +62,9 @@ pub(crate) fn numbers_of<R: Threads + Wait + Sync>(
     case: Case,
 ) -> Result<Numbers, Want> {
     match case {
-        Case::Builder => of_built(built(PlanBuilder::new(alloc))),
+        Case::Builder => built(PlanBuilder::new(alloc)),
         Case::RoomyBuilder => roomy(alloc),
-        Case::PlanCopy => copied(plan),
+        Case::PlanCopy => of_plan(plan.copy(), 0),
         Case::Graph => graph(alloc, plan),
         Case::GrowingGraph => grown(alloc, plan),
         Case::Desk => shared(alloc, plan),
@@ -79,7 +76,11 @@ pub(crate) fn numbers_of<R: Threads + Wait + Sync>(
 
 /// A source, a function over it, and one over both, with a limit.
 pub(crate) fn plan_of_three(alloc: Global) -> Result<Plan, PlanFault> {
-    Ok(built(PlanBuilder::new(alloc))?.0)
+    let mut builder = PlanBuilder::new(alloc);
+    match add_all(&mut builder) {
+        Ok(_) => builder.build(),
+        Err(fault) => Err(fault),
+    }
 }
 
 /// The stages of that plan.
@@ -98,10 +99,12 @@ fn add_all(builder: &mut PlanBuilder) -> Result<usize, PlanFault> {
     Ok(again.saturating_add(limit(builder)?))
 }
 
-/// That plan, and how often a refused call was made again.
-fn built(mut builder: PlanBuilder) -> Result<(Plan, usize), PlanFault> {
-    let again = add_all(&mut builder)?;
-    Ok((builder.build()?, again))
+/// What that plan has, and how often a refused call was made again.
+fn built(mut builder: PlanBuilder) -> Result<Numbers, Want> {
+    match add_all(&mut builder) {
+        Ok(again) => of_plan(builder.build(), again),
+        Err(fault) => Err(Want::from(fault)),
+    }
 }
 
 /// Adds a stage. It says how often memory was refused it, and the same call made once more: once, or never.
@@ -133,50 +136,75 @@ fn limit(builder: &mut PlanBuilder) -> Result<usize, PlanFault> {
     }
 }
 
-fn of_built(built: Result<(Plan, usize), PlanFault>) -> Result<Numbers, Want> {
-    let (plan, again) = built?;
-    Ok(of_plan(&plan, again))
-}
-
-fn of_plan(plan: &Plan, again: usize) -> Numbers {
-    Numbers(usize::from(plan.stages()), plan.edges() as usize, again)
+fn of_plan(plan: Result<Plan, PlanFault>, again: usize) -> Result<Numbers, Want> {
+    match plan {
+        Ok(plan) => Ok(Numbers(usize::from(plan.stages()), plan.edges() as usize, again)),
+        Err(fault) => Err(Want::from(fault)),
+    }
 }
 
 fn roomy(alloc: Global) -> Result<Numbers, Want> {
-    let builder = PlanBuilder::with_room(alloc, 3, 3)?;
-    of_built(built(builder))
-}
-
-fn copied(plan: &Plan) -> Result<Numbers, Want> {
-    let copy = plan.copy()?;
-    Ok(of_plan(&copy, 0))
+    match PlanBuilder::with_room(alloc, 3, 3) {
+        Ok(builder) => built(builder),
+        Err(fault) => Err(Want::from(fault)),
+    }
 }
 
 fn graph(alloc: Global, plan: &Plan) -> Result<Numbers, Want> {
-    let plan = plan.copy()?;
-    let graph = Graph::new(alloc, plan)?;
-    Ok(settled(graph))
+    match plan.copy() {
+        Ok(plan) => of_graph(Graph::new(alloc, plan)),
+        Err(fault) => Err(Want::from(fault)),
+    }
+}
+
+fn of_graph(graph: Result<Graph, GraphFault>) -> Result<Numbers, Want> {
+    match graph {
+        Ok(mut graph) => Ok(settled(&mut graph)),
+        Err(fault) => Err(Want::from(fault)),
+    }
 }
 
 fn grown(alloc: Global, plan: &Plan) -> Result<Numbers, Want> {
-    let plan = plan.copy()?;
-    if plan.stages() != 3 || plan.edges() != 3 {
-        return Err(Want::Other);
+    match plan.copy() {
+        Ok(plan) => grown_of(alloc, plan),
+        Err(fault) => Err(Want::from(fault)),
     }
-    let graph = Graph::new_growing(alloc, plan, 2)?;
-    Ok(settled(graph))
+}
+
+fn grown_of(alloc: Global, plan: Plan) -> Result<Numbers, Want> {
+    if plan.stages() == 3 && plan.edges() == 3 {
+        of_graph(Graph::new_growing(alloc, plan, 2))
+    } else {
+        Err(Want::Other)
+    }
 }
 
 fn shared(alloc: Global, plan: &Plan) -> Result<Numbers, Want> {
-    let plan = plan.copy()?;
-    let (desk, passes) = Desk::open(alloc, plan, 3, 16, 16)?;
-    used(desk, passes)
+    match plan.copy() {
+        Ok(plan) => shared_of(alloc, plan),
+        Err(fault) => Err(Want::from(fault)),
+    }
+}
+
+fn shared_of(alloc: Global, plan: Plan) -> Result<Numbers, Want> {
+    match Desk::open(alloc, plan, 3, 16, 16) {
+        Ok((desk, passes)) => used(desk, passes),
+        Err(fault) => Err(Want::from(fault)),
+    }
 }
 
 fn grown_and_shared(alloc: Global, plan: &Plan) -> Result<Numbers, Want> {
-    let plan = plan.copy()?;
-    let (desk, passes) = Desk::open_growing(alloc, plan, 3, 16, 16, 2, 4)?;
-    used(desk, passes)
+    match plan.copy() {
+        Ok(plan) => grown_and_shared_of(alloc, plan),
+        Err(fault) => Err(Want::from(fault)),
+    }
+}
+
+fn grown_and_shared_of(alloc: Global, plan: Plan) -> Result<Numbers, Want> {
+    match Desk::open_growing(alloc, plan, 3, 16, 16, 2, 4) {
+        Ok((desk, passes)) => used(desk, passes),
+        Err(fault) => Err(Want::from(fault)),
+    }
 }
 
 fn words(alloc: Global) -> Result<Numbers, Want> {

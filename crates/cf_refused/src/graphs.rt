@@ -7,7 +7,7 @@ use cf_outcome::Value;
 use cf_plan::{Answer, Args, Each, Form, Of, StageFn};
 
 /// The function of all stages: it gives 4.
-#[derive(Clone, Copy, Debug)]
+#[derive(Clone, Copy)]
 pub(crate) struct Four;
 
 impl StageFn for Four {
@@ -23,7 +23,7 @@ impl StageFn for Four {
 }
 
 /// Completes the source, attaches a stage to it where there is room, and does the work that is there.
-pub(crate) fn settled(mut graph: Graph) -> Numbers {
+pub(crate) fn settled(graph: &mut Graph) -> Numbers {
     if graph.has(0) {
         graph.attach(Form::ThenRun, Of::One(0), Some(0));
         graph.complete(0, Value::Int(3));
@@ -37,7 +37,7 @@ pub(crate) fn settled(mut graph: Graph) -> Numbers {
     let stages = graph.stages();
     Numbers(
         usize::from(stages),
-        settled_stages(&mut graph, stages),
+        settled_stages(graph, stages),
         calls as usize,
     )
 }

@@ -13,15 +13,15 @@ mod rows;
 mod shared;
 
 use answers::{Numbers, Want};
-use anyhow::{Result, anyhow};
 use calls::show_calls;
-use cases::{CASES, Case, numbers_of, plan_of_three};
-use cf_plan::{Plan, PlanFault};
+use cases::{CASES, Case, name_of, numbers_of, plan_of_three};
+use cf_plan::Plan;
 use cf_script::{NoGate, ScriptFault, race_script, run_script};
 use rows::{ROWS, show_row, source_and_apply};
 use std::alloc::Global;
 use std::io;
 use std::io::Write;
+use std::process::ExitCode;
 use std::sync::Wait;
 use std::thread::Threads;
 
@@ -59,39 +59,62 @@ const SCRIPTS: [Told; 3] = [
     },
 ];
 
-fn main(rt: HostRuntime) -> Result<()> {
-    show_free(&rt, rt.alloc())?;
-    show_cases(&rt, rt.alloc())?;
-    show_scripts(&rt, rt.alloc(), &mut io::writer(&rt))
+fn main(rt: HostRuntime) -> ExitCode {
+    match show_all(&rt, rt.alloc(), &mut io::writer(&rt)) {
+        Ok(()) => ExitCode::SUCCESS,
+        Err(fault) => fail(&rt, fault),
+    }
 }
 
-/// A plan, or that there is no memory for it.
-fn made(plan: Result<Plan, PlanFault>) -> Result<Plan> {
-    match plan {
-        Ok(plan) => Ok(plan),
-        Err(_) => Err(anyhow!("no memory for a plan")),
-    }
+fn fail<R: Eprint>(rt: &R, fault: io::Error) -> ExitCode {
+    let _ = eprintln!(rt; "Error: {fault}");
+    ExitCode::FAILURE
+}
+
+fn show_all<R: Print + Threads + Wait + Sync, W: Write>(
+    rt: &R,
+    alloc: Global,
+    w: &mut W,
+) -> io::Result<()> {
+    show_free(rt, alloc)?;
+    show_cases(rt, alloc)?;
+    show_scripts(rt, alloc, w)
+}
+
+fn no_plan() -> io::Result<()> {
+    Err(io::Error::other("no memory for a plan"))
 }
 
 /// Prints what the calls give that take no memory, once what they work on is opened.
-fn show_free<R: Print>(rt: &R, alloc: Global) -> Result<()> {
-    let plan = made(source_and_apply(alloc))?;
-    show_rows(rt, alloc, &plan)?;
-    show_calls(rt, alloc, &plan)
+fn show_free<R: Print>(rt: &R, alloc: Global) -> io::Result<()> {
+    match source_and_apply(alloc) {
+        Ok(plan) => show_free_on(rt, alloc, &plan),
+        Err(_) => no_plan(),
+    }
 }
 
-fn show_rows<R: Print>(rt: &R, alloc: Global, plan: &Plan) -> Result<()> {
+fn show_free_on<R: Print>(rt: &R, alloc: Global, plan: &Plan) -> io::Result<()> {
     for row in &ROWS {
         show_row(rt, alloc, plan, row)?;
     }
-    Ok(())
+    show_calls(rt, alloc, plan)
 }
 
 /// Prints what the calls give that take memory.
-fn show_cases<R: Print + Threads + Wait + Sync>(rt: &R, alloc: Global) -> Result<()> {
-    let plan = made(plan_of_three(alloc))?;
+fn show_cases<R: Print + Threads + Wait + Sync>(rt: &R, alloc: Global) -> io::Result<()> {
+    match plan_of_three(alloc) {
+        Ok(plan) => show_cases_of(rt, alloc, &plan),
+        Err(_) => no_plan(),
+    }
+}
+
+fn show_cases_of<R: Print + Threads + Wait + Sync>(
+    rt: &R,
+    alloc: Global,
+    plan: &Plan,
+) -> io::Result<()> {
     for case in &CASES {
-        show_case(rt, alloc, &plan, *case)?;
+        show_case(rt, alloc, plan, *case)?;
     }
     Ok(())
 }
@@ -102,22 +125,29 @@ fn show_case<R: Print + Threads + Wait + Sync>(
     alloc: Global,
     plan: &Plan,
     case: Case,
-) -> Result<()> {
+) -> io::Result<()> {
     match numbers_of(rt, alloc, plan, case) {
-        Err(Want::Memory) => {
-            println!(rt; "{case}: no memory")?;
-            show_gave(rt, case, numbers_of(rt, alloc, plan, case))
-        }
+        Err(Want::Memory) => show_case_again(rt, alloc, plan, case),
         gave => show_gave(rt, case, gave),
     }
 }
 
-fn show_gave<R: Print>(rt: &R, case: Case, gave: Result<Numbers, Want>) -> Result<()> {
+fn show_case_again<R: Print + Threads + Wait + Sync>(
+    rt: &R,
+    alloc: Global,
+    plan: &Plan,
+    case: Case,
+) -> io::Result<()> {
+    println!(rt; "{}: no memory", name_of(case))?;
+    show_gave(rt, case, numbers_of(rt, alloc, plan, case))
+}
+
+fn show_gave<R: Print>(rt: &R, case: Case, gave: Result<Numbers, Want>) -> io::Result<()> {
+    let name = name_of(case);
     match gave {
-        Ok(numbers) => println!(rt; "{case}: {numbers}")?,
-        Err(_) => println!(rt; "{case}: refused")?,
+        Ok(Numbers(a, b, c)) => println!(rt; "{name}: {a}, {b}, {c}"),
+        Err(_) => println!(rt; "{name}: refused"),
     }
-    Ok(())
 }
 
 /// Prints the reports of the scripts.
@@ -125,7 +155,7 @@ fn show_scripts<R: Print + Threads + Wait + Sync, W: Write>(
     rt: &R,
     alloc: Global,
     w: &mut W,
-) -> Result<()> {
+) -> io::Result<()> {
     for script in &SCRIPTS {
         show_script(rt, alloc, w, script)?;
     }
@@ -138,12 +168,22 @@ fn show_script<R: Print + Threads + Wait + Sync, W: Write>(
     alloc: Global,
     w: &mut W,
     script: &Told,
-) -> Result<()> {
+) -> io::Result<()> {
     println!(rt; "{}:", script.name)?;
-    if carried_out(rt, alloc, w, script) == Err(ScriptFault::NoMemory) {
-        println!(rt; "{} again:", script.name)?;
-        let _ = carried_out(rt, alloc, w, script);
+    match carried_out(rt, alloc, w, script) {
+        Err(ScriptFault::NoMemory) => show_script_again(rt, alloc, w, script),
+        _ => Ok(()),
     }
+}
+
+fn show_script_again<R: Print + Threads + Wait + Sync, W: Write>(
+    rt: &R,
+    alloc: Global,
+    w: &mut W,
+    script: &Told,
+) -> io::Result<()> {
+    println!(rt; "{} again:", script.name)?;
+    let _ = carried_out(rt, alloc, w, script);
     Ok(())
 }
 

@@ -3,15 +3,15 @@
 ghost use Rattle.std.specs.Prelude.{◌≡◌, All, IfOk, IfSome};
 ghost use Rattle.cf_desk.specs.Views.{IsOf};
 
-use crate::answers::Want;
+use crate::answers::{Want, show_told};
 use crate::graphs::{Four, settled_stages};
-use anyhow::Result;
 use cf_desk::{Call, Closed, Desk, Kept, Pass};
 use cf_model::Ask;
 use cf_outcome::Value;
 use cf_plan::{Form, Of, Plan, PlanBuilder, PlanFault};
 use cf_pool::{NoGate, Shared, work};
 use std::alloc::Global;
+use std::io;
 
 /// One step of a caller at a desk.
 #[derive(Clone, Copy)]
@@ -83,16 +83,22 @@ pub(crate) const ROWS: [Row; 3] = [
 /// A source, and a function over it.
 pub(crate) fn source_and_apply(alloc: Global) -> Result<Plan, PlanFault> {
     let mut builder = PlanBuilder::new(alloc);
+    match add_both(&mut builder) {
+        Ok(_) => builder.build(),
+        Err(fault) => Err(fault),
+    }
+}
+
+fn add_both(builder: &mut PlanBuilder) -> Result<u16, PlanFault> {
     builder.stage(Form::Source, &[], None)?;
-    builder.stage(Form::Apply, &[0], Some(0))?;
-    builder.build()
+    builder.stage(Form::Apply, &[0], Some(0))
 }
 
 /// Prints what each step of a row's callers is answered, and what the closed desk has; or that memory was refused.
-pub(crate) fn show_row<R: Print>(rt: &R, alloc: Global, plan: &Plan, row: &Row) -> Result<()> {
+pub(crate) fn show_row<R: Print>(rt: &R, alloc: Global, plan: &Plan, row: &Row) -> io::Result<()> {
     match opened(alloc, plan, row) {
-        Err(_) => Ok(println!(rt; "{}: no memory", row.name)?),
         Ok((desk, passes)) => show_steps(rt, desk, passes, row),
+        Err(_) => println!(rt; "{}: no memory", row.name),
     }
 }
 
@@ -102,27 +108,20 @@ fn opened(alloc: Global, plan: &Plan, row: &Row) -> Result<(Desk, Vec<Pass>), Wa
     ensures callers { IfOk result (λ r. r.0.setting.callers ≡ 2) }
 {
     let plan = plan.copy()?;
-    let opened = Desk::open_growing(alloc, plan, 2, row.log, row.calls, row.room, 4)?;
-    Ok(opened)
+    match Desk::open_growing(alloc, plan, 2, row.log, row.calls, row.room, 4) {
+        Ok(opened) => Ok(opened),
+        Err(fault) => Err(Want::from(fault)),
+    }
 }
 
 /// Prints what each step is answered, and what the closed desk has.
-fn show_steps<R: Print>(rt: &R, desk: Desk, passes: Vec<Pass>, row: &Row) -> Result<()>
+fn show_steps<R: Print>(rt: &R, desk: Desk, passes: Vec<Pass>, row: &Row) -> io::Result<()>
     requires all { All (IsOf desk) passes.items }
     requires callers { desk.setting.callers ≡ 2 }
 {
-    let Some((mut first, mut second, rest)) = both_of(&desk, passes) else {
-        return Ok(());
-    };
-    let shown = take(rt, &desk, &mut first, &mut second, row);
-    show_closed(rt, close_two(desk, rest, first, second), shown)
-}
-
-/// Prints what a closed desk has, where its steps were shown.
-fn show_closed<R: Print>(rt: &R, closed: Option<Closed>, shown: Result<()>) -> Result<()> {
-    match (shown, closed) {
-        (Ok(()), Some(mut closed)) => show_end(rt, &mut closed),
-        (shown, _) => shown,
+    match both_of(&desk, passes) {
+        Some((first, second, rest)) => show_both(rt, desk, first, second, rest, row),
+        None => Ok(()),
     }
 }
 
@@ -138,6 +137,21 @@ fn both_of(desk: &Desk, mut passes: Vec<Pass>) -> Option<(Pass, Pass, Vec<Pass>)
     Some((first, second, passes))
 }
 
+fn show_both<R: Print>(
+    rt: &R,
+    desk: Desk,
+    mut first: Pass,
+    mut second: Pass,
+    rest: Vec<Pass>,
+    row: &Row,
+) -> io::Result<()>
+    requires callers { desk.setting.callers ≡ 2 }
+    requires passes { IsOf desk first × IsOf desk second }
+{
+    let shown = take(rt, &desk, &mut first, &mut second, row);
+    show_closed(rt, close_two(desk, rest, first, second), shown)
+}
+
 /// The desk of two passes, closed, with the memory of a list that two passes stood in.
 fn close_two(desk: Desk, mut list: Vec<Pass>, first: Pass, second: Pass) -> Option<Closed>
     requires callers { desk.setting.callers ≡ 2 }
@@ -149,14 +163,22 @@ fn close_two(desk: Desk, mut list: Vec<Pass>, first: Pass, second: Pass) -> Opti
     desk.close(list).ok()
 }
 
-/// Prints how many events and records a closed desk has, and how many of its stages are settled.
-fn show_end<R: Print>(rt: &R, closed: &mut Closed) -> Result<()> {
+/// Prints what a closed desk has, where its steps were shown.
+fn show_closed<R: Print>(rt: &R, closed: Option<Closed>, shown: io::Result<()>) -> io::Result<()> {
+    match closed {
+        Some(mut closed) => show_end(rt, &mut closed, shown),
+        None => shown,
+    }
+}
+
+/// Prints how many events and records a closed desk has, and how many of its stages are settled, where its steps were shown.
+fn show_end<R: Print>(rt: &R, closed: &mut Closed, shown: io::Result<()>) -> io::Result<()> {
+    shown?;
     let events = closed.history.len();
     let records = records_of(closed.passes.as_slice());
     let stages = closed.graph.stages();
     let settled = settled_stages(&mut closed.graph, stages);
-    println!(rt; "  closed: {events} events, {records} records, {settled} settled")?;
-    Ok(())
+    println!(rt; "  closed: {events} events, {records} records, {settled} settled")
 }
 
 fn records_of(passes: &[Kept]) -> usize {
@@ -168,7 +190,7 @@ fn records_of(passes: &[Kept]) -> usize {
 }
 
 /// The row's name, the first caller's steps, the meeting and the second caller's steps.
-fn take<R: Print>(rt: &R, desk: &Desk, p: &mut Pass, q: &mut Pass, row: &Row) -> Result<()>
+fn take<R: Print>(rt: &R, desk: &Desk, p: &mut Pass, q: &mut Pass, row: &Row) -> io::Result<()>
     requires { IsOf desk.now p.old × IsOf desk.now q.old }
     ensures { IsOf desk.now p.new × IsOf desk.now q.new }
 {
@@ -179,7 +201,7 @@ fn take<R: Print>(rt: &R, desk: &Desk, p: &mut Pass, q: &mut Pass, row: &Row) ->
 }
 
 /// Prints what each of a caller's steps is answered.
-fn take_by<R: Print>(rt: &R, desk: &Desk, p: &mut Pass, steps: &[Step]) -> Result<()>
+fn take_by<R: Print>(rt: &R, desk: &Desk, p: &mut Pass, steps: &[Step]) -> io::Result<()>
     requires { IsOf desk.now p.old }
     ensures { IsOf desk.now p.new }
 {
@@ -189,40 +211,32 @@ fn take_by<R: Print>(rt: &R, desk: &Desk, p: &mut Pass, steps: &[Step]) -> Resul
     Ok(())
 }
 
-fn take_one<R: Print>(rt: &R, desk: &Desk, p: &mut Pass, step: Step) -> Result<()>
+fn take_one<R: Print>(rt: &R, desk: &Desk, p: &mut Pass, step: Step) -> io::Result<()>
     requires { IsOf desk.now p.old }
     ensures { IsOf desk.now p.new }
 {
     match step {
-        Step::Act(call) => {
-            let replied = desk.act(p, call);
-            println!(rt; "  {replied:?}")?;
-        }
-        Step::Read(ask) => {
-            let told = desk.read(p, ask);
-            println!(rt; "  {told:?}")?;
-        }
-        Step::Join(looks) if looks > 0 => {
-            let joined = desk.join(p, 1, looks);
-            println!(rt; "  {joined:?}")?;
-        }
-        Step::Join(_) => {}
-        Step::Ready => {
-            let ready = desk.ready(p);
-            println!(rt; "  {ready:?}")?;
-        }
-        Step::Work => {
-            let done = work(
-                desk,
-                p,
-                &mut Shared {
-                    functions: [Four].as_slice(),
-                    gate: &NoGate,
-                },
-                3,
-            );
-            println!(rt; "  {done:?}")?;
-        }
+        Step::Act(call) => show_told(rt, &desk.act(p, call)),
+        Step::Read(ask) => show_told(rt, &desk.read(p, ask)),
+        Step::Join(looks) if looks > 0 => show_told(rt, &desk.join(p, 1, looks)),
+        Step::Join(_) => Ok(()),
+        Step::Ready => show_told(rt, &desk.ready(p)),
+        Step::Work => show_work(rt, desk, p),
     }
-    Ok(())
+}
+
+fn show_work<R: Print>(rt: &R, desk: &Desk, p: &mut Pass) -> io::Result<()>
+    requires { IsOf desk.now p.old }
+    ensures { IsOf desk.now p.new }
+{
+    let done = work(
+        desk,
+        p,
+        &mut Shared {
+            functions: [Four].as_slice(),
+            gate: &NoGate,
+        },
+        3,
+    );
+    show_told(rt, &done)
 }

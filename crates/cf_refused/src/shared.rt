@@ -4,10 +4,10 @@ ghost use Rattle.cf_desk.specs.Views.{IsOf};
 
 use crate::answers::{Numbers, Want};
 use crate::graphs::{Four, settled_stages};
-use cf_desk::{Call, Desk, Pass};
+use cf_desk::{Call, Closed, Desk, Pass};
 use cf_outcome::Value;
 use cf_plan::{Form, Of, Plan, PlanBuilder, PlanFault};
-use cf_pool::{NoGate, PoolFault, Shared, run, share, work};
+use cf_pool::{Left, NoGate, PoolFault, Shared, run, share, work};
 use std::alloc::Global;
 use std::sync::Wait;
 use std::thread::Threads;
@@ -19,13 +19,19 @@ pub(crate) fn used(desk: Desk, mut passes: Vec<Pass>) -> Result<Numbers, Want>
     requires count { vec_len passes ≡ desk.setting.callers }
 {
     use_in_turn(&desk, passes.as_mut_slice());
-    let mut closed = desk.close(passes)?;
+    match desk.close(passes) {
+        Ok(mut closed) => Ok(of_closed(&mut closed)),
+        Err(_) => Err(Want::Other),
+    }
+}
+
+fn of_closed(closed: &mut Closed) -> Numbers {
     let stages = closed.graph.stages();
-    Ok(Numbers(
+    Numbers(
         closed.history.len(),
         closed.passes.len(),
         settled_stages(&mut closed.graph, stages),
-    ))
+    )
 }
 
 fn use_in_turn(desk: &Desk, passes: &mut [Pass])
@@ -58,10 +64,16 @@ fn use_by_one(desk: &Desk, p: &mut Pass)
 /// Two functions that nothing waits for, and one over both.
 fn supplies(alloc: Global) -> Result<Plan, PlanFault> {
     let mut builder = PlanBuilder::new(alloc);
+    match add_supplies(&mut builder) {
+        Ok(_) => builder.build(),
+        Err(fault) => Err(fault),
+    }
+}
+
+fn add_supplies(builder: &mut PlanBuilder) -> Result<u16, PlanFault> {
     builder.stage(Form::Supply, &[], Some(0))?;
     builder.stage(Form::Supply, &[], Some(0))?;
-    builder.stage(Form::Combine, &[0, 1], Some(0))?;
-    builder.build()
+    builder.stage(Form::Combine, &[0, 1], Some(0))
 }
 
 /// Three workers on threads of their own call all functions: their number, how many passes are left, and how many stages
@@ -70,18 +82,55 @@ pub(crate) fn run_by_three<R: Threads + Wait + Sync>(
     rt: &R,
     alloc: Global,
 ) -> Result<Numbers, Want> {
-    let plan = supplies(alloc)?;
-    let (desk, passes) = Desk::open(alloc, plan, 4, 64, 64)?;
-    let Ok(workers) = share(alloc, [Four].as_slice(), &NoGate, 4) else {
-        return Err(Want::Memory);
-    };
-    match run(rt, desk, passes, workers) {
-        Ok(left) => {
-            let passes = left.closed.passes.len();
-            Ok(Numbers(3, passes, settled_stages(&mut left.into_graph(), 3)))
-        }
-        Err(PoolFault::NoMemory(_)) => Err(Want::Memory),
-        Err(PoolFault::NoThread(_)) => Err(Want::Memory),
-        Err(PoolFault::Desk(_, _)) => Err(Want::Other),
+    match supplies(alloc) {
+        Ok(plan) => run_over(rt, alloc, plan),
+        Err(fault) => Err(Want::from(fault)),
+    }
+}
+
+fn run_over<R: Threads + Wait + Sync>(rt: &R, alloc: Global, plan: Plan) -> Result<Numbers, Want> {
+    match Desk::open(alloc, plan, 4, 64, 64) {
+        Ok((desk, passes)) => run_on(rt, alloc, desk, passes),
+        Err(fault) => Err(Want::from(fault)),
+    }
+}
+
+fn run_on<R: Threads + Wait + Sync>(
+    rt: &R,
+    alloc: Global,
+    desk: Desk,
+    passes: Vec<Pass>,
+) -> Result<Numbers, Want>
+    requires callers { desk.setting.callers ≡ 4 }
+    requires passes { All (IsOf desk) passes.items × (vec_len passes ≡ 4) }
+{
+    match share(alloc, [Four].as_slice(), &NoGate, 4) {
+        Ok(workers) => of_run(run(rt, desk, passes, workers)),
+        Err(_) => Err(Want::Memory),
+    }
+}
+
+fn of_run<W: Drop>(ended: Result<Left<W>, PoolFault<W>>) -> Result<Numbers, Want> {
+    match ended {
+        Ok(left) => Ok(of_left(left)),
+        Err(fault) => Err(of_fault(fault)),
+    }
+}
+
+fn of_left<W: Drop>(left: Left<W>) -> Numbers {
+    let passes = left.closed.passes.len();
+    Numbers(3, passes, settled_stages(&mut left.into_graph(), 3))
+}
+
+fn of_fault<W: Drop>(fault: PoolFault<W>) -> Want {
+    let want = want_of(&fault);
+    drop(fault);
+    want
+}
+
+fn want_of<W>(fault: &PoolFault<W>) -> Want {
+    match fault {
+        PoolFault::NoMemory(_) | PoolFault::NoThread(_) => Want::Memory,
+        PoolFault::Desk(_, _) => Want::Other,
     }
 }
