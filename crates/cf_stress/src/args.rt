@@ -1,6 +1,6 @@
 //! The words after the program's name.
-use anyhow::Result;
 use std::env;
+use std::io::Result;
 use std::rt::Env;
 
 /// How large a desk is to be.

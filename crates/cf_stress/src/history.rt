@@ -1,7 +1,6 @@
 //! The history of a closed desk as JSON, as docs/FORMATS.md has histories.
 use crate::args::Sizes;
 use crate::texts::write_stage;
-use anyhow::{Result, anyhow};
 use cf_core::Graph;
 use cf_desk::{Closed, Kept, Rec, event_by};
 use cf_event::{encode, is_event};
@@ -10,23 +9,24 @@ use cf_outcome::Value;
 use cf_script::{write_reply, write_told};
 use serde_json::Value as Json;
 use std::alloc::{AllocError, Global};
+use std::io;
 
-/// The line of a history: the plan of what was read in, the words of all events, each caller's own records, and what the
-/// graph holds in the end.
-pub(crate) fn history_of(
+/// Adds the line of a history: the plan of what was read in, the words of all events, each caller's own records, and what
+/// the graph holds in the end.
+pub(crate) fn write_history(
     alloc: Global,
+    text: &mut String,
     given: &Json,
     sizes: Sizes,
     closed: &mut Closed,
-) -> Result<String> {
-    let mut text = String::new(alloc);
-    write_accounts(&mut text, closed)?;
-    write_rest(alloc, &mut text, given, sizes, &mut closed.graph)?;
-    Ok(text)
+) -> io::Result<()> {
+    write_accounts(text, closed)?;
+    write_rest(alloc, text, given, sizes, &mut closed.graph)?;
+    Ok(())
 }
 
 /// Adds what the callers did, and what came of it.
-fn write_accounts(text: &mut String, closed: &Closed) -> Result<()> {
+fn write_accounts(text: &mut String, closed: &Closed) -> io::Result<()> {
     write_callers(text, closed.passes.as_slice())?;
     write_words(text, closed.history.as_slice())
 }
@@ -79,7 +79,7 @@ fn write_comma(text: &mut String, at: usize) -> Result<(), AllocError> {
 }
 
 /// Adds the words of events.
-fn write_words(text: &mut String, events: &[Event]) -> Result<()> {
+fn write_words(text: &mut String, events: &[Event]) -> io::Result<()> {
     text.push_str(",\"events\":[")?;
     for (at, event) in events.iter().enumerate() {
         write_comma(text, at)?;
@@ -89,16 +89,16 @@ fn write_words(text: &mut String, events: &[Event]) -> Result<()> {
 }
 
 /// Adds the word of an event, in decimal.
-fn write_word(text: &mut String, event: Event) -> Result<()> {
+fn write_word(text: &mut String, event: Event) -> io::Result<()> {
     if !is_event(&event) {
-        return Err(anyhow!("an event has no word"));
+        return Err(io::Error::other("an event has no word"));
     }
     let word = encode(&event);
     Ok(write!(text, "\"{word}\"")?)
 }
 
 /// Adds each caller's records.
-fn write_callers(text: &mut String, passes: &[Kept]) -> Result<()> {
+fn write_callers(text: &mut String, passes: &[Kept]) -> io::Result<()> {
     text.push_str("{\"callers\":[")?;
     for (at, pass) in passes.iter().enumerate() {
         write_comma(text, at)?;
@@ -107,7 +107,7 @@ fn write_callers(text: &mut String, passes: &[Kept]) -> Result<()> {
     Ok(text.push_str("]")?)
 }
 
-fn write_records(text: &mut String, caller: u8, records: &[Rec]) -> Result<()> {
+fn write_records(text: &mut String, caller: u8, records: &[Rec]) -> io::Result<()> {
     text.push_str("[")?;
     for (at, record) in records.iter().enumerate() {
         write_comma(text, at)?;
@@ -116,7 +116,7 @@ fn write_records(text: &mut String, caller: u8, records: &[Rec]) -> Result<()> {
     Ok(text.push_str("]")?)
 }
 
-fn write_record(text: &mut String, caller: u8, record: Rec) -> Result<()> {
+fn write_record(text: &mut String, caller: u8, record: Rec) -> io::Result<()> {
     match record {
         Rec::Did { place, call, reply } => write_did(text, place, event_by(caller, call), reply),
         Rec::Saw { place, ask, told } => Ok(write_saw(text, place, ask, told)?),
@@ -124,7 +124,7 @@ fn write_record(text: &mut String, caller: u8, record: Rec) -> Result<()> {
 }
 
 /// `["did",place,word,reply]`
-fn write_did(text: &mut String, place: u16, event: Event, reply: Reply) -> Result<()> {
+fn write_did(text: &mut String, place: u16, event: Event, reply: Reply) -> io::Result<()> {
     write!(text, "[\"did\",{place},")?;
     write_word(text, event)?;
     Ok(write_replied(text, reply)?)

@@ -33,132 +33,166 @@ mod texts;
 
 ghost use Rattle.std.specs.Prelude.{◌≡◌, All, IfOk, length, vec_len};
 
-use anyhow::{Result, anyhow};
 use args::{Run, Sizes, Words, read_words};
 use caller::{Shared, take_part, take_turns};
-use cf_desk::{Closed, Desk, Pass};
+use cf_desk::{CloseFault, Closed, Desk, Pass};
 use cf_plan::Plan;
-use cf_reading::{Func, read_input, script_of};
+use cf_reading::{Func, Script, read_input, script_of};
 use hands::{Hand, Refusal, hands_of, parts_of};
-use history::history_of;
+use history::write_history;
 use serde_json::Value as Json;
-use show::text_of;
+use show::write_closed;
 use std::alloc::{AllocError, Global};
 use std::process::ExitCode;
 use std::sync::atomic::AtomicU32;
-use std::thread;
 use std::thread::Threads;
+use std::{io, thread};
 use steps::{Step, read_steps};
 
-fn main(rt: HostRuntime) -> Result<ExitCode> {
-    match read_words(&rt)? {
-        Words::Nothing(status) => Ok(ExitCode::from(status)),
-        Words::Run(run) => {
-            let given = read_given(&rt)?;
-            carry_out(&rt, given, run)?;
-            Ok(ExitCode::SUCCESS)
-        }
+fn main(rt: HostRuntime) -> ExitCode {
+    match read_words(&rt) {
+        Ok(Words::Run(run)) => ended(&rt, carry_out(&rt, run)),
+        Ok(Words::Nothing(status)) => ExitCode::from(status),
+        Err(fault) => ended(&rt, Err(fault)),
     }
 }
 
-/// What is read in: the whole object, and the plan, the functions and the steps in it.
-#[derive(Drop)]
-struct Given {
-    json: Json,
-    plan: Plan,
-    functions: Vec<Func>,
-    steps: Vec<Step>,
+/// The status to end with. It says why nothing was printed.
+fn ended<R: Eprint>(rt: &R, printed: io::Result<()>) -> ExitCode {
+    match printed {
+        Ok(()) => ExitCode::SUCCESS,
+        Err(fault) => failed(rt, fault),
+    }
 }
 
-fn read_given<R: Input + AllocGlobal>(rt: &R) -> Result<Given> {
-    let input = input_of(rt)?;
-    let json = json_of(rt.alloc(), &input)?;
-    let (plan, functions) = plan_of(rt.alloc(), &json)?;
-    let steps = read_steps(rt.alloc(), &json)?;
-    Ok(Given {
-        json,
-        plan,
-        functions,
-        steps,
-    })
+fn failed<R: Eprint>(rt: &R, fault: io::Error) -> ExitCode {
+    let _ = eprintln!(rt; "Error: {fault}");
+    ExitCode::FAILURE
 }
 
-fn input_of<R: Input + AllocGlobal>(rt: &R) -> Result<Vec<u8>> {
+/// Reads what is given, lets the callers use a desk of its plan, closes it and prints what it holds.
+fn carry_out<R: Input + Print + Threads + Sync + AllocGlobal>(rt: &R, run: Run) -> io::Result<()> {
     match read_input(rt.alloc(), &mut rt.reader()) {
-        Ok(input) => Ok(input),
-        Err(_) => Err(anyhow!("no input")),
+        Ok(input) => carry_out_bytes(rt, input.as_slice(), run),
+        Err(_) => Err(io::Error::other("no input")),
     }
 }
 
-fn json_of(alloc: Global, input: &[u8]) -> Result<Json> {
-    match Json::from_slice(alloc, input) {
-        Ok(json) => Ok(json),
-        Err(_) => Err(anyhow!("no JSON")),
-    }
-}
-
-/// The plan of a script, and its functions.
-fn plan_of(alloc: Global, json: &Json) -> Result<(Plan, Vec<Func>)> {
-    match script_of(alloc, json) {
-        Ok(script) => {
-            let (plan, _, functions, _) = script.into_parts();
-            Ok((plan, functions))
-        }
-        Err(_) => Err(anyhow!("no script")),
-    }
-}
-
-/// Lets the callers use a desk of the plan, closes it and prints what it holds.
-fn carry_out<R: Print + Threads + Sync + AllocGlobal>(
+fn carry_out_bytes<R: Print + Threads + Sync + AllocGlobal>(
     rt: &R,
-    given: Given,
+    input: &[u8],
     run: Run,
-) -> Result<()> {
-    let text = text_after(rt, given, run)?;
-    print!(rt; "{text}")?;
-    Ok(())
+) -> io::Result<()> {
+    match Json::from_slice(rt.alloc(), input) {
+        Ok(json) => carry_out_json(rt, &json, run),
+        Err(_) => Err(io::Error::other("no JSON")),
+    }
 }
 
-/// What is to be printed of the desk when it is closed.
-fn text_after<R: Threads + Sync + AllocGlobal>(rt: &R, given: Given, run: Run) -> Result<String> {
-    let Given {
-        json,
-        plan,
-        functions,
-        steps,
-    } = given;
-    let (closed, refused) = used(rt, plan, &functions, &steps, run)?;
-    shown(rt.alloc(), closed, &json, &refused, run)
+fn carry_out_json<R: Print + Threads + Sync + AllocGlobal>(
+    rt: &R,
+    json: &Json,
+    run: Run,
+) -> io::Result<()> {
+    match script_of(rt.alloc(), json) {
+        Ok(script) => carry_out_script(rt, json, script, run),
+        Err(_) => Err(io::Error::other("no script")),
+    }
 }
 
-/// What is to be printed of a closed desk.
-fn shown(
-    alloc: Global,
-    mut closed: Closed,
+fn carry_out_script<R: Print + Threads + Sync + AllocGlobal>(
+    rt: &R,
+    json: &Json,
+    script: Script,
+    run: Run,
+) -> io::Result<()> {
+    let (plan, _, functions, _) = script.into_parts();
+    carry_out_plan(rt, json, plan, functions.as_slice(), run)
+}
+
+fn carry_out_plan<R: Print + Threads + Sync + AllocGlobal>(
+    rt: &R,
+    json: &Json,
+    plan: Plan,
+    functions: &[Func],
+    run: Run,
+) -> io::Result<()> {
+    match read_steps(rt.alloc(), json) {
+        Ok(steps) => carry_out_steps(rt, json, plan, functions, steps.as_slice(), run),
+        Err(fault) => Err(fault),
+    }
+}
+
+fn carry_out_steps<R: Print + Threads + Sync + AllocGlobal>(
+    rt: &R,
+    json: &Json,
+    plan: Plan,
+    functions: &[Func],
+    steps: &[Step],
+    run: Run,
+) -> io::Result<()> {
+    let (closed, refused) = used(rt, plan, functions, steps, run)?;
+    print_closing(rt, closed, json, refused.as_slice(), run)
+}
+
+/// Prints a desk that was closed, and what each caller was refused.
+fn print_closing<R: Print + AllocGlobal>(
+    rt: &R,
+    closed: Result<Closed, CloseFault>,
     json: &Json,
     refused: &[Vec<Refusal>],
     run: Run,
-) -> Result<String> {
-    if run.history {
-        history_of(alloc, json, run.sizes, &mut closed)
-    } else {
-        Ok(text_of(alloc, &mut closed, refused, run.sizes.calls)?)
+) -> io::Result<()> {
+    match closed {
+        Ok(mut closed) => print_closed(rt, &mut closed, json, refused, run),
+        Err(_) => Err(io::Error::other("the desk wasn't closed")),
     }
 }
 
-/// A desk that the callers used and that was closed, and what each was refused.
+fn print_closed<R: Print + AllocGlobal>(
+    rt: &R,
+    closed: &mut Closed,
+    json: &Json,
+    refused: &[Vec<Refusal>],
+    run: Run,
+) -> io::Result<()> {
+    let mut text = String::new(rt.alloc());
+    match write_text(rt.alloc(), &mut text, closed, json, refused, run) {
+        Ok(()) => print!(rt; "{text}"),
+        Err(fault) => Err(fault),
+    }
+}
+
+/// Adds what is to be printed of a closed desk.
+fn write_text(
+    alloc: Global,
+    text: &mut String,
+    closed: &mut Closed,
+    json: &Json,
+    refused: &[Vec<Refusal>],
+    run: Run,
+) -> io::Result<()> {
+    if run.history {
+        write_history(alloc, text, json, run.sizes, closed)
+    } else {
+        Ok(write_closed(text, closed, refused, run.sizes.calls)?)
+    }
+}
+
+/// What comes of closing a desk that the callers used, and what each was refused.
+type Used = (Result<Closed, CloseFault>, Vec<Vec<Refusal>>);
+
 fn used<R: Threads + Sync + AllocGlobal>(
     rt: &R,
     plan: Plan,
     functions: &[Func],
     steps: &[Step],
     run: Run,
-) -> Result<(Closed, Vec<Vec<Refusal>>)> {
+) -> io::Result<Used> {
     let (desk, passes) = open(rt.alloc(), plan, run.sizes)?;
-    let (passes, refused) = worked(rt, &desk, passes, functions, steps, run.in_turn)?;
-    match desk.close(passes) {
-        Ok(closed) => Ok((closed, refused)),
-        Err(_) => Err(anyhow!("the desk wasn't closed")),
+    match worked(rt, &desk, passes, functions, steps, run.in_turn) {
+        Ok((passes, refused)) => Ok((desk.close(passes), refused)),
+        Err(fault) => Err(io::Error::from(fault)),
     }
 }
 
@@ -185,7 +219,7 @@ fn worked<R: Threads + Sync + AllocGlobal>(
 }
 
 /// A desk of a plan, and its passes.
-fn open(alloc: Global, plan: Plan, sizes: Sizes) -> Result<(Desk, Vec<Pass>)>
+fn open(alloc: Global, plan: Plan, sizes: Sizes) -> io::Result<(Desk, Vec<Pass>)>
     ensures table { IfOk result (λ r. All (λ p. p.table ≡ r.0.table) r.1.items) }
     ensures count { IfOk result (λ r. vec_len r.1 ≡ r.0.setting.callers) }
 {
@@ -199,7 +233,7 @@ fn open(alloc: Global, plan: Plan, sizes: Sizes) -> Result<(Desk, Vec<Pass>)>
     let functions = u32::from(functions);
     match Desk::open_growing(alloc, plan, callers, log, calls, room, functions) {
         Ok(opened) => Ok(opened),
-        Err(_) => Err(anyhow!("the desk wasn't opened")),
+        Err(_) => Err(io::Error::other("the desk wasn't opened")),
     }
 }
 

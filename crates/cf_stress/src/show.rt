@@ -6,21 +6,19 @@ use cf_desk::{Call, Closed, Kept, Rec};
 use cf_model::{Ask, Event, Reply, Told};
 use cf_plan::{Answer, Form, Of};
 use cf_script::{write_reply, write_told};
-use std::alloc::{AllocError, Global};
+use std::alloc::AllocError;
 
-/// A line for each event, for each pass with one for each of its records and refusals, and for each stage. Each pass held
-/// so many records.
-pub(crate) fn text_of(
-    alloc: Global,
+/// Adds a line for each event, for each pass with one for each of its records and refusals, and for each stage. Each pass
+/// held so many records.
+pub(crate) fn write_closed(
+    text: &mut String,
     closed: &mut Closed,
     refused: &[Vec<Refusal>],
     calls: u16,
-) -> Result<String, AllocError> {
-    let mut text = String::new(alloc);
-    write_events(&mut text, closed.history.as_slice())?;
-    write_passes(&mut text, closed.passes.as_slice(), refused, calls)?;
-    write_stages(&mut text, &mut closed.graph)?;
-    Ok(text)
+) -> Result<(), AllocError> {
+    write_events(text, closed.history.as_slice())?;
+    write_passes(text, closed.passes.as_slice(), refused, calls)?;
+    write_stages(text, &mut closed.graph)
 }
 
 fn write_events(text: &mut String, history: &[Event]) -> Result<(), AllocError> {
@@ -105,11 +103,15 @@ fn write_asked(text: &mut String, asked: Asked) -> Result<(), AllocError> {
 
 fn write_stages(text: &mut String, graph: &mut Graph) -> Result<(), AllocError> {
     for i in 0..graph.stages() {
-        write!(text, "stage {i} ")?;
-        write_stage(text, graph, i)?;
-        text.push_str("\n")?;
+        write_line(text, graph, i)?;
     }
     Ok(())
+}
+
+fn write_line(text: &mut String, graph: &mut Graph, i: u16) -> Result<(), AllocError> {
+    write!(text, "stage {i} ")?;
+    write_stage(text, graph, i)?;
+    text.push_str("\n")
 }
 
 fn write_record(text: &mut String, record: Rec) -> Result<(), AllocError> {

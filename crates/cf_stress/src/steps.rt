@@ -1,11 +1,11 @@
 //! The steps that callers do.
-use anyhow::{Result, anyhow};
 use cf_desk::Call;
 use cf_model::Ask;
 use cf_outcome::Value;
 use cf_plan::{Answer, Form, Of};
 use serde_json::Value as Json;
 use std::alloc::Global;
+use std::io::{Error, Result};
 
 /// What a caller does in its turn.
 #[derive(Clone, Copy, Drop)]
@@ -24,35 +24,58 @@ pub(crate) enum Step {
 pub(crate) fn read_steps(alloc: Global, json: &Json) -> Result<Vec<Step>> {
     match json.get("calls").and_then(Json::as_array) {
         Some(calls) => steps_of(alloc, calls.as_slice()),
-        None => Err(anyhow!("no calls")),
+        None => Err(Error::other("no calls")),
     }
 }
 
 fn steps_of(alloc: Global, calls: &[Json]) -> Result<Vec<Step>> {
-    let mut steps = Vec::with_capacity(alloc, calls.len())?;
-    for call in calls {
-        match step_of(call) {
-            Some(step) => steps.push(step)?,
-            None => return Err(anyhow!("a call is none")),
-        }
+    let mut steps = Vec::new(alloc);
+    match add_steps(&mut steps, calls) {
+        Ok(()) => Ok(steps),
+        Err(fault) => Err(fault),
     }
-    Ok(steps)
+}
+
+fn add_steps(steps: &mut Vec<Step>, calls: &[Json]) -> Result<()> {
+    steps.reserve(calls.len())?;
+    for call in calls {
+        add_step(steps, call)?;
+    }
+    Ok(())
+}
+
+fn add_step(steps: &mut Vec<Step>, call: &Json) -> Result<()> {
+    match step_of(call) {
+        Some(step) => Ok(steps.push(step)?),
+        None => Err(Error::other("a call is none")),
+    }
 }
 
 fn step_of(json: &Json) -> Option<Step> {
     let word = json.get(0usize)?.as_str()?;
     match word {
-        "now" => Some(Step::Asks(now(json)?)),
-        "outcome" => Some(Step::Asks(Ask::Outcome(small(json.get(1usize)?)?))),
+        "now" => now(json),
+        "outcome" => outcome(json),
         "work" => Some(Step::Work),
         "ready" => Some(Step::Ready),
-        _ => Some(Step::Does(call(word, json.get(1usize)?, json)?)),
+        _ => does(word, json),
     }
 }
 
-fn now(json: &Json) -> Option<Ask> {
+fn now(json: &Json) -> Option<Step> {
     let stage = small(json.get(1usize)?)?;
-    Some(Ask::Now(stage, value(json.get(2usize)?)?))
+    let absent = value(json.get(2usize)?)?;
+    Some(Step::Asks(Ask::Now(stage, absent)))
+}
+
+fn outcome(json: &Json) -> Option<Step> {
+    let stage = small(json.get(1usize)?)?;
+    Some(Step::Asks(Ask::Outcome(stage)))
+}
+
+fn does(word: &str, json: &Json) -> Option<Step> {
+    let call = call(word, json.get(1usize)?, json)?;
+    Some(Step::Does(call))
 }
 
 fn call(word: &str, first: &Json, json: &Json) -> Option<Call> {
