@@ -1,10 +1,18 @@
 -- The callers of a new desk, one after another.
-use Rattle.std.proofs.Common.{◌≡◌, ℕ, suc, ◌<◌, Option, Some, List, [], ◌∷◌, ◌++◌, length, length-append, slice_set, refl, ap, sym, arith}
+use Rattle.std.proofs.Common.{◌≡◌, ℕ, suc, ◌<◌, Option, Some, Result, Ok, Err, IfOk, List, [], ◌∷◌, ◌++◌, length, length-append, slice_set, refl, ap, sym, arith}
+use Rattle.std.specs.Arc.{arc_value}
 use Rattle.std.specs.Global.{Box}
 use Rattle.cf_desk.specs.Views.{Desk, Pass}
 use Rattle.cf_handles.specs.Opening.{AreBehind, AreBoxed, ArePut, IsBehind, IsCallerOf}
 use Rattle.cf_handles.specs.declared.handle.CfHandle.{CfHandle}
+use Rattle.cf_handles.specs.declared.handle.object.Caller.{Caller as Caller'}
 use Rattle.cf_handles.specs.declared.handle.object.Object.{Object}
+use Rattle.cf_handles.specs.declared.handle.object.Object.TheVariants.{Caller}
+
+-- a caller in a box is of its desk, and has its pass
+pub boxed_caller : {E : Type 0} (d : Desk) (p : Pass) (c : Caller') (r : Result (Box Object) E) → IfOk r (λ (b : Box Object). b.value ≡ Caller c) → arc_value c.desk ≡ d → c.pass ≡ p → IfOk r (λ (b : Box Object). IsCallerOf d p b.value)
+boxed_caller d p c (Ok b) is desk pass = record { caller = c; is = is; desk = desk; pass = pass }
+boxed_caller d p c (Err e) is desk pass = tt
 
 -- one more is made
 pub boxed_push : (d : Desk) (ps : List Pass) (bs : List (Box Object)) (p : Pass) (b : Box Object) → AreBoxed d ps bs → IsCallerOf d p b.value → AreBoxed d (ps ++ p ∷ []) (bs ++ b ∷ [])

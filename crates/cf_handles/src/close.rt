@@ -9,14 +9,14 @@ pub mod closing;
 use crate::close::closed::CfRecord;
 use crate::code::Code;
 use crate::handle::CfHandle;
-use crate::handle::object::{Closing, Object, take};
+use crate::handle::object::{Closing, Object, hold, take};
 use std::alloc::Global;
 
 pub fn begin(alloc: Global, held: &mut Object) -> Result<(), Code>
     ensures { Begins held.old result held.new }
 {
     let (now, done) = begun(alloc, take(alloc, held));
-    *held = now;
+    hold(held, now);
     done
 }
 
@@ -51,9 +51,12 @@ fn add_from(alloc: Global, closing: &mut Closing, caller: &mut CfHandle) -> Resu
     match caller.take(alloc) {
         None => Err(Code::Empty),
         Some(mut given) => match add_given(closing, take(alloc, &mut given)) {
-            Ok(()) => Ok(()),
+            Ok(()) => {
+                drop(given);
+                Ok(())
+            }
             Err((back, code)) => {
-                *given = back;
+                hold(&mut given, back);
                 caller.put(given);
                 Err(code)
             }
@@ -82,7 +85,7 @@ pub fn end(alloc: Global, held: &mut Object) -> Result<(), Code>
     ensures { Ends held.old result held.new }
 {
     let (now, done) = ended(take(alloc, held));
-    *held = now;
+    hold(held, now);
     done
 }
 
@@ -110,7 +113,7 @@ pub fn become_graph(alloc: Global, held: &mut Object) -> Result<(), Code>
     ensures { BecomesGraph held.old result held.new }
 {
     let (now, done) = as_graph(take(alloc, held));
-    *held = now;
+    hold(held, now);
     done
 }
 

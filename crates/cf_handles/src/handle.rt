@@ -1,13 +1,15 @@
 //! What C keeps: a pointer that it never looks at, and whether something stands behind it.
-ghost use Rattle.std.specs.Prelude.{◌≡◌, MatchOption, None, Some};
+ghost use Rattle.std.specs.Prelude.{◌≡◌, IfOk, MatchOption, None, Ok, Some};
+ghost use Rattle.cf_handles.specs.Building.{Fills};
 ghost use Rattle.cf_handles.specs.Seals.{is_full};
 
 pub mod object;
 pub mod raw_box;
 
+use crate::code::Code;
 use crate::handle::object::{Object, assert_send};
 use crate::handle::raw_box::{BoxParts, RawBox};
-use std::alloc::Global;
+use std::alloc::{AllocError, Global};
 use std::mem;
 
 /// A handle. All bytes 0 is an empty one.
@@ -61,4 +63,46 @@ impl CfHandle {
             full: true,
         };
     }
+}
+
+/// Puts what was made behind a handle, if that is empty: 0, or why not.
+pub fn fill(alloc: Global, h: &mut CfHandle, made: Result<Object, Code>) -> u32
+    ensures { Fills made h.old.inner.held result h.new.inner.held }
+{
+    if h.is_full() {
+        drop(made);
+        return Code::Full.number();
+    }
+    match made {
+        Err(code) => code.number(),
+        Ok(held) => put_new(alloc, h, held),
+    }
+}
+
+/// Puts this behind an empty handle: 0, or that there is no memory.
+fn put_new(alloc: Global, h: &mut CfHandle, held: Object) -> u32
+    requires { h.old.inner.held ≡ None }
+    ensures { Fills (Ok held) None result h.new.inner.held }
+{
+    match box_of(alloc, held) {
+        Ok(held) => {
+            h.put(held);
+            0
+        }
+        Err(_) => Code::NoMemory.number(),
+    }
+}
+
+/// A box of what is to be put behind a handle. Where memory is refused, it is freed.
+pub(crate) fn box_of(alloc: Global, held: Object) -> Result<Box<Object>, AllocError>
+    ensures { IfOk result (λ made. made.value ≡ held) }
+{
+    Ok(Box::new(alloc, held)?)
+}
+
+/// Frees what stands behind a handle, and leaves the handle empty.
+pub fn free(alloc: Global, h: &mut CfHandle)
+    ensures { h.new.inner.held ≡ None }
+{
+    drop(h.take(alloc))
 }

@@ -3,7 +3,7 @@ ghost use Rattle.std.specs.Prelude.{◌≡◌};
 ghost use Rattle.cf_handles.specs.Building.{AddsLimit, AddsStage, Builds, kind_of};
 
 use crate::code::{Code, plan_code};
-use crate::handle::object::Object;
+use crate::handle::object::{Object, hold};
 use crate::values::{CfValue, value_of};
 use cf_plan::{Form, LimitKind, PlanBuilder};
 use std::alloc::Global;
@@ -62,7 +62,7 @@ pub fn build(alloc: Global, held: &mut Object) -> Result<(), Code>
     let builder = mem::replace(builder, PlanBuilder::new(alloc));
     match builder.build() {
         Ok(plan) => {
-            *held = Object::Plan(plan);
+            hold(held, Object::Plan(plan));
             Ok(())
         }
         Err(fault) => Err(plan_code(fault)),

@@ -9,8 +9,8 @@ ghost use Rattle.cf_handles.specs.declared.code.Code.TheVariants.{NoMemory};
 ghost use Rattle.cf_handles.specs.Opening.{AreBehind, AreBoxed, AreEmpty, ArePut, DeskOf, GrowingDeskOf, IsCallerOf, growing_of, is_due, is_due_to_grow, setting_of};
 
 use crate::code::{Code, open_code};
-use crate::handle::CfHandle;
 use crate::handle::object::{Caller, Object};
+use crate::handle::{CfHandle, box_of};
 use cf_desk::{Desk, OpenFault, Pass};
 use cf_plan::Plan;
 use std::alloc::{AllocError, Global};
@@ -154,10 +154,7 @@ fn boxed(alloc: Global, desk: Desk, passes: Vec<Pass>) -> Result<Vec<Box<Object>
     requires { All (λ p. p.table ≡ desk.table) passes.items }
     ensures { IfOk result (λ held. AreBoxed desk passes.items held.items) }
 {
-    let shared = match Arc::new(alloc, desk) {
-        Ok(shared) => shared,
-        Err(_) => return Err(AllocError),
-    };
+    let shared = Arc::new(alloc, desk)?;
     let mut held = Vec::with_capacity(alloc, passes.len())?;
     let mut rest = passes.into_iter();
     'next: while let Some(pass) = rest.next() {
@@ -172,10 +169,12 @@ fn seat(alloc: Global, desk: &Arc<Desk, Global>, pass: Pass) -> Result<Box<Objec
     requires { pass.table ≡ (arc_value desk.now).table }
     ensures { IfOk result (λ held. IsCallerOf (arc_value desk.now) pass held.value) }
 {
-    let desk = Arc::try_clone(desk)?;
-    match Box::new(alloc, Object::Caller(Caller { desk, pass })) {
-        Ok(held) => Ok(held),
-        Err(_) => Err(AllocError),
+    match Arc::try_clone(desk) {
+        Ok(desk) => box_of(alloc, Object::Caller(Caller { desk, pass })),
+        Err(refused) => {
+            drop(pass);
+            Err(refused)
+        }
     }
 }
 

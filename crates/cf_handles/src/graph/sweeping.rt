@@ -3,7 +3,7 @@ ghost use Rattle.std.specs.Prelude.{◌≡◌, ℕ, None, false, true};
 ghost use Rattle.cf_handles.specs.Sweeps.{BeginsSweep, EndsSweep, Stops, Sweeps, is_held, landed_by};
 
 use crate::code::Code;
-use crate::handle::object::{Object, take};
+use crate::handle::object::{Object, hold, take};
 use crate::values::as_args;
 use crate::values::task::{CfTask, held_by, number_or_none};
 use cf_core::{Stop, Sweep};
@@ -15,7 +15,7 @@ pub fn begin(alloc: Global, held: &mut Object) -> Result<(), Code>
     ensures { BeginsSweep held.old result held.new }
 {
     let (now, done) = begun(take(alloc, held));
-    *held = now;
+    hold(held, now);
     done
 }
 
@@ -106,7 +106,7 @@ pub fn end(alloc: Global, held: &mut Object) -> Result<(), Code>
     ensures { EndsSweep held.old result held.new }
 {
     let (now, done) = ended(take(alloc, held));
-    *held = now;
+    hold(held, now);
     done
 }
 

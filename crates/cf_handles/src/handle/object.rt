@@ -65,6 +65,13 @@ pub(crate) fn take(alloc: Global, held: &mut Object) -> Object
     mem::replace(held, Object::Builder(PlanBuilder::new(alloc)))
 }
 
+/// Puts this in the place of what is held, which is freed.
+pub(crate) fn hold(held: &mut Object, now: Object)
+    ensures { held.new ≡ now }
+{
+    drop(mem::replace(held, now))
+}
+
 /// That a handle may go to another thread.
 #[inline(always)]
 pub(crate) fn assert_send<T: Send + Drop>(held: Box<T>) -> Box<T>
