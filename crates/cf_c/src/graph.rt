@@ -13,10 +13,10 @@ ghost use Rattle.cf_handles.specs.Sweeps.{BeginsSweep, EndsSweep, Sweeps};
 ghost use Rattle.cf_handles.specs.Tasks.{Nexts, Steps};
 ghost use Rattle.cf_handles.specs.Values.{answer_of, value_of};
 
-use crate::handle::{ask, fill, tell};
+use crate::handle::{ask, tell};
 use cf_handles::code::Code;
 use cf_handles::graph::{asking, graph_of, plan_of, restarting, rounds, stepping, sweeping};
-use cf_handles::handle::CfHandle;
+use cf_handles::handle::{CfHandle, fill};
 use cf_handles::values::attaching::attach_event;
 use cf_handles::values::event::event_at;
 use cf_handles::values::task::CfTask;

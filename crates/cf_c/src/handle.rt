@@ -1,11 +1,9 @@
 //! How a call looks behind its handle, and what it gives C.
-ghost use Rattle.std.specs.Prelude.{◌≡◌, None, Ok};
+ghost use Rattle.std.specs.Prelude.{◌≡◌, None};
 ghost use Rattle.cf_handles.specs.Answers.{Codes, Gives};
-ghost use Rattle.cf_handles.specs.Building.{Fills};
 
 use cf_handles::code::Code;
-use cf_handles::handle::CfHandle;
-use cf_handles::handle::object::Object;
+use cf_handles::handle::{CfHandle, free};
 use std::alloc::Global;
 
 /// Asks what stands behind a handle, and gives C the code, and where that is 0 the answer.
@@ -64,37 +62,10 @@ pub(crate) fn code_of(done: Result<(), Code>) -> u32
     }
 }
 
-/// Puts what was made behind a handle, if that is empty: 0, or why not.
-pub(crate) fn fill(alloc: Global, h: &mut CfHandle, made: Result<Object, Code>) -> u32
-    ensures { Fills made h.old.inner.held result h.new.inner.held }
-{
-    if h.is_full() {
-        return Code::Full.number();
-    }
-    match made {
-        Err(code) => code.number(),
-        Ok(held) => put_new(alloc, h, held),
-    }
-}
-
-/// Puts this behind an empty handle: 0, or that there is no memory.
-fn put_new(alloc: Global, h: &mut CfHandle, held: Object) -> u32
-    requires { h.old.inner.held ≡ None }
-    ensures { Fills (Ok held) None result h.new.inner.held }
-{
-    match Box::new(alloc, held) {
-        Ok(held) => {
-            h.put(held);
-            0
-        }
-        Err(_) => Code::NoMemory.number(),
-    }
-}
-
 /// Frees what stands behind a handle, and leaves the handle empty.
 #[unsafe(no_mangle)]
 pub extern "C" fn cf_free(alloc: Global, h: &mut CfHandle)
     ensures { h.new.inner.held ≡ None }
 {
-    drop(h.take(alloc))
+    free(alloc, h)
 }

@@ -4,9 +4,9 @@ ghost use Rattle.cf_handles.specs.Building.{Opens};
 ghost use Rattle.cf_handles.specs.LedgerSteps.{StepsLedger};
 ghost use Rattle.cf_handles.specs.Ledgers.{DoesRow, DoesWord, Grows, LedgerFrom, LedgerOf, OfLedger, OpensFrom, StartsAgain, TellsFunction, TellsReady, TellsStage, TellsStages, Writes, WritesNews, WritesWords};
 
-use crate::handle::{ask, fill, tell};
+use crate::handle::{ask, tell};
 use cf_handles::code::Code;
-use cf_handles::handle::CfHandle;
+use cf_handles::handle::{CfHandle, fill};
 use cf_handles::ledger::{asking, ledger_from, ledger_of, stepping, telling};
 use cf_handles::values::CfReply;
 use cf_handles::values::stage::{CfNews, CfStage};

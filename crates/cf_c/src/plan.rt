@@ -3,10 +3,10 @@ ghost use Rattle.cf_handles.specs.Answers.{Does, Tells};
 ghost use Rattle.cf_handles.specs.Building.{AddsLimit, AddsStage, Builds, IsNewBuilder, kind_of};
 ghost use Rattle.cf_handles.specs.Plans.{form_of, function_of};
 
-use crate::handle::{ask, fill, tell};
+use crate::handle::{ask, tell};
 use cf_handles::code::plan_code;
-use cf_handles::handle::CfHandle;
 use cf_handles::handle::object::Object;
+use cf_handles::handle::{CfHandle, fill};
 use cf_handles::plan::{add_limit, add_stage, build, kind_of};
 use cf_handles::values::CfValue;
 use cf_handles::values::attaching::function_of;
