@@ -2,47 +2,37 @@
 use crate::noting::Notes;
 use crate::people::People;
 use crate::saying::{write_name, write_outcome};
+use crate::text::Text;
 use cf_model::Stage;
 use cf_outcome::{Cause, Outcome};
-use std::alloc::AllocError;
 
 /// Adds what has become of a stage: its number, that of its state, and what there is to say of it.
-pub(crate) fn write_change(
-    out: &mut String,
-    notes: &Notes,
-    people: &People,
-    i: u16,
-    stage: Stage,
-) -> Result<(), AllocError> {
-    write!(out, "[{i},{},\"", code_of(stage))?;
+pub(crate) fn write_change(out: &mut Text, notes: &Notes, people: &People, i: u16, stage: Stage) {
+    out.add_with("[", i);
+    out.add_with(",", code_of(stage));
+    out.add(",\"");
     match stage {
         Stage::Settled(outcome) => {
-            write_outcome(out, people, outcome)?;
-            write_passed(out, notes, i, outcome)?;
+            write_outcome(out, people, outcome);
+            write_passed(out, notes, i, outcome);
         }
         Stage::Linked(j) => {
-            write!(out, "takes the outcome of ")?;
-            write_name(out, notes, people, j)?;
+            out.add("takes the outcome of ");
+            write_name(out, notes, people, j);
         }
         _ => {}
     }
-    write!(out, "\"]")
+    out.add("\"]");
 }
 
-fn write_passed(
-    out: &mut String,
-    notes: &Notes,
-    i: u16,
-    outcome: Outcome,
-) -> Result<(), AllocError> {
+fn write_passed(out: &mut Text, notes: &Notes, i: u16, outcome: Outcome) {
     let is_passed = match notes.stages.get(i as usize) {
         Some(seen) => !seen.is_own,
         None => false,
     };
     if is_passed && matches!(outcome, Outcome::Fault { .. }) {
-        write!(out, ", passed on")?;
+        out.add(", passed on");
     }
-    Ok(())
 }
 
 /// The number by which the page knows a state.

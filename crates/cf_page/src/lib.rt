@@ -8,7 +8,7 @@
 //! A scene is written as a page (`page.rt`), which is a fixed text with the scene as JSON in its middle; as a trace for
 //! Chrome's viewer and Perfetto (`trace.rt`); or as OpenTelemetry's spans (`spans.rt`). What an account says of its own
 //! (`People`) goes into these as JSON strings alone, in which no byte stands that could end a string or a script
-//! (`strings.rt`).
+//! (`text.rt`).
 #![tactic(auto)]
 
 mod changes;
@@ -20,8 +20,8 @@ mod saying;
 mod scene;
 mod script;
 mod spans;
-mod strings;
 mod template;
+mod text;
 mod trace;
 
 pub use page::page_of;

@@ -1,40 +1,39 @@
 //! An event in words, within a JSON string.
 use crate::noting::Notes;
 use crate::people::People;
-use crate::strings::write_inside;
+use crate::text::Text;
 use cf_model::{Attached, Claimed, Event, Finished, Reply, Ticked};
 use cf_outcome::{Cause, Outcome, Value};
 use cf_plan::{Answer, Args};
-use std::alloc::AllocError;
 
 /// Adds who does what, and what comes of it.
 pub(crate) fn write_event(
-    out: &mut String,
+    out: &mut Text,
     notes: &Notes,
     people: &People,
     event: Event,
     reply: Reply,
-) -> Result<(), AllocError> {
-    write_caller(out, people, event.who())?;
+) {
+    write_caller(out, people, event.who());
     match event {
         Event::Complete { stage, value, .. } => {
-            write_call(out, notes, people, "completes", stage)?;
+            write_call(out, notes, people, "completes", stage);
             write_completed(out, people, value, reply)
         }
         Event::Fail { stage, code, .. } => {
-            write_call(out, notes, people, "fails", stage)?;
+            write_call(out, notes, people, "fails", stage);
             write_failed(out, people, code, reply)
         }
         Event::Cancel { stage, .. } => {
-            write_call(out, notes, people, "cancels", stage)?;
+            write_call(out, notes, people, "cancels", stage);
             write_flag(out, reply)
         }
         Event::Claim { stage, .. } => {
-            write_call(out, notes, people, "claims", stage)?;
+            write_call(out, notes, people, "claims", stage);
             write_claimed(out, people, reply)
         }
         Event::Finish { stage, answer, .. } => {
-            write_call(out, notes, people, "finishes", stage)?;
+            write_call(out, notes, people, "finishes", stage);
             write_answered(out, notes, people, answer, reply)
         }
         Event::Tick { moment, .. } => write_tick(out, moment, reply),
@@ -42,245 +41,201 @@ pub(crate) fn write_event(
     }
 }
 
-fn write_completed(
-    out: &mut String,
-    people: &People,
-    value: Value,
-    reply: Reply,
-) -> Result<(), AllocError> {
-    write!(out, " with ")?;
-    write_value(out, people, value)?;
+fn write_completed(out: &mut Text, people: &People, value: Value, reply: Reply) {
+    out.add(" with ");
+    write_value(out, people, value);
     write_flag(out, reply)
 }
 
-fn write_failed(
-    out: &mut String,
-    people: &People,
-    code: u32,
-    reply: Reply,
-) -> Result<(), AllocError> {
-    write!(out, " with ")?;
-    write_error(out, people, code)?;
+fn write_failed(out: &mut Text, people: &People, code: u32, reply: Reply) {
+    out.add(" with ");
+    write_error(out, people, code);
     write_flag(out, reply)
 }
 
-fn write_answered(
-    out: &mut String,
-    notes: &Notes,
-    people: &People,
-    answer: Answer,
-    reply: Reply,
-) -> Result<(), AllocError> {
-    write_answer(out, notes, people, answer)?;
+fn write_answered(out: &mut Text, notes: &Notes, people: &People, answer: Answer, reply: Reply) {
+    write_answer(out, notes, people, answer);
     write_finished(out, reply)
 }
 
 /// Adds who does what, of an event of which nothing more is told than the call.
-pub(crate) fn write_event_alone(
-    out: &mut String,
-    notes: &Notes,
-    people: &People,
-    event: Event,
-) -> Result<(), AllocError> {
-    write_caller(out, people, event.who())?;
+pub(crate) fn write_event_alone(out: &mut Text, notes: &Notes, people: &People, event: Event) {
+    write_caller(out, people, event.who());
     match event {
         Event::Complete { stage, .. } => write_call(out, notes, people, "completes", stage),
         Event::Fail { stage, .. } => write_call(out, notes, people, "fails", stage),
         Event::Cancel { stage, .. } => write_call(out, notes, people, "cancels", stage),
         Event::Claim { stage, .. } => write_call(out, notes, people, "claims", stage),
         Event::Finish { stage, .. } => write_call(out, notes, people, "finishes", stage),
-        Event::Tick { moment, .. } => write!(out, " lets it be {moment}"),
-        Event::Attach { .. } => write!(out, " attaches a stage"),
+        Event::Tick { moment, .. } => out.add_with(" lets it be ", moment),
+        Event::Attach { .. } => out.add(" attaches a stage"),
     }
 }
 
-fn write_call(
-    out: &mut String,
-    notes: &Notes,
-    people: &People,
-    what: &str,
-    stage: u16,
-) -> Result<(), AllocError> {
-    write!(out, " {what} ")?;
+fn write_call(out: &mut Text, notes: &Notes, people: &People, what: &str, stage: u16) {
+    out.add(" ");
+    out.add(what);
+    out.add(" ");
     write_name(out, notes, people, stage)
 }
 
-fn write_flag(out: &mut String, reply: Reply) -> Result<(), AllocError> {
+fn write_flag(out: &mut Text, reply: Reply) {
     match reply {
-        Reply::Flag(true) => Ok(()),
-        _ => write!(out, ": too late"),
+        Reply::Flag(true) => {}
+        _ => out.add(": too late"),
     }
 }
 
-fn write_claimed(out: &mut String, people: &People, reply: Reply) -> Result<(), AllocError> {
+fn write_claimed(out: &mut Text, people: &People, reply: Reply) {
     match reply {
         Reply::Claim(Claimed::Granted(args)) => {
-            write!(out, " and calls it")?;
+            out.add(" and calls it");
             write_args(out, people, args)
         }
-        Reply::Claim(Claimed::Settled) => write!(out, ": too late, it is settled"),
-        Reply::Claim(Claimed::Taken) => write!(out, ": too late, another has it"),
-        _ => write!(out, ": too early"),
+        Reply::Claim(Claimed::Settled) => out.add(": too late, it is settled"),
+        Reply::Claim(Claimed::Taken) => out.add(": too late, another has it"),
+        _ => out.add(": too early"),
     }
 }
 
-fn write_args(out: &mut String, people: &People, args: Args) -> Result<(), AllocError> {
+fn write_args(out: &mut Text, people: &People, args: Args) {
     match args {
-        Args::None => Ok(()),
+        Args::None => {}
         Args::One(v) => {
-            write!(out, " with ")?;
+            out.add(" with ");
             write_value(out, people, v)
         }
         Args::Two(v, w) => {
-            write!(out, " with ")?;
-            write_value(out, people, v)?;
-            write!(out, " and ")?;
+            out.add(" with ");
+            write_value(out, people, v);
+            out.add(" and ");
             write_value(out, people, w)
         }
         Args::Got(o) => {
-            write!(out, " with ")?;
+            out.add(" with ");
             write_outcome(out, people, o)
         }
     }
 }
 
-fn write_answer(
-    out: &mut String,
-    notes: &Notes,
-    people: &People,
-    answer: Answer,
-) -> Result<(), AllocError> {
+fn write_answer(out: &mut Text, notes: &Notes, people: &People, answer: Answer) {
     match answer {
         Answer::Give(v) => {
-            write!(out, ", which gave ")?;
+            out.add(", which gave ");
             write_value(out, people, v)
         }
         Answer::Throw(code) => {
-            write!(out, ", which failed with ")?;
+            out.add(", which failed with ");
             write_error(out, people, code)
         }
         Answer::Link(j) => {
-            write!(out, ", which takes the outcome of ")?;
+            out.add(", which takes the outcome of ");
             write_name(out, notes, people, j)
         }
     }
 }
 
-fn write_finished(out: &mut String, reply: Reply) -> Result<(), AllocError> {
+fn write_finished(out: &mut Text, reply: Reply) {
     match reply {
-        Reply::Finish(Finished::Won) => Ok(()),
-        Reply::Finish(Finished::Late) => write!(out, ": too late"),
-        _ => write!(out, ": it isn't this caller's"),
+        Reply::Finish(Finished::Won) => {}
+        Reply::Finish(Finished::Late) => out.add(": too late"),
+        _ => out.add(": it isn't this caller's"),
     }
 }
 
-fn write_tick(out: &mut String, moment: u32, reply: Reply) -> Result<(), AllocError> {
+fn write_tick(out: &mut Text, moment: u32, reply: Reply) {
     match reply {
-        Reply::Tick(Ticked::Fired(1)) => write!(out, " lets it be {moment}: 1 limit fires"),
-        Reply::Tick(Ticked::Fired(n)) => write!(out, " lets it be {moment}: {n} limits fire"),
-        _ => write!(out, " lets it be {moment}, which is past"),
+        Reply::Tick(Ticked::Fired(1)) => {
+            out.add_with(" lets it be ", moment);
+            out.add(": 1 limit fires");
+        },
+        Reply::Tick(Ticked::Fired(n)) => {
+            out.add_with(" lets it be ", moment);
+            out.add_with(": ", n);
+            out.add(" limits fire");
+        },
+        _ => {
+            out.add_with(" lets it be ", moment);
+            out.add(", which is past");
+        },
     }
 }
 
-fn write_attach(
-    out: &mut String,
-    notes: &Notes,
-    people: &People,
-    reply: Reply,
-) -> Result<(), AllocError> {
+fn write_attach(out: &mut Text, notes: &Notes, people: &People, reply: Reply) {
     let Reply::Attach(Attached::At(i)) = reply else {
-        return write!(out, " attaches a stage: there is no room");
+        return out.add(" attaches a stage: there is no room");
     };
-    write!(out, " attaches ")?;
-    write_name(out, notes, people, i)?;
+    out.add(" attaches ");
+    write_name(out, notes, people, i);
     match notes.stages.get(i as usize) {
         Some(seen) => write_behind(out, notes, people, &seen.of),
-        None => Ok(()),
+        None => {}
     }
 }
 
-fn write_behind(
-    out: &mut String,
-    notes: &Notes,
-    people: &People,
-    of: &[u16],
-) -> Result<(), AllocError> {
+fn write_behind(out: &mut Text, notes: &Notes, people: &People, of: &[u16]) {
     for (k, j) in of.iter().enumerate() {
         let word = if k == 0 { " behind " } else { " and " };
-        write!(out, "{word}")?;
-        write_name(out, notes, people, *j)?;
+        out.add(word);
+        write_name(out, notes, people, *j);
     }
-    Ok(())
 }
 
 /// Adds a stage's number, and its name or that of its form.
-pub(crate) fn write_name(
-    out: &mut String,
-    notes: &Notes,
-    people: &People,
-    stage: u16,
-) -> Result<(), AllocError> {
-    write!(out, "{stage} ")?;
+pub(crate) fn write_name(out: &mut Text, notes: &Notes, people: &People, stage: u16) {
+    out.add_value(stage);
+    out.add(" ");
     write_bare_name(out, notes, people, stage)
 }
 
 /// Adds a stage's name, or that of its form.
-pub(crate) fn write_bare_name(
-    out: &mut String,
-    notes: &Notes,
-    people: &People,
-    stage: u16,
-) -> Result<(), AllocError> {
+pub(crate) fn write_bare_name(out: &mut Text, notes: &Notes, people: &People, stage: u16) {
     match people.names.get(stage as usize) {
-        Some(name) if !name.is_empty() => write_inside(out, name),
+        Some(name) if !name.is_empty() => out.add_inside(name),
         _ => match notes.stages.get(stage as usize) {
-            Some(seen) => write!(out, "{}", seen.form.name()),
-            None => write!(out, "stage"),
+            Some(seen) => out.add(seen.form.name()),
+            None => out.add("stage"),
         },
     }
 }
 
 /// Adds a caller's name.
-pub(crate) fn write_caller(out: &mut String, people: &People, who: u8) -> Result<(), AllocError> {
+pub(crate) fn write_caller(out: &mut Text, people: &People, who: u8) {
     match people.lanes.get(who as usize) {
-        Some(name) if !name.is_empty() => write_inside(out, name),
-        _ => write!(out, "caller {who}"),
+        Some(name) if !name.is_empty() => out.add_inside(name),
+        _ => out.add_with("caller ", who),
     }
 }
 
-fn write_value(out: &mut String, people: &People, v: Value) -> Result<(), AllocError> {
+fn write_value(out: &mut Text, people: &People, v: Value) {
     let Value::Int(n) = v else {
-        return write!(out, "nil");
+        return out.add("nil");
     };
     match usize::try_from(n) {
         Ok(k) => match people.values.get(k) {
-            Some(said) => write_inside(out, said),
-            None => write!(out, "{n}"),
+            Some(said) => out.add_inside(said),
+            None => out.add_value(n),
         },
-        Err(_) => write!(out, "{n}"),
+        Err(_) => out.add_value(n),
     }
 }
 
-fn write_error(out: &mut String, people: &People, code: u32) -> Result<(), AllocError> {
+fn write_error(out: &mut Text, people: &People, code: u32) {
     match people.errors.get(code as usize) {
-        Some(said) => write_inside(out, said),
-        None => write!(out, "thrown {code}"),
+        Some(said) => out.add_inside(said),
+        None => out.add_with("thrown ", code),
     }
 }
 
 /// Adds what a stage settled with.
-pub(crate) fn write_outcome(
-    out: &mut String,
-    people: &People,
-    outcome: Outcome,
-) -> Result<(), AllocError> {
+pub(crate) fn write_outcome(out: &mut Text, people: &People, outcome: Outcome) {
     match outcome {
         Outcome::Value(v) => write_value(out, people, v),
         Outcome::Fault { cause, .. } => match cause {
             Cause::Thrown(code) => write_error(out, people, code),
-            Cause::Cancelled => write!(out, "cancelled"),
-            Cause::TimedOut => write!(out, "timed out"),
-            Cause::BadAnswer => write!(out, "a bad answer"),
+            Cause::Cancelled => out.add("cancelled"),
+            Cause::TimedOut => out.add("timed out"),
+            Cause::BadAnswer => out.add("a bad answer"),
         },
     }
 }

@@ -7,11 +7,11 @@ use crate::layout::{Size, lay_out};
 use crate::noting::Notes;
 use crate::people::People;
 use crate::saying::write_event;
+use crate::text::Text;
 use cf_event::decode;
 use cf_ledger::{Ledger, LedgerFault};
 use cf_model::{Attached, Claimed, Event, Finished, Reply, Stage, Ticked};
 use cf_plan::Plan;
-use cf_script::write_reply;
 use std::alloc::{AllocError, Global};
 
 /// A history done again.
@@ -20,9 +20,9 @@ pub struct Scene {
     pub(crate) plan: Plan,
     pub(crate) notes: Notes,
     /// What has become of each stage before the first event, as JSON.
-    pub(crate) start: String,
+    pub(crate) start: Text,
     /// The events as JSON.
-    pub(crate) events: String,
+    pub(crate) events: Text,
     /// How many events there are, and what each is: whose, of which stage.
     pub(crate) calls: Vec<Event>,
     pub(crate) size: Size,
@@ -55,8 +55,8 @@ fn opening_of(alloc: Global, plan: &Plan) -> Result<Scene, AllocError> {
     Ok(Scene {
         plan,
         notes,
-        start: String::new(alloc),
-        events: String::new(alloc),
+        start: Text::new(alloc),
+        events: Text::new(alloc),
         calls: Vec::new(alloc),
         size: Size {
             width: 0,
@@ -91,28 +91,26 @@ impl Scene {
         words: &[u64],
         people: &People,
     ) -> Result<(), AllocError> {
-        self.tell_start(ledger, people)?;
+        self.tell_start(ledger, people);
         self.tell_all(alloc, ledger, words, people)?;
         for (stage, to) in people.relays.iter() {
             self.notes.relay(*stage, *to);
         }
         self.size = lay_out(alloc, &mut self.notes)?;
-        Ok(())
+        self.start.check()?;
+        self.events.check()
     }
 
     /// Tells what has become of each stage before the first event.
-    fn tell_start(&mut self, ledger: &mut Ledger, people: &People) -> Result<(), AllocError> {
+    fn tell_start(&mut self, ledger: &mut Ledger, people: &People) {
         for i in 0..ledger.stages() {
             let stage = stage_of(ledger, i);
             if let Stage::Settled(outcome) = stage {
                 self.notes.settle(i, outcome, 0);
             }
-            if i > 0 {
-                self.start.push(',')?;
-            }
-            write_change(&mut self.start, &self.notes, people, i, stage)?;
+            self.start.add_comma(usize::from(i));
+            write_change(&mut self.start, &self.notes, people, i, stage);
         }
-        Ok(())
     }
 
     /// Does the words, and tells each.
@@ -151,13 +149,9 @@ impl Scene {
     ) -> Result<(), AllocError> {
         let news = news_of(alloc, ledger, reply)?;
         self.begin(alloc, event, reply, people)?;
-        for (k, i) in news.iter().enumerate() {
-            if k > 0 {
-                self.events.push(',')?;
-            }
-            self.tell_change(ledger, *i, people)?;
-        }
-        self.end(event, reply, people)
+        self.tell_changes(ledger, &news, people);
+        self.end(event, reply, people);
+        Ok(())
     }
 
     /// Tells an event that changed nothing, since there was no room.
@@ -169,24 +163,28 @@ impl Scene {
         people: &People,
     ) -> Result<(), AllocError> {
         self.begin(alloc, event, reply, people)?;
-        self.end(event, reply, people)
+        self.end(event, reply, people);
+        Ok(())
+    }
+
+    /// Tells what an event made of these stages.
+    fn tell_changes(&mut self, ledger: &mut Ledger, news: &[u16], people: &People) {
+        for (k, i) in news.iter().enumerate() {
+            self.events.add_comma(k);
+            self.tell_change(ledger, *i, people);
+        }
     }
 
     /// Tells what an event made of a stage.
-    fn tell_change(
-        &mut self,
-        ledger: &mut Ledger,
-        i: u16,
-        people: &People,
-    ) -> Result<(), AllocError> {
+    fn tell_change(&mut self, ledger: &mut Ledger, i: u16, people: &People) {
         let stage = stage_of(ledger, i);
         if let Stage::Settled(outcome) = stage {
             self.notes.settle(i, outcome, self.calls.len());
         }
-        write_change(&mut self.events, &self.notes, people, i, stage)
+        write_change(&mut self.events, &self.notes, people, i, stage);
     }
 
-    /// Notes an event, and tells what stands before its changes: who, of which stage, in words, whether it was in vain.
+    /// Notes an event, and tells what stands before its changes.
     fn begin(
         &mut self,
         alloc: Global,
@@ -196,48 +194,51 @@ impl Scene {
     ) -> Result<(), AllocError> {
         self.calls.push(event)?;
         self.notes.note(alloc, self.calls.len(), event, reply)?;
-        if self.calls.len() > 1 {
-            self.events.push(',')?;
-        }
-        write!(self.events, "\n[{},", event.who())?;
+        self.tell_event(event, reply, people);
+        Ok(())
+    }
+
+    /// Tells of an event who did it, of which stage, in words, whether it was in vain.
+    fn tell_event(&mut self, event: Event, reply: Reply, people: &People) {
+        let out = &mut self.events;
+        out.add_comma(self.calls.len().saturating_sub(1));
+        out.add_with("\n[", event.who());
         match stage_named(event, reply) {
-            Some(i) => write!(self.events, "{i},\"")?,
-            None => write!(self.events, "null,\"")?,
+            Some(i) => out.add_with(",", i),
+            None => out.add(",null"),
         }
-        write_event(&mut self.events, &self.notes, people, event, reply)?;
-        write!(self.events, "\",{},[", u8::from(is_vain(reply)))
+        out.add(",\"");
+        write_event(out, &self.notes, people, event, reply);
+        out.add_with("\",", u8::from(is_vain(reply)));
+        out.add(",[");
     }
 
     /// Tells what stands behind an event's changes: its time, what the account says otherwise, whether it is a claim or a
     /// finish.
-    fn end(&mut self, event: Event, reply: Reply, people: &People) -> Result<(), AllocError> {
+    fn end(&mut self, event: Event, reply: Reply, people: &People) {
         let place = self.calls.len();
         match people.since(people.times.len(), place.saturating_sub(1)) {
-            Some(nanoseconds) => write!(self.events, "],{},", nanoseconds / 1_000)?,
-            None => write!(self.events, "],null,")?,
+            Some(nanoseconds) => self.events.add_with("],", nanoseconds / 1_000),
+            None => self.events.add("],null"),
         }
-        write_difference(&mut self.events, place, reply, people)?;
+        write_difference(&mut self.events, place, reply, people);
         let is_run = matches!(event, Event::Claim { .. } | Event::Finish { .. });
-        write!(self.events, ",{}]", u8::from(is_run))
+        self.events.add_with(",", u8::from(is_run));
+        self.events.add("]");
     }
 }
 
-/// Adds what the account says otherwise of the event at a place than the graph, or `null`.
-fn write_difference(
-    out: &mut String,
-    place: usize,
-    reply: Reply,
-    people: &People,
-) -> Result<(), AllocError> {
+/// Adds, behind a comma, what the account says otherwise of the event at a place than the graph, or `null`.
+fn write_difference(out: &mut Text, place: usize, reply: Reply, people: &People) {
     match people.replies.get(place.saturating_sub(1)) {
         Some(Some(said)) if *said != reply => {
-            write!(out, "\"the account says: ")?;
-            write_reply(out, *said)?;
-            write!(out, "; the graph: ")?;
-            write_reply(out, reply)?;
-            write!(out, "\"")
+            out.add(",\"the account says: ");
+            out.add_reply(*said);
+            out.add("; the graph: ");
+            out.add_reply(reply);
+            out.add("\"");
         }
-        _ => write!(out, "null"),
+        _ => out.add(",null"),
     }
 }
 

@@ -25,11 +25,27 @@ pub fn words_of(
     requires place { has_place plan.now.stages room ≡ true }
 {
     let mut words = Vec::new(alloc);
-    match Ledger::new(alloc, plan, room) {
-        Ok(mut ledger) => do_all(&mut ledger, &mut words, functions, steps)?,
-        Err(_) => return Err(AllocError),
+    match add_words(alloc, plan, room, &mut words, functions, steps) {
+        Ok(()) => Ok(words),
+        Err(refused) => Err(refused),
     }
-    Ok(words)
+}
+
+/// Does the steps to a new ledger of the plan, and writes the words of their events.
+fn add_words(
+    alloc: Global,
+    plan: &Plan,
+    room: u16,
+    words: &mut Vec<u64>,
+    functions: &[Func],
+    steps: &[Step],
+) -> Result<(), AllocError>
+    requires place { has_place plan.now.stages room ≡ true }
+{
+    match Ledger::new(alloc, plan, room) {
+        Ok(mut ledger) => do_all(&mut ledger, words, functions, steps),
+        Err(_) => Err(AllocError),
+    }
 }
 
 /// Does the steps, and writes the words of their events.

@@ -3,7 +3,7 @@ use crate::noting::{Run, Seen};
 use crate::people::People;
 use crate::saying::{write_bare_name, write_caller, write_outcome};
 use crate::scene::Scene;
-use crate::strings::write_string;
+use crate::text::Text;
 use cf_outcome::Outcome;
 use std::alloc::{AllocError, Global};
 
@@ -18,27 +18,23 @@ pub fn spans_of(
     words: &[u64],
 ) -> Result<String, AllocError> {
     let trace = number_of(words);
-    let mut out = String::new(alloc);
-    write_head(&mut out, people)?;
-    write_whole(&mut out, scene, people, trace)?;
+    let mut out = Text::new(alloc);
+    write_head(&mut out, people);
+    write_whole(&mut out, scene, people, trace);
     for run in scene.notes.runs.iter() {
-        write_span(&mut out, scene, people, trace, *run)?;
+        write_span(&mut out, scene, people, trace, *run);
     }
-    write!(out, "\n]}}]}}]}}\n")?;
-    Ok(out)
+    out.add("\n]}]}]}\n");
+    out.whole()
 }
 
 /// Adds whose spans these are.
-fn write_head(out: &mut String, people: &People) -> Result<(), AllocError> {
-    write!(
-        out,
-        "{{\"resourceSpans\":[{{\"resource\":{{\"attributes\":[{{\"key\":\"service.name\",\"value\":{{\"stringValue\":"
-    )?;
-    write_string(out, &people.name)?;
-    write!(
-        out,
-        "}}}}]}},\"scopeSpans\":[{{\"scope\":{{\"name\":\"cf_look\"}},\"spans\":[\n"
-    )
+fn write_head(out: &mut Text, people: &People) {
+    out.add(
+        "{\"resourceSpans\":[{\"resource\":{\"attributes\":[{\"key\":\"service.name\",\"value\":{\"stringValue\":",
+    );
+    out.add_string(&people.name);
+    out.add("}}]},\"scopeSpans\":[{\"scope\":{\"name\":\"cf_look\"},\"spans\":[\n");
 }
 
 /// A number that the words make, other than 0.
@@ -60,77 +56,62 @@ fn moment_of(scene: &Scene, people: &People, place: usize) -> u64 {
 }
 
 /// Adds the span of the request.
-fn write_whole(
-    out: &mut String,
-    scene: &Scene,
-    people: &People,
-    trace: u64,
-) -> Result<(), AllocError> {
-    write!(
-        out,
-        "{{\"traceId\":\"{trace:016x}{trace:016x}\",\"spanId\":\"ffffffffffffffff\",\"name\":"
-    )?;
-    write_string(out, &people.name)?;
-    write!(out, ",\"kind\":1,")?;
+fn write_whole(out: &mut Text, scene: &Scene, people: &People, trace: u64) {
+    out.add("{\"traceId\":\"");
+    out.add_hex(trace);
+    out.add_hex(trace);
+    out.add("\",\"spanId\":\"ffffffffffffffff\",\"name\":");
+    out.add_string(&people.name);
+    out.add(",\"kind\":1,");
     let start = moment_of(scene, people, 1);
-    write_times(out, start, moment_of(scene, people, scene.calls.len()))?;
-    write!(out, "{{\"key\":\"cf.verdict\",\"value\":{{\"stringValue\":")?;
-    write_string(out, &people.verdict)?;
-    write!(out, "}}}}]}}")
+    write_times(out, start, moment_of(scene, people, scene.calls.len()));
+    out.add("{\"key\":\"cf.verdict\",\"value\":{\"stringValue\":");
+    out.add_string(&people.verdict);
+    out.add("}}]}");
 }
 
 /// Adds when a span begins and ends, and the head of what else is said of it.
-fn write_times(out: &mut String, start: u64, end: u64) -> Result<(), AllocError> {
-    write!(
-        out,
-        "\"startTimeUnixNano\":\"{start}\",\"endTimeUnixNano\":\"{end}\",\"attributes\":["
-    )
+fn write_times(out: &mut Text, start: u64, end: u64) {
+    out.add_with("\"startTimeUnixNano\":\"", start);
+    out.add_with("\",\"endTimeUnixNano\":\"", end);
+    out.add("\",\"attributes\":[");
 }
 
 /// Adds the span of a call of a function.
-fn write_span(
-    out: &mut String,
-    scene: &Scene,
-    people: &People,
-    trace: u64,
-    run: Run,
-) -> Result<(), AllocError> {
+fn write_span(out: &mut Text, scene: &Scene, people: &People, trace: u64, run: Run) {
     let own = span_of(run.stage);
-    write!(
-        out,
-        ",\n{{\"traceId\":\"{trace:016x}{trace:016x}\",\"spanId\":\"{own:016x}\",\"parentSpanId\":\"ffffffffffffffff\","
-    )?;
-    write_name_and_times(out, scene, people, run)?;
-    write_who(out, people, run)?;
+    out.add(",\n{\"traceId\":\"");
+    out.add_hex(trace);
+    out.add_hex(trace);
+    out.add("\",\"spanId\":\"");
+    out.add_hex(own);
+    out.add("\",\"parentSpanId\":\"ffffffffffffffff\",");
+    write_name_and_times(out, scene, people, run);
+    write_who(out, people, run);
     match scene.notes.stages.get(run.stage as usize) {
         Some(seen) => write_rest(out, scene, people, trace, seen),
-        None => write!(out, "]}}"),
+        None => out.add("]}"),
     }
 }
 
-fn write_name_and_times(
-    out: &mut String,
-    scene: &Scene,
-    people: &People,
-    run: Run,
-) -> Result<(), AllocError> {
+fn write_name_and_times(out: &mut Text, scene: &Scene, people: &People, run: Run) {
     let start = moment_of(scene, people, run.claimed);
     let end = moment_of(scene, people, run.finished.unwrap_or(scene.calls.len()));
-    write!(out, "\"name\":\"")?;
-    write_bare_name(out, &scene.notes, people, run.stage)?;
-    write!(out, "\",\"kind\":1,")?;
-    write_times(out, start, end)
+    out.add("\"name\":\"");
+    write_bare_name(out, &scene.notes, people, run.stage);
+    out.add("\",\"kind\":1,");
+    write_times(out, start, end);
 }
 
 /// Adds which stage's function was called, and by whom.
-fn write_who(out: &mut String, people: &People, run: Run) -> Result<(), AllocError> {
-    write!(
-        out,
-        "{{\"key\":\"cf.stage\",\"value\":{{\"intValue\":\"{}\"}}}},{{\"key\":\"cf.caller\",\"value\":{{\"stringValue\":\"",
-        run.stage
-    )?;
-    write_caller(out, people, run.who)?;
-    write!(out, "\"}}}}")
+fn write_who(out: &mut Text, people: &People, run: Run) {
+    out.add_with(
+        "{\"key\":\"cf.stage\",\"value\":{\"intValue\":\"",
+        run.stage,
+    );
+    out.add("\"}},{\"key\":\"cf.caller\",\"value\":{\"stringValue\":\"");
+    write_caller(out, people, run.who);
+    out.add("\"}}");
 }
 
 /// The number of the span of a stage's call.
@@ -139,50 +120,43 @@ fn span_of(stage: u16) -> u64 {
 }
 
 /// Adds the form, the links to sources, and how the stage ended.
-fn write_rest(
-    out: &mut String,
-    scene: &Scene,
-    people: &People,
-    trace: u64,
-    seen: &Seen,
-) -> Result<(), AllocError> {
-    write!(
-        out,
-        ",{{\"key\":\"cf.form\",\"value\":{{\"stringValue\":\"{}\"}}}}],\"links\":[",
-        seen.form.name()
-    )?;
-    write_links(out, scene, trace, &seen.of)?;
+fn write_rest(out: &mut Text, scene: &Scene, people: &People, trace: u64, seen: &Seen) {
+    out.add_with(
+        ",{\"key\":\"cf.form\",\"value\":{\"stringValue\":\"",
+        seen.form.name(),
+    );
+    out.add("\"}}],\"links\":[");
+    write_links(out, scene, trace, &seen.of);
     match seen.settled {
-        Some((Outcome::Value(_), _)) => write!(out, "],\"status\":{{\"code\":1}}}}"),
+        Some((Outcome::Value(_), _)) => out.add("],\"status\":{\"code\":1}}"),
         Some((fault, _)) => write_fault(out, people, fault),
-        None => write!(out, "],\"status\":{{\"code\":0}}}}"),
+        None => out.add("],\"status\":{\"code\":0}}"),
     }
 }
 
 /// Adds the status of a stage that ended in a fault.
-fn write_fault(out: &mut String, people: &People, fault: Outcome) -> Result<(), AllocError> {
-    write!(out, "],\"status\":{{\"code\":2,\"message\":\"")?;
-    write_outcome(out, people, fault)?;
-    write!(out, "\"}}}}")
+fn write_fault(out: &mut Text, people: &People, fault: Outcome) {
+    out.add("],\"status\":{\"code\":2,\"message\":\"");
+    write_outcome(out, people, fault);
+    out.add("\"}}");
 }
 
 /// Adds a link to the span of each source that has one.
-fn write_links(out: &mut String, scene: &Scene, trace: u64, of: &[u16]) -> Result<(), AllocError> {
+fn write_links(out: &mut Text, scene: &Scene, trace: u64, of: &[u16]) {
     let mut count = 0;
     for j in of {
         if has_span(scene, *j) {
-            if count > 0 {
-                out.push(',')?;
-            }
+            out.add_comma(count);
             let span = span_of(*j);
-            write!(
-                out,
-                "{{\"traceId\":\"{trace:016x}{trace:016x}\",\"spanId\":\"{span:016x}\"}}"
-            )?;
+            out.add("{\"traceId\":\"");
+            out.add_hex(trace);
+            out.add_hex(trace);
+            out.add("\",\"spanId\":\"");
+            out.add_hex(span);
+            out.add("\"}");
             count = 1;
         }
     }
-    Ok(())
 }
 
 fn has_span(scene: &Scene, stage: u16) -> bool {

@@ -3,7 +3,7 @@ use crate::noting::{Run, Seen};
 use crate::people::People;
 use crate::saying::{write_bare_name, write_caller, write_event_alone, write_outcome};
 use crate::scene::Scene;
-use crate::strings::write_string;
+use crate::text::Text;
 use cf_model::Event;
 use std::alloc::{AllocError, Global};
 
@@ -11,51 +11,40 @@ use std::alloc::{AllocError, Global};
 /// function, a mark for each other call, an arrow from each source's bar. Without times an event takes a microsecond. It fails
 /// only where there is no memory.
 pub fn trace_of(alloc: Global, scene: &Scene, people: &People) -> Result<String, AllocError> {
-    let mut out = String::new(alloc);
-    write_head(&mut out, people)?;
     let rows = rows_of(alloc, scene)?;
-    write_rows(&mut out, scene, people, &rows)?;
-    write_bars(&mut out, scene, people, &rows)?;
-    write_marks(&mut out, scene, people)?;
-    write!(out, "\n]}}\n")?;
-    Ok(out)
+    let mut out = Text::new(alloc);
+    write_head(&mut out, people);
+    write_rows(&mut out, scene, people, &rows);
+    write_bars(&mut out, scene, people, &rows);
+    write_marks(&mut out, scene, people);
+    out.add("\n]}\n");
+    out.whole()
 }
 
 /// Adds the verdict and the name.
-fn write_head(out: &mut String, people: &People) -> Result<(), AllocError> {
-    write!(
-        out,
-        "{{\"displayTimeUnit\":\"ms\",\"otherData\":{{\"verdict\":"
-    )?;
-    write_string(out, &people.verdict)?;
-    write!(
-        out,
-        "}},\"traceEvents\":[\n{{\"ph\":\"M\",\"name\":\"process_name\",\"pid\":1,\"args\":{{\"name\":"
-    )?;
-    write_string(out, &people.name)?;
-    write!(out, "}}}}")
+fn write_head(out: &mut Text, people: &People) {
+    out.add("{\"displayTimeUnit\":\"ms\",\"otherData\":{\"verdict\":");
+    out.add_string(&people.verdict);
+    out.add(
+        "},\"traceEvents\":[\n{\"ph\":\"M\",\"name\":\"process_name\",\"pid\":1,\"args\":{\"name\":",
+    );
+    out.add_string(&people.name);
+    out.add("}}");
 }
 
 /// Adds a bar for each call of a function, with the arrows to it.
-fn write_bars(
-    out: &mut String,
-    scene: &Scene,
-    people: &People,
-    rows: &Rows,
-) -> Result<(), AllocError> {
+fn write_bars(out: &mut Text, scene: &Scene, people: &People, rows: &Rows) {
     for (k, run) in scene.notes.runs.iter().enumerate() {
-        write_bar(out, scene, people, *run, rows.of(k))?;
-        write_arrows(out, scene, people, rows, k, *run)?;
+        write_bar(out, scene, people, *run, rows.of(k));
+        write_arrows(out, scene, people, rows, k, *run);
     }
-    Ok(())
 }
 
 /// Adds the marks of events.
-fn write_marks(out: &mut String, scene: &Scene, people: &People) -> Result<(), AllocError> {
+fn write_marks(out: &mut Text, scene: &Scene, people: &People) {
     for (k, event) in scene.calls.iter().enumerate() {
-        write_mark(out, scene, people, k + 1, *event)?;
+        write_mark(out, scene, people, k + 1, *event);
     }
-    Ok(())
 }
 
 /// A row of bars: whose, how many of that caller's rows stand above it, and the place by which its last bar ends.
@@ -112,38 +101,32 @@ fn put(rows: &mut Vec<Row>, who: u8, from: usize, end: usize) -> Result<u32, All
 }
 
 /// Adds the names of rows: one for each caller, and those below it.
-fn write_rows(
-    out: &mut String,
-    scene: &Scene,
-    people: &People,
-    rows: &Rows,
-) -> Result<(), AllocError> {
+fn write_rows(out: &mut Text, scene: &Scene, people: &People, rows: &Rows) {
     for who in 0..64 {
         if scene.calls.iter().any(|event| event.who() == who) {
-            write_row(out, people, who, 0)?;
+            write_row(out, people, who, 0);
         }
     }
     for row in rows.rows.iter() {
         if row.depth > 0 {
-            write_row(out, people, row.who, row.depth)?;
+            write_row(out, people, row.who, row.depth);
         }
     }
-    Ok(())
 }
 
 /// Adds the name of a row.
-fn write_row(out: &mut String, people: &People, who: u8, depth: u32) -> Result<(), AllocError> {
-    write!(
-        out,
-        ",\n{{\"ph\":\"M\",\"name\":\"thread_name\",\"pid\":1,\"tid\":{},",
-        number_of(who, depth)
-    )?;
-    write!(out, "\"args\":{{\"name\":\"")?;
-    write_caller(out, people, who)?;
+fn write_row(out: &mut Text, people: &People, who: u8, depth: u32) {
+    out.add_with(
+        ",\n{\"ph\":\"M\",\"name\":\"thread_name\",\"pid\":1,\"tid\":",
+        number_of(who, depth),
+    );
+    out.add(",");
+    out.add("\"args\":{\"name\":\"");
+    write_caller(out, people, who);
     if depth > 0 {
-        write!(out, ", {}", depth.saturating_add(1))?;
+        out.add_with(", ", depth.saturating_add(1));
     }
-    write!(out, "\"}}}}")
+    out.add("\"}}");
 }
 
 /// When the event at a place was done, in nanoseconds since the first.
@@ -155,86 +138,59 @@ fn moment_of(scene: &Scene, people: &People, place: usize) -> u64 {
     }
 }
 
-/// Adds nanoseconds as microseconds.
-fn write_micros(out: &mut String, nanoseconds: u64) -> Result<(), AllocError> {
-    write!(out, "{}.{:03}", nanoseconds / 1_000, nanoseconds % 1_000)
-}
-
 /// Where a call of a function ended; the last event of all, where it didn't.
 fn end_of(scene: &Scene, run: Run) -> usize {
     run.finished.unwrap_or(scene.calls.len())
 }
 
 /// Adds the bar of a call of a function.
-fn write_bar(
-    out: &mut String,
-    scene: &Scene,
-    people: &People,
-    run: Run,
-    row: u32,
-) -> Result<(), AllocError> {
-    write!(
-        out,
-        ",\n{{\"ph\":\"X\",\"cat\":\"stage\",\"pid\":1,\"tid\":{row},\"name\":\""
-    )?;
-    write_bare_name(out, &scene.notes, people, run.stage)?;
-    write_times(out, scene, people, run)?;
-    write_places(out, run)?;
+fn write_bar(out: &mut Text, scene: &Scene, people: &People, run: Run, row: u32) {
+    out.add_with(",\n{\"ph\":\"X\",\"cat\":\"stage\",\"pid\":1,\"tid\":", row);
+    out.add(",\"name\":\"");
+    write_bare_name(out, &scene.notes, people, run.stage);
+    write_times(out, scene, people, run);
+    write_places(out, run);
     if let Some(seen) = scene.notes.stages.get(run.stage as usize) {
-        write_end(out, people, seen)?;
+        write_end(out, people, seen);
     }
-    write!(out, "}}}}")
+    out.add("}}");
 }
 
 /// Adds when a bar begins, and how long it is.
-fn write_times(
-    out: &mut String,
-    scene: &Scene,
-    people: &People,
-    run: Run,
-) -> Result<(), AllocError> {
+fn write_times(out: &mut Text, scene: &Scene, people: &People, run: Run) {
     let from = moment_of(scene, people, run.claimed);
     let to = moment_of(scene, people, end_of(scene, run));
-    write!(out, "\",\"ts\":")?;
-    write_micros(out, from)?;
-    write!(out, ",\"dur\":")?;
-    write_micros(out, to.saturating_sub(from))
+    out.add("\",\"ts\":");
+    out.add_micros(from);
+    out.add(",\"dur\":");
+    out.add_micros(to.saturating_sub(from))
 }
 
 /// Adds the places of a call's claim and finish.
-fn write_places(out: &mut String, run: Run) -> Result<(), AllocError> {
-    write!(
-        out,
-        ",\"args\":{{\"stage\":{},\"claimed\":{}",
-        run.stage, run.claimed
-    )?;
-    match run.finished {
-        Some(place) => write!(out, ",\"finished\":{place},\"late\":{}", run.is_late),
-        None => Ok(()),
+fn write_places(out: &mut Text, run: Run) {
+    out.add_with(",\"args\":{\"stage\":", run.stage);
+    out.add_with(",\"claimed\":", run.claimed);
+    if let Some(place) = run.finished {
+        out.add_with(",\"finished\":", place);
+        out.add_with(",\"late\":", run.is_late);
     }
 }
 
 /// Adds a stage's form and what it settled with.
-fn write_end(out: &mut String, people: &People, seen: &Seen) -> Result<(), AllocError> {
-    write!(out, ",\"form\":\"{}\",\"outcome\":\"", seen.form.name())?;
+fn write_end(out: &mut Text, people: &People, seen: &Seen) {
+    out.add_with(",\"form\":\"", seen.form.name());
+    out.add("\",\"outcome\":\"");
     match seen.settled {
-        Some((outcome, _)) => write_outcome(out, people, outcome)?,
-        None => write!(out, "pending")?,
+        Some((outcome, _)) => write_outcome(out, people, outcome),
+        None => out.add("pending"),
     }
-    write!(out, "\"")
+    out.add("\"");
 }
 
 /// Adds an arrow to call `k` from each source whose function was called.
-fn write_arrows(
-    out: &mut String,
-    scene: &Scene,
-    people: &People,
-    rows: &Rows,
-    k: usize,
-    run: Run,
-) -> Result<(), AllocError> {
+fn write_arrows(out: &mut Text, scene: &Scene, people: &People, rows: &Rows, k: usize, run: Run) {
     let Some(seen) = scene.notes.stages.get(run.stage as usize) else {
-        return Ok(());
+        return;
     };
     for (at, j) in seen.of.iter().enumerate() {
         let is_first = !seen.of.iter().take(at).any(|other| *other == *j);
@@ -245,11 +201,10 @@ fn write_arrows(
                     row: rows.of(k),
                     at: moment_of(scene, people, run.claimed),
                 };
-                write_arrow(out, (source.stage, run.stage), from, to)?;
+                write_arrow(out, (source.stage, run.stage), from, to);
             }
         }
     }
-    Ok(())
 }
 
 /// The number of the call of a stage's function, if it was finished.
@@ -281,50 +236,43 @@ fn starts_at(scene: &Scene, people: &People, source: Run, row: u32) -> End {
 }
 
 /// Adds an arrow between the bars of two stages; none back in time.
-fn write_arrow(out: &mut String, stages: (u16, u16), from: End, to: End) -> Result<(), AllocError> {
+fn write_arrow(out: &mut Text, stages: (u16, u16), from: End, to: End) {
     if from.at > to.at {
-        return Ok(());
+        return;
     }
     let (source, stage) = stages;
     let id = u32::from(source)
         .saturating_mul(4_096)
         .saturating_add(u32::from(stage));
-    write!(out, ",\n{{\"ph\":\"s\"")?;
-    write_arrow_end(out, id, from)?;
-    write!(out, ",\n{{\"ph\":\"f\",\"bp\":\"e\"")?;
+    out.add(",\n{\"ph\":\"s\"");
+    write_arrow_end(out, id, from);
+    out.add(",\n{\"ph\":\"f\",\"bp\":\"e\"");
     write_arrow_end(out, id, to)
 }
 
 /// Adds an end of an arrow.
-fn write_arrow_end(out: &mut String, id: u32, end: End) -> Result<(), AllocError> {
-    write!(
-        out,
-        ",\"cat\":\"source\",\"name\":\"source\",\"id\":{id},\"pid\":1,\"tid\":{},\"ts\":",
-        end.row
-    )?;
-    write_micros(out, end.at)?;
-    write!(out, "}}")
+fn write_arrow_end(out: &mut Text, id: u32, end: End) {
+    out.add_with(",\"cat\":\"source\",\"name\":\"source\",\"id\":", id);
+    out.add_with(",\"pid\":1,\"tid\":", end.row);
+    out.add(",\"ts\":");
+    out.add_micros(end.at);
+    out.add("}");
 }
 
 /// Adds the mark of an event that is neither a claim nor a finish.
-fn write_mark(
-    out: &mut String,
-    scene: &Scene,
-    people: &People,
-    place: usize,
-    event: Event,
-) -> Result<(), AllocError> {
+fn write_mark(out: &mut Text, scene: &Scene, people: &People, place: usize, event: Event) {
     if matches!(event, Event::Claim { .. } | Event::Finish { .. }) {
-        return Ok(());
+        return;
     }
-    write!(
-        out,
-        ",\n{{\"ph\":\"i\",\"s\":\"t\",\"cat\":\"call\",\"pid\":1,\"tid\":{},",
-        event.who()
-    )?;
-    write!(out, "\"name\":\"")?;
-    write_event_alone(out, &scene.notes, people, event)?;
-    write!(out, "\",\"ts\":")?;
-    write_micros(out, moment_of(scene, people, place))?;
-    write!(out, ",\"args\":{{\"place\":{place}}}}}")
+    out.add_with(
+        ",\n{\"ph\":\"i\",\"s\":\"t\",\"cat\":\"call\",\"pid\":1,\"tid\":",
+        event.who(),
+    );
+    out.add(",");
+    out.add("\"name\":\"");
+    write_event_alone(out, &scene.notes, people, event);
+    out.add("\",\"ts\":");
+    out.add_micros(moment_of(scene, people, place));
+    out.add_with(",\"args\":{\"place\":", place);
+    out.add("}}");
 }
