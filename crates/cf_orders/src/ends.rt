@@ -21,23 +21,28 @@ pub fn grouped_by(
     let mut groups: Vec<Grouped> = Vec::new(alloc);
     for end in found.ends.iter() {
         let outcomes = told(alloc, end.outcomes.as_slice(), of)?;
-        let at = groups.iter().position(|group| are_same(
-            group.outcomes.as_slice(),
-            outcomes.as_slice(),
-        ));
-        match at.and_then(|at| groups.get_mut(at)) {
-            Some(group) => {
-                group.orders = group.orders.saturating_add(end.orders);
-                group.witness = shorter(group.witness, end.witness);
-            }
-            None => groups.push(Grouped {
+        add(
+            &mut groups,
+            Grouped {
                 outcomes,
                 orders: end.orders,
                 witness: end.witness,
-            })?,
-        }
+            },
+        )?;
     }
     Ok(groups)
+}
+
+/// Adds ends to those with the same outcomes, or behind all others.
+fn add(groups: &mut Vec<Grouped>, ends: Grouped) -> Result<(), AllocError> {
+    for group in groups.iter_mut() {
+        if are_same(group.outcomes.as_slice(), ends.outcomes.as_slice()) {
+            group.orders = group.orders.saturating_add(ends.orders);
+            group.witness = shorter(group.witness, ends.witness);
+            return Ok(());
+        }
+    }
+    Ok(groups.push(ends)?)
 }
 
 fn shorter(one: Witness, other: Witness) -> Witness {
@@ -45,11 +50,15 @@ fn shorter(one: Witness, other: Witness) -> Witness {
 }
 
 fn are_same(one: &[(u16, Option<Outcome>)], other: &[(u16, Option<Outcome>)]) -> bool {
-    one.len() == other.len()
-        && one
-            .iter()
-            .zip(other.iter())
-            .all(|(a, b)| a.0 == b.0 && a.1 == b.1)
+    if one.len() != other.len() {
+        return false;
+    }
+    for (a, b) in one.iter().zip(other.iter()) {
+        if a.0 != b.0 || a.1 != b.1 {
+            return false;
+        }
+    }
+    true
 }
 
 /// The outcomes of the stages that are asked for.

@@ -6,7 +6,7 @@ use std::alloc::{AllocError, AllocFailed};
 use std::fmt;
 
 /// Where something is wrong that only a question has.
-#[derive(Clone, Copy, Debug, Drop, PartialEq, Eq)]
+#[derive(Clone, Copy, Drop)]
 pub enum Spot {
     /// `callers` is no array of arrays, or they are too many with the workers.
     Callers,
@@ -29,7 +29,7 @@ pub enum Spot {
 }
 
 /// Why a text is no question.
-#[derive(Debug, Drop)]
+#[derive(Drop)]
 pub enum QuestionFault {
     /// There was no memory.
     NoMemory,

@@ -155,12 +155,19 @@ fn write_numbered(text: &mut String, c: usize, said: &Json) -> Result<(), AllocE
     text.push('[')?;
     write_item(text, said, 0)?;
     write!(text, ",{c}")?;
-    let count = said.as_array().map_or(0, |list| list.len());
-    for k in 1..count {
+    for k in 1..count_of(said) {
         text.push(',')?;
         write_item(text, said, k)?;
     }
     text.push(']')
+}
+
+/// How many elements it has.
+fn count_of(said: &Json) -> usize {
+    match said.as_array() {
+        Some(list) => list.len(),
+        None => 0,
+    }
 }
 
 fn write_item(text: &mut String, said: &Json, k: usize) -> Result<(), AllocError> {
@@ -214,7 +221,7 @@ fn write_stage(
     i: usize,
     stage: &Json,
 ) -> Result<(), QuestionFault> {
-    let Some(shared) = stage.get("fn").and_then(|said| said.get("same")) else {
+    let Some(shared) = same_of(stage) else {
         write!(head, "{stage}")?;
         return Ok(());
     };
@@ -260,5 +267,10 @@ pub(crate) fn shared_of(alloc: Global, json: &Json) -> Result<Vec<Option<u16>>, 
 }
 
 fn same_in(stage: &Json) -> Option<u16> {
-    u16::try_from(stage.get("fn")?.get("same")?.as_i64()?).ok()
+    u16::try_from(same_of(stage)?.as_i64()?).ok()
+}
+
+/// What a stage says that its function is the same as.
+fn same_of(stage: &Json) -> Option<&Json> {
+    stage.get("fn")?.get("same")
 }

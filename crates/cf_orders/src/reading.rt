@@ -21,10 +21,35 @@ const MAX_HANDS: usize = 62;
 /// hold.
 pub fn read_question(alloc: Global, json: &Json) -> Result<Question, QuestionFault> {
     let joined = joined_of(alloc, json)?;
-    let script = script_in(alloc, &joined)?;
+    match rest_of(alloc, json, &joined) {
+        Ok(rest) => Ok(put_together(joined, rest)),
+        Err(fault) => Err(fault),
+    }
+}
+
+/// What a question has besides its callers' steps.
+#[derive(Drop)]
+struct Rest {
+    parts: Parts,
+    asked: Asked,
+    program: Program,
+    callers: u8,
+    hands: Hands,
+}
+
+fn rest_of(alloc: Global, json: &Json, joined: &Joined) -> Result<Rest, QuestionFault> {
+    let script = script_in(alloc, joined)?;
     let hands = hands_of(json, joined.callers.len())?;
     let parts = parts_of(alloc, json, script)?;
-    question(alloc, json, joined, parts, hands)
+    let asked = asked_of(alloc, json, joined, &parts)?;
+    let (program, callers) = acted_by(alloc, joined, &parts, hands)?;
+    Ok(Rest {
+        parts,
+        asked,
+        program,
+        callers,
+        hands,
+    })
 }
 
 /// Who there is besides callers with steps: workers, and whether the clock is free.
@@ -72,19 +97,6 @@ fn parts_of(alloc: Global, json: &Json, script: Script) -> Result<Parts, Questio
     })
 }
 
-/// The question of a script and its parts.
-fn question(
-    alloc: Global,
-    json: &Json,
-    joined: Joined,
-    parts: Parts,
-    hands: Hands,
-) -> Result<Question, QuestionFault> {
-    let asked = asked_of(alloc, json, &joined, &parts)?;
-    let (program, callers) = acted_by(alloc, &joined, &parts, hands)?;
-    Ok(put_together(joined, parts, asked, program, (callers, hands)))
-}
-
 /// What must hold of the script's orders.
 fn asked_of(
     alloc: Global,
@@ -115,13 +127,14 @@ fn acted_by(
     Ok((program, count))
 }
 
-fn put_together(
-    joined: Joined,
-    parts: Parts,
-    asked: Asked,
-    program: Program,
-    by: (u8, Hands),
-) -> Question {
+fn put_together(joined: Joined, rest: Rest) -> Question {
+    let Rest {
+        parts,
+        asked,
+        program,
+        callers,
+        hands,
+    } = rest;
     let Asked { conditions, texts } = asked;
     let Joined {
         head,
@@ -134,7 +147,6 @@ fn put_together(
         functions,
         steps: _,
     } = parts;
-    let (callers, hands) = by;
     Question {
         program,
         conditions,
@@ -238,11 +250,7 @@ fn caller_of(
 ) -> Result<Caller, QuestionFault> {
     let mut own = Vec::new(alloc);
     for (k, join) in joins.iter().enumerate() {
-        match steps
-            .get(first.saturating_add(k))
-            .copied()
-            .and_then(|said| step_of(said, *join))
-        {
+        match step_at(steps, first.saturating_add(k), *join) {
             Some(step) => own.push(step)?,
             None => return Err(QuestionFault::At(Spot::Callers)),
         }
@@ -251,6 +259,11 @@ fn caller_of(
         return Err(QuestionFault::At(Spot::Callers));
     }
     Ok(Caller::new(own))
+}
+
+/// The step at a place of a script as one of a caller.
+fn step_at(steps: &[Said], at: usize, join: Option<u16>) -> Option<Step> {
+    step_of(*steps.get(at)?, join)
 }
 
 /// A step of a script as one of a caller.

@@ -6,7 +6,7 @@ use cf_script::write_settled;
 use std::alloc::{AllocError, Global};
 
 /// How something that must hold stands.
-#[derive(Clone, Copy, Debug, PartialEq, Eq)]
+#[derive(Clone, Copy, PartialEq, Eq)]
 pub enum Standing {
     /// It holds of all orders; of `possible`, one shows it.
     Holds,

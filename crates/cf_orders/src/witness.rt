@@ -11,7 +11,7 @@ use cf_script::{write_reply, write_settled, write_told};
 use std::alloc::{AllocError, Global};
 
 /// As what an order is told.
-#[derive(Clone, Copy, Debug, PartialEq, Eq)]
+#[derive(Clone, Copy)]
 pub enum Shape {
     /// What `cf_look check`, `page` and `trace` take.
     Account,
@@ -70,15 +70,24 @@ fn begin(alloc: Global, question: &Question) -> Result<Retold, AllocError> {
     for _ in 0..question.hands.saturating_add(1) {
         records.push(String::new(alloc))?;
     }
-    let plan = question.plan.copy().map_err(|_| AllocError)?;
-    let graph = Graph::new_growing(alloc, plan, question.room).map_err(|_| AllocError)?;
     Ok(Retold {
-        graph,
+        graph: graph_of(alloc, question)?,
         place: 0,
         words: String::new(alloc),
         records,
         steps: String::new(alloc),
     })
+}
+
+/// The graph of a question's plan, to which nothing was done.
+fn graph_of(alloc: Global, question: &Question) -> Result<Graph, AllocError> {
+    let Ok(plan) = question.plan.copy() else {
+        return Err(AllocError);
+    };
+    match Graph::new_growing(alloc, plan, question.room) {
+        Ok(graph) => Ok(graph),
+        Err(_) => Err(AllocError),
+    }
 }
 
 impl Retold {
@@ -161,15 +170,8 @@ impl Retold {
 
     /// A caller's next step as it was written.
     fn own_step(&mut self, question: &Question, s: &Situation, c: u8) -> Result<(), AllocError> {
-        let at = usize::from(s.place(c).at);
-        match question
-            .steps
-            .get(usize::from(c))
-            .and_then(|own| own.get(at))
-        {
-            Some(text) => self.steps.push_str(text),
-            None => self.steps.push_str("null"),
-        }
+        self.steps
+            .push_str(written(question, c, usize::from(s.place(c).at)))
     }
 
     /// A move that is no event: a question, or nothing that a graph is told of.
@@ -243,6 +245,17 @@ impl Retold {
         let mut text = String::new(alloc);
         write!(text, "{{{},\"steps\":[{}]}}", question.head, self.steps)?;
         Ok(text)
+    }
+}
+
+/// A step of a caller as it was written.
+fn written(question: &Question, c: u8, at: usize) -> &str {
+    let Some(own) = question.steps.get(usize::from(c)) else {
+        return "null";
+    };
+    match own.get(at) {
+        Some(text) => text.as_str(),
+        None => "null",
     }
 }
 
