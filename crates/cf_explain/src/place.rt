@@ -142,38 +142,23 @@ impl fmt::Display for Area {
 /// As in `stages[3].of[1]`, and of a member of the whole as in `names[3]`.
 impl fmt::Display for Place {
     fn fmt<W: fmt::Write>(&self, f: &mut fmt::Formatter<W>) -> fmt::Result {
-        let first = write_first(f, self.area, self.hops[0])?;
+        let first = match (self.area, self.hops[0]) {
+            (Area::Part(Part::Top), Some(Hop::Member(name))) => {
+                write!(f, "{name}")?;
+                1
+            }
+            _ => {
+                write!(f, "{}", self.area)?;
+                0
+            }
+        };
         for hop in self.hops.iter().skip(first) {
             match hop {
-                Some(hop) => write_hop(f, *hop)?,
+                Some(Hop::Member(name)) => write!(f, ".{name}")?,
+                Some(Hop::Item(i)) => write!(f, "[{i}]")?,
                 None => return Ok(()),
             }
         }
         Ok(())
-    }
-}
-
-/// Writes the part, or of the whole its member, and tells how many hops that is.
-fn write_first<W: fmt::Write>(
-    f: &mut fmt::Formatter<W>,
-    area: Area,
-    hop: Option<Hop>,
-) -> Result<usize, fmt::Error> {
-    match (area, hop) {
-        (Area::Part(Part::Top), Some(Hop::Member(name))) => {
-            f.write_str(name)?;
-            Ok(1)
-        }
-        _ => {
-            write!(f, "{area}")?;
-            Ok(0)
-        }
-    }
-}
-
-fn write_hop<W: fmt::Write>(f: &mut fmt::Formatter<W>, hop: Hop) -> fmt::Result {
-    match hop {
-        Hop::Member(name) => write!(f, ".{name}"),
-        Hop::Item(i) => write!(f, "[{i}]"),
     }
 }

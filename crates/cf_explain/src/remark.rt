@@ -66,52 +66,28 @@ impl fmt::Display for Remark {
                 name,
                 nearest,
             } => unread(f, place, name.as_str(), *nearest),
-            Remark::NoName(place) => said(f, place, "has to be a text of at most 64 characters"),
-            Remark::NoTitle(place) => said(f, place, "has to be a text"),
-            Remark::NoList(place) => said(f, place, "has to be an array"),
+            Remark::NoName(place) => {
+                write!(f, "{place}: has to be a text of at most 64 characters")
+            }
+            Remark::NoTitle(place) => write!(f, "{place}: has to be a text"),
+            Remark::NoList(place) => write!(f, "{place}: has to be an array"),
             Remark::RoomInVersionOne => f.write_str("room: is read with \"cf\": 2 alone"),
-            Remark::ValueOfTimeout(place) => said(
+            Remark::ValueOfTimeout(place) => {
+                write!(f, "{place}: is read with the kind \"value\" alone")
+            }
+            Remark::Twice { name, line, column } => write!(
                 f,
-                place,
-                "is read with the kind \"value\" alone",
+                "line {line} column {column}: {name:?} is given twice in one object; the last is read"
             ),
-            Remark::Twice { name, line, column } => twice(f, name.as_str(), *line, *column),
-            Remark::Behind(place, other) => never_fires(f, place, other),
-            Remark::Idle(place, why) => never_does(f, place, *why),
+            Remark::Behind(place, other) => {
+                write!(
+                    f,
+                    "{place}: never fires, since {other} settles its stage first"
+                )
+            }
+            Remark::Idle(place, why) => write!(f, "{place}: never does anything: {why}"),
         }
     }
-}
-
-/// Writes what is said of a place.
-fn said<W: fmt::Write>(f: &mut fmt::Formatter<W>, place: &Place, text: &str) -> fmt::Result {
-    write!(f, "{place}: {text}")
-}
-
-fn twice<W: fmt::Write>(
-    f: &mut fmt::Formatter<W>,
-    name: &str,
-    line: usize,
-    column: usize,
-) -> fmt::Result {
-    write!(
-        f,
-        "line {line} column {column}: {name:?} is given twice in one object; the last is read"
-    )
-}
-
-fn never_fires<W: fmt::Write>(
-    f: &mut fmt::Formatter<W>,
-    place: &Place,
-    other: &Place,
-) -> fmt::Result {
-    write!(
-        f,
-        "{place}: never fires, since {other} settles its stage first"
-    )
-}
-
-fn never_does<W: fmt::Write>(f: &mut fmt::Formatter<W>, place: &Place, why: Idle) -> fmt::Result {
-    write!(f, "{place}: never does anything: {why}")
 }
 
 fn unread<W: fmt::Write>(
