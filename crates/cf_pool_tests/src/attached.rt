@@ -2,18 +2,18 @@
 ghost use Rattle.std.specs.Prelude.{◌≡◌, ◌≤◌, All, length};
 ghost use Rattle.cf_desk.specs.Views.{IsOf};
 
-use crate::ends::{End, Ended, check_ends, gives};
+use crate::ends::{End, Ended, FOUR, SEVEN, check_ends};
 use crate::plans::Stages;
 use crate::pools::{FUNCTIONS, Opening, ended_two, open, open_two, ran};
-use crate::stopped::{all_won, claim, finish};
 use cf_desk::{Call, Desk, Pass};
 use cf_model::Event;
-use cf_plan::{Form, Of};
+use cf_outcome::Value;
+use cf_plan::{Answer, Form, Of};
 use cf_pool::{Done, Gate, NoGate, Shared, work};
 use std::alloc::Global;
+use std::process::Abort;
 use std::sync::Wait;
 use std::sync::atomic::{AtomicBool, Ordering};
-use std::test::Fail;
 use std::thread;
 use std::thread::Threads;
 
@@ -78,16 +78,6 @@ pub(crate) fn work_on<G: Gate>(desk: &Desk, pass: &mut Pass, gate: &G) -> Option
     work(desk, pass, &mut worker, 1).ok()
 }
 
-/// Caller 0 attaches a stage.
-fn attach(form: Form, of: Of, function: u16) -> Event {
-    Event::Attach {
-        who: 0,
-        form,
-        of,
-        function: Some(function),
-    }
-}
-
 /// The worker works on one thread, and its caller attaches two stages on another, while the worker has stage 0.
 fn work_beside<R: Threads + Sync>(
     rt: &R,
@@ -111,27 +101,56 @@ fn work_beside<R: Threads + Sync>(
 }
 
 /// What the worker did, and the closed desk.
-fn worked_beside<R: Threads + Sync>(rt: &R, alloc: Global) -> Result<Ended, Fail> {
-    let (desk, mut mine, mut theirs) = open_two(alloc, growing(1))?;
+fn worked_beside<R: Threads + Sync + Abort>(rt: &R, alloc: Global) -> Ended {
+    let (desk, mut mine, mut theirs) = open_two(rt, alloc, growing(1));
     let done = work_beside(rt, &desk, &mut mine, &mut theirs);
-    ended_two(alloc, desk, mine, theirs, None, done)
+    ended_two(rt, alloc, desk, mine, theirs, None, done)
 }
 
+/// What the caller and its worker do, in the only order that they can.
+const HISTORY: [Event; 8] = [
+    Event::Claim { who: 1, stage: 0 },
+    Event::Attach {
+        who: 0,
+        form: Form::Apply,
+        of: Of::One(0),
+        function: Some(3),
+    },
+    Event::Attach {
+        who: 0,
+        form: Form::Supply,
+        of: Of::None,
+        function: Some(2),
+    },
+    Event::Finish {
+        who: 1,
+        stage: 0,
+        answer: Answer::Give(Value::Int(4)),
+    },
+    Event::Claim { who: 1, stage: 1 },
+    Event::Finish {
+        who: 1,
+        stage: 1,
+        answer: Answer::Give(Value::Int(7)),
+    },
+    Event::Claim { who: 1, stage: 2 },
+    Event::Finish {
+        who: 1,
+        stage: 2,
+        answer: Answer::Give(Value::Int(6)),
+    },
+];
+
+const ALL_WON: Done = Done {
+    run: 3,
+    won: 3,
+    late: 0,
+};
+
 #[test]
-fn a_worker_does_what_is_attached_after_it_started(rt: HostRuntime) -> Result<(), Fail> {
-    let history = [
-        claim(1, 0),
-        attach(Form::Apply, Of::One(0), 3),
-        attach(Form::Supply, Of::None, 2),
-        finish(1, 0, 4),
-        claim(1, 1),
-        finish(1, 1, 7),
-        claim(1, 2),
-        finish(1, 2, 6),
-    ];
-    let ends = [End::Did(all_won(3)), End::History(&history)];
-    check_ends(&rt, worked_beside(&rt, rt.alloc())?, &ends);
-    Ok(())
+fn a_worker_does_what_is_attached_after_it_started(rt: HostRuntime) {
+    let ended = worked_beside(&rt, rt.alloc());
+    check_ends(&rt, ended, &[End::Did(ALL_WON), End::History(&HISTORY)]);
 }
 
 /// Each caller attaches a supply, on a thread of its own.
@@ -151,21 +170,23 @@ fn attach_by_each<R: Threads + Sync>(rt: &R, desk: &Desk, passes: &mut [Pass])
 }
 
 /// What a run of two workers came to, whose callers attached a supply each.
-fn run_attached<R: Threads + Wait + Sync>(rt: &R, alloc: Global) -> Result<Ended, Fail> {
-    let (desk, mut passes) = open(alloc, growing(2))?;
+fn run_attached<R: Threads + Wait + Sync + Abort>(rt: &R, alloc: Global) -> Ended {
+    let (desk, mut passes) = open(rt, alloc, growing(2));
     attach_by_each(rt, &desk, passes.as_mut_slice());
     ran(rt, desk, passes, &FUNCTIONS, &NoGate, 2)
 }
 
 #[test]
-fn a_run_does_what_its_callers_attached(rt: HostRuntime) -> Result<(), Fail> {
-    let ends = [
-        End::Fault(None),
-        End::Has(0, gives(4)),
-        End::Has(1, gives(7)),
-        End::Has(2, gives(7)),
-        End::Has(3, gives(7)),
-    ];
-    check_ends(&rt, run_attached(&rt, rt.alloc())?, &ends);
-    Ok(())
+fn a_run_does_what_its_callers_attached(rt: HostRuntime) {
+    check_ends(
+        &rt,
+        run_attached(&rt, rt.alloc()),
+        &[
+            End::Fault(None),
+            End::Has(0, FOUR),
+            End::Has(1, SEVEN),
+            End::Has(2, SEVEN),
+            End::Has(3, SEVEN),
+        ],
+    );
 }

@@ -1,4 +1,5 @@
 //! What a graph and work over a desk come to, as rows.
+use crate::checks::holds;
 use cf_core::Graph;
 use cf_desk::{Closed, DeskFault};
 use cf_model::Event;
@@ -37,10 +38,18 @@ pub(crate) enum End<'a> {
     IsReady(bool),
 }
 
-/// What a stage is settled with that gives this number.
-pub(crate) fn gives(n: i32) -> Option<Outcome> {
-    Some(Outcome::Value(Value::Int(n)))
-}
+/// What a stage is settled with that gives 3, and so on.
+pub(crate) const THREE: Option<Outcome> = Some(Outcome::Value(Value::Int(3)));
+
+pub(crate) const FOUR: Option<Outcome> = Some(Outcome::Value(Value::Int(4)));
+
+pub(crate) const FIVE: Option<Outcome> = Some(Outcome::Value(Value::Int(5)));
+
+pub(crate) const SIX: Option<Outcome> = Some(Outcome::Value(Value::Int(6)));
+
+pub(crate) const SEVEN: Option<Outcome> = Some(Outcome::Value(Value::Int(7)));
+
+pub(crate) const NINE: Option<Outcome> = Some(Outcome::Value(Value::Int(9)));
 
 /// Whether a stage is there and has this outcome.
 fn has_outcome(graph: &mut Graph, stage: u16, outcome: Option<Outcome>) -> bool {
@@ -77,7 +86,7 @@ fn is_so(ended: &mut Ended, end: End<'_>) -> bool {
 /// Work came to all of this.
 pub(crate) fn check_ends(rt: &impl Abort, mut ended: Ended, ends: &[End<'_>]) {
     for (at, end) in ends.iter().enumerate() {
-        assert!(rt; is_so(&mut ended, *end), "end {at}");
+        holds(rt, is_so(&mut ended, *end), ("end", at));
     }
 }
 
@@ -88,12 +97,13 @@ pub(crate) fn check_outcomes(
     outcomes: &[Option<Outcome>],
     workers: u8,
 ) {
-    assert!(rt;
+    holds(
+        rt,
         graph.stages() as usize == outcomes.len(),
-        "{workers} workers"
+        ("workers", workers),
     );
     for (stage, outcome) in outcomes.iter().enumerate() {
-        let holds = has_outcome(graph, stage as u16, *outcome);
-        assert!(rt; holds, "stage {stage}, {workers} workers");
+        let is_so = has_outcome(graph, stage as u16, *outcome);
+        holds(rt, is_so, ("stage", stage, "workers", workers));
     }
 }

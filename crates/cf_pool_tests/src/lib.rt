@@ -5,6 +5,8 @@
 #[cfg(test)]
 mod attached;
 #[cfg(test)]
+mod checks;
+#[cfg(test)]
 mod ends;
 #[cfg(test)]
 mod plans;

@@ -1,6 +1,8 @@
 //! Plans of a few stages from rows, and of many alike.
-use cf_plan::{Form, Plan, PlanBuilder, PlanFault};
+use crate::checks::must;
+use cf_plan::{Form, Plan, PlanBuilder};
 use std::alloc::Global;
+use std::process::Abort;
 
 /// A stage: its form, its sources and the number of its function.
 pub(crate) type Row<'a> = (Form, &'a [u16], Option<u16>);
@@ -14,36 +16,36 @@ pub(crate) enum Stages<'a> {
 }
 
 /// The plan of these stages.
-pub(crate) fn plan_of(alloc: Global, rows: &[Row<'_>]) -> Result<Plan, PlanFault> {
+pub(crate) fn plan_of(rt: &impl Abort, alloc: Global, rows: &[Row<'_>]) -> Plan {
     let mut builder = PlanBuilder::new(alloc);
     for (form, of, function) in rows {
-        builder.stage(*form, of, *function)?;
+        must(rt, builder.stage(*form, of, *function));
     }
-    builder.build()
+    must(rt, builder.build())
 }
 
 /// A plan of so many supplies, each with the function of its number.
-pub(crate) fn supplies(alloc: Global, count: u16) -> Result<Plan, PlanFault> {
+pub(crate) fn supplies(rt: &impl Abort, alloc: Global, count: u16) -> Plan {
     let mut builder = PlanBuilder::new(alloc);
     for i in 0..count {
-        builder.stage(Form::Supply, &[], Some(i))?;
+        must(rt, builder.stage(Form::Supply, &[], Some(i)));
     }
-    builder.build()
+    must(rt, builder.build())
 }
 
 /// The plan that has these stages.
-pub(crate) fn plan_with(alloc: Global, stages: Stages<'_>) -> Result<Plan, PlanFault> {
+pub(crate) fn plan_with(rt: &impl Abort, alloc: Global, stages: Stages<'_>) -> Plan {
     match stages {
-        Stages::These(rows) => plan_of(alloc, rows),
-        Stages::Supplies(count) => supplies(alloc, count),
+        Stages::These(rows) => plan_of(rt, alloc, rows),
+        Stages::Supplies(count) => supplies(rt, alloc, count),
     }
 }
 
 /// So many sources.
-pub(crate) fn sources(alloc: Global, count: u16) -> Result<Plan, PlanFault> {
+pub(crate) fn sources(rt: &impl Abort, alloc: Global, count: u16) -> Plan {
     let mut builder = PlanBuilder::new(alloc);
     for _ in 0..count {
-        builder.stage(Form::Source, &[], None)?;
+        must(rt, builder.stage(Form::Source, &[], None));
     }
-    builder.build()
+    must(rt, builder.build())
 }

@@ -4,6 +4,7 @@ ghost use Rattle.cf_desk.specs.Views.{IsOf};
 ghost use Rattle.cf_plan.specs.Plans.{with_room};
 ghost use Rattle.cf_pool.specs.Races.{AreSteps};
 
+use crate::checks::{holds, must};
 use crate::ends::Ended;
 use crate::plans::{Stages, plan_with};
 use cf_core::Graph;
@@ -13,8 +14,8 @@ use cf_outcome::Value;
 use cf_plan::{Answer, Args, Plan, StageFn};
 use cf_pool::{Done, Gate, Left, PoolFault, race, run, share};
 use std::alloc::Global;
+use std::process::Abort;
 use std::sync::Wait;
-use std::test::Fail;
 use std::thread::Threads;
 
 /// Gives its value, whatever it is called with.
@@ -75,135 +76,149 @@ pub(crate) fn over_supplies(count: u16, workers: u8, log: u16, calls: u16) -> Op
 }
 
 /// The desk that is opened so, with its passes.
-pub(crate) fn open(alloc: Global, opening: Opening<'_>) -> Result<(Desk, Vec<Pass>), Fail>
+pub(crate) fn open(rt: &impl Abort, alloc: Global, opening: Opening<'_>) -> (Desk, Vec<Pass>)
     requires { opening.workers ≤ 32 }
-    ensures passes { IfOk result (λ r. All (IsOf r.0) r.1.items × (vec_len r.1 ≡ opening.entry.workers + 1)) }
-    ensures callers { IfOk result (λ r. r.0.setting.callers ≡ opening.entry.workers + 1) }
+    ensures passes { All (IsOf result.0) result.1.items × (vec_len result.1 ≡ opening.entry.workers + 1) }
+    ensures callers { result.0.setting.callers ≡ opening.entry.workers + 1 }
 {
     let Opening { log, calls, .. } = opening;
     let callers = opening.workers + 1;
-    let plan = plan_with(alloc, opening.stages)?;
+    let plan = plan_with(rt, alloc, opening.stages);
     match opening.room {
-        None => Ok(Desk::open(alloc, plan, callers, log, calls)?),
+        None => must(rt, Desk::open(alloc, plan, callers, log, calls)),
         Some((room, functions)) => {
-            Ok(Desk::open_growing(alloc, plan, callers, log, calls, room, functions)?)
+            must(
+                rt,
+                Desk::open_growing(alloc, plan, callers, log, calls, room, functions),
+            )
         }
     }
 }
 
-/// The last of these passes, which are all of one desk.
-pub(crate) fn last_of(desk: &Desk, passes: &mut Vec<Pass>) -> Result<Pass, Fail>
+/// The last of these passes, which are all of one desk, if there is one.
+fn popped(desk: &Desk, passes: &mut Vec<Pass>) -> Result<Pass, &'static str>
     requires { All (IsOf desk.now) passes.old.items }
     ensures pass { IfOk result (IsOf desk.now) }
     ensures rest { All (IsOf desk.now) passes.new.items }
 {
     match passes.pop() {
         Some(pass) => Ok(pass),
-        None => Err(Fail::from("a pass is missing")),
+        None => Err("a pass is missing"),
     }
 }
 
-/// The last two passes of a desk.
-fn two_passes(desk: &Desk, mut passes: Vec<Pass>) -> Result<(Pass, Pass), Fail>
-    requires { All (IsOf desk.now) passes.items }
-    ensures { IfOk result (λ r. IsOf desk.now r.0 × IsOf desk.now r.1) }
+/// The last of these passes, which are all of one desk.
+pub(crate) fn last_of(rt: &impl Abort, desk: &Desk, passes: &mut Vec<Pass>) -> Pass
+    requires { All (IsOf desk.now) passes.old.items }
+    ensures pass { IsOf desk.now result }
+    ensures rest { All (IsOf desk.now) passes.new.items }
 {
-    let second = last_of(desk, &mut passes)?;
-    let first = last_of(desk, &mut passes)?;
-    Ok((first, second))
+    must(rt, popped(desk, passes))
+}
+
+/// The last two passes of a desk.
+fn two_passes(rt: &impl Abort, desk: &Desk, mut passes: Vec<Pass>) -> (Pass, Pass)
+    requires { All (IsOf desk.now) passes.items }
+    ensures { IsOf desk.now result.0 × IsOf desk.now result.1 }
+{
+    let second = last_of(rt, desk, &mut passes);
+    let first = last_of(rt, desk, &mut passes);
+    (first, second)
 }
 
 /// The desk that is opened so for one worker, with the passes of the caller and the worker.
-pub(crate) fn open_two(alloc: Global, opening: Opening<'_>) -> Result<(Desk, Pass, Pass), Fail>
+pub(crate) fn open_two(rt: &impl Abort, alloc: Global, opening: Opening<'_>) -> (Desk, Pass, Pass)
     requires { opening.workers ≡ 1 }
-    ensures passes { IfOk result (λ r. IsOf r.0 r.1 × IsOf r.0 r.2) }
-    ensures callers { IfOk result (λ r. r.0.setting.callers ≡ 2) }
+    ensures passes { IsOf result.0 result.1 × IsOf result.0 result.2 }
+    ensures callers { result.0.setting.callers ≡ 2 }
 {
-    let (desk, passes) = open(alloc, opening)?;
-    let (first, second) = two_passes(&desk, passes)?;
-    Ok((desk, first, second))
+    let (desk, passes) = open(rt, alloc, opening);
+    let (first, second) = two_passes(rt, &desk, passes);
+    (desk, first, second)
 }
 
 /// A desk of two callers, closed with their passes.
-fn close_two(alloc: Global, desk: Desk, a: Pass, b: Pass) -> Result<Closed, Fail>
+fn close_two(rt: &impl Abort, alloc: Global, desk: Desk, a: Pass, b: Pass) -> Closed
     requires callers { desk.setting.callers ≡ 2 }
     requires passes { IsOf desk a × IsOf desk b }
 {
-    let passes = vec![in alloc; a, b]?;
-    Ok(desk.close(passes)?)
+    let passes = must(rt, vec![in alloc; a, b]);
+    must(rt, desk.close(passes))
 }
 
 /// What work over a desk of two callers came to.
 pub(crate) fn ended_two(
+    rt: &impl Abort,
     alloc: Global,
     desk: Desk,
     first: Pass,
     second: Pass,
     fault: Option<DeskFault>,
     done: Option<Done>,
-) -> Result<Ended, Fail>
+) -> Ended
     requires callers { desk.setting.callers ≡ 2 }
     requires passes { IsOf desk first × IsOf desk second }
 {
-    let closed = close_two(alloc, desk, first, second)?;
-    Ok(Ended {
+    let closed = close_two(rt, alloc, desk, first, second);
+    Ended {
         fault,
         done,
         closed,
-    })
+    }
 }
 
-/// The closed desk of what a run leaves.
-fn closed_of<W: Drop>(left: Left<W>) -> Closed {
+/// What a run that leaves this came to, which this stopped.
+fn ended<W: Drop>(fault: Option<DeskFault>, left: Left<W>) -> Ended {
     let Left { closed, workers: _ } = left;
-    closed
+    Ended {
+        fault,
+        done: None,
+        closed,
+    }
+}
+
+/// What a run came to that was refused nothing.
+fn ended_run<W: Drop>(rt: &impl Abort, told: Result<Left<W>, PoolFault<W>>) -> Ended {
+    match told {
+        Ok(left) => ended(None, left),
+        Err(PoolFault::Desk(fault, left)) => ended(Some(fault), left),
+        Err(PoolFault::NoMemory(_)) => panic!(rt; "the run was refused"),
+        Err(PoolFault::NoThread(_)) => panic!(rt; "a thread was refused"),
+    }
 }
 
 /// What a run of so many workers came to.
-pub(crate) fn ran<R: Threads + Wait + Sync, F: StageFn + Sync, G: Gate + Sync>(
+pub(crate) fn ran<R: Threads + Wait + Sync + Abort, F: StageFn + Sync, G: Gate + Sync>(
     rt: &R,
     desk: Desk,
     passes: Vec<Pass>,
     fns: &[F],
     gate: &G,
     workers: u8,
-) -> Result<Ended, Fail>
+) -> Ended
     requires workers { (0 < workers) × (workers ≤ 32) × (desk.setting.callers ≡ workers + 1) }
     requires passes { All (IsOf desk) passes.items × (vec_len passes ≡ workers + 1) }
 {
-    let hands = share(*passes.allocator(), fns, gate, workers + 1)?;
-    match run(rt, desk, passes, hands) {
-        Ok(left) => Ok(Ended {
-            fault: None,
-            done: None,
-            closed: closed_of(left),
-        }),
-        Err(PoolFault::Desk(fault, left)) => Ok(Ended {
-            fault: Some(fault),
-            done: None,
-            closed: closed_of(left),
-        }),
-        Err(PoolFault::NoMemory(_)) => Err(Fail::from("the run was refused")),
-        Err(PoolFault::NoThread(_)) => Err(Fail::from("a thread was refused")),
-    }
+    let hands = must(rt, share(*passes.allocator(), fns, gate, workers + 1));
+    ended_run(rt, run(rt, desk, passes, hands))
 }
 
 /// What a run of all workers over the desk that is opened so came to.
-pub(crate) fn run_over<R: Threads + Wait + Sync, F: StageFn + Sync, G: Gate + Sync>(
+pub(crate) fn run_over<R: Threads + Wait + Sync + Abort, F: StageFn + Sync, G: Gate + Sync>(
     rt: &R,
     alloc: Global,
     opening: Opening<'_>,
     fns: &[F],
     gate: &G,
-) -> Result<Ended, Fail>
+) -> Ended
     requires { (0 < opening.workers) × (opening.workers ≤ 32) }
 {
-    let (desk, passes) = open(alloc, opening)?;
+    let (desk, passes) = open(rt, alloc, opening);
     ran(rt, desk, passes, fns, gate, opening.workers)
 }
 
 /// The graph that a race leaves, where it tells no fault.
-pub(crate) fn raced<R: Threads + Wait + Sync, F: StageFn + Sync, G: Gate + Sync>(
+pub(crate) fn raced<R: Threads + Wait + Sync + Abort, F: StageFn + Sync, G: Gate + Sync>(
     rt: &R,
     alloc: Global,
     plan: Plan,
@@ -212,16 +227,11 @@ pub(crate) fn raced<R: Threads + Wait + Sync, F: StageFn + Sync, G: Gate + Sync>
     fns: &[F],
     gate: &G,
     workers: u8,
-) -> Result<Graph, Fail>
+) -> Graph
     requires workers { (0 < workers) × (workers ≤ 32) }
     requires steps { AreSteps (with_room plan room) steps.now }
 {
-    if !plan.has_place(room) {
-        return Err(Fail::from("place is missing"));
-    }
-    let hands = share(alloc, fns, gate, workers + 1)?;
-    match race(rt, alloc, plan, room, steps, hands, workers) {
-        Ok(left) => Ok(left.into_graph()),
-        Err(_) => Err(Fail::from("there was no race")),
-    }
+    holds(rt, plan.has_place(room), "place");
+    let hands = must(rt, share(alloc, fns, gate, workers + 1));
+    must(rt, race(rt, alloc, plan, room, steps, hands, workers)).into_graph()
 }

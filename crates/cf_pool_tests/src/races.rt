@@ -1,7 +1,8 @@
 //! Races of few workers and of many, and how large a race may be.
-ghost use Rattle.std.specs.Prelude.{◌≡◌, ◌<◌, ◌≤◌, IfOk, replicate};
+ghost use Rattle.std.specs.Prelude.{◌≡◌, ◌<◌, ◌≤◌, replicate};
 
-use crate::ends::{check_outcomes, gives};
+use crate::checks::{holds, must, same};
+use crate::ends::{FIVE, FOUR, NINE, SIX, THREE, check_outcomes};
 use crate::plans::{Row, plan_of, sources};
 use crate::pools::raced;
 use cf_core::Graph;
@@ -9,9 +10,9 @@ use cf_model::Event;
 use cf_outcome::Value;
 use cf_plan::{Answer, Args, Form, Of, Plan, StageFn};
 use cf_pool::{NoGate, RaceFault, race, share};
-use std::alloc::{AllocError, Global};
+use std::alloc::Global;
+use std::process::Abort;
 use std::sync::Wait;
-use std::test::Fail;
 use std::thread::Threads;
 
 /// Gives its value, or the sum of its two arguments.
@@ -61,27 +62,31 @@ const SOURCES: [Row<'static>; 3] = [
     (Form::Combine, &[0, 1], Some(2)),
 ];
 
-/// Races with so many workers.
-fn race_alone<R: Threads + Wait + Sync>(
+/// The graph of this plan, once so many workers have raced.
+fn race_alone<R: Threads + Wait + Sync + Abort>(
     rt: &R,
     alloc: Global,
     plan: Plan,
     workers: u8,
-) -> Result<Graph, Fail>
+) -> Graph
     requires { (0 < workers) × (workers ≤ 32) }
 {
     raced(rt, alloc, plan, 0, &[], &FUNCTIONS, &NoGate, workers)
 }
 
+/// So many workers race to what one does.
+fn check_alone<R: Threads + Wait + Sync + Abort>(rt: &R, alloc: Global, workers: u8)
+    requires { (0 < workers) × (workers ≤ 32) }
+{
+    let mut graph = race_alone(rt, alloc, plan_of(rt, alloc, &SUPPLIES), workers);
+    check_outcomes(rt, &mut graph, &[FOUR, FIVE, NINE], workers);
+}
+
 #[test]
-fn any_number_of_workers_ends_as_one(rt: HostRuntime) -> Result<(), Fail> {
-    let outcomes = [gives(4), gives(5), gives(9)];
+fn any_number_of_workers_ends_as_one(rt: HostRuntime) {
     for workers in 1..33u8 {
-        let plan = plan_of(rt.alloc(), &SUPPLIES)?;
-        let mut graph = race_alone(&rt, rt.alloc(), plan, workers)?;
-        check_outcomes(&rt, &mut graph, &outcomes, workers);
+        check_alone(&rt, rt.alloc(), workers);
     }
-    Ok(())
 }
 
 /// Caller 0 completes a stage with a number.
@@ -96,33 +101,28 @@ fn complete(stage: u16, n: i32) -> Event
 }
 
 /// Completes stage 0 twice and stage 1 once, and then races with two workers.
-fn race_on<R: Threads + Wait + Sync>(rt: &R, alloc: Global, plan: Plan) -> Result<Graph, Fail> {
-    if plan.stages() < 2 {
-        return Err(Fail::from("stages are missing"));
-    }
+fn race_on<R: Threads + Wait + Sync + Abort>(rt: &R, alloc: Global, plan: Plan) -> Graph {
+    holds(rt, plan.stages() >= 2, "stages");
     let steps = [complete(0, 3), complete(0, 4), complete(1, 6)];
     raced(rt, alloc, plan, 0, &steps, &FUNCTIONS, &NoGate, 2)
 }
 
 #[test]
-fn the_first_of_two_steps_counts(rt: HostRuntime) -> Result<(), Fail> {
-    let mut graph = race_on(&rt, rt.alloc(), plan_of(rt.alloc(), &SOURCES)?)?;
-    check_outcomes(&rt, &mut graph, &[gives(3), gives(6), gives(9)], 2);
-    Ok(())
+fn the_first_of_two_steps_counts(rt: HostRuntime) {
+    let mut graph = race_on(&rt, rt.alloc(), plan_of(&rt, rt.alloc(), &SOURCES));
+    check_outcomes(&rt, &mut graph, &[THREE, SIX, NINE], 2);
 }
 
 /// Attaches the sum of stages 0 and 1, and one stage more than there is room for, completes both, and then races.
-fn race_growing<R: Threads + Wait + Sync>(
+fn race_growing<R: Threads + Wait + Sync + Abort>(
     rt: &R,
     alloc: Global,
     plan: Plan,
     workers: u8,
-) -> Result<Graph, Fail>
+) -> Graph
     requires { (0 < workers) × (workers ≤ 32) }
 {
-    if plan.stages() != 2 || plan.edges() > 0 {
-        return Err(Fail::from("two sources are wanted"));
-    }
+    holds(rt, plan.stages() == 2 && plan.edges() == 0, "two sources");
     let steps = [
         Event::Attach {
             who: 0,
@@ -142,55 +142,61 @@ fn race_growing<R: Threads + Wait + Sync>(
     raced(rt, alloc, plan, 1, &steps, &FUNCTIONS, &NoGate, workers)
 }
 
+/// So many workers do what the steps attach.
+fn check_growing<R: Threads + Wait + Sync + Abort>(rt: &R, alloc: Global, workers: u8)
+    requires { (0 < workers) × (workers ≤ 32) }
+{
+    let mut graph = race_growing(rt, alloc, sources(rt, alloc, 2), workers);
+    check_outcomes(rt, &mut graph, &[THREE, SIX, NINE], workers);
+}
+
 #[test]
-fn a_race_does_what_its_steps_attach(rt: HostRuntime) -> Result<(), Fail> {
-    let outcomes = [gives(3), gives(6), gives(9)];
+fn a_race_does_what_its_steps_attach(rt: HostRuntime) {
     for workers in 1..33u8 {
-        let plan = sources(rt.alloc(), 2)?;
-        let mut graph = race_growing(&rt, rt.alloc(), plan, workers)?;
-        check_outcomes(&rt, &mut graph, &outcomes, workers);
+        check_growing(&rt, rt.alloc(), workers);
     }
-    Ok(())
 }
 
 /// So many ticks of caller 0.
-fn ticks(alloc: Global, count: usize) -> Result<Vec<Event>, AllocError>
-    ensures { IfOk result (λ v. v.items ≡ replicate count (Event.Tick 0 0)) }
+fn ticks(rt: &impl Abort, alloc: Global, count: usize) -> Vec<Event>
+    ensures { result.items ≡ replicate count (Event.Tick 0 0) }
 {
-    vec![in alloc; Event::Tick { who: 0, moment: 0 }; count]
+    must(rt, vec![in alloc; Event::Tick { who: 0, moment: 0 }; count])
 }
 
 /// Ticks so often, and then races with 32 workers.
-fn race_behind<R: Threads + Wait + Sync>(
+fn race_behind<R: Threads + Wait + Sync + Abort>(
     rt: &R,
     alloc: Global,
     plan: Plan,
     count: usize,
-) -> Result<Option<RaceFault>, Fail> {
-    if !plan.has_place(0) {
-        return Err(Fail::from("place is missing"));
-    }
-    let steps = ticks(alloc, count)?;
-    let hands = share(alloc, &FUNCTIONS, &NoGate, 33)?;
-    Ok(race(rt, alloc, plan, 0, &steps, hands, 32).err())
+) -> Option<RaceFault> {
+    holds(rt, plan.has_place(0), "place");
+    let steps = ticks(rt, alloc, count);
+    let hands = must(rt, share(alloc, &FUNCTIONS, &NoGate, 33));
+    race(rt, alloc, plan, 0, &steps, hands, 32).err()
+}
+
+/// A race behind so many ticks over so many sources is refused by this, or not.
+fn check_behind<R: Threads + Wait + Sync + Abort>(
+    rt: &R,
+    alloc: Global,
+    stages: u16,
+    count: usize,
+    fault: Option<RaceFault>,
+) {
+    let told = race_behind(rt, alloc, sources(rt, alloc, stages), count);
+    same(rt, told, fault);
 }
 
 #[test]
-fn the_log_has_at_most_65_535_words(rt: HostRuntime) -> Result<(), Fail> {
-    for (stages, steps, fault) in [
-        (1_927, 16, None),
-        (1_927, 17, Some(RaceFault::Size)),
-        (1_928, 0, Some(RaceFault::Size)),
-    ] {
-        let plan = sources(rt.alloc(), stages)?;
-        assert_eq!(rt; race_behind(&rt, rt.alloc(), plan, steps)?, fault);
-    }
-    Ok(())
+fn the_log_has_at_most_65_535_words(rt: HostRuntime) {
+    check_behind(&rt, rt.alloc(), 1_927, 16, None);
+    check_behind(&rt, rt.alloc(), 1_927, 17, Some(RaceFault::Size));
+    check_behind(&rt, rt.alloc(), 1_928, 0, Some(RaceFault::Size));
 }
 
 #[test]
-fn steps_may_be_many(rt: HostRuntime) -> Result<(), Fail> {
-    let raced = race_behind(&rt, rt.alloc(), sources(rt.alloc(), 1)?, 65_500)?;
-    assert_eq!(rt; raced, None);
-    Ok(())
+fn steps_may_be_many(rt: HostRuntime) {
+    check_behind(&rt, rt.alloc(), 1, 65_500, None);
 }

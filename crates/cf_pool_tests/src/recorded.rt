@@ -1,20 +1,21 @@
 //! Workers that keep what they are told and called with, beside what their passes hold.
-ghost use Rattle.std.specs.Prelude.{◌≡◌, ◌+◌, ◌<◌, ◌≤◌, IfOk, vec_len};
+ghost use Rattle.std.specs.Prelude.{◌≡◌, ◌+◌, ◌<◌, ◌≤◌, vec_len};
 
+use crate::checks::{holds, must};
 use crate::plans::{Row, Stages, plan_of};
 use crate::pools::{Opening, open};
 use cf_desk::{Call, Kept, Rec};
 use cf_model::{Claimed, Reply};
 use cf_outcome::Value;
 use cf_plan::{Answer, Args, Form, Functions};
-use cf_pool::{Left, Worker, race, run};
-use std::alloc::{AllocError, Global};
+use cf_pool::{Left, PoolFault, Worker, race, run};
+use std::alloc::Global;
+use std::process::Abort;
 use std::sync::Wait;
-use std::test::Fail;
 use std::thread::Threads;
 
 /// What a worker was told, or called with.
-#[derive(Clone, Copy, Debug, Drop, PartialEq, Eq)]
+#[derive(Clone, Copy, Drop, PartialEq)]
 enum Note {
     Told { stage: u16, caller: u8 },
     Called { number: u16, args: Args },
@@ -75,22 +76,34 @@ const ROWS: [Row<'static>; 4] = [
 ];
 
 /// So many workers to which nothing has happened.
-fn recorders(alloc: Global, count: u8) -> Result<Vec<Recorder>, AllocError>
-    ensures { IfOk result (λ v. vec_len v ≡ count) }
+fn recorders(rt: &impl Abort, alloc: Global, count: u8) -> Vec<Recorder>
+    ensures { vec_len result ≡ count }
 {
-    let mut workers = Vec::with_capacity(alloc, count as usize)?;
+    let mut workers = must(rt, Vec::with_capacity(alloc, count as usize));
     'workers: for _ in 0..count {
-        workers.push(Recorder {
+        let worker = Recorder {
             notes: Vec::new(alloc),
             lost: false,
-        })?;
+        };
+        must(rt, workers.push(worker));
     }
-    Ok(workers)
+    workers
 }
 
-/// What a worker notes for the claims that its pass was granted: each is told, and then its function called.
-fn wanted(alloc: Global, kept: &Kept) -> Result<Vec<Note>, AllocError> {
-    let mut notes = Vec::new(alloc);
+/// What a worker notes for a claim of this stage that was granted with these arguments: it is told, and then its function
+/// called.
+fn are_of(notes: &[Note], at: usize, stage: u16, caller: u8, args: Args) -> bool {
+    let told = Note::Told { stage, caller };
+    let called = Note::Called {
+        number: 3u16.wrapping_sub(stage),
+        args,
+    };
+    notes.get(at) == Some(&told) && notes.get(at.wrapping_add(1)) == Some(&called)
+}
+
+/// Whether these are the notes for the claims that a pass was granted, and no others.
+fn are_noted(notes: &[Note], kept: &Kept) -> bool {
+    let mut at = 0usize;
     for record in &kept.records {
         if let Rec::Did {
             call: Call::Claim(stage),
@@ -98,78 +111,70 @@ fn wanted(alloc: Global, kept: &Kept) -> Result<Vec<Note>, AllocError> {
             ..
         } = *record
         {
-            notes.push(Note::Told {
-                stage,
-                caller: kept.caller,
-            })?;
-            notes.push(Note::Called {
-                number: 3u16.wrapping_sub(stage),
-                args,
-            })?;
+            if !are_of(notes, at, stage, kept.caller, args) {
+                return false;
+            }
+            at = at.wrapping_add(2);
         }
     }
-    Ok(notes)
+    at == notes.len()
 }
 
 /// Whether each worker noted what its pass was granted, and all of them eight notes for the four stages.
-fn agree(alloc: Global, left: &Left<Recorder>) -> Result<bool, AllocError> {
+fn agree(left: &Left<Recorder>) -> bool {
     let mut all = 0usize;
     for (kept, worker) in left.closed.passes.iter().zip(left.workers.iter()) {
-        if worker.lost || worker.notes != wanted(alloc, kept)? {
-            return Ok(false);
+        if worker.lost || !are_noted(&worker.notes, kept) {
+            return false;
         }
         all = all.wrapping_add(worker.notes.len());
     }
-    Ok(all == 8)
+    all == 8
 }
 
-/// Whether that is so of a run of so many workers.
-fn run_agrees<R: Threads + Wait + Sync>(rt: &R, alloc: Global, workers: u8) -> Result<bool, Fail>
-    requires { (0 < workers) × (workers ≤ 32) }
-{
-    let (desk, passes) = open(
-        alloc,
-        Opening {
-            stages: Stages::These(&ROWS),
-            workers,
-            log: 200,
-            calls: 50,
-            room: None,
-        },
-    )?;
-    let hands = recorders(alloc, workers + 1)?;
-    match run(rt, desk, passes, hands) {
-        Ok(left) => Ok(agree(alloc, &left)?),
-        Err(_) => Err(Fail::from("the run was refused")),
+/// Whether that is so of a run, which no fault ended.
+fn run_agrees(told: Result<Left<Recorder>, PoolFault<Recorder>>) -> bool {
+    match told {
+        Ok(left) => agree(&left),
+        Err(_) => false,
     }
 }
 
-/// Whether that is so of a race of so many workers.
-fn race_agrees<R: Threads + Wait + Sync>(rt: &R, alloc: Global, workers: u8) -> Result<bool, Fail>
+/// Each worker of a run of so many, and its caller, notes what its pass was granted.
+fn check_run<R: Threads + Wait + Sync + Abort>(rt: &R, alloc: Global, workers: u8)
     requires { (0 < workers) × (workers ≤ 32) }
 {
-    let plan = plan_of(alloc, &ROWS)?;
-    if !plan.has_place(0) {
-        return Err(Fail::from("place is missing"));
-    }
-    let hands = recorders(alloc, workers + 1)?;
-    match race(rt, alloc, plan, 0, &[], hands, workers) {
-        Ok(left) => Ok(agree(alloc, &left)?),
-        Err(_) => Err(Fail::from("there was no race")),
-    }
+    let opening = Opening {
+        stages: Stages::These(&ROWS),
+        workers,
+        log: 200,
+        calls: 50,
+        room: None,
+    };
+    let (desk, passes) = open(rt, alloc, opening);
+    let hands = recorders(rt, alloc, workers + 1);
+    holds(
+        rt,
+        run_agrees(run(rt, desk, passes, hands)),
+        ("run", workers),
+    );
+}
+
+/// The same of a race.
+fn check_race<R: Threads + Wait + Sync + Abort>(rt: &R, alloc: Global, workers: u8)
+    requires { (0 < workers) × (workers ≤ 32) }
+{
+    let plan = plan_of(rt, alloc, &ROWS);
+    holds(rt, plan.has_place(0), "place");
+    let hands = recorders(rt, alloc, workers + 1);
+    let left = must(rt, race(rt, alloc, plan, 0, &[], hands, workers));
+    holds(rt, agree(&left), ("race", workers));
 }
 
 #[test]
-fn workers_note_what_their_passes_were_granted(rt: HostRuntime) -> Result<(), Fail> {
-    for workers in [1, 4] {
-        assert!(rt;
-            run_agrees(&rt, rt.alloc(), workers)?,
-            "a run of {workers} workers"
-        );
-        assert!(rt;
-            race_agrees(&rt, rt.alloc(), workers)?,
-            "a race of {workers} workers"
-        );
-    }
-    Ok(())
+fn workers_note_what_their_passes_were_granted(rt: HostRuntime) {
+    check_run(&rt, rt.alloc(), 1);
+    check_race(&rt, rt.alloc(), 1);
+    check_run(&rt, rt.alloc(), 4);
+    check_race(&rt, rt.alloc(), 4);
 }

@@ -1,9 +1,9 @@
 //! Workers that a full pass or a full log stops, alone and beside others that go on.
-ghost use Rattle.std.specs.Prelude.{◌≡◌, ◌≤◌};
+ghost use Rattle.std.specs.Prelude.{◌≡◌, ◌<◌, ◌≤◌};
 ghost use Rattle.cf_desk.specs.Views.{IsOf};
 
 use crate::attached::{wait_for, work_on};
-use crate::ends::{End, Ended, check_ends, gives};
+use crate::ends::{End, Ended, FOUR, SIX, check_ends};
 use crate::pools::{FUNCTIONS, ended_two, open_two, over_supplies, run_over};
 use cf_desk::{Call, Desk, DeskFault, Pass};
 use cf_model::Event;
@@ -11,8 +11,9 @@ use cf_outcome::Value;
 use cf_plan::Answer;
 use cf_pool::{Done, Gate, NoGate, Shared, work};
 use std::alloc::Global;
+use std::process::Abort;
+use std::sync::Wait;
 use std::sync::atomic::{AtomicBool, Ordering};
-use std::test::Fail;
 use std::thread;
 use std::thread::Threads;
 
@@ -29,86 +30,104 @@ fn fault_of(desk: &Desk, pass: &mut Pass) -> Option<DeskFault>
 }
 
 /// Caller 0 works until it is stopped, and caller 1 after it, over three supplies, where each pass has room for three records.
-fn work_in_turn(alloc: Global) -> Result<Ended, Fail> {
-    let (desk, mut first, mut second) = open_two(alloc, over_supplies(3, 1, 30, 3))?;
+fn work_in_turn(rt: &impl Abort, alloc: Global) -> Ended {
+    let (desk, mut first, mut second) = open_two(rt, alloc, over_supplies(3, 1, 30, 3));
     let fault = fault_of(&desk, &mut first);
     let done = work_on(&desk, &mut second, &NoGate);
-    ended_two(alloc, desk, first, second, fault, done)
+    ended_two(rt, alloc, desk, first, second, fault, done)
 }
 
-/// So many functions were run, and all of their finishes won.
-pub(crate) fn all_won(run: u32) -> Done {
-    Done {
-        run,
-        won: run,
-        late: 0,
-    }
-}
-
-/// A caller claims a stage.
-pub(crate) fn claim(who: u8, stage: u16) -> Event {
-    Event::Claim { who, stage }
-}
-
-/// A caller finishes a stage with a number.
-pub(crate) fn finish(who: u8, stage: u16, n: i32) -> Event {
+/// The first caller claims a stage that it can't finish, which nobody finishes.
+const IN_TURN: [Event; 5] = [
+    Event::Claim { who: 0, stage: 0 },
     Event::Finish {
-        who,
-        stage,
-        answer: Answer::Give(Value::Int(n)),
-    }
+        who: 0,
+        stage: 0,
+        answer: Answer::Give(Value::Int(4)),
+    },
+    Event::Claim { who: 0, stage: 1 },
+    Event::Claim { who: 1, stage: 2 },
+    Event::Finish {
+        who: 1,
+        stage: 2,
+        answer: Answer::Give(Value::Int(6)),
+    },
+];
+
+/// One function was run, or three, and all finishes won.
+const ONE: Done = Done {
+    run: 1,
+    won: 1,
+    late: 0,
+};
+
+const THREE: Done = Done {
+    run: 3,
+    won: 3,
+    late: 0,
+};
+
+#[test]
+fn the_next_does_what_a_full_pass_left(rt: HostRuntime) {
+    check_ends(
+        &rt,
+        work_in_turn(&rt, rt.alloc()),
+        &[
+            End::Fault(Some(DeskFault::PassFull)),
+            End::Did(ONE),
+            End::History(&IN_TURN),
+            End::Has(0, FOUR),
+            End::Has(1, None),
+            End::Has(2, SIX),
+        ],
+    );
+}
+
+/// A log of three words stops so many workers over four supplies.
+fn check_full_log<R: Threads + Wait + Sync + Abort>(rt: &R, alloc: Global, workers: u8)
+    requires { (0 < workers) × (workers ≤ 32) }
+{
+    let opening = over_supplies(4, workers, 3, 99);
+    check_ends(
+        rt,
+        run_over(rt, alloc, opening, &FUNCTIONS, &NoGate),
+        &[
+            End::Fault(Some(DeskFault::LogFull)),
+            End::Events(3),
+            End::IsReady(true),
+        ],
+    );
 }
 
 #[test]
-fn the_next_does_what_a_full_pass_left(rt: HostRuntime) -> Result<(), Fail> {
-    let history = [
-        claim(0, 0),
-        finish(0, 0, 4),
-        claim(0, 1),
-        claim(1, 2),
-        finish(1, 2, 6),
-    ];
+fn a_full_log_stops_all_workers(rt: HostRuntime) {
+    check_full_log(&rt, rt.alloc(), 1);
+    check_full_log(&rt, rt.alloc(), 2);
+    check_full_log(&rt, rt.alloc(), 4);
+    check_full_log(&rt, rt.alloc(), 32);
+}
+
+/// So many workers and their caller, each with room for one record, claim a supply each.
+fn check_full_passes<R: Threads + Wait + Sync + Abort>(rt: &R, alloc: Global, workers: u8)
+    requires { (0 < workers) × (workers ≤ 32) }
+{
+    let stages = u16::from(workers) + 1;
+    let opening = over_supplies(stages, workers, 200, 1);
+    let ended = run_over(rt, alloc, opening, &FUNCTIONS, &NoGate);
     let ends = [
         End::Fault(Some(DeskFault::PassFull)),
-        End::Did(all_won(1)),
-        End::History(&history),
-        End::Has(0, gives(4)),
-        End::Has(1, None),
-        End::Has(2, gives(6)),
+        End::Events(stages as usize),
+        End::Settled(stages, 0),
     ];
-    check_ends(&rt, work_in_turn(rt.alloc())?, &ends);
-    Ok(())
+    check_ends(rt, ended, &ends);
 }
 
 #[test]
-fn a_full_log_stops_all_workers(rt: HostRuntime) -> Result<(), Fail> {
-    let ends = [
-        End::Fault(Some(DeskFault::LogFull)),
-        End::Events(3),
-        End::IsReady(true),
-    ];
-    for workers in [1, 2, 4, 32] {
-        let opening = over_supplies(4, workers, 3, 99);
-        let ended = run_over(&rt, rt.alloc(), opening, &FUNCTIONS, &NoGate)?;
-        check_ends(&rt, ended, &ends);
-    }
-    Ok(())
-}
-
-#[test]
-fn each_full_pass_has_its_one_record(rt: HostRuntime) -> Result<(), Fail> {
-    for workers in [1, 2, 4, 32u8] {
-        let stages = u16::from(workers) + 1;
-        let opening = over_supplies(stages, workers, 200, 1);
-        let ended = run_over(&rt, rt.alloc(), opening, &FUNCTIONS, &NoGate)?;
-        let ends = [
-            End::Fault(Some(DeskFault::PassFull)),
-            End::Events(stages as usize),
-            End::Settled(stages, 0),
-        ];
-        check_ends(&rt, ended, &ends);
-    }
-    Ok(())
+fn each_full_pass_has_its_one_record(rt: HostRuntime) {
+    check_full_passes(&rt, rt.alloc(), 1);
+    check_full_passes(&rt, rt.alloc(), 2);
+    check_full_passes(&rt, rt.alloc(), 4);
+    check_full_passes(&rt, rt.alloc(), 32);
 }
 
 /// Holds a worker before its first function until another one was stopped.
@@ -165,21 +184,23 @@ fn fill(desk: &Desk, pass: &mut Pass)
 
 /// The same over four supplies. The first has room for two records: it can lose one claim to the other one, which is held behind
 /// its own first claim, and is then refused its finish, or else the claim of its second stage.
-fn stopped_beside<R: Threads + Sync>(rt: &R, alloc: Global) -> Result<Ended, Fail> {
-    let (desk, mut first, mut second) = open_two(alloc, over_supplies(4, 1, 60, 14))?;
+fn stopped_beside<R: Threads + Sync + Abort>(rt: &R, alloc: Global) -> Ended {
+    let (desk, mut first, mut second) = open_two(rt, alloc, over_supplies(4, 1, 60, 14));
     fill(&desk, &mut first);
     let (fault, done) = work_beside(rt, &desk, &mut first, &mut second);
-    ended_two(alloc, desk, first, second, fault, done)
+    ended_two(rt, alloc, desk, first, second, fault, done)
 }
 
 #[test]
-fn another_goes_on_beside_a_stopped_worker(rt: HostRuntime) -> Result<(), Fail> {
-    let ends = [
-        End::Fault(Some(DeskFault::PassFull)),
-        End::Did(all_won(3)),
-        End::SettledAtLeast(4, 3),
-        End::IsReady(false),
-    ];
-    check_ends(&rt, stopped_beside(&rt, rt.alloc())?, &ends);
-    Ok(())
+fn another_goes_on_beside_a_stopped_worker(rt: HostRuntime) {
+    check_ends(
+        &rt,
+        stopped_beside(&rt, rt.alloc()),
+        &[
+            End::Fault(Some(DeskFault::PassFull)),
+            End::Did(THREE),
+            End::SettledAtLeast(4, 3),
+            End::IsReady(false),
+        ],
+    );
 }

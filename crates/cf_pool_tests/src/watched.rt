@@ -2,6 +2,7 @@
 ghost use Rattle.std.specs.Prelude.{◌<◌, ◌≤◌};
 ghost use Rattle.cf_desk.specs.Views.{IsOf};
 
+use crate::checks::{holds, must};
 use crate::ends::Ended;
 use crate::plans::supplies;
 use crate::pools::{Opening, last_of, open, over_supplies, raced, run_over};
@@ -10,10 +11,10 @@ use cf_model::{Claimed, Reply};
 use cf_outcome::Value;
 use cf_plan::{Answer, Args, StageFn};
 use cf_pool::{Done, Gate, Shared, work};
-use std::alloc::{AllocError, Global};
+use std::alloc::Global;
+use std::process::Abort;
 use std::sync::Wait;
 use std::sync::atomic::{AtomicBool, AtomicU32, Ordering};
-use std::test::Fail;
 use std::thread::Threads;
 
 /// What a gate was told, in order, and how often each stage's function was called.
@@ -35,24 +36,24 @@ fn told_as(stage: u16, caller: u8) -> u32 {
     u32::from(stage) * 256 + u32::from(caller) + 1
 }
 
-fn zeros(alloc: Global, count: u16) -> Result<Vec<AtomicU32>, AllocError> {
+fn zeros(rt: &impl Abort, alloc: Global, count: u16) -> Vec<AtomicU32> {
     let mut zeros = Vec::new(alloc);
     for _ in 0..count {
-        zeros.push(AtomicU32::new(0))?;
+        must(rt, zeros.push(AtomicU32::new(0)));
     }
-    Ok(zeros)
+    zeros
 }
 
 impl Watch {
-    fn new(alloc: Global, stages: u16, together: u8) -> Result<Watch, AllocError> {
-        Ok(Watch {
+    fn new(rt: &impl Abort, alloc: Global, stages: u16, together: u8) -> Watch {
+        Watch {
             together: u32::from(together),
             came: AtomicU32::new(0),
             alone: AtomicBool::new(false),
-            told: zeros(alloc, stages)?,
-            calls: zeros(alloc, stages)?,
+            told: zeros(rt, alloc, stages),
+            calls: zeros(rt, alloc, stages),
             early: AtomicBool::new(false),
-        })
+        }
     }
 
     /// When the gate was told of this stage and this caller, counted from 1, or 0 if it wasn't.
@@ -192,12 +193,17 @@ impl<'a> StageFn for Watched<'a> {
     }
 }
 
-fn functions(alloc: Global, watch: &Watch, stages: u16) -> Result<Vec<Watched<'_>>, AllocError> {
+fn functions<'a>(
+    rt: &impl Abort,
+    alloc: Global,
+    watch: &'a Watch,
+    stages: u16,
+) -> Vec<Watched<'a>> {
     let mut functions = Vec::new(alloc);
     for stage in 0..stages {
-        functions.push(Watched { watch, stage })?;
+        must(rt, functions.push(Watched { watch, stage }));
     }
-    Ok(functions)
+    functions
 }
 
 /// Works with these functions until one look finds nothing ready.
@@ -213,14 +219,15 @@ fn work_with<F: StageFn, G: Gate>(desk: &Desk, pass: &mut Pass, fns: &[F], gate:
 
 /// What one worker did with these functions over so many supplies, on the thread of its caller.
 fn worked<F: StageFn, G: Gate>(
+    rt: &impl Abort,
     alloc: Global,
     stages: u16,
     fns: &[F],
     gate: &G,
-) -> Result<Option<Done>, Fail> {
-    let (desk, mut passes) = open(alloc, over_supplies(stages, 1, 99, 99))?;
-    let mut pass = last_of(&desk, &mut passes)?;
-    Ok(work_with(&desk, &mut pass, fns, gate))
+) -> Option<Done> {
+    let (desk, mut passes) = open(rt, alloc, over_supplies(stages, 1, 99, 99));
+    let mut pass = last_of(rt, &desk, &mut passes);
+    work_with(&desk, &mut pass, fns, gate)
 }
 
 /// Whether a worker was stopped by nothing, and ran so many functions.
@@ -231,98 +238,90 @@ fn has_run(done: Option<Done>, count: u32) -> bool {
     }
 }
 
-/// Whether each function was called once, after the gate was told of the claim, the lowest stage first, by one worker on
-/// the thread of its caller.
-fn watch_work(alloc: Global, stages: u16) -> Result<bool, Fail> {
-    let watch = Watch::new(alloc, stages, 1)?;
-    let fns = functions(alloc, &watch, stages)?;
-    let done = worked(alloc, stages, &fns, &watch)?;
-    let saw = watch.saw_each_once() && watch.saw_in_order(stages);
-    Ok(saw && has_run(done, u32::from(stages)))
+/// What one worker did over so many supplies, whose gate and functions are watched.
+fn work_watched(rt: &impl Abort, alloc: Global, stages: u16, watch: &Watch) -> Option<Done> {
+    let fns = functions(rt, alloc, watch, stages);
+    worked(rt, alloc, stages, &fns, watch)
+}
+
+#[test]
+fn work_calls_each_function_once_after_the_gate(rt: HostRuntime) {
+    let watch = Watch::new(&rt, rt.alloc(), 3, 1);
+    let done = work_watched(&rt, rt.alloc(), 3, &watch);
+    holds(&rt, has_run(done, 3), "functions");
+    holds(&rt, watch.saw_each_once() && watch.saw_in_order(3), "gate");
 }
 
 /// What a run over the desk that is opened so came to, whose gate and functions of so many stages are watched.
-fn run_watched<R: Threads + Wait + Sync>(
+fn run_watched<R: Threads + Wait + Sync + Abort>(
     rt: &R,
     alloc: Global,
     opening: Opening<'_>,
     stages: u16,
     watch: &Watch,
-) -> Result<Ended, Fail>
+) -> Ended
     requires { (0 < opening.workers) × (opening.workers ≤ 32) }
 {
-    let fns = functions(alloc, watch, stages)?;
+    let fns = functions(rt, alloc, watch, stages);
     run_over(rt, alloc, opening, &fns, watch)
 }
 
-/// The same of a run of so many workers, as many stages, and a gate at which all of them meet.
-fn watch_run<R: Threads + Wait + Sync>(rt: &R, alloc: Global, workers: u8) -> Result<bool, Fail>
+/// Each function of a run of so many workers over as many stages is called once, after all of them met at the gate and it
+/// was told of the claim.
+fn watch_run<R: Threads + Wait + Sync + Abort>(rt: &R, alloc: Global, workers: u8)
     requires { (0 < workers) × (workers ≤ 32) }
 {
     let stages = u16::from(workers);
-    let watch = Watch::new(alloc, stages, workers)?;
+    let watch = Watch::new(rt, alloc, stages, workers);
     let opening = over_supplies(stages, workers, 2000, 99);
-    let ended = run_watched(rt, alloc, opening, stages, &watch)?;
-    Ok(watch.saw_run(&ended, workers))
+    let ended = run_watched(rt, alloc, opening, stages, &watch);
+    holds(rt, watch.saw_run(&ended, workers), ("workers", workers));
+}
+
+#[test]
+fn runs_call_each_function_once_after_the_gate(rt: HostRuntime) {
+    watch_run(&rt, rt.alloc(), 1);
+    watch_run(&rt, rt.alloc(), 4);
+    watch_run(&rt, rt.alloc(), 32);
+}
+
+/// A worker whose pass has room for one record leaves the second stage to its caller, who lets the gate know too.
+#[test]
+fn a_caller_tells_the_gate_of_its_own_work(rt: HostRuntime) {
+    let watch = Watch::new(&rt, rt.alloc(), 2, 1);
+    let ended = run_watched(&rt, rt.alloc(), over_supplies(2, 1, 9, 1), 2, &watch);
+    holds(&rt, watch.saw_caller(&ended), "caller");
 }
 
 /// Races workers over so many supplies, with functions and a gate that are watched.
-fn race_watched<R: Threads + Wait + Sync>(
+fn race_watched<R: Threads + Wait + Sync + Abort>(
     rt: &R,
     alloc: Global,
     stages: u16,
     workers: u8,
     watch: &Watch,
-) -> Result<(), Fail>
+)
     requires { (0 < workers) × (workers ≤ 32) }
 {
-    let fns = functions(alloc, watch, stages)?;
-    let plan = supplies(alloc, stages)?;
-    let _ = raced(rt, alloc, plan, 0, &[], &fns, watch, workers)?;
-    Ok(())
+    let fns = functions(rt, alloc, watch, stages);
+    let plan = supplies(rt, alloc, stages);
+    raced(rt, alloc, plan, 0, &[], &fns, watch, workers);
 }
 
-/// The same of a race, which keeps no records.
-fn watch_race<R: Threads + Wait + Sync>(rt: &R, alloc: Global, workers: u8) -> Result<bool, Fail>
+/// The same as of a run of a race, which keeps no records.
+fn watch_race<R: Threads + Wait + Sync + Abort>(rt: &R, alloc: Global, workers: u8)
     requires { (0 < workers) × (workers ≤ 32) }
 {
     let stages = u16::from(workers);
-    let watch = Watch::new(alloc, stages, workers)?;
-    race_watched(rt, alloc, stages, workers, &watch)?;
-    Ok(watch.saw_each_once() && watch.saw_workers(workers))
-}
-
-/// Whether a worker whose pass has room for one record leaves the second stage to its caller, who lets the gate know too.
-fn watch_caller<R: Threads + Wait + Sync>(rt: &R, alloc: Global) -> Result<bool, Fail> {
-    let watch = Watch::new(alloc, 2, 1)?;
-    let ended = run_watched(rt, alloc, over_supplies(2, 1, 9, 1), 2, &watch)?;
-    Ok(watch.saw_caller(&ended))
+    let watch = Watch::new(rt, alloc, stages, workers);
+    race_watched(rt, alloc, stages, workers, &watch);
+    let saw = watch.saw_each_once() && watch.saw_workers(workers);
+    holds(rt, saw, ("workers", workers));
 }
 
 #[test]
-fn work_calls_each_function_once_after_the_gate(rt: HostRuntime) -> Result<(), Fail> {
-    assert!(rt; watch_work(rt.alloc(), 3)?);
-    Ok(())
-}
-
-#[test]
-fn runs_call_each_function_once_after_the_gate(rt: HostRuntime) -> Result<(), Fail> {
-    for workers in [1, 4, 32] {
-        assert!(rt; watch_run(&rt, rt.alloc(), workers)?, "{workers} workers");
-    }
-    Ok(())
-}
-
-#[test]
-fn a_caller_tells_the_gate_of_its_own_work(rt: HostRuntime) -> Result<(), Fail> {
-    assert!(rt; watch_caller(&rt, rt.alloc())?);
-    Ok(())
-}
-
-#[test]
-fn races_call_each_function_once_after_the_gate(rt: HostRuntime) -> Result<(), Fail> {
-    for workers in [1, 4, 32] {
-        assert!(rt; watch_race(&rt, rt.alloc(), workers)?, "{workers} workers");
-    }
-    Ok(())
+fn races_call_each_function_once_after_the_gate(rt: HostRuntime) {
+    watch_race(&rt, rt.alloc(), 1);
+    watch_race(&rt, rt.alloc(), 4);
+    watch_race(&rt, rt.alloc(), 32);
 }

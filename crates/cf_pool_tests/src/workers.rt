@@ -2,7 +2,8 @@
 ghost use Rattle.std.specs.Prelude.{◌≡◌};
 ghost use Rattle.cf_desk.specs.Views.{IsOf};
 
-use crate::ends::{End, check_ends, gives};
+use crate::checks::holds;
+use crate::ends::{End, FIVE, FOUR, SEVEN, check_ends};
 use crate::plans::{Row, Stages};
 use crate::pools::{FUNCTIONS, Opening, last_of, open, over_supplies, run_over};
 use cf_desk::{Desk, DeskFault, Joined, Pass};
@@ -11,8 +12,10 @@ use cf_outcome::Value;
 use cf_plan::Form;
 use cf_pool::{Done, Gate, NoGate, Shared, work};
 use std::alloc::Global;
+use std::process::Abort;
+use std::sync::Wait;
 use std::sync::atomic::{AtomicBool, Ordering};
-use std::test::Fail;
+use std::thread::Threads;
 
 /// Each stage waits until all of them came, at most 1,000,000,000 looks, and tells whether they did.
 #[derive(Drop)]
@@ -80,45 +83,66 @@ impl Gate for Together {
 }
 
 #[test]
-fn two_functions_at_once(rt: HostRuntime) -> Result<(), Fail> {
+fn two_functions_at_once(rt: HostRuntime) {
     let gate = Together::new(2);
-    let opening = over_supplies(2, 2, 9, 5);
-    let ended = run_over(&rt, rt.alloc(), opening, &FUNCTIONS, &gate)?;
-    assert!(rt; gate.have_met());
-    let ends = [
-        End::Fault(None),
-        End::Has(0, gives(4)),
-        End::Has(1, gives(5)),
-        End::AtLeast(4),
-    ];
-    check_ends(&rt, ended, &ends);
-    Ok(())
+    let ended = run_over(
+        &rt,
+        rt.alloc(),
+        over_supplies(2, 2, 9, 5),
+        &FUNCTIONS,
+        &gate,
+    );
+    holds(&rt, gate.have_met(), "gate");
+    check_ends(
+        &rt,
+        ended,
+        &[
+            End::Fault(None),
+            End::Has(0, FOUR),
+            End::Has(1, FIVE),
+            End::AtLeast(4),
+        ],
+    );
 }
 
 #[test]
-fn four_functions_at_once(rt: HostRuntime) -> Result<(), Fail> {
+fn four_functions_at_once(rt: HostRuntime) {
     let gate = Together::new(4);
-    let opening = over_supplies(4, 4, 25, 9);
-    let ended = run_over(&rt, rt.alloc(), opening, &FUNCTIONS, &gate)?;
-    assert!(rt; gate.have_met());
+    let ended = run_over(
+        &rt,
+        rt.alloc(),
+        over_supplies(4, 4, 25, 9),
+        &FUNCTIONS,
+        &gate,
+    );
+    holds(&rt, gate.have_met(), "gate");
     check_ends(&rt, ended, &[End::Fault(None), End::AtLeast(8)]);
-    Ok(())
+}
+
+const CLAIM: [Event; 1] = [Event::Claim { who: 1, stage: 0 }];
+
+/// What stops a worker over one supply, whose claim it leaves open, with a log of so many words and room for so many records.
+fn check_stopped<R: Threads + Wait + Sync + Abort>(
+    rt: &R,
+    alloc: Global,
+    log: u16,
+    calls: u16,
+    told: DeskFault,
+) {
+    let opening = over_supplies(1, 1, log, calls);
+    let ended = run_over(rt, alloc, opening, &FUNCTIONS, &NoGate);
+    let ends = [
+        End::Fault(Some(told)),
+        End::History(&CLAIM),
+        End::Has(0, None),
+    ];
+    check_ends(rt, ended, &ends);
 }
 
 #[test]
-fn a_stopped_worker_leaves_its_claim_open(rt: HostRuntime) -> Result<(), Fail> {
-    let claim = [Event::Claim { who: 1, stage: 0 }];
-    for (log, calls, told) in [(1, 4, DeskFault::LogFull), (4, 1, DeskFault::PassFull)] {
-        let opening = over_supplies(1, 1, log, calls);
-        let ended = run_over(&rt, rt.alloc(), opening, &FUNCTIONS, &NoGate)?;
-        let ends = [
-            End::Fault(Some(told)),
-            End::History(&claim),
-            End::Has(0, None),
-        ];
-        check_ends(&rt, ended, &ends);
-    }
-    Ok(())
+fn a_stopped_worker_leaves_its_claim_open(rt: HostRuntime) {
+    check_stopped(&rt, rt.alloc(), 1, 4, DeskFault::LogFull);
+    check_stopped(&rt, rt.alloc(), 4, 1, DeskFault::PassFull);
 }
 
 /// A supply, and a function of it.
@@ -155,28 +179,28 @@ fn does_chain(desk: &Desk, pass: &mut Pass) -> bool
         && desk.join(pass, 1, 1) == Ok(Joined::Value(Value::Int(7)))
 }
 
-/// Whether the one caller of a desk over the chain does it.
-fn one_does_chain(alloc: Global) -> Result<bool, Fail> {
-    let (desk, mut passes) = open(alloc, over_chain(0, 9))?;
-    let mut pass = last_of(&desk, &mut passes)?;
-    Ok(does_chain(&desk, &mut pass))
+/// The one caller of a desk over the chain does it.
+fn check_chain(rt: &impl Abort, alloc: Global) {
+    let (desk, mut passes) = open(rt, alloc, over_chain(0, 9));
+    let mut pass = last_of(rt, &desk, &mut passes);
+    holds(rt, does_chain(&desk, &mut pass), "chain");
 }
 
 #[test]
-fn one_worker_does_all_that_is_ready(rt: HostRuntime) -> Result<(), Fail> {
-    assert!(rt; one_does_chain(rt.alloc())?);
-    Ok(())
+fn one_worker_does_all_that_is_ready(rt: HostRuntime) {
+    check_chain(&rt, rt.alloc());
 }
 
 #[test]
-fn a_run_ends_with_nothing_ready(rt: HostRuntime) -> Result<(), Fail> {
-    let ended = run_over(&rt, rt.alloc(), over_chain(3, 20), &FUNCTIONS, &NoGate)?;
-    let ends = [
-        End::Fault(None),
-        End::Has(0, gives(4)),
-        End::Has(1, gives(7)),
-        End::Passes(4),
-    ];
-    check_ends(&rt, ended, &ends);
-    Ok(())
+fn a_run_ends_with_nothing_ready(rt: HostRuntime) {
+    check_ends(
+        &rt,
+        run_over(&rt, rt.alloc(), over_chain(3, 20), &FUNCTIONS, &NoGate),
+        &[
+            End::Fault(None),
+            End::Has(0, FOUR),
+            End::Has(1, SEVEN),
+            End::Passes(4),
+        ],
+    );
 }

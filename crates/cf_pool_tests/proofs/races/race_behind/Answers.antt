@@ -14,5 +14,5 @@ race-requires-clause-steps g c =
     let n = length c.args.plan.stages in
     let all = All-replicate IsStep _ _ (refl, tt) in
     let fits = All-replicate (EventFits n) _ _ tt in
-    λ κs out. subst (λ (steps : List Event). AreSteps (with_room c.args.plan 0) steps) (sym (c.deref.ensures.value ∙ c.in_ok-steps.ensures))
+    λ κs out. subst (λ (steps : List Event). AreSteps (with_room c.args.plan 0) steps) (sym (c.deref.ensures.value ∙ c.ticks-steps.ensures))
     (all, fits_below n (start (with_room c.args.plan 0)) _ (omega arith) fits)
