@@ -147,8 +147,8 @@ all_step P hs now h items all one = subst (All P) (sym items) (All-push P hs h a
 
 -- what a worker has come to, whose thread was joined, or which worked on the caller's
 pub work_ended : {H M : Type 0} (tells : TellsOf M) (calls : CallsOf M) (meanings : M → Meanings) (was : H → Pass × M) (on : H → Desk) (d : Desk) (one : Pass × M) (started : Result H (Worked M)) (w : Worked M)
-    → MatchResult started (λ h. (was h ≡ one) × (on h ≡ d)) (λ x. IsWorkedBy tells calls meanings d 1000 one x)
-    → MatchResult started (λ h. IsWorkedBy tells calls meanings (on h) 1000 (was h) w) (λ x. w ≡ x) → IsWorkedBy tells calls meanings d 1000 one w
+    → MatchResult started (λ h. (was h ≡ one) × (on h ≡ d)) (λ x. IsWorkedBy tells calls meanings d 1000 one x × (x.alone ≡ true))
+    → MatchResult started (λ h. IsWorkedBy tells calls meanings (on h) 1000 (was h) w × (w.alone ≡ false)) (λ x. w ≡ x) → IsWorkedBy tells calls meanings d 1000 one w
 work_ended {H} {M} tells calls meanings was on d one (Ok h) w same is =
-    subst (λ (k : Pass × M). IsWorkedBy tells calls meanings d 1000 k w) same.0 (subst (λ (x : Desk). IsWorkedBy tells calls meanings x 1000 (was h) w) same.1 is)
-work_ended tells calls meanings was on d one (Err x) w is same = subst (λ y. IsWorkedBy tells calls meanings d 1000 one y) (sym same) is
+    subst (λ (k : Pass × M). IsWorkedBy tells calls meanings d 1000 k w) same.0 (subst (λ (x : Desk). IsWorkedBy tells calls meanings x 1000 (was h) w) same.1 is.0)
+work_ended tells calls meanings was on d one (Err x) w is same = subst (λ y. IsWorkedBy tells calls meanings d 1000 one y) (sym same) is.0

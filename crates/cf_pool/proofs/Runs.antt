@@ -1,5 +1,5 @@
 -- What the passes of a run come to.
-use Rattle.std.proofs.Common.{◌≡◌, ℕ, zero, suc, ◌+◌, ◌<◌, ◌≤◌, leb, ⊎_elim, Bool, true, false, Option, Some, None, List, [], ◌∷◌, ◌++◌, length, map, All, sym, refl, ap, ◌∙◌, subst, append-nil, append_assoc, length-append, take, drop, arith}
+use Rattle.std.proofs.Common.{◌≡◌, ℕ, zero, suc, ◌+◌, ◌<◌, ◌≤◌, leb, ⊎_elim, Bool, true, false, Option, Some, None, IfErr, IfOk, List, [], ◌∷◌, ◌++◌, length, map, All, sym, refl, ap, ◌∙◌, subst, append-nil, append_assoc, length-append, take, drop, arith}
 use Rattle.std.specs.Prelude.{slice_index_or}
 use Rattle.std.proofs.lemmas.Simd.{map-map}
 use Rattle.std.specs.List.{AllZip, Contains, insert}
@@ -24,12 +24,13 @@ use Rattle.cf_desk.proofs.Lists.{all_front}
 use Rattle.cf_desk.proofs.Meets.{short_more}
 use Rattle.cf_desk.proofs.Passes.{same_follows, still_on_stage}
 use Rattle.cf_plan.specs.Meanings.{Meanings}
+use Rattle.cf_pool.specs.declared.pool.Left.{Left}
 use Rattle.cf_pool.specs.declared.pool.Met.{Met}
 use Rattle.cf_pool.specs.declared.pool.Worked.{Worked}
 use Rattle.cf_model.specs.Calling.{CallsOf}
 use Rattle.cf_pool.specs.Calling.{CallsOnce, EachCalls, TellsOf}
-use Rattle.cf_pool.specs.Closings.{IsDueToTell, IsTold, Ran, RanOut}
-use Rattle.cf_pool.specs.Runs.{EndsBelow, EndsIf, HasEnded, HasWorked, IsFirst, IsLowest, IsMet, IsWorkedBy, IsWorkedFrom, OfEach, SeesMore, SeesOn, Stop, WasStopped, first_with, stop_of}
+use Rattle.cf_pool.specs.Closings.{HadThreads, HaveCalled, IsDueToTell, IsRefused, IsTold, Ran, RanOut, told}
+use Rattle.cf_pool.specs.Runs.{EndsBelow, EndsIf, HasEnded, HasWorked, IsFirst, IsLowest, IsMet, IsWorkedBy, IsWorkedFrom, OfEach, SeesMore, SeesOn, Stop, WasStopped, first_with, is_any_alone, stop_of}
 use Rattle.cf_pool.specs.Stops.{IsNextCall, Stops}
 use Rattle.cf_pool.specs.Waits.{Ends, Waits, last_place}
 use Rattle.cf_pool.specs.Works.{Owed, Works, WorksOut, owed_after}
@@ -463,6 +464,42 @@ back_calls {M} tells calls of_worker meanings d mine met done hs qs ws others fa
     sym (map-map (λ (x : ℕ × List Rec). x.1) pass_kept kept) ∙ ap (map (λ (x : ℕ × List Rec). x.1)) s.kept_are ∙ map-map (λ (x : ℕ × List Rec). x.1) pass_did (done ∷ qs) in
     subst (λ (g : State). EachCalls tells calls g.plan.stages (mine ∷ map (λ (h : Pass × M). h.0) hs) (map (λ (k : Kept). k.records.items) kept) (m ∷ map (λ (h : Pass × M). h.1) hs) (n ∷ map (λ (w : Worked M). w.worker) ws)) (sym s.graph_is)
     (subst (λ (rss : List (List Rec)). EachCalls tells calls stages (mine ∷ map (λ (h : Pass × M). h.0) hs) rss (m ∷ map (λ (h : Pass × M). h.1) hs) (n ∷ map (λ (w : Worked M). w.worker) ws)) (sym records) all)
+
+-- ---- what is told
+
+-- what a run leaves, where a thread was refused or not, and this was the lowest caller that was stopped
+pub record Leaves {M : Type 0} (tells : TellsOf M) (calls : CallsOf M) (meanings : Meanings) (d : Desk) (ps : List Pass) (ms : List M) (refused : Bool) (first : Option Met) (left : Left M) : Type 0 where
+  pub ran : Ran meanings d ps left.closed.history.items left.closed.passes.items left.closed.graph.state
+  pub called : HaveCalled tells calls ps ms left
+  pub threads : HadThreads meanings d ps left refused
+  pub out : first ≡ None → RanOut meanings d ps left.closed.history.items left.closed.passes.items left.closed.graph.state
+  pub stopped : (met : Met) → first ≡ Some met → IsTold meanings d ps met.fault left.closed
+
+pub back_leaves : {M : Type 0} (tells : TellsOf M) (calls : CallsOf M) (of_worker : M → Meanings) (meanings : Meanings) (d : Desk) (mine met done : Pass) (hs : List (Pass × M)) (qs : List Pass) (ws : List (Worked M)) (others : Option Met) (fault : Option DeskFault) (m n : M)
+    → Back meanings d mine met done (map (λ (h : Pass × M). h.0) hs) qs ws others fault → AllZip (IsWorkedBy tells calls of_worker d 1000) hs ws → CallsOnce tells calls (state_of done.known).plan.stages met.known.caller met.records done.records m n
+    → (refused : Bool) (first : Option Met) (left : Left M) → Shut d (done ∷ qs) left.closed.history.items left.closed.passes.items left.closed.graph.state
+    → left.workers.items ≡ n ∷ map (λ (w : Worked M). w.worker) ws → refused ≡ is_any_alone ws → first ≡ first_with others done.known.caller fault
+    → Leaves tells calls meanings d (mine ∷ map (λ (h : Pass × M). h.0) hs) (m ∷ map (λ (h : Pass × M). h.1) hs) refused first left
+back_leaves {M} tells calls of_worker meanings d mine met done hs qs ws others fault m n b f own refused first left shut workers any is =
+    let ps = map (λ (h : Pass × M). h.0) hs in record {
+      ran = back_ran meanings d mine met done ps qs ws others fault b left.closed.history.items left.closed.passes.items left.closed.graph.state shut;
+      called = subst (λ (l : List M). EachCalls tells calls left.closed.graph.state.plan.stages (mine ∷ ps) (map (λ (k : Kept). k.records.items) left.closed.passes.items) (m ∷ map (λ (h : Pass × M). h.1) hs) l) (sym workers)
+          (back_calls tells calls of_worker meanings d mine met done hs qs ws others fault m n b f own left.closed.history.items left.closed.passes.items left.closed.graph.state shut);
+      threads = record { worked = ws; from = b.work; workers = ap (drop 1) workers; alone = sym any };
+      out = λ none. back_out meanings d mine met done ps qs ws others fault b left.closed.history.items left.closed.passes.items left.closed.graph.state shut (sym is ∙ none);
+      stopped = λ x some. back_told meanings d mine met done ps qs ws others fault b left.closed shut x (sym is ∙ some);
+    }
+
+pub told_left : {M : Type 0} (P : Left M → Type 0) (refused : Bool) (first : Option Met) (left : Left M) → (refused ≡ false → first ≡ None → P left) → IfOk (told refused first left) P
+told_left P true first left h = tt
+told_left P false None left h = h refl refl
+told_left P false (Some met) left h = tt
+
+pub told_refused : {M : Type 0} (tells : TellsOf M) (calls : CallsOf M) (meanings : Meanings) (d : Desk) (ps : List Pass) (ms : List M) (refused : Bool) (first : Option Met) (left : Left M) → Leaves tells calls meanings d ps ms refused first left
+    → IfErr (told refused first left) (IsRefused tells calls meanings d ps ms)
+told_refused tells calls meanings d ps ms true first left h = (h.ran, h.called, h.threads)
+told_refused tells calls meanings d ps ms false None left h = tt
+told_refused tells calls meanings d ps ms false (Some met) left h = (h.stopped met refl, h.called, h.threads)
 
 -- a list as its first element and the others
 pub first_and : {A : Type 0} (xs rest : List A) (x : A) → 0 < length xs → x ≡ slice_index_or xs 0 x → rest ≡ take 0 xs ++ drop (0 + 1) xs → xs ≡ x ∷ rest

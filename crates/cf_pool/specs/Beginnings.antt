@@ -1,5 +1,5 @@
 -- What the passes of a race hold before its workers begin.
-use Rattle.std.specs.Prelude.{◌≡◌, ℕ, ◌<◌, ◌≤◌, ◌⊎◌, List, [], ◌∷◌, get_or, length, map, take}
+use Rattle.std.specs.Prelude.{◌≡◌, ℕ, ◌<◌, ◌≤◌, ◌⊎◌, false, List, [], ◌∷◌, get_or, length, map, take}
 use Rattle.std.specs.List.{All}
 use Rattle.cf_model.specs.declared.events.Event.{Event}
 use Rattle.cf_desk.specs.declared.faults.DeskFault.{DeskFault}
@@ -10,9 +10,10 @@ use Rattle.cf_event.specs.Events.{own}
 use Rattle.cf_desk.specs.Records.{dids}
 use Rattle.cf_desk.specs.Views.{Desk, IsOf, Pass}
 use Rattle.cf_pool.specs.declared.pool.Left.{Left}
+use Rattle.cf_plan.specs.Meanings.{Meanings}
 use Rattle.cf_model.specs.Calling.{CallsOf}
 use Rattle.cf_pool.specs.Calling.{TellsOf}
-use Rattle.cf_pool.specs.Closings.{HaveCalled}
+use Rattle.cf_pool.specs.Closings.{HadThreads, HaveCalled}
 
 -- caller 0 has done the first of the steps in order, so many of them
 pub record HasTaken (d : Desk) (steps : List Event) (taken : ℕ) (p : Pass) : Type 0 where
@@ -60,10 +61,11 @@ pub record HaveBegun (d : Desk) (steps : List Event) (calls : ℕ) (ps : List Pa
   pub room : first.calls ≡ calls
   pub apart : All (IsApart d calls first.known.seen) others
 
--- the passes began so, and then each worker has called its functions for the claims that its pass was granted
-pub record HaveCalledInRace {M : Type 0} (tells : TellsOf M) (calls : CallsOf M) (steps : List Event) (ms : List M) (left : Left M) : Type 0 where
+-- the passes began so, and then each worker had a thread of its own, and has called its functions for the claims that its pass was granted
+pub record HaveCalledInRace {M : Type 0} (tells : TellsOf M) (calls : CallsOf M) (meanings : Meanings) (steps : List Event) (ms : List M) (left : Left M) : Type 0 where
   pub desk : Desk
   pub room : ℕ
   pub passes : List Pass
   pub begun : HaveBegun desk steps room passes
   pub called : HaveCalled tells calls passes ms left
+  pub threads : HadThreads meanings desk passes left false

@@ -1,5 +1,5 @@
 -- What a run of workers leaves, and what it tells.
-use Rattle.std.specs.Prelude.{◌≡◌, ℕ, None, List, length, map}
+use Rattle.std.specs.Prelude.{◌≡◌, ℕ, Bool, true, false, Option, Some, None, Result, Ok, Err, List, drop, length, map}
 use Rattle.std.specs.List.{AllZip, Contains}
 use Rattle.cf_model.specs.declared.events.Event.{Event}
 use Rattle.cf_model.specs.States.{State, lowest_ready_of}
@@ -14,11 +14,13 @@ use Rattle.cf_desk.specs.Views.{Closes, Desk, Pass}
 use Rattle.cf_pool.specs.declared.faults.PoolFault.{PoolFault}
 use Rattle.cf_pool.specs.declared.faults.PoolFault.TheVariants.{Desk as ToldDesk, NoMemory, NoThread}
 use Rattle.cf_pool.specs.declared.pool.Left.{Left}
+use Rattle.cf_pool.specs.declared.pool.Met.{Met}
 use Rattle.cf_pool.specs.declared.pool.Unbegun.{Unbegun}
+use Rattle.cf_pool.specs.declared.pool.Worked.{Worked}
 use Rattle.cf_model.specs.Calling.{CallsOf}
 use Rattle.cf_pool.specs.Calling.{EachCalls, TellsOf}
 use Rattle.cf_pool.specs.Claims.{WereOpen}
-use Rattle.cf_pool.specs.Runs.{HasEnded, IsLowest, OfEach}
+use Rattle.cf_pool.specs.Runs.{HasEnded, IsLowest, IsWorkedFrom, OfEach, is_any_alone}
 use Rattle.cf_pool.specs.Works.{Works}
 
 -- what a run leaves: the closed desk with the passes as they are then
@@ -56,6 +58,19 @@ abbrev pub HaveCalled : {M : Type 0} → TellsOf M → CallsOf M → List Pass �
 HaveCalled tells calls ps ms left =
     EachCalls tells calls left.closed.graph.state.plan.stages ps (map (λ (k : Kept). k.records.items) left.closed.passes.items) ms left.workers.items
 
+-- what each worker but the caller's own came to, and whether the thread of one of them was refused
+pub record HadThreads {M : Type 0} (meanings : Meanings) (d : Desk) (ps : List Pass) (left : Left M) (refused : Bool) : Type 0 where
+  pub worked : List (Worked M)
+  pub from : AllZip (IsWorkedFrom meanings d 1000) (drop 1 ps) worked
+  pub workers : drop 1 left.workers.items ≡ map (λ (w : Worked M). w.worker) worked
+  pub alone : is_any_alone worked ≡ refused
+
+-- what is told: a thread that was refused, before the fault of the lowest caller that met one, and else what the run leaves
+abbrev pub told : {M : Type 0} → Bool → Option Met → Left M → Result (Left M) (PoolFault M)
+told true first left = Err (NoThread left)
+told false None left = Ok left
+told false (Some met) left = Err (ToldDesk met.fault left)
+
 -- all of a run is as it was handed in
 abbrev pub IsAsBefore : {M : Type 0} → Desk → List Pass → List M → Unbegun M → Type 0
 IsAsBefore d ps ms unbegun = (unbegun.desk ≡ d) × (unbegun.passes.items ≡ ps) × (unbegun.workers.items ≡ ms)
@@ -66,9 +81,11 @@ IsForRoom (NoMemory unbegun) = Unit {0}
 IsForRoom (NoThread left) = Unit {0}
 IsForRoom (ToldDesk fault left) = ⊥
 
--- Why a run tells a fault, and what it leaves then: memory was refused, and nothing has begun; a thread was refused, and all have worked; or the desk's.
+-- Why a run tells a fault, and what it leaves then: memory was refused, and nothing has begun; a thread was refused, and all have worked; or none was, and it is
+-- the desk's.
 abbrev pub IsRefused : {M : Type 0} → TellsOf M → CallsOf M → Meanings → Desk → List Pass → List M → PoolFault M → Type 0
 IsRefused tells calls meanings d ps ms (NoMemory unbegun) = IsAsBefore d ps ms unbegun
 IsRefused tells calls meanings d ps ms (NoThread left) =
-    Ran meanings d ps left.closed.history.items left.closed.passes.items left.closed.graph.state × HaveCalled tells calls ps ms left
-IsRefused tells calls meanings d ps ms (ToldDesk fault left) = IsTold meanings d ps fault left.closed × HaveCalled tells calls ps ms left
+    Ran meanings d ps left.closed.history.items left.closed.passes.items left.closed.graph.state × HaveCalled tells calls ps ms left × HadThreads meanings d ps left true
+IsRefused tells calls meanings d ps ms (ToldDesk fault left) =
+    IsTold meanings d ps fault left.closed × HaveCalled tells calls ps ms left × HadThreads meanings d ps left false

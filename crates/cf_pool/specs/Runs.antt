@@ -1,6 +1,6 @@
 -- What a run of workers is told by each of them.
 use Rattle.std.specs.Prelude.{◌≡◌, ℕ, ◌<◌, nat_lt, Bool, true, false, Option, Some, None, MatchOption, List, ◌∷◌}
-use Rattle.std.specs.List.{All, AllZip, Contains}
+use Rattle.std.specs.List.{All, AllZip, Contains, list_any}
 use Rattle.cf_plan.specs.Meanings.{Meanings}
 use Rattle.cf_desk.specs.declared.faults.DeskFault.{DeskFault}
 use Rattle.cf_desk.specs.Log.{Catches}
@@ -25,6 +25,10 @@ IsWorkedFrom meanings d patience p w = HasWorked meanings d patience p w.pass w.
 pub record IsWorkedBy {M : Type 0} (tells : TellsOf M) (calls : CallsOf M) (meanings : M → Meanings) (d : Desk) (patience : ℕ) (h : Pass × M) (w : Worked M) : Type 0 where
   pub from : IsWorkedFrom (meanings h.1) d patience h.0 w
   pub called : CallsOnce tells calls (state_of w.pass.known).plan.stages h.0.known.caller h.0.records w.pass.records h.1 w.worker
+
+-- whether the thread of one of them was refused, so that it worked alone on the caller's
+abbrev pub is_any_alone : {M : Type 0} → List (Worked M) → Bool
+is_any_alone {M} ws = list_any (λ (w : Worked M). w.alone) ws
 
 -- the same pass, which has only seen more events of others, and looked for none
 pub record SeesMore (p q : Pass) : Type 0 where

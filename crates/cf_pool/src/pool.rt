@@ -1,12 +1,12 @@
 //! Workers on threads of their own. All memory is taken before the desk, its passes and the workers are touched, and a worker
 //! whose thread is refused works on the caller's, so that nothing is refused once they have begun.
-ghost use Rattle.std.specs.Prelude.{◌≡◌, ◌+◌, ◌<◌, ◌≤◌, ◌∷◌, nat_lt, [], true, All, IfErr, IfOk, MatchResult, map, length, vec_capacity, vec_len};
+ghost use Rattle.std.specs.Prelude.{◌≡◌, ◌+◌, ◌<◌, ◌≤◌, ◌∷◌, nat_lt, [], false, true, All, IfErr, IfOk, MatchResult, map, length, vec_capacity, vec_len};
 ghost use Rattle.std.specs.List.{AllZip};
 ghost use Rattle.cf_desk.specs.Rule.{AllShort};
 ghost use Rattle.cf_desk.specs.Views.{IsOf, knowns};
 ghost use Rattle.cf_pool.specs.Calling.{MeanAlike, first_meanings};
-ghost use Rattle.cf_pool.specs.Closings.{HaveCalled, IsRefused, RanOut};
-ghost use Rattle.cf_pool.specs.Runs.{IsFirst, IsWorkedBy, SeesMore, SeesOn, first_with, lower_of, stop_of};
+ghost use Rattle.cf_pool.specs.Closings.{HadThreads, HaveCalled, IsRefused, RanOut, told};
+ghost use Rattle.cf_pool.specs.Runs.{IsFirst, IsWorkedBy, SeesMore, SeesOn, first_with, is_any_alone, lower_of, stop_of};
 
 use crate::faults::PoolFault;
 use crate::worker::work;
@@ -77,9 +77,10 @@ pub struct WorkOf<W> {
 }
 
 impl<W: Worker> Promise<Worked<W>> for WorkOf<W> {
+    ghost use Rattle.std.specs.Prelude.{◌≡◌, false};
     ghost use Rattle.cf_pool.specs.Runs.{IsWorkedBy};
 
-    ghost kept_by = { λ p r. IsWorkedBy W.tells W.calls W.meanings p.desk.value 1000 p.was.value r };
+    ghost kept_by = { λ p r. IsWorkedBy W.tells W.calls W.meanings p.desk.value 1000 p.was.value r × (r.alone ≡ false) };
 }
 
 /// A worker's thread, or what it came to on the caller's.
@@ -89,7 +90,8 @@ type Started<W> = Result<PromisedHandle<Worked<W>, WorkOf<W>>, Worked<W>>;
 fn work_on<W: Worker>(desk: &Desk, one: (Pass, W), patience: u32) -> Worked<W>
     requires pass { IsOf desk.now one.0 }
     requires patience { 0 < patience }
-    ensures { IsWorkedBy W.tells W.calls W.meanings desk.now patience one result }
+    ensures worked { IsWorkedBy W.tells W.calls W.meanings desk.now patience one result }
+    ensures alone { result.alone ≡ false }
 {
     let (mut pass, mut worker) = one;
     let fault = work(desk, &mut pass, &mut worker, patience).err();
@@ -101,14 +103,14 @@ fn work_on<W: Worker>(desk: &Desk, one: (Pass, W), patience: u32) -> Worked<W>
     }
 }
 
-/// Starts a thread of the scope for one worker. Where it is refused, the worker works on this one.
+/// Starts a thread of the scope for one worker. Where it is refused, the worker works alone on this one.
 fn start<'s, E, W: Worker + Send + Drop + 's>(
     scope: &Scope<'s, E>,
     desk: &'s Desk,
     one: (Pass, W),
 ) -> Started<W>
     requires { IsOf desk.now one.0 }
-    ensures { MatchResult result (λ h. (h.promise.was.value ≡ one) × (h.promise.desk.value ≡ desk.now)) (λ w. IsWorkedBy W.tells W.calls W.meanings desk.now 1000 one w) }
+    ensures { MatchResult result (λ h. (h.promise.was.value ≡ one) × (h.promise.desk.value ≡ desk.now)) (λ w. IsWorkedBy W.tells W.calls W.meanings desk.now 1000 one w × (w.alone ≡ true)) }
 {
     let promise = WorkOf {
         was: Snapshot::of(&one),
@@ -118,7 +120,7 @@ fn start<'s, E, W: Worker + Send + Drop + 's>(
         promise,
         move || -> Worked<W>
             requires { IsOf desk.now one.0 }
-            ensures { IsWorkedBy W.tells W.calls W.meanings desk.entry.now 1000 one result }
+            ensures { IsWorkedBy W.tells W.calls W.meanings desk.entry.now 1000 one result × (result.alone ≡ false) }
         { work_on(desk, one, PATIENCE) },
     );
     match started {
@@ -158,7 +160,7 @@ fn start_all<'s, E, W: Worker + Send + Drop + 's>(
     requires all { All (λ w. IsOf desk.now w.0) workers.items }
     requires none { started.items ≡ [] }
     requires room { vec_len workers ≤ vec_capacity started }
-    ensures { AllZip (λ one s. MatchResult s (λ h. (h.promise.was.value ≡ one) × (h.promise.desk.value ≡ desk.now)) (λ w. IsWorkedBy W.tells W.calls W.meanings desk.now 1000 one w)) workers.items result.items }
+    ensures { AllZip (λ one s. MatchResult s (λ h. (h.promise.was.value ≡ one) × (h.promise.desk.value ≡ desk.now)) (λ w. IsWorkedBy W.tells W.calls W.meanings desk.now 1000 one w × (w.alone ≡ true))) workers.items result.items }
 {
     let mut rest = workers.into_iter();
     'next: while let Some(one) = rest.next() {
@@ -170,7 +172,7 @@ fn start_all<'s, E, W: Worker + Send + Drop + 's>(
 
 /// What a worker has come to.
 fn ended<R: Threads, W: Worker + Drop>(rt: &R, started: Started<W>) -> Worked<W>
-    ensures { MatchResult started (λ h. IsWorkedBy W.tells W.calls W.meanings h.promise.desk.value 1000 h.promise.was.value result) (λ w. result ≡ w) }
+    ensures { MatchResult started (λ h. IsWorkedBy W.tells W.calls W.meanings h.promise.desk.value 1000 h.promise.was.value result × (result.alone ≡ false)) (λ w. result ≡ w) }
 {
     match started {
         Ok(handle) => handle.join(rt),
@@ -186,7 +188,7 @@ fn join_all<R: Threads, W: Worker + Drop>(
 ) -> Vec<Worked<W>>
     requires none { worked.items ≡ [] }
     requires room { vec_len started ≤ vec_capacity worked }
-    ensures { AllZip (λ s x. MatchResult s (λ h. IsWorkedBy W.tells W.calls W.meanings h.promise.desk.value 1000 h.promise.was.value x) (λ w. x ≡ w)) started.items result.items }
+    ensures { AllZip (λ s x. MatchResult s (λ h. IsWorkedBy W.tells W.calls W.meanings h.promise.desk.value 1000 h.promise.was.value x × (x.alone ≡ false)) (λ w. x ≡ w)) started.items result.items }
 {
     let mut rest = started.into_iter();
     'next: while let Some(one) = rest.next() {
@@ -236,7 +238,9 @@ fn first_fault<W>(worked: &[Worked<W>]) -> Option<Met>
 }
 
 /// Whether a worker's thread was refused.
-fn is_any_alone<W>(worked: &[Worked<W>]) -> bool {
+fn is_any_alone<W>(worked: &[Worked<W>]) -> bool
+    ensures { result ≡ is_any_alone worked.now }
+{
     for w in worked {
         if w.alone {
             return true;
@@ -386,6 +390,7 @@ fn run_each<R: Threads + Wait + Sync, W: Worker + Send + Drop>(
     requires room { (vec_len workers ≤ vec_capacity started) × (vec_len workers ≤ vec_capacity worked) × (vec_len workers ≤ vec_capacity back.passes) × (vec_len workers ≤ vec_capacity back.workers) }
     ensures ran { IfOk result (λ left. RanOut (first_meanings W.meanings (map (λ w. w.1) workers.items)) desk (map (λ w. w.0) workers.items) left.closed.history.items left.closed.passes.items left.closed.graph.state) }
     ensures called { IfOk result (HaveCalled W.tells W.calls (map (λ w. w.0) workers.items) (map (λ w. w.1) workers.items)) }
+    ensures threads { IfOk result (λ left. HadThreads (first_meanings W.meanings (map (λ w. w.1) workers.items)) desk (map (λ w. w.0) workers.items) left false) }
     ensures refused { IfErr result (IsRefused W.tells W.calls (first_meanings W.meanings (map (λ w. w.1) workers.items)) desk (map (λ w. w.0) workers.items) (map (λ w. w.1) workers.items)) }
 {
     let one = workers.remove(0);
@@ -401,7 +406,13 @@ fn run_each<R: Threads + Wait + Sync, W: Worker + Send + Drop>(
     let Ok(closed) = desk.close(passes) else {
         unreachable!();
     };
-    let left = Left { closed, workers };
+    told(refused, first, Left { closed, workers })
+}
+
+/// What a run tells: that a thread was refused before the fault of the lowest caller that met one, and else what it leaves.
+fn told<W>(refused: bool, first: Option<Met>, left: Left<W>) -> Result<Left<W>, PoolFault<W>>
+    ensures { result ≡ told refused first left }
+{
     if refused {
         return Err(PoolFault::NoThread(left));
     }
@@ -434,6 +445,7 @@ pub fn run<R: Threads + Wait + Sync, W: Worker + Send + Drop>(
     requires passes { All (IsOf desk) passes.items × (vec_len passes ≡ vec_len workers) }
     ensures ran { IfOk result (λ left. RanOut (first_meanings W.meanings workers.items) desk passes.items left.closed.history.items left.closed.passes.items left.closed.graph.state) }
     ensures called { IfOk result (HaveCalled W.tells W.calls passes.items workers.items) }
+    ensures threads { IfOk result (λ left. HadThreads (first_meanings W.meanings workers.items) desk passes.items left false) }
     ensures refused { IfErr result (IsRefused W.tells W.calls (first_meanings W.meanings workers.items) desk passes.items workers.items) }
 {
     let alloc = *passes.allocator();

@@ -50,7 +50,7 @@ pub fn race<R: Threads + Wait + Sync, W: Worker + Send + Drop>(
     requires room { has_place plan.stages room ≡ true }
     requires steps { AreSteps (with_room plan room) steps.now }
     ensures raced { IfOk result (λ left. IsRaced (first_meanings W.meanings hands.items) (with_room plan room) steps.now workers left.closed.graph.state) }
-    ensures called { IfOk result (HaveCalledInRace W.tells W.calls steps.now hands.items) }
+    ensures called { IfOk result (HaveCalledInRace W.tells W.calls (first_meanings W.meanings hands.items) steps.now hands.items) }
     ensures size { IfOk result (λ left. log_words (length steps.now) (length plan.stages + room) workers ≤ 65535) }
     ensures fault { IfErr result (IsDueToRefuse (log_words (length steps.now) (length plan.stages + room) workers)) }
 {

@@ -1,9 +1,9 @@
-use Rattle.std.proofs.Common.{◌≡◌, ◌≤◌, IfErr, IfOk, List, length, map, sym, ap, subst, vec_len, vec_capacity, arith, rules}
+use Rattle.std.proofs.Common.{◌≡◌, ◌≤◌, false, IfErr, IfOk, List, length, map, sym, ap, subst, vec_len, vec_capacity, arith, rules}
 use Rattle.std.specs.List.{All}
 use Rattle.std.proofs.lemmas.List.{length-map}
 use Rattle.cf_desk.specs.Views.{IsOf, Pass}
 use Rattle.cf_pool.specs.Calling.{MeanAlike, first_meanings}
-use Rattle.cf_pool.specs.Closings.{HaveCalled, IsRefused, RanOut}
+use Rattle.cf_pool.specs.Closings.{HadThreads, HaveCalled, IsRefused, RanOut}
 use Rattle.cf_pool.proofs.pool.run.Goals as goal
 
 pub run_each-requires-clause-workers : goal.run_each-requires-clause-workers
@@ -28,6 +28,11 @@ pub returns-in-Ok-clause-called : goal.returns-in-Ok-clause-called
 returns-in-Ok-clause-called g c =
     subst (λ ps. IfOk c.run_each.result (HaveCalled g.W.Worker.tells g.W.Functions.calls ps c.args.workers.items)) c.pair-pairs.ensures.passes
     (subst (λ ms. IfOk c.run_each.result (HaveCalled g.W.Worker.tells g.W.Functions.calls (map (λ w. w.0) c.pair-pairs.result.items) ms)) c.pair-pairs.ensures.workers c.run_each.ensures.called)
+
+pub returns-in-Ok-clause-threads : goal.returns-in-Ok-clause-threads
+returns-in-Ok-clause-threads g c =
+    subst (λ ps. IfOk c.run_each.result (λ left. HadThreads (first_meanings g.W.Worker.meanings c.args.workers.items) c.args.desk ps left false)) c.pair-pairs.ensures.passes
+    (subst (λ ms. IfOk c.run_each.result (λ left. HadThreads (first_meanings g.W.Worker.meanings ms) c.args.desk (map (λ w. w.0) c.pair-pairs.result.items) left false)) c.pair-pairs.ensures.workers c.run_each.ensures.threads)
 
 pub returns-in-Ok-clause-refused : goal.returns-in-Ok-clause-refused
 returns-in-Ok-clause-refused g c =

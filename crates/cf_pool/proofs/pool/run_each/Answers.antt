@@ -1,17 +1,18 @@
-use Rattle.std.proofs.Common.{◌≡◌, ◌+◌, ◌≤◌, ◌∷◌, List, None, Some, length, map, sym, ap, ◌∙◌, subst, vec_len, vec_capacity, arith, rules}
+use Rattle.std.proofs.Common.{◌≡◌, ◌+◌, ◌≤◌, ◌∷◌, false, IfErr, IfOk, List, length, map, sym, ap, ◌∙◌, subst, vec_len, vec_capacity, arith, rules}
 use Rattle.std.specs.List.{All, AllZip}
 use Rattle.std.proofs.lemmas.List.{length-map}
 use Rattle.std.proofs.lemmas.List.Elements.{All-head, All-tail, All-weaker}
 use Rattle.cf_desk.specs.Views.{IsOf, Pass}
+use Rattle.cf_pool.specs.declared.pool.Left.{Left}
 use Rattle.cf_pool.specs.declared.pool.Worked.{Worked}
-use Rattle.cf_pool.specs.Calling.{EachCalls, MeanAlike, first_meanings}
-use Rattle.cf_pool.specs.Closings.{IsTold, Ran, RanOut}
-use Rattle.cf_pool.specs.Runs.{IsFirst, IsWorkedFrom, first_with, stop_of}
+use Rattle.cf_pool.specs.Calling.{MeanAlike, first_meanings}
+use Rattle.cf_pool.specs.Closings.{HadThreads, HaveCalled, IsRefused, RanOut}
+use Rattle.cf_pool.specs.Runs.{IsFirst, IsWorkedFrom, first_with, is_any_alone, stop_of}
 use Rattle.cf_pool.proofs.Pools.{all_mapped}
-use Rattle.cf_pool.proofs.Runs.{Back, all_from, back_calls, back_of, back_out, back_ran, back_told, first_and, shut_of, worked_of, zip_length}
+use Rattle.cf_pool.proofs.Runs.{Back, Leaves, all_from, back_leaves, back_of, first_and, shut_of, told_left, told_refused, worked_of, zip_length}
 use Rattle.cf_pool.proofs.pool.run_each.Given.{Over}
 use Rattle.cf_pool.proofs.pool.run_each.Goals as goal
-use Rattle.cf_pool.proofs.pool.run_each.Goals.{After-put_first-workers, After-remove-one, After-spread-worked}
+use Rattle.cf_pool.proofs.pool.run_each.Goals.{After-put_first-workers, After-remove-one, After-spread-worked, In-Ok}
 
 -- the caller's pass with its worker, and the others
 split : (g : Over) (c : After-remove-one g) → c.args.workers.items ≡ c.remove-one.result ∷ c.remove-one.new.self.items
@@ -95,7 +96,7 @@ back g c every worked = record {
   work = worked;
   sees = c.meet_all-back.ensures.others;
   mine_sees = c.meet_all-back.ensures.mine;
-  mine_works = c.work_on-done.ensures.from;
+  mine_works = c.work_on-done.ensures.worked.from;
   short = c.meet_all-back.ensures.short;
   first = subst (λ (l : List (Worked g.row.W.Denot)). IsFirst (map stop_of l) c.first_fault-others.result) c.as_slice.ensures.value c.first_fault-others.ensures;
 }
@@ -117,55 +118,45 @@ close-requires-clause-all g c =
     let w = c.requires.workers.1 in
     omega arith
 
-pub returns-in-None-clause-ran : goal.returns-in-None-clause-ran
-returns-in-None-clause-ran g c =
-    let at = goal.at.returns-in-None-clause-ran g c in
+-- what is left of all
+leaves : (g : Over) (c : In-Ok g) → c.args.workers.items ≡ c.remove-one.result ∷ c.remove-one.new.self.items
+    → Back (g.W.Worker.meanings c.remove-one.result.1) c.args.desk c.remove-one.result.0 c.meet_all-back.new.mine c.work_on-done.result.pass (map (λ w. w.0) c.remove-one.new.self.items) c.meet_all-back.result.passes.items c.spread-worked.result.items c.first_fault-others.result c.work_on-done.result.fault
+    → Leaves g.W.Worker.tells g.W.Functions.calls (first_meanings g.W.Worker.meanings (map (λ w. w.1) c.args.workers.items)) c.args.desk (map (λ w. w.0) c.args.workers.items) (map (λ w. w.1) c.args.workers.items) c.is_any_alone-refused.result c.first_of-first.result
+    (record { closed = c.in-Ok.closed; workers = c.put_first-workers.result })
+leaves g c parts came_back =
     let e = c.in-Ok.ensures in
-    let none : first_with c.first_fault-others.result c.work_on-done.result.pass.known.caller c.work_on-done.result.fault ≡ None =
-    ap (λ n. first_with c.first_fault-others.result n c.work_on-done.result.fault) (sym c.caller.ensures) ∙ sym c.first_of-first.ensures ∙ c.in-None.is in
-    subst (λ l. RanOut (first_meanings g.W.Worker.meanings (map (λ w. w.1) l)) c.args.desk (map (λ w. w.0) l) c.in-Ok.closed.history.items c.in-Ok.closed.passes.items c.in-Ok.closed.graph.state) (sym (split g at.After-remove-one))
-    (back_out _ _ _ _ _ _ _ _ _ _ (back g at.After-put_first-workers (of g at.After-remove-one) (work g at.After-spread-worked (alike g at.After-remove-one))) c.in-Ok.closed.history.items c.in-Ok.closed.passes.items c.in-Ok.closed.graph.state
-    (shut_of _ _ _ _ _ _ c.put_first-passes.ensures e.history e.passes e.fit e.graph) none)
+    let left : Left g.row.W.Denot = record { closed = c.in-Ok.closed; workers = c.put_first-workers.result } in
+    subst (λ l. Leaves g.W.Worker.tells g.W.Functions.calls (first_meanings g.W.Worker.meanings (map (λ w. w.1) l)) c.args.desk (map (λ w. w.0) l) (map (λ w. w.1) l) c.is_any_alone-refused.result c.first_of-first.result left) (sym parts)
+    (back_leaves g.W.Worker.tells g.W.Functions.calls g.W.Worker.meanings _ c.args.desk c.remove-one.result.0 c.meet_all-back.new.mine c.work_on-done.result.pass c.remove-one.new.self.items c.meet_all-back.result.passes.items c.spread-worked.result.items c.first_fault-others.result c.work_on-done.result.fault c.remove-one.result.1 c.work_on-done.result.worker
+    came_back c.spread-worked.ensures c.work_on-done.ensures.worked.called c.is_any_alone-refused.result c.first_of-first.result left
+    (shut_of _ _ _ _ _ _ c.put_first-passes.ensures e.history e.passes e.fit e.graph)
+    (c.put_first-workers.ensures ∙ ap (λ l. c.work_on-done.result.worker ∷ l) c.meet_all-back.ensures.workers)
+    (c.is_any_alone-refused.ensures ∙ ap (λ (l : List (Worked g.row.W.Denot)). is_any_alone l) c.as_slice-2.ensures.value)
+    (c.first_of-first.ensures ∙ ap (λ n. first_with c.first_fault-others.result n c.work_on-done.result.fault) c.caller.ensures))
 
-pub returns-in-None-clause-called : goal.returns-in-None-clause-called
-returns-in-None-clause-called g c =
-    let at = goal.at.returns-in-None-clause-called g c in
-    let e = c.in-Ok.ensures in
-    let workers = c.put_first-workers.ensures ∙ ap (λ l. c.work_on-done.result.worker ∷ l) c.meet_all-back.ensures.workers in
-    subst (λ l. EachCalls g.W.Worker.tells g.W.Functions.calls c.in-Ok.closed.graph.state.plan.stages (map (λ w. w.0) l) (map (λ k. k.records.items) c.in-Ok.closed.passes.items) (map (λ w. w.1) l) c.put_first-workers.result.items) (sym (split g at.After-remove-one))
-    (subst (λ l. EachCalls g.W.Worker.tells g.W.Functions.calls c.in-Ok.closed.graph.state.plan.stages (c.remove-one.result.0 ∷ map (λ w. w.0) c.remove-one.new.self.items) (map (λ k. k.records.items) c.in-Ok.closed.passes.items) (c.remove-one.result.1 ∷ map (λ w. w.1) c.remove-one.new.self.items) l) (sym workers)
-    (back_calls g.W.Worker.tells g.W.Functions.calls g.W.Worker.meanings _ c.args.desk c.remove-one.result.0 c.meet_all-back.new.mine c.work_on-done.result.pass c.remove-one.new.self.items c.meet_all-back.result.passes.items c.spread-worked.result.items c.first_fault-others.result c.work_on-done.result.fault c.remove-one.result.1 c.work_on-done.result.worker
-    (back g at.After-put_first-workers (of g at.After-remove-one) (work g at.After-spread-worked (alike g at.After-remove-one))) c.spread-worked.ensures c.work_on-done.ensures.called c.in-Ok.closed.history.items c.in-Ok.closed.passes.items c.in-Ok.closed.graph.state
-    (shut_of _ _ _ _ _ _ c.put_first-passes.ensures e.history e.passes e.fit e.graph)))
+pub returns-clause-ran : goal.returns-clause-ran
+returns-clause-ran g c =
+    let at = goal.at.returns-clause-ran g c in
+    let h = leaves g at.In-Ok (split g at.After-remove-one) (back g at.After-put_first-workers (of g at.After-remove-one) (work g at.After-spread-worked (alike g at.After-remove-one))) in
+    let P : Left g.row.W.Denot → Type 0 = (λ left. RanOut (first_meanings g.W.Worker.meanings (map (λ w. w.1) c.args.workers.items)) c.args.desk (map (λ w. w.0) c.args.workers.items) left.closed.history.items left.closed.passes.items left.closed.graph.state) in
+    subst (λ r. IfOk r P) (sym c.told.ensures) (told_left P c.is_any_alone-refused.result c.first_of-first.result (record { closed = c.in-Ok.closed; workers = c.put_first-workers.result }) (λ any none. h.out none))
 
-pub returns-in-Some-clause-refused : goal.returns-in-Some-clause-refused
-returns-in-Some-clause-refused g c =
-    let at = goal.at.returns-in-Some-clause-refused g c in
-    let e = c.in-Ok.ensures in
-    let some : first_with c.first_fault-others.result c.work_on-done.result.pass.known.caller c.work_on-done.result.fault ≡ Some c.in-Some.met =
-    ap (λ n. first_with c.first_fault-others.result n c.work_on-done.result.fault) (sym c.caller.ensures) ∙ sym c.first_of-first.ensures ∙ c.in-Some.is in
-    let workers = c.put_first-workers.ensures ∙ ap (λ l. c.work_on-done.result.worker ∷ l) c.meet_all-back.ensures.workers in
-    let came_back = back g at.After-put_first-workers (of g at.After-remove-one) (work g at.After-spread-worked (alike g at.After-remove-one)) in
-    let shut = shut_of _ _ _ _ _ _ c.put_first-passes.ensures e.history e.passes e.fit e.graph in (
-      subst (λ l. IsTold (first_meanings g.W.Worker.meanings (map (λ w. w.1) l)) c.args.desk (map (λ w. w.0) l) c.in-Some.met.fault c.in-Ok.closed) (sym (split g at.After-remove-one))
-          (back_told _ _ _ _ _ _ _ _ _ _ came_back c.in-Ok.closed shut c.in-Some.met some),
-      subst (λ l. EachCalls g.W.Worker.tells g.W.Functions.calls c.in-Ok.closed.graph.state.plan.stages (map (λ w. w.0) l) (map (λ k. k.records.items) c.in-Ok.closed.passes.items) (map (λ w. w.1) l) c.put_first-workers.result.items) (sym (split g at.After-remove-one))
-          (subst (λ l. EachCalls g.W.Worker.tells g.W.Functions.calls c.in-Ok.closed.graph.state.plan.stages (c.remove-one.result.0 ∷ map (λ w. w.0) c.remove-one.new.self.items) (map (λ k. k.records.items) c.in-Ok.closed.passes.items) (c.remove-one.result.1 ∷ map (λ w. w.1) c.remove-one.new.self.items) l) (sym workers)
-          (back_calls g.W.Worker.tells g.W.Functions.calls g.W.Worker.meanings _ c.args.desk c.remove-one.result.0 c.meet_all-back.new.mine c.work_on-done.result.pass c.remove-one.new.self.items c.meet_all-back.result.passes.items c.spread-worked.result.items c.first_fault-others.result c.work_on-done.result.fault c.remove-one.result.1 c.work_on-done.result.worker
-          came_back c.spread-worked.ensures c.work_on-done.ensures.called c.in-Ok.closed.history.items c.in-Ok.closed.passes.items c.in-Ok.closed.graph.state shut)),
-    )
+pub returns-clause-called : goal.returns-clause-called
+returns-clause-called g c =
+    let at = goal.at.returns-clause-called g c in
+    let h = leaves g at.In-Ok (split g at.After-remove-one) (back g at.After-put_first-workers (of g at.After-remove-one) (work g at.After-spread-worked (alike g at.After-remove-one))) in
+    let P : Left g.row.W.Denot → Type 0 = (HaveCalled g.W.Worker.tells g.W.Functions.calls (map (λ w. w.0) c.args.workers.items) (map (λ w. w.1) c.args.workers.items)) in
+    subst (λ r. IfOk r P) (sym c.told.ensures) (told_left P c.is_any_alone-refused.result c.first_of-first.result (record { closed = c.in-Ok.closed; workers = c.put_first-workers.result }) (λ any none. h.called))
 
-pub returns-then-refused-clause-refused : goal.returns-then-refused-clause-refused
-returns-then-refused-clause-refused g c =
-    let at = goal.at.returns-then-refused-clause-refused g c in
-    let e = c.in-Ok.ensures in
-    let workers = c.put_first-workers.ensures ∙ ap (λ l. c.work_on-done.result.worker ∷ l) c.meet_all-back.ensures.workers in
-    let came_back = back g at.After-put_first-workers (of g at.After-remove-one) (work g at.After-spread-worked (alike g at.After-remove-one)) in
-    let shut = shut_of _ _ _ _ _ _ c.put_first-passes.ensures e.history e.passes e.fit e.graph in (
-      subst (λ l. Ran (first_meanings g.W.Worker.meanings (map (λ w. w.1) l)) c.args.desk (map (λ w. w.0) l) c.in-Ok.closed.history.items c.in-Ok.closed.passes.items c.in-Ok.closed.graph.state) (sym (split g at.After-remove-one))
-          (back_ran _ _ _ _ _ _ _ _ _ _ came_back c.in-Ok.closed.history.items c.in-Ok.closed.passes.items c.in-Ok.closed.graph.state shut),
-      subst (λ l. EachCalls g.W.Worker.tells g.W.Functions.calls c.in-Ok.closed.graph.state.plan.stages (map (λ w. w.0) l) (map (λ k. k.records.items) c.in-Ok.closed.passes.items) (map (λ w. w.1) l) c.put_first-workers.result.items) (sym (split g at.After-remove-one))
-          (subst (λ l. EachCalls g.W.Worker.tells g.W.Functions.calls c.in-Ok.closed.graph.state.plan.stages (c.remove-one.result.0 ∷ map (λ w. w.0) c.remove-one.new.self.items) (map (λ k. k.records.items) c.in-Ok.closed.passes.items) (c.remove-one.result.1 ∷ map (λ w. w.1) c.remove-one.new.self.items) l) (sym workers)
-          (back_calls g.W.Worker.tells g.W.Functions.calls g.W.Worker.meanings _ c.args.desk c.remove-one.result.0 c.meet_all-back.new.mine c.work_on-done.result.pass c.remove-one.new.self.items c.meet_all-back.result.passes.items c.spread-worked.result.items c.first_fault-others.result c.work_on-done.result.fault c.remove-one.result.1 c.work_on-done.result.worker
-          came_back c.spread-worked.ensures c.work_on-done.ensures.called c.in-Ok.closed.history.items c.in-Ok.closed.passes.items c.in-Ok.closed.graph.state shut)),
-    )
+pub returns-clause-threads : goal.returns-clause-threads
+returns-clause-threads g c =
+    let at = goal.at.returns-clause-threads g c in
+    let h = leaves g at.In-Ok (split g at.After-remove-one) (back g at.After-put_first-workers (of g at.After-remove-one) (work g at.After-spread-worked (alike g at.After-remove-one))) in
+    let P : Left g.row.W.Denot → Type 0 = (λ left. HadThreads (first_meanings g.W.Worker.meanings (map (λ w. w.1) c.args.workers.items)) c.args.desk (map (λ w. w.0) c.args.workers.items) left false) in
+    subst (λ r. IfOk r P) (sym c.told.ensures) (told_left P c.is_any_alone-refused.result c.first_of-first.result (record { closed = c.in-Ok.closed; workers = c.put_first-workers.result }) (λ any none. subst (HadThreads _ c.args.desk _ _) any h.threads))
+
+pub returns-clause-refused : goal.returns-clause-refused
+returns-clause-refused g c =
+    let at = goal.at.returns-clause-refused g c in
+    let h = leaves g at.In-Ok (split g at.After-remove-one) (back g at.After-put_first-workers (of g at.After-remove-one) (work g at.After-spread-worked (alike g at.After-remove-one))) in
+    subst (λ r. IfErr r (IsRefused g.W.Worker.tells g.W.Functions.calls (first_meanings g.W.Worker.meanings (map (λ w. w.1) c.args.workers.items)) c.args.desk (map (λ w. w.0) c.args.workers.items) (map (λ w. w.1) c.args.workers.items))) (sym c.told.ensures) (told_refused _ _ _ _ _ _ _ _ _ h)

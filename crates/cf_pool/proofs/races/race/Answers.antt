@@ -1,5 +1,4 @@
 use Rattle.std.proofs.Common.{◌+◌, ◌*◌, ◌∙◌, ap, length, ℕ}
-use Rattle.cf_pool.specs.Calling.{first_meanings}
 use Rattle.cf_plan.specs.Plans.{with_room}
 use Rattle.cf_plan.proofs.PlanLemmas.{place_is}
 use Rattle.cf_pool.specs.Races.{log_words}
@@ -28,6 +27,7 @@ returns-in-Ok-run-clause-called g c = record {
   passes = c.in-Ok.begun.1.items;
   begun = c.in-Ok.ensures.begun;
   called = c.in-Ok-run.ensures.called;
+  threads = c.in-Ok-run.ensures.threads;
 }
 
 pub fault_of-requires : goal.fault_of-requires
