@@ -1,10 +1,12 @@
 //! Desks for two callers, with their passes, and calls of these.
 ghost use Rattle.std.specs.Prelude.{◌≡◌, ◌+◌, All, IfOk, OnOk, vec_len};
 
+use crate::checks::must;
 use crate::plans::{Row, SOURCE, SOURCE_AND_SUPPLY, plan_of};
 use cf_desk::{Call, Closed, Desk, Pass};
+use cf_plan::Plan;
 use std::alloc::Global;
-use std::test::Fail;
+use std::process::Abort;
 use std::thread;
 use std::thread::Threads;
 
@@ -44,8 +46,8 @@ pub(crate) fn with_room(calls: u16, room: u16, functions: u32) -> Opening<'stati
     }
 }
 
-/// The last of these passes, which are all of one desk.
-pub(crate) fn last_of(desk: &Desk, passes: &mut Vec<Pass>) -> Result<Pass, Fail>
+/// The last of these passes, which are all of one desk, if there is one.
+fn popped(desk: &Desk, passes: &mut Vec<Pass>) -> Result<Pass, &'static str>
     requires { All (λ p. p.table ≡ desk.now.table) passes.old.items }
     ensures pass { IfOk result (λ p. p.table ≡ desk.now.table) }
     ensures rest { All (λ p. p.table ≡ desk.now.table) passes.new.items }
@@ -53,54 +55,99 @@ pub(crate) fn last_of(desk: &Desk, passes: &mut Vec<Pass>) -> Result<Pass, Fail>
 {
     match passes.pop() {
         Some(pass) => Ok(pass),
-        None => Err(Fail::from("a pass is missing")),
+        None => Err("a pass is missing"),
     }
 }
 
-/// The first and the second of two passes, which are both of one desk.
-fn both_of(desk: &Desk, mut passes: Vec<Pass>) -> Result<(Pass, Pass), Fail>
-    requires { All (λ p. p.table ≡ desk.now.table) passes.items }
-    ensures first { IfOk result (λ r. r.0.table ≡ desk.now.table) }
-    ensures second { IfOk result (λ r. r.1.table ≡ desk.now.table) }
+/// The last of these passes, which are all of one desk.
+pub(crate) fn last_of(rt: &impl Abort, desk: &Desk, passes: &mut Vec<Pass>) -> Pass
+    requires { All (λ p. p.table ≡ desk.now.table) passes.old.items }
+    ensures pass { result.table ≡ desk.now.table }
+    ensures rest { All (λ p. p.table ≡ desk.now.table) passes.new.items }
+    ensures count { vec_len passes.new + 1 ≡ vec_len passes.old }
 {
-    let second = last_of(desk, &mut passes)?;
-    let first = last_of(desk, &mut passes)?;
-    Ok((first, second))
+    must(rt, popped(desk, passes))
+}
+
+/// The first and the second of two passes, which are both of one desk.
+fn both_of(rt: &impl Abort, desk: &Desk, mut passes: Vec<Pass>) -> (Pass, Pass)
+    requires { All (λ p. p.table ≡ desk.now.table) passes.items }
+    ensures first { result.0.table ≡ desk.now.table }
+    ensures second { result.1.table ≡ desk.now.table }
+{
+    let second = last_of(rt, desk, &mut passes);
+    let first = last_of(rt, desk, &mut passes);
+    (first, second)
+}
+
+/// A desk of a plan without room, and its passes.
+pub(crate) fn open_desk(
+    rt: &impl Abort,
+    alloc: Global,
+    plan: Plan,
+    callers: u8,
+    log: u16,
+    calls: u16,
+) -> (Desk, Vec<Pass>)
+    ensures table { All (λ p. p.table ≡ result.0.table) result.1.items }
+    ensures count { vec_len result.1 ≡ callers }
+    ensures callers { result.0.setting.callers ≡ callers }
+{
+    must(rt, Desk::open(alloc, plan, callers, log, calls))
+}
+
+/// A desk of a plan with so much room and so many functions, and its passes.
+pub(crate) fn open_growing(
+    rt: &impl Abort,
+    alloc: Global,
+    plan: Plan,
+    callers: u8,
+    log: u16,
+    calls: u16,
+    room: u16,
+    functions: u32,
+) -> (Desk, Vec<Pass>)
+    ensures table { All (λ p. p.table ≡ result.0.table) result.1.items }
+    ensures count { vec_len result.1 ≡ callers }
+    ensures callers { result.0.setting.callers ≡ callers }
+{
+    must(
+        rt,
+        Desk::open_growing(alloc, plan, callers, log, calls, room, functions),
+    )
 }
 
 /// The desk that is opened so, and its passes.
-fn opened(alloc: Global, opening: Opening<'_>) -> Result<(Desk, Vec<Pass>), Fail>
-    ensures table { IfOk result (λ r. All (λ p. p.table ≡ r.0.table) r.1.items) }
-    ensures callers { IfOk result (λ r. r.0.setting.callers ≡ 2) }
+fn opened(rt: &impl Abort, alloc: Global, opening: Opening<'_>) -> (Desk, Vec<Pass>)
+    ensures table { All (λ p. p.table ≡ result.0.table) result.1.items }
+    ensures callers { result.0.setting.callers ≡ 2 }
 {
     let Opening { log, calls, .. } = opening;
-    let plan = plan_of(alloc, opening.rows)?;
+    let plan = plan_of(rt, alloc, opening.rows);
     match opening.room {
-        None => Ok(Desk::open(alloc, plan, 2, log, calls)?),
-        Some((room, functions)) => {
-            Ok(Desk::open_growing(alloc, plan, 2, log, calls, room, functions)?)
-        }
+        None => open_desk(rt, alloc, plan, 2, log, calls),
+        Some((room, functions)) => { open_growing(rt, alloc, plan, 2, log, calls, room, functions) }
     }
 }
 
 /// The desk that is opened so, and its two passes.
-pub(crate) fn open_two(alloc: Global, opening: Opening<'_>) -> Result<(Desk, Pass, Pass), Fail>
-    ensures first { IfOk result (λ r. r.1.table ≡ r.0.table) }
-    ensures second { IfOk result (λ r. r.2.table ≡ r.0.table) }
-    ensures callers { IfOk result (λ r. r.0.setting.callers ≡ 2) }
+pub(crate) fn open_two(rt: &impl Abort, alloc: Global, opening: Opening<'_>) -> (Desk, Pass, Pass)
+    ensures first { result.1.table ≡ result.0.table }
+    ensures second { result.2.table ≡ result.0.table }
+    ensures callers { result.0.setting.callers ≡ 2 }
 {
-    let (desk, passes) = opened(alloc, opening)?;
-    let (first, second) = both_of(&desk, passes)?;
-    Ok((desk, first, second))
+    let (desk, passes) = opened(rt, alloc, opening);
+    let (first, second) = both_of(rt, &desk, passes);
+    (desk, first, second)
 }
 
 /// The desk of two passes, closed.
-pub(crate) fn close_two(alloc: Global, desk: Desk, a: Pass, b: Pass) -> Result<Closed, Fail>
+pub(crate) fn close_two(rt: &impl Abort, alloc: Global, desk: Desk, a: Pass, b: Pass) -> Closed
     requires callers { desk.setting.callers ≡ 2 }
     requires table { (a.table ≡ desk.table) × (b.table ≡ desk.table) }
 {
-    let passes = vec![in alloc; a, b]?;
-    Ok(desk.close(passes)?)
+    let passes = must(rt, vec![in alloc; a, b]);
+    must(rt, desk.close(passes))
 }
 
 /// Calls of one pass, one after another.

@@ -1,4 +1,5 @@
 //! What a closed desk has, as rows.
+use crate::checks::holds;
 use cf_desk::{Call, Closed, Kept, Rec};
 use cf_model::{Event, Reply};
 use std::process::Abort;
@@ -46,7 +47,7 @@ fn is_so(closed: &mut Closed, end: End<'_>) -> bool {
 /// A closed desk has all of this.
 pub(crate) fn check_ends(rt: &impl Abort, closed: &mut Closed, ends: &[End<'_>]) {
     for (at, end) in ends.iter().enumerate() {
-        assert!(rt; is_so(closed, *end), "end {at}");
+        holds(rt, is_so(closed, *end), ("end", at));
     }
 }
 

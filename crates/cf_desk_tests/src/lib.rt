@@ -7,6 +7,8 @@ mod beside;
 #[cfg(test)]
 mod bounds;
 #[cfg(test)]
+mod checks;
+#[cfg(test)]
 mod desks;
 #[cfg(test)]
 mod ends;

@@ -1,6 +1,8 @@
 //! Plans of a few stages from rows.
-use cf_plan::{Form, Plan, PlanBuilder, PlanFault};
+use crate::checks::must;
+use cf_plan::{Form, Plan, PlanBuilder};
 use std::alloc::Global;
+use std::process::Abort;
 
 /// A stage: its form, its sources and the number of its function.
 pub(crate) type Row<'a> = (Form, &'a [u16], Option<u16>);
@@ -15,10 +17,10 @@ pub(crate) const SOURCE_AND_SUPPLY: [Row<'static>; 2] = [
 ];
 
 /// The plan of these stages.
-pub(crate) fn plan_of(alloc: Global, rows: &[Row<'_>]) -> Result<Plan, PlanFault> {
+pub(crate) fn plan_of(rt: &impl Abort, alloc: Global, rows: &[Row<'_>]) -> Plan {
     let mut builder = PlanBuilder::new(alloc);
     for (form, of, function) in rows {
-        builder.stage(*form, of, *function)?;
+        must(rt, builder.stage(*form, of, *function));
     }
-    builder.build()
+    must(rt, builder.build())
 }

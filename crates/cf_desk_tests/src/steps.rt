@@ -2,13 +2,13 @@
 ghost use Rattle.std.specs.Prelude.{◌≡◌};
 
 use crate::beside::{Work, join_beside};
+use crate::checks::holds;
 use crate::desks::{Opening, act_all, act_on_threads, close_two, open_two};
 use crate::ends::{End, check_ends};
-use cf_desk::{Ask, Call, Desk, DeskFault, Joined, Pass, Told};
+use cf_desk::{Ask, Call, Closed, Desk, DeskFault, Joined, Pass, Told};
 use cf_model::Reply;
 use std::alloc::Global;
 use std::process::Abort;
-use std::test::Fail;
 use std::thread::Threads;
 
 /// What a caller does, and what it is answered.
@@ -127,7 +127,23 @@ fn take<R: Threads + Sync + Abort>(
     ensures { (a.new.table ≡ a.old.table) × (b.new.table ≡ b.old.table) }
 {
     'turns: for (at, turn) in turns.iter().enumerate() {
-        assert!(rt; is_taken(rt, desk, a, b, *turn), "turn {at}");
+        holds(rt, is_taken(rt, desk, a, b, *turn), ("turn", at));
+    }
+}
+
+/// The desk that is opened so, on which its callers took these turns, closed.
+fn closed<R: Threads + Sync + Abort>(
+    rt: &R,
+    alloc: Global,
+    opening: Opening<'_>,
+    turns: &[Turn<'_>],
+) -> Closed {
+    let (desk, mut a, mut b) = open_two(rt, alloc, opening);
+    take(rt, &desk, &mut a, &mut b, turns);
+    if opening.second_first {
+        close_two(rt, alloc, desk, b, a)
+    } else {
+        close_two(rt, alloc, desk, a, b)
     }
 }
 
@@ -138,14 +154,7 @@ pub(crate) fn play<R: Threads + Sync + Abort>(
     opening: Opening<'_>,
     turns: &[Turn<'_>],
     ends: &[End<'_>],
-) -> Result<(), Fail> {
-    let (desk, mut a, mut b) = open_two(alloc, opening)?;
-    take(rt, &desk, &mut a, &mut b, turns);
-    let mut closed = if opening.second_first {
-        close_two(alloc, desk, b, a)?
-    } else {
-        close_two(alloc, desk, a, b)?
-    };
+) {
+    let mut closed = closed(rt, alloc, opening, turns);
     check_ends(rt, &mut closed, ends);
-    Ok(())
 }

@@ -4,9 +4,6 @@ use Rattle.cf_desk.specs.Views.{Pass}
 use Rattle.cf_desk_tests.proofs.bounds.fill_by_last.Goals as goal
 
 pub returns-clause-table : goal.returns-clause-table
-returns-clause-table c =
-    subst (All (λ (p : Pass). p.table ≡ c.args.desk.now.table)) (sym c.in_ok-push.ensures.items)
-    (All-push (λ (p : Pass). p.table ≡ c.args.desk.now.table) _ _ c.last_of.ensures.rest (c.fill-fault.ensures ∙ c.in_ok-pass.ensures.pass))
-
-pub returns-clause-count : goal.returns-clause-count
-returns-clause-count c = let before = c.in_ok-pass.ensures.count in let after = c.in_ok-push.ensures.len in omega arith
+returns-clause-table g c =
+    subst (All (λ (p : Pass). p.table ≡ c.args.desk.now.table)) (sym c.put_back.ensures.items)
+    (All-push (λ (p : Pass). p.table ≡ c.args.desk.now.table) _ _ c.last_of-pass.ensures.rest (c.fill-fault.ensures ∙ c.last_of-pass.ensures.pass))
