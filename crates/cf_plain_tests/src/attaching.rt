@@ -2,10 +2,10 @@
 ghost use Rattle.std.specs.Prelude.{◌<◌, ◌≡◌, true};
 ghost use Rattle.cf_plan.specs.Plans.{has_place};
 
-use crate::both::{answer, assert_alike, nudge};
+use crate::both::{Both, answer, assert_alike, nudge};
 use crate::calls::{call_of, caller_of, finishing};
-use crate::checks::{must, same};
-use crate::plans::{New, larger_plan, new_choice, new_of, numbers_of, two_sources};
+use crate::checks::{holds, must, same};
+use crate::plans::{New, PAIRS, larger_plan, new_of, numbers_of, pair_of, two_sources};
 use cf_core::Graph;
 use cf_model::{Attached, Event, Reply};
 use cf_plain::Plain;
@@ -15,7 +15,7 @@ use std::alloc::Global;
 use std::process::Abort;
 
 /// How many lists of calls are run on each two attached stages, and how many calls each has.
-const LISTS: u32 = 2;
+const LISTS: usize = 2;
 
 const CALLS: u32 = 16;
 
@@ -28,7 +28,11 @@ const LARGER_CALLS: u32 = 40;
 fn check_place(rt: &impl Abort, plan: &Plan, room: u16)
     ensures { has_place plan.now.stages room ≡ true }
 {
-    assert!(rt; plan.stages() <= 4080 && plan.edges() <= 16352 && room <= 16);
+    holds(
+        rt,
+        plan.stages() <= 4080 && plan.edges() <= 16352 && room <= 16,
+        room,
+    );
 }
 
 /// The graph of a plan, with room for so many stages.
@@ -38,21 +42,17 @@ fn graph_of(rt: &impl Abort, alloc: Global, plan: &Plan, room: u16) -> Graph {
     must(rt, Graph::new_growing(alloc, plan, room))
 }
 
-/// The plain graph of a plan, with room for so many stages.
-fn plain_of(rt: &impl Abort, alloc: Global, plan: &Plan, room: u16) -> Plain {
+/// The same, and the plain graph.
+fn both_of(rt: &impl Abort, alloc: Global, plan: &Plan, room: u16) -> Both {
+    let graph = graph_of(rt, alloc, plan, room);
     let plan = must(rt, plan.copy());
     check_place(rt, &plan, room);
-    must(rt, Plain::start_growing(alloc, plan, room))
+    let plain = must(rt, Plain::start_growing(alloc, plan, room));
+    Both { graph, plain }
 }
 
 /// Attaches a stage to both, and says what was answered.
-fn attach_to_both(
-    rt: &impl Abort,
-    alloc: Global,
-    graph: &mut Graph,
-    plain: &mut Plain,
-    new: New,
-) -> Attached {
+fn attach_to_both(rt: &impl Abort, alloc: Global, both: &mut Both, new: New) -> Attached {
     let New { form, of, function } = new;
     let event = Event::Attach {
         who: 1,
@@ -60,33 +60,39 @@ fn attach_to_both(
         of,
         function,
     };
-    let Reply::Attach(told) = answer(rt, alloc, graph, plain, event) else {
-        panic!(rt; "another reply");
+    let told = match answer(rt, alloc, both, event) {
+        Reply::Attach(told) => Some(told),
+        _ => None,
     };
-    same(rt, graph.stages(), plain.stages());
-    told
+    holds(rt, both.graph.stages() == both.plain.stages(), "stages");
+    must(rt, told.ok_or("another reply"))
 }
 
-/// Claims the lowest ready stage of both, if there is one, and finishes it, by the bits of a number.
-fn work_on_both(rt: &impl Abort, alloc: Global, graph: &mut Graph, plain: &mut Plain, x: u32) {
-    if let Some(stage) = plain.lowest_ready() {
-        let who = caller_of(x);
-        answer(rt, alloc, graph, plain, Event::Claim { who, stage });
-        answer(rt, alloc, graph, plain, finishing(who, stage, x));
+/// Claims a ready stage of both, and finishes it, by the bits of a number.
+fn work_on(rt: &impl Abort, alloc: Global, both: &mut Both, stage: u16, x: u32) {
+    let who = caller_of(x);
+    answer(rt, alloc, both, Event::Claim { who, stage });
+    answer(rt, alloc, both, finishing(who, stage, x));
+}
+
+/// Does the call of a number on both, or works on the lowest ready stage, if there is one.
+fn call(rt: &impl Abort, alloc: Global, both: &mut Both, x: u32) {
+    let stages = both.graph.stages();
+    let ready = both.plain.lowest_ready();
+    if x >> 28 >= 5 {
+        answer(rt, alloc, both, call_of(stages, x));
+    } else if let Some(stage) = ready {
+        work_on(rt, alloc, both, stage, x);
     }
 }
 
-/// Lets the graph take up to three turns, does the call of a number on both, and looks at all stages now and then.
-fn nudged_call(rt: &impl Abort, alloc: Global, graph: &mut Graph, plain: &mut Plain, x: u32) {
-    let stages = graph.stages();
-    nudge(rt, graph, x >> 9 & 3);
-    if x >> 28 < 5 {
-        work_on_both(rt, alloc, graph, plain, x);
-    } else {
-        answer(rt, alloc, graph, plain, call_of(stages, x));
-    }
+/// Lets the graph take up to three turns, does the call of a number, and looks at all stages now and then.
+fn nudged_call(rt: &impl Abort, alloc: Global, both: &mut Both, x: u32) {
+    let stages = both.graph.stages();
+    nudge(rt, &mut both.graph, x >> 9 & 3);
+    call(rt, alloc, both, x);
     if x >> 26 & 3 == 0 {
-        assert_alike(rt, graph, plain, stages);
+        assert_alike(rt, both, stages);
     }
 }
 
@@ -98,41 +104,24 @@ struct Due {
     told: Attached,
 }
 
-/// Attaches a stage to both, which is answered so.
-fn attach_told(rt: &impl Abort, alloc: Global, graph: &mut Graph, plain: &mut Plain, due: Due) {
-    let told = attach_to_both(rt, alloc, graph, plain, due.new);
-    same(rt, told, due.told);
-}
-
-/// Attaches the stages of this step.
-fn attach_due(
-    rt: &impl Abort,
-    alloc: Global,
-    graph: &mut Graph,
-    plain: &mut Plain,
-    dues: &[Due],
-    step: u32,
-) {
+/// Attaches the stages of this step, which are answered so.
+fn attach_due(rt: &impl Abort, alloc: Global, both: &mut Both, dues: &[Due], step: u32) {
     for due in dues {
         if due.step == step {
-            attach_told(rt, alloc, graph, plain, *due);
+            holds(
+                rt,
+                attach_to_both(rt, alloc, both, due.new) == due.told,
+                step,
+            );
         }
     }
 }
 
 /// Lets the graph take up to three turns, attaches the stages of this step, and does the call of a number.
-fn do_step(
-    rt: &impl Abort,
-    alloc: Global,
-    graph: &mut Graph,
-    plain: &mut Plain,
-    dues: &[Due],
-    step: u32,
-    x: u32,
-) {
-    nudge(rt, graph, x >> 16 & 3);
-    attach_due(rt, alloc, graph, plain, dues, step);
-    nudged_call(rt, alloc, graph, plain, x);
+fn do_step(rt: &impl Abort, alloc: Global, both: &mut Both, dues: &[Due], step: u32, x: u32) {
+    nudge(rt, &mut both.graph, x >> 16 & 3);
+    attach_due(rt, alloc, both, dues, step);
+    nudged_call(rt, alloc, both, x);
 }
 
 /// The two stages, each before a step by the bits of a number, and the first once more behind all steps, when there is no
@@ -161,90 +150,40 @@ fn dues_of(news: [New; 2], x: u32) -> [Due; 3] {
 }
 
 /// Does one list of calls on both, and attaches two stages in between, for which there is room, and then one for which
-/// there is none.
-fn do_steps(
-    rt: &impl Abort,
-    alloc: Global,
-    graph: &mut Graph,
-    plain: &mut Plain,
-    news: [New; 2],
-    list: u32,
-) {
+/// there is none. At the end it looks at all stages.
+fn do_steps(rt: &impl Abort, alloc: Global, both: &mut Both, news: [New; 2], list: u32) {
     let mut numbers = numbers_of(list);
     let dues = dues_of(news, numbers.next_u32());
     for step in 0..CALLS {
         let x = numbers.next_u32();
-        do_step(rt, alloc, graph, plain, &dues, step, x);
+        do_step(rt, alloc, both, &dues, step, x);
     }
-    attach_due(rt, alloc, graph, plain, &dues, CALLS);
+    attach_due(rt, alloc, both, &dues, CALLS);
+    assert_alike(rt, both, 4);
 }
 
-/// Does so on new graphs of a plan, and looks at all stages at the end.
+/// Does so on new graphs of a plan.
 fn compare_attached(rt: &impl Abort, alloc: Global, plan: &Plan, news: [New; 2], list: u32) {
-    let mut graph = graph_of(rt, alloc, plan, 2);
-    let mut plain = plain_of(rt, alloc, plan, 2);
-    do_steps(rt, alloc, &mut graph, &mut plain, news, list);
-    assert_alike(rt, &mut graph, &plain, 4);
+    let mut both = both_of(rt, alloc, plan, 2);
+    do_steps(rt, alloc, &mut both, news, list);
 }
 
-/// Compares a pair of attached stages by so many lists, of which so many were done before.
-fn compare_pair(
-    rt: &impl Abort,
-    alloc: Global,
-    plan: &Plan,
-    news: [New; 2],
-    mut pairs: u32,
-) -> u32 {
-    for _ in 0..LISTS {
-        pairs = pairs.wrapping_add(1);
-        compare_attached(rt, alloc, plan, news, pairs);
-    }
-    pairs
-}
-
-/// Compares this first stage with each second one of this form.
-fn compare_second(
-    rt: &impl Abort,
-    alloc: Global,
-    plan: &Plan,
-    first: New,
-    form: usize,
-    mut pairs: u32,
-) -> u32 {
-    for choice in 0..13 {
-        if let Some(second) = new_choice(form, 3, choice) {
-            pairs = compare_pair(rt, alloc, plan, [first, second], pairs);
+/// Compares each pair of stages, attached to this plan, by so many lists, and counts the lists.
+fn compare_pairs(rt: &impl Abort, alloc: Global, plan: &Plan) -> u32 {
+    let mut lists = 0u32;
+    for number in 0..PAIRS * LISTS {
+        if let Some(news) = pair_of(number / LISTS) {
+            lists = lists.wrapping_add(1);
+            compare_attached(rt, alloc, plan, news, lists);
         }
     }
-    pairs
-}
-
-/// Compares this first stage with each second one.
-fn compare_behind(rt: &impl Abort, alloc: Global, plan: &Plan, first: New, mut pairs: u32) -> u32 {
-    for form in 0..19 {
-        pairs = compare_second(rt, alloc, plan, first, form, pairs);
-    }
-    pairs
-}
-
-/// Compares each first stage of this form with each second one.
-fn compare_first(rt: &impl Abort, alloc: Global, plan: &Plan, form: usize, mut pairs: u32) -> u32 {
-    for choice in 0..7 {
-        if let Some(first) = new_choice(form, 2, choice) {
-            pairs = compare_behind(rt, alloc, plan, first, pairs);
-        }
-    }
-    pairs
+    lists
 }
 
 #[test]
 fn two_stages_are_attached(rt: HostRuntime) {
     let plan = two_sources(&rt, rt.alloc());
-    let mut pairs: u32 = 0;
-    for form in 0..19 {
-        pairs = compare_first(&rt, rt.alloc(), &plan, form, pairs);
-    }
-    same(&rt, pairs, 12198);
+    same(&rt, compare_pairs(&rt, rt.alloc(), &plan), 12198);
 }
 
 /// What was attached: by what its sources held, a bit for each form that had such ones, and how often there was no room.
@@ -296,75 +235,38 @@ fn settled(plain: &Plain, i: u16) -> bool {
 }
 
 /// Attaches the stage of a number to both, and keeps what was seen.
-fn attach_by(
-    rt: &impl Abort,
-    alloc: Global,
-    graph: &mut Graph,
-    plain: &mut Plain,
-    seen: &mut Seen,
-    x: u32,
-) {
-    let (place, new) = new_of(x, graph.stages());
-    let kind = kind_of(plain, new.of);
-    let told = attach_to_both(rt, alloc, graph, plain, new);
+fn attach_by(rt: &impl Abort, alloc: Global, both: &mut Both, seen: &mut Seen, x: u32) {
+    let (place, new) = new_of(x, both.graph.stages());
+    let kind = kind_of(&both.plain, new.of);
+    let told = attach_to_both(rt, alloc, both, new);
     see(seen, told, kind, place);
 }
 
-/// Attaches the stages of some numbers to both.
-fn attach_at_times(
-    rt: &impl Abort,
-    alloc: Global,
-    graph: &mut Graph,
-    plain: &mut Plain,
-    seen: &mut Seen,
-    x: u32,
-) {
-    if x >> 28 < 3 {
-        attach_by(rt, alloc, graph, plain, seen, x);
-    }
-}
-
 /// Lets the graph take up to three turns, attaches the stage of a number at times, and does the call of another.
-fn grow(
-    rt: &impl Abort,
-    alloc: Global,
-    graph: &mut Graph,
-    plain: &mut Plain,
-    seen: &mut Seen,
-    x: u32,
-    y: u32,
-) {
-    nudge(rt, graph, x >> 9 & 3);
-    attach_at_times(rt, alloc, graph, plain, seen, x);
-    nudged_call(rt, alloc, graph, plain, y);
+fn grow(rt: &impl Abort, alloc: Global, both: &mut Both, seen: &mut Seen, x: u32, y: u32) {
+    nudge(rt, &mut both.graph, x >> 9 & 3);
+    if x >> 28 < 3 {
+        attach_by(rt, alloc, both, seen, x);
+    }
+    nudged_call(rt, alloc, both, y);
 }
 
-/// Does one list of calls on both, between which stages are attached.
-fn grow_all(
-    rt: &impl Abort,
-    alloc: Global,
-    graph: &mut Graph,
-    plain: &mut Plain,
-    seen: &mut Seen,
-    number: u32,
-) {
+/// Does one list of calls on both, between which stages are attached, and looks at all stages at the end.
+fn grow_all(rt: &impl Abort, alloc: Global, both: &mut Both, seen: &mut Seen, number: u32) {
     let mut numbers = numbers_of(number);
     for _ in 0..LARGER_CALLS {
         let x = numbers.next_u32();
         let y = numbers.next_u32();
-        grow(rt, alloc, graph, plain, seen, x, y);
+        grow(rt, alloc, both, seen, x, y);
     }
+    let stages = both.graph.stages();
+    assert_alike(rt, both, stages);
 }
 
-/// Does so on new graphs of a plan, in some of which there is less room than stages that are attached, and looks at all
-/// stages at the end.
+/// Does so on new graphs of a plan, in some of which there is less room than stages that are attached.
 fn compare_growing(rt: &impl Abort, alloc: Global, plan: &Plan, seen: &mut Seen, number: u32) {
-    let room = (number % 9) as u16;
-    let mut graph = graph_of(rt, alloc, plan, room);
-    let mut plain = plain_of(rt, alloc, plan, room);
-    grow_all(rt, alloc, &mut graph, &mut plain, seen, number);
-    let stages = graph.stages();
-    assert_alike(rt, &mut graph, &plain, stages);
+    let mut both = both_of(rt, alloc, plan, (number % 9) as u16);
+    grow_all(rt, alloc, &mut both, seen, number);
 }
 
 /// Two sources, or the larger plan of an odd number.

@@ -1,14 +1,21 @@
-//! What is done to both graphs, which must answer alike.
+//! A graph and a plain graph of one plan, which must answer alike whatever is done to both.
 ghost use Rattle.std.specs.Prelude.{length};
 ghost use Rattle.cf_model.specs.Ranges.{EventFits};
 
-use crate::checks::{holds, must, same, same_at};
+use crate::checks::{holds, must};
 use cf_core::Graph;
 use cf_model::{Event, Reply};
 use cf_outcome::{Cause, Outcome};
 use cf_plain::Plain;
 use std::alloc::Global;
 use std::process::Abort;
+
+/// Both.
+#[derive(Drop)]
+pub(crate) struct Both {
+    pub(crate) graph: Graph,
+    pub(crate) plain: Plain,
+}
 
 /// What the plain graph answers to an event.
 fn plain_reply(rt: &impl Abort, alloc: Global, plain: &mut Plain, event: &Event) -> Reply
@@ -41,17 +48,12 @@ fn plain_reply(rt: &impl Abort, alloc: Global, plain: &mut Plain, event: &Event)
 }
 
 /// Both answer an event, and alike.
-pub(crate) fn answer(
-    rt: &impl Abort,
-    alloc: Global,
-    graph: &mut Graph,
-    plain: &mut Plain,
-    event: Event,
-) -> Reply {
-    assert!(rt; graph.takes(&event) && event.fits(plain.stages()));
+pub(crate) fn answer(rt: &impl Abort, alloc: Global, both: &mut Both, event: Event) -> Reply {
+    let Both { graph, plain } = both;
+    holds(rt, graph.takes(&event) && event.fits(plain.stages()), event);
     let wanted = plain_reply(rt, alloc, plain, &event);
     let reply = graph.answer(&event);
-    same_at(rt, reply, wanted, event);
+    holds(rt, reply == wanted, event);
     reply
 }
 
@@ -59,18 +61,27 @@ pub(crate) fn answer(
 pub(crate) fn nudge(rt: &impl Abort, graph: &mut Graph, turns: u32) {
     let before = graph.turns();
     let taken = graph.nudge(turns);
-    same(rt, graph.turns(), before.wrapping_add(taken as u64));
+    holds(
+        rt,
+        graph.turns() == before.wrapping_add(taken as u64),
+        "turns",
+    );
 }
 
 /// Whether both tell the same of a stage that both have.
-fn is_alike(graph: &mut Graph, plain: &Plain, i: u16) -> bool {
+fn is_alike(both: &mut Both, i: u16) -> bool {
+    let Both { graph, plain } = both;
     graph.has(i) && plain.has(i) && graph.outcome(i) == plain.outcome(i)
 }
 
-/// Both tell the same of each stage, and of which is ready.
-pub(crate) fn assert_alike(rt: &impl Abort, graph: &mut Graph, plain: &Plain, stages: u16) {
-    same(rt, graph.lowest_ready(), plain.lowest_ready());
+/// Both tell the same of each of so many stages, and of which is ready.
+pub(crate) fn assert_alike(rt: &impl Abort, both: &mut Both, stages: u16) {
+    holds(
+        rt,
+        both.graph.lowest_ready() == both.plain.lowest_ready(),
+        "ready",
+    );
     for i in 0..stages {
-        holds(rt, is_alike(graph, plain, i), ("stage", i));
+        holds(rt, is_alike(both, i), ("stage", i));
     }
 }

@@ -81,6 +81,18 @@ pub(crate) fn new_choice(form: usize, k: u16, choice: u16) -> Option<New> {
     Some(New { form, of, function })
 }
 
+/// How many pairs of stages have a number.
+pub(crate) const PAIRS: usize = 19 * 7 * 19 * 13;
+
+/// The pair of stages over two sources with this number, if there is one, each by the place of its form and its choice. The
+/// second may name the first.
+pub(crate) fn pair_of(number: usize) -> Option<[New; 2]> {
+    let (first, second) = (number / (19 * 13), number % (19 * 13));
+    let one = new_choice(first / 7, 2, (first % 7) as u16)?;
+    let other = new_choice(second / 13, 3, (second % 13) as u16)?;
+    Some([one, other])
+}
+
 /// As many of two sources as a form takes, or so many where it takes any.
 fn of_takes(takes: Takes, a: u16, b: u16, many: u32) -> Of {
     match takes {
