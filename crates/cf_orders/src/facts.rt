@@ -103,31 +103,49 @@ enum Part {
 
 /// `["at",c,k]`, `["stage",i,what]`, `["called",i]`, `["notcalled",i]`, `["calls",i,n]` or `["callsatleast",i,n]`.
 fn part_of(known: &Known<'_>, said: &Json) -> Option<Part> {
-    let count = said.as_array()?.len();
     let word = said.get(0usize)?.as_str()?;
     let first = said.get(1usize)?.as_i64()?;
-    match word {
-        "at" if count == 3 => Some(Part::Time(time_of(known, first, said.get(2usize)?)?)),
-        "called" if count == 2 => Some(Part::Fact(Fact::Called(stage(known, first)?))),
-        "notcalled" if count == 2 => Some(Part::Fact(Fact::NotCalled(stage(known, first)?))),
-        "stage" if count == 3 => {
-            let what = what_of(said.get(2usize)?.as_str()?)?;
-            Some(Part::Fact(Fact::Stage(stage(known, first)?, what)))
-        }
-        "calls" | "callsatleast" if count == 3 => {
-            let number = function(known, first)?;
-            let times = small(said.get(2usize)?)?;
-            Some(Part::Fact(calls(word == "calls", number, times)))
-        }
+    match said.as_array()?.len() {
+        2 => short_part(word, stage(known, first)?),
+        3 => long_part(known, word, first, said.get(2usize)?),
         _ => None,
     }
 }
 
-fn calls(exactly: bool, number: u16, times: u16) -> Fact {
+/// The part of a word and a stage.
+fn short_part(word: &str, i: u16) -> Option<Part> {
+    match word {
+        "called" => Some(Part::Fact(Fact::Called(i))),
+        "notcalled" => Some(Part::Fact(Fact::NotCalled(i))),
+        _ => None,
+    }
+}
+
+/// The part of a word, a number and what stands behind it.
+fn long_part(known: &Known<'_>, word: &str, first: i64, last: &Json) -> Option<Part> {
+    match word {
+        "at" => Some(Part::Time(time_of(known, first, last)?)),
+        "stage" => Some(Part::Fact(is_of(known, first, last)?)),
+        "calls" => Some(Part::Fact(calls(true, known, first, last)?)),
+        "callsatleast" => Some(Part::Fact(calls(false, known, first, last)?)),
+        _ => None,
+    }
+}
+
+/// What a stage is to be.
+fn is_of(known: &Known<'_>, i: i64, said: &Json) -> Option<Fact> {
+    let what = what_of(said.as_str()?)?;
+    Some(Fact::Stage(stage(known, i)?, what))
+}
+
+/// How often a stage's function is to be called.
+fn calls(exactly: bool, known: &Known<'_>, i: i64, said: &Json) -> Option<Fact> {
+    let number = function(known, i)?;
+    let times = small(said)?;
     if exactly {
-        Fact::Exactly(number, times)
+        Some(Fact::Exactly(number, times))
     } else {
-        Fact::AtLeast(number, times)
+        Some(Fact::AtLeast(number, times))
     }
 }
 

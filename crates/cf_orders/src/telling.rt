@@ -35,11 +35,28 @@ pub fn text_of(
     groups: &[Grouped],
 ) -> Result<String, AllocError> {
     let mut out = String::new(alloc);
-    write_seen(&mut out, found)?;
+    write_found(&mut out, found, groups)?;
+    write_all_asked(&mut out, question, found, groups.len())?;
+    Ok(out)
+}
+
+/// Adds how much was seen, and the ends.
+fn write_found(out: &mut String, found: &Found, groups: &[Grouped]) -> Result<(), AllocError> {
+    write_seen(out, found)?;
     for (k, group) in groups.iter().enumerate() {
-        write_end(&mut out, k, group)?;
+        write_end(out, k, group)?;
     }
-    let mut number = groups.len();
+    Ok(())
+}
+
+/// Adds how each that must hold stands, where the first order that decides one has this number.
+fn write_all_asked(
+    out: &mut String,
+    question: &Question,
+    found: &Found,
+    first: usize,
+) -> Result<(), AllocError> {
+    let mut number = first;
     for (k, (text, condition)) in question
         .texts
         .iter()
@@ -47,17 +64,14 @@ pub fn text_of(
         .enumerate()
     {
         let decided = found.decisions.get(k).copied().flatten();
-        write_asked(
-            &mut out,
-            text,
-            standing_of(condition.how, decided.is_some(), found.whole),
-        )?;
-        write_by(&mut out, decided, number)?;
+        let stands = standing_of(condition.how, decided.is_some(), found.whole);
+        write_asked(out, text, stands)?;
+        write_by(out, decided, number)?;
         if decided.is_some() {
             number = number.saturating_add(1);
         }
     }
-    Ok(out)
+    Ok(())
 }
 
 /// Adds how much was seen.

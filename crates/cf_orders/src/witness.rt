@@ -57,11 +57,7 @@ pub fn witness_of(
 ) -> Result<String, AllocError> {
     let order = found.order(alloc, witness)?;
     let mut told = begin(alloc, question)?;
-    told.go_through(alloc, question, &order)?;
-    match shape {
-        Shape::Account => told.account(alloc, question),
-        Shape::Script => told.script(alloc, question),
-    }
+    told.retell(alloc, question, &order, shape)
 }
 
 /// Nothing is done yet.
@@ -91,6 +87,21 @@ fn graph_of(alloc: Global, question: &Question) -> Result<Graph, AllocError> {
 }
 
 impl Retold {
+    /// An order's moves, and all of it as an account or as a script.
+    fn retell(
+        &mut self,
+        alloc: Global,
+        question: &Question,
+        order: &[Move],
+        shape: Shape,
+    ) -> Result<String, AllocError> {
+        self.go_through(alloc, question, order)?;
+        match shape {
+            Shape::Account => self.account(alloc, question),
+            Shape::Script => self.script(alloc, question),
+        }
+    }
+
     /// An order's moves, from the start on.
     fn go_through(
         &mut self,
@@ -197,11 +208,7 @@ impl Retold {
         let place = self.place;
         if let Some(text) = self.records.get_mut(c) {
             comma(text)?;
-            match ask {
-                Ask::Now(stage, Value::Nil) => write!(text, "[\"now\",{place},{stage},null,\"")?,
-                Ask::Now(stage, Value::Int(v)) => write!(text, "[\"now\",{place},{stage},{v},\"")?,
-                Ask::Outcome(stage) => write!(text, "[\"outcome\",{place},{stage},\"")?,
-            }
+            write_ask(text, place, ask)?;
             write_told(text, told)?;
             write!(text, "\"]")?;
         }
@@ -211,14 +218,22 @@ impl Retold {
     /// All of it as an account.
     fn account(&mut self, alloc: Global, question: &Question) -> Result<String, AllocError> {
         let mut text = String::new(alloc);
-        write!(text, "{{\"plan\":{{{}}}", question.head)?;
-        write!(text, ",\"functions\":{}", question.functions.len())?;
-        write!(text, ",\"events\":[{}],\"callers\":[", self.words)?;
-        self.write_records(&mut text)?;
-        write!(text, "],\"outcomes\":[")?;
-        self.write_outcomes(&mut text)?;
-        write!(text, "]}}")?;
+        self.write_account(&mut text, question)?;
         Ok(text)
+    }
+
+    fn write_account(&mut self, text: &mut String, question: &Question) -> Result<(), AllocError> {
+        write!(
+            text,
+            "{{\"plan\":{{{}}},\"functions\":{},\"events\":[{}],\"callers\":[",
+            question.head,
+            question.functions.len(),
+            self.words
+        )?;
+        self.write_records(text)?;
+        write!(text, "],\"outcomes\":[")?;
+        self.write_outcomes(text)?;
+        write!(text, "]}}")
     }
 
     fn write_records(&self, text: &mut String) -> Result<(), AllocError> {
@@ -279,6 +294,15 @@ pub(crate) fn comma(text: &mut String) -> Result<(), AllocError> {
         Ok(())
     } else {
         text.push(',')
+    }
+}
+
+/// Adds the head of a question's record.
+fn write_ask(text: &mut String, place: usize, ask: Ask) -> Result<(), AllocError> {
+    match ask {
+        Ask::Now(stage, Value::Nil) => write!(text, "[\"now\",{place},{stage},null,\""),
+        Ask::Now(stage, Value::Int(v)) => write!(text, "[\"now\",{place},{stage},{v},\""),
+        Ask::Outcome(stage) => write!(text, "[\"outcome\",{place},{stage},\""),
     }
 }
 
