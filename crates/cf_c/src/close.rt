@@ -1,5 +1,5 @@
 //! Closing a desk, and what a closed desk tells.
-ghost use Rattle.cf_handles.specs.Answers.{Does, Tells};
+ghost use Rattle.cf_handles.specs.Answers.{Does, HandleTells};
 ghost use Rattle.cf_handles.specs.Closings.{Adds, AreOfOneDesk, BecomesGraph, Begins, Ends, OfClosed, events_told, record_told, records_told, word_told};
 
 use crate::handle::{ask, tell};
@@ -36,7 +36,7 @@ pub extern "C" fn cf_close_end(alloc: Global, closing: &mut CfHandle) -> u32
 /// How many events the history of a closed desk has.
 #[unsafe(no_mangle)]
 pub extern "C" fn cf_closed_events(alloc: Global, closed: &mut CfHandle, events: &mut u16) -> u32
-    ensures { Tells (OfClosed events_told) closed.old.inner.held closed.new.inner.held result events.old events.new }
+    ensures { HandleTells (OfClosed events_told) closed.old.inner.held closed.new.inner.held result events.old events.new }
 {
     tell!(alloc, closed, events, held => events_of(&mut held))
 }
@@ -49,7 +49,7 @@ pub extern "C" fn cf_closed_word(
     place: u16,
     word: &mut u64,
 ) -> u32
-    ensures { Tells (OfClosed (word_told place)) closed.old.inner.held closed.new.inner.held result word.old word.new }
+    ensures { HandleTells (OfClosed (word_told place)) closed.old.inner.held closed.new.inner.held result word.old word.new }
 {
     tell!(alloc, closed, word, held => word_at(&mut held, place))
 }
@@ -62,7 +62,7 @@ pub extern "C" fn cf_closed_records(
     caller: u8,
     records: &mut u16,
 ) -> u32
-    ensures { Tells (OfClosed (records_told caller)) closed.old.inner.held closed.new.inner.held result records.old records.new }
+    ensures { HandleTells (OfClosed (records_told caller)) closed.old.inner.held closed.new.inner.held result records.old records.new }
 {
     tell!(alloc, closed, records, held => records_of(&mut held, caller))
 }
@@ -76,7 +76,7 @@ pub extern "C" fn cf_closed_record(
     at: u16,
     record: &mut CfRecord,
 ) -> u32
-    ensures { Tells (OfClosed (record_told caller at)) closed.old.inner.held closed.new.inner.held result «record».old «record».new }
+    ensures { HandleTells (OfClosed (record_told caller at)) closed.old.inner.held closed.new.inner.held result «record».old «record».new }
 {
     tell!(alloc, closed, record, held => record_at(&mut held, caller, at))
 }

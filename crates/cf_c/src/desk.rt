@@ -2,7 +2,7 @@
 ghost use Rattle.std.specs.Prelude.{Ok};
 ghost use Rattle.cf_model.specs.declared.asks.Ask.TheVariants.{Now as AsksNow, Outcome as AsksOutcome};
 ghost use Rattle.cf_model.specs.declared.calls.Call.TheVariants.{Complete as Completes, Fail as Fails, Cancel as Cancels, Claim as Claims, Finish as Finishes, Tick as Ticks};
-ghost use Rattle.cf_handles.specs.Answers.{Does, Tells};
+ghost use Rattle.cf_handles.specs.Answers.{Does, HandleTells};
 ghost use Rattle.cf_handles.specs.DeskTasks.{CompletesMany, StepsCaller};
 ghost use Rattle.cf_handles.specs.Desks.{Acts, ByCaller, FindsReady, IsLeft, Joins, Knows, Reads, call_with, function_known, number_told, seen_told, told_now, told_outcome};
 ghost use Rattle.cf_handles.specs.Ledgers.{Writes};
@@ -31,7 +31,7 @@ pub extern "C" fn cf_desk_complete(
     value: CfValue,
     reply: &mut CfReply,
 ) -> u32
-    ensures { Tells (ByCaller (Acts (Ok (Completes stage (value_of value))))) h.old.inner.held h.new.inner.held result reply.old reply.new }
+    ensures { HandleTells (ByCaller (Acts (Ok (Completes stage (value_of value))))) h.old.inner.held h.new.inner.held result reply.old reply.new }
 {
     let call = Call::Complete(stage, value_of(value));
     tell!(alloc, h, reply, held => caller::act(&mut held, Ok(call)))
@@ -59,7 +59,7 @@ pub extern "C" fn cf_desk_fail(
     code: u32,
     reply: &mut CfReply,
 ) -> u32
-    ensures { Tells (ByCaller (Acts (Ok (Fails stage code)))) h.old.inner.held h.new.inner.held result reply.old reply.new }
+    ensures { HandleTells (ByCaller (Acts (Ok (Fails stage code)))) h.old.inner.held h.new.inner.held result reply.old reply.new }
 {
     let call = Call::Fail(stage, code);
     tell!(alloc, h, reply, held => caller::act(&mut held, Ok(call)))
@@ -73,7 +73,7 @@ pub extern "C" fn cf_desk_cancel(
     stage: u16,
     reply: &mut CfReply,
 ) -> u32
-    ensures { Tells (ByCaller (Acts (Ok (Cancels stage)))) h.old.inner.held h.new.inner.held result reply.old reply.new }
+    ensures { HandleTells (ByCaller (Acts (Ok (Cancels stage)))) h.old.inner.held h.new.inner.held result reply.old reply.new }
 {
     let call = Call::Cancel(stage);
     tell!(alloc, h, reply, held => caller::act(&mut held, Ok(call)))
@@ -87,7 +87,7 @@ pub extern "C" fn cf_desk_claim(
     stage: u16,
     reply: &mut CfReply,
 ) -> u32
-    ensures { Tells (ByCaller (Acts (Ok (Claims stage)))) h.old.inner.held h.new.inner.held result reply.old reply.new }
+    ensures { HandleTells (ByCaller (Acts (Ok (Claims stage)))) h.old.inner.held h.new.inner.held result reply.old reply.new }
 {
     let call = Call::Claim(stage);
     tell!(alloc, h, reply, held => caller::act(&mut held, Ok(call)))
@@ -102,7 +102,7 @@ pub extern "C" fn cf_desk_finish_with(
     answer: &CfAnswer,
     reply: &mut CfReply,
 ) -> u32
-    ensures { Tells (ByCaller (Acts (Ok (Finishes stage (answer_of answer.now))))) h.old.inner.held h.new.inner.held result reply.old reply.new }
+    ensures { HandleTells (ByCaller (Acts (Ok (Finishes stage (answer_of answer.now))))) h.old.inner.held h.new.inner.held result reply.old reply.new }
 {
     let call = Call::Finish(stage, answer_of(*answer));
     tell!(alloc, h, reply, held => caller::act(&mut held, Ok(call)))
@@ -124,7 +124,7 @@ pub extern "C" fn cf_desk_tick(
     now: u32,
     reply: &mut CfReply,
 ) -> u32
-    ensures { Tells (ByCaller (Acts (Ok (Ticks now)))) h.old.inner.held h.new.inner.held result reply.old reply.new }
+    ensures { HandleTells (ByCaller (Acts (Ok (Ticks now)))) h.old.inner.held h.new.inner.held result reply.old reply.new }
 {
     let call = Call::Tick(now);
     tell!(alloc, h, reply, held => caller::act(&mut held, Ok(call)))
@@ -140,7 +140,7 @@ pub extern "C" fn cf_desk_attach(
     function: u32,
     reply: &mut CfReply,
 ) -> u32
-    ensures { Tells (ByCaller (Acts (call_with (parts_of form of.now function)))) h.old.inner.held h.new.inner.held result reply.old reply.new }
+    ensures { HandleTells (ByCaller (Acts (call_with (parts_of form of.now function)))) h.old.inner.held h.new.inner.held result reply.old reply.new }
 {
     let call = attach_call(form, of, function);
     tell!(alloc, h, reply, held => caller::act(&mut held, call))
@@ -154,7 +154,7 @@ pub extern "C" fn cf_desk_read(
     stage: u16,
     outcome: &mut CfOutcome,
 ) -> u32
-    ensures { Tells (ByCaller (Reads told_outcome (AsksOutcome stage))) h.old.inner.held h.new.inner.held result outcome.old outcome.new }
+    ensures { HandleTells (ByCaller (Reads told_outcome (AsksOutcome stage))) h.old.inner.held h.new.inner.held result outcome.old outcome.new }
 {
     tell!(alloc, h, outcome, held => caller::outcome(&mut held, stage))
 }
@@ -168,7 +168,7 @@ pub extern "C" fn cf_desk_read_now(
     absent: CfValue,
     now: &mut CfNow,
 ) -> u32
-    ensures { Tells (ByCaller (Reads told_now (AsksNow stage (value_of absent)))) h.old.inner.held h.new.inner.held result now.old now.new }
+    ensures { HandleTells (ByCaller (Reads told_now (AsksNow stage (value_of absent)))) h.old.inner.held h.new.inner.held result now.old now.new }
 {
     let absent = value_of(absent);
     tell!(alloc, h, now, held => caller::now(&mut held, stage, absent))
@@ -183,7 +183,7 @@ pub extern "C" fn cf_desk_join(
     looks: u32,
     now: &mut CfNow,
 ) -> u32
-    ensures { Tells (ByCaller (Joins stage looks)) h.old.inner.held h.new.inner.held result now.old now.new }
+    ensures { HandleTells (ByCaller (Joins stage looks)) h.old.inner.held h.new.inner.held result now.old now.new }
 {
     tell!(alloc, h, now, held => caller::join(&mut held, stage, looks))
 }
@@ -191,7 +191,7 @@ pub extern "C" fn cf_desk_join(
 /// The lowest ready stage after a look.
 #[unsafe(no_mangle)]
 pub extern "C" fn cf_desk_ready(alloc: Global, h: &mut CfHandle, stage: &mut u16) -> u32
-    ensures { Tells (ByCaller FindsReady) h.old.inner.held h.new.inner.held result stage.old stage.new }
+    ensures { HandleTells (ByCaller FindsReady) h.old.inner.held h.new.inner.held result stage.old stage.new }
 {
     tell!(alloc, h, stage, held => caller::ready(&mut held))
 }
@@ -199,7 +199,7 @@ pub extern "C" fn cf_desk_ready(alloc: Global, h: &mut CfHandle, stage: &mut u16
 /// How many events a caller has seen.
 #[unsafe(no_mangle)]
 pub extern "C" fn cf_desk_seen(alloc: Global, h: &mut CfHandle, events: &mut u16) -> u32
-    ensures { Tells (ByCaller (Knows seen_told)) h.old.inner.held h.new.inner.held result events.old events.new }
+    ensures { HandleTells (ByCaller (Knows seen_told)) h.old.inner.held h.new.inner.held result events.old events.new }
 {
     tell!(alloc, h, events, held => caller::seen(&mut held))
 }
@@ -207,7 +207,7 @@ pub extern "C" fn cf_desk_seen(alloc: Global, h: &mut CfHandle, events: &mut u16
 /// How many records a caller still takes.
 #[unsafe(no_mangle)]
 pub extern "C" fn cf_desk_left(alloc: Global, h: &mut CfHandle, calls: &mut u16) -> u32
-    ensures { Tells (ByCaller IsLeft) h.old.inner.held h.new.inner.held result calls.old calls.new }
+    ensures { HandleTells (ByCaller IsLeft) h.old.inner.held h.new.inner.held result calls.old calls.new }
 {
     tell!(alloc, h, calls, held => caller::left(&mut held))
 }
@@ -220,7 +220,7 @@ pub extern "C" fn cf_desk_function(
     stage: u16,
     function: &mut u16,
 ) -> u32
-    ensures { Tells (ByCaller (Knows (function_known stage))) h.old.inner.held h.new.inner.held result function.old function.new }
+    ensures { HandleTells (ByCaller (Knows (function_known stage))) h.old.inner.held h.new.inner.held result function.old function.new }
 {
     tell!(alloc, h, function, held => caller::function(&mut held, stage))
 }
@@ -228,7 +228,7 @@ pub extern "C" fn cf_desk_function(
 /// A caller's number.
 #[unsafe(no_mangle)]
 pub extern "C" fn cf_desk_caller(alloc: Global, h: &mut CfHandle, number: &mut u8) -> u32
-    ensures { Tells (ByCaller (Knows number_told)) h.old.inner.held h.new.inner.held result number.old number.new }
+    ensures { HandleTells (ByCaller (Knows number_told)) h.old.inner.held h.new.inner.held result number.old number.new }
 {
     tell!(alloc, h, number, held => caller::number(&mut held))
 }

@@ -1,6 +1,6 @@
 //! Changing calls as C has them, as events, and the words of events.
 ghost use Rattle.std.specs.Prelude.{◌≡◌, IfOk, Ok};
-ghost use Rattle.cf_handles.specs.Answers.{Gives};
+ghost use Rattle.cf_handles.specs.Answers.{HandleGives};
 ghost use Rattle.cf_handles.specs.EventWords.{GivesWord, HasWord, event_at, event_of, told_event};
 
 use crate::handle::give;
@@ -18,7 +18,7 @@ pub extern "C" fn cf_word_of_event(event: &CfEvent, word: &mut u64) -> u32
 #[unsafe(no_mangle)]
 #[tactic(auto, using(cf_handles::proofs::EventsBack::back_given))]
 pub extern "C" fn cf_event_of(word: u64, event: &mut CfEvent) -> u32
-    ensures told { Gives (told_event (event_at word)) result event.old event.new }
+    ensures told { HandleGives (told_event (event_at word)) result event.old event.new }
     ensures back { IfOk (event_at word) (λ e. (event_of event.new ≡ Ok e) × HasWord e word) }
 {
     give(told_event(event_at(word)), event)

@@ -1,10 +1,10 @@
 //! A graph that one caller has alone.
 ghost use Rattle.std.specs.Prelude.{Ok};
 ghost use Rattle.cf_model.specs.declared.events.Event.TheVariants.{Complete as Completes, Fail as Fails, Cancel as Cancels, Claim as Claims, Finish as Finishes, Tick as Ticks};
-ghost use Rattle.cf_handles.specs.Answers.{Does, Tells};
+ghost use Rattle.cf_handles.specs.GraphAnswers.{Does, HandleTells};
 ghost use Rattle.cf_handles.specs.Building.{GraphOf, Opens};
 ghost use Rattle.cf_handles.specs.EventWords.{event_at};
-ghost use Rattle.cf_handles.specs.Graphs.{Answers, Asked, Restarts, RestsAlways, RestsAt, RestsAtReady, function_told, now_told, outcome_told, ready_told, stages_told, turns_told};
+ghost use Rattle.cf_handles.specs.Graphs.{GraphAnswers, Asked, Restarts, RestsAlways, RestsAt, RestsAtReady, function_told, now_told, outcome_told, ready_told, stages_told, turns_told};
 ghost use Rattle.cf_handles.specs.Plans.{attach_event};
 ghost use Rattle.cf_handles.specs.Ledgers.{Writes};
 ghost use Rattle.cf_handles.specs.Restarts.{PlanOf, RestartsWith};
@@ -55,7 +55,7 @@ pub extern "C" fn cf_complete(
     value: CfValue,
     reply: &mut CfReply,
 ) -> u32
-    ensures { Tells (Answers (Ok (Completes 0 stage (value_of value)))) h.old.inner.held h.new.inner.held result reply.old reply.new }
+    ensures { HandleTells (GraphAnswers (Ok (Completes 0 stage (value_of value)))) h.old.inner.held h.new.inner.held result reply.old reply.new }
 {
     let value = value_of(value);
     let event = Event::Complete {
@@ -75,7 +75,7 @@ pub extern "C" fn cf_fail(
     code: u32,
     reply: &mut CfReply,
 ) -> u32
-    ensures { Tells (Answers (Ok (Fails 0 stage code))) h.old.inner.held h.new.inner.held result reply.old reply.new }
+    ensures { HandleTells (GraphAnswers (Ok (Fails 0 stage code))) h.old.inner.held h.new.inner.held result reply.old reply.new }
 {
     let event = Event::Fail {
         who: 0,
@@ -88,7 +88,7 @@ pub extern "C" fn cf_fail(
 /// Cancels a stage.
 #[unsafe(no_mangle)]
 pub extern "C" fn cf_cancel(alloc: Global, h: &mut CfHandle, stage: u16, reply: &mut CfReply) -> u32
-    ensures { Tells (Answers (Ok (Cancels 0 stage))) h.old.inner.held h.new.inner.held result reply.old reply.new }
+    ensures { HandleTells (GraphAnswers (Ok (Cancels 0 stage))) h.old.inner.held h.new.inner.held result reply.old reply.new }
 {
     let event = Event::Cancel { who: 0, stage };
     tell!(alloc, h, reply, held => asking::answer(&mut held, Ok(event)))
@@ -103,7 +103,7 @@ pub extern "C" fn cf_claim(
     stage: u16,
     reply: &mut CfReply,
 ) -> u32
-    ensures { Tells (Answers (Ok (Claims who stage))) h.old.inner.held h.new.inner.held result reply.old reply.new }
+    ensures { HandleTells (GraphAnswers (Ok (Claims who stage))) h.old.inner.held h.new.inner.held result reply.old reply.new }
 {
     let event = Event::Claim { who, stage };
     tell!(alloc, h, reply, held => asking::answer(&mut held, Ok(event)))
@@ -119,7 +119,7 @@ pub extern "C" fn cf_finish_with(
     answer: &CfAnswer,
     reply: &mut CfReply,
 ) -> u32
-    ensures { Tells (Answers (Ok (Finishes who stage (answer_of answer.now)))) h.old.inner.held h.new.inner.held result reply.old reply.new }
+    ensures { HandleTells (GraphAnswers (Ok (Finishes who stage (answer_of answer.now)))) h.old.inner.held h.new.inner.held result reply.old reply.new }
 {
     let answer = answer_of(*answer);
     let event = Event::Finish { who, stage, answer };
@@ -169,7 +169,7 @@ pub extern "C" fn cf_sweep_end(alloc: Global, h: &mut CfHandle) -> u32
 /// Lets it be this moment.
 #[unsafe(no_mangle)]
 pub extern "C" fn cf_tick(alloc: Global, h: &mut CfHandle, now: u32, reply: &mut CfReply) -> u32
-    ensures { Tells (Answers (Ok (Ticks 0 now))) h.old.inner.held h.new.inner.held result reply.old reply.new }
+    ensures { HandleTells (GraphAnswers (Ok (Ticks 0 now))) h.old.inner.held h.new.inner.held result reply.old reply.new }
 {
     let event = Event::Tick {
         who: 0,
@@ -188,7 +188,7 @@ pub extern "C" fn cf_attach(
     function: u32,
     reply: &mut CfReply,
 ) -> u32
-    ensures { Tells (Answers (attach_event form of.now function)) h.old.inner.held h.new.inner.held result reply.old reply.new }
+    ensures { HandleTells (GraphAnswers (attach_event form of.now function)) h.old.inner.held h.new.inner.held result reply.old reply.new }
 {
     let event = attach_event(form, of, function);
     tell!(alloc, h, reply, held => asking::answer(&mut held, event))
@@ -197,7 +197,7 @@ pub extern "C" fn cf_attach(
 /// Does the event of a word to a graph.
 #[unsafe(no_mangle)]
 pub extern "C" fn cf_apply(alloc: Global, h: &mut CfHandle, word: u64, reply: &mut CfReply) -> u32
-    ensures { Tells (Answers (event_at word)) h.old.inner.held h.new.inner.held result reply.old reply.new }
+    ensures { HandleTells (GraphAnswers (event_at word)) h.old.inner.held h.new.inner.held result reply.old reply.new }
 {
     let event = event_at(word);
     tell!(alloc, h, reply, held => asking::answer(&mut held, event))
@@ -211,7 +211,7 @@ pub extern "C" fn cf_get(
     stage: u16,
     outcome: &mut CfOutcome,
 ) -> u32
-    ensures { Tells (Asked (outcome_told stage) (RestsAt stage)) h.old.inner.held h.new.inner.held result outcome.old outcome.new }
+    ensures { HandleTells (Asked (outcome_told stage) (RestsAt stage)) h.old.inner.held h.new.inner.held result outcome.old outcome.new }
 {
     tell!(alloc, h, outcome, held => asking::outcome(&mut held, stage))
 }
@@ -225,7 +225,7 @@ pub extern "C" fn cf_get_now(
     absent: CfValue,
     now: &mut CfNow,
 ) -> u32
-    ensures { Tells (Asked (now_told stage (value_of absent)) (RestsAt stage)) h.old.inner.held h.new.inner.held result now.old now.new }
+    ensures { HandleTells (Asked (now_told stage (value_of absent)) (RestsAt stage)) h.old.inner.held h.new.inner.held result now.old now.new }
 {
     let absent = value_of(absent);
     tell!(alloc, h, now, held => asking::now(&mut held, stage, absent))
@@ -234,7 +234,7 @@ pub extern "C" fn cf_get_now(
 /// The lowest ready stage.
 #[unsafe(no_mangle)]
 pub extern "C" fn cf_lowest_ready(alloc: Global, h: &mut CfHandle, stage: &mut u16) -> u32
-    ensures { Tells (Asked ready_told RestsAtReady) h.old.inner.held h.new.inner.held result stage.old stage.new }
+    ensures { HandleTells (Asked ready_told RestsAtReady) h.old.inner.held h.new.inner.held result stage.old stage.new }
 {
     tell!(alloc, h, stage, held => asking::lowest_ready(&mut held))
 }
@@ -247,7 +247,7 @@ pub extern "C" fn cf_function(
     stage: u16,
     function: &mut u16,
 ) -> u32
-    ensures { Tells (Asked (function_told stage) RestsAlways) h.old.inner.held h.new.inner.held result function.old function.new }
+    ensures { HandleTells (Asked (function_told stage) RestsAlways) h.old.inner.held h.new.inner.held result function.old function.new }
 {
     tell!(alloc, h, function, held => asking::function(&mut held, stage))
 }
@@ -255,7 +255,7 @@ pub extern "C" fn cf_function(
 /// How many stages there are by now.
 #[unsafe(no_mangle)]
 pub extern "C" fn cf_stages(alloc: Global, h: &mut CfHandle, stages: &mut u16) -> u32
-    ensures { Tells (Asked stages_told RestsAlways) h.old.inner.held h.new.inner.held result stages.old stages.new }
+    ensures { HandleTells (Asked stages_told RestsAlways) h.old.inner.held h.new.inner.held result stages.old stages.new }
 {
     tell!(alloc, h, stages, held => asking::stages(&mut held))
 }
@@ -263,7 +263,7 @@ pub extern "C" fn cf_stages(alloc: Global, h: &mut CfHandle, stages: &mut u16) -
 /// How many turns were taken since the graph was opened or last restarted.
 #[unsafe(no_mangle)]
 pub extern "C" fn cf_turns(alloc: Global, h: &mut CfHandle, turns: &mut u64) -> u32
-    ensures { Tells (Asked turns_told RestsAlways) h.old.inner.held h.new.inner.held result turns.old turns.new }
+    ensures { HandleTells (Asked turns_told RestsAlways) h.old.inner.held h.new.inner.held result turns.old turns.new }
 {
     tell!(alloc, h, turns, held => asking::turns(&mut held))
 }

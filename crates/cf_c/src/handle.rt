@@ -1,6 +1,6 @@
 //! How a call looks behind its handle, and what it gives C.
 ghost use Rattle.std.specs.Prelude.{◌≡◌, None};
-ghost use Rattle.cf_handles.specs.Answers.{Codes, Gives};
+ghost use Rattle.cf_handles.specs.Answers.{Codes, HandleGives};
 
 use cf_handles::code::Code;
 use cf_handles::handle::{CfHandle, free};
@@ -37,10 +37,10 @@ macro_rules! ask {
 pub(crate) use ask;
 pub(crate) use tell;
 
-/// Gives C what it is told: the code, and where that is 0 the answer.
+/// HandleGives C what it is told: the code, and where that is 0 the answer.
 #[inline(always)]
 pub(crate) fn give<X: Drop>(told: Result<X, Code>, out: &mut X) -> u32
-    ensures { Gives told result out.old out.new }
+    ensures { HandleGives told result out.old out.new }
 {
     match told {
         Ok(answer) => {

@@ -1,5 +1,5 @@
 //! A graph with the words of all that was done to it.
-ghost use Rattle.cf_handles.specs.Answers.{Does, Tells};
+ghost use Rattle.cf_handles.specs.Answers.{Does, HandleTells};
 ghost use Rattle.cf_handles.specs.Building.{Opens};
 ghost use Rattle.cf_handles.specs.LedgerSteps.{StepsLedger};
 ghost use Rattle.cf_handles.specs.Ledgers.{DoesRow, DoesWord, Grows, LedgerFrom, LedgerOf, OfLedger, OpensFrom, StartsAgain, TellsFunction, TellsReady, TellsStage, TellsStages, Writes, WritesNews, WritesWords};
@@ -137,7 +137,7 @@ pub extern "C" fn cf_ledger_ready(
     from: u16,
     stage: &mut u16,
 ) -> u32
-    ensures { Tells (OfLedger (TellsReady from)) h.old.inner.held h.new.inner.held result stage.old stage.new }
+    ensures { HandleTells (OfLedger (TellsReady from)) h.old.inner.held h.new.inner.held result stage.old stage.new }
 {
     tell!(alloc, h, stage, held => asking::ready(&mut held, from))
 }
@@ -150,7 +150,7 @@ pub extern "C" fn cf_ledger_stage(
     stage: u16,
     now: &mut CfStage,
 ) -> u32
-    ensures { Tells (OfLedger (TellsStage stage)) h.old.inner.held h.new.inner.held result now.old now.new }
+    ensures { HandleTells (OfLedger (TellsStage stage)) h.old.inner.held h.new.inner.held result now.old now.new }
 {
     tell!(alloc, h, now, held => asking::stage(&mut held, stage))
 }
@@ -163,7 +163,7 @@ pub extern "C" fn cf_ledger_function(
     stage: u16,
     function: &mut u16,
 ) -> u32
-    ensures { Tells (OfLedger (TellsFunction stage)) h.old.inner.held h.new.inner.held result function.old function.new }
+    ensures { HandleTells (OfLedger (TellsFunction stage)) h.old.inner.held h.new.inner.held result function.old function.new }
 {
     tell!(alloc, h, function, held => asking::function(&mut held, stage))
 }
@@ -171,7 +171,7 @@ pub extern "C" fn cf_ledger_function(
 /// How many stages there are by now.
 #[unsafe(no_mangle)]
 pub extern "C" fn cf_ledger_stages(alloc: Global, h: &mut CfHandle, stages: &mut u16) -> u32
-    ensures { Tells (OfLedger TellsStages) h.old.inner.held h.new.inner.held result stages.old stages.new }
+    ensures { HandleTells (OfLedger TellsStages) h.old.inner.held h.new.inner.held result stages.old stages.new }
 {
     tell!(alloc, h, stages, held => asking::stages(&mut held))
 }

@@ -1,5 +1,5 @@
 //! A plan that is being built, call by call.
-ghost use Rattle.cf_handles.specs.Answers.{Does, Tells};
+ghost use Rattle.cf_handles.specs.Answers.{Does, HandleTells};
 ghost use Rattle.cf_handles.specs.Building.{AddsLimit, AddsStage, Builds, IsNewBuilder, kind_of};
 ghost use Rattle.cf_handles.specs.Plans.{form_of, function_of};
 
@@ -40,7 +40,7 @@ pub extern "C" fn cf_builder_stage(
     function: u32,
     stage: &mut u16,
 ) -> u32
-    ensures { Tells (AddsStage (form_of form) of.now (function_of function)) builder.old.inner.held builder.new.inner.held result stage.old stage.new }
+    ensures { HandleTells (AddsStage (form_of form) of.now (function_of function)) builder.old.inner.held builder.new.inner.held result stage.old stage.new }
 {
     let form = Form::numbered(form);
     let function = function_of(function);

@@ -9,7 +9,7 @@ use Rattle.cf_desk.specs.declared.faults.DeskFault.{DeskFault}
 use Rattle.cf_desk.specs.declared.faults.DeskFault.TheVariants.{LogFull}
 use Rattle.cf_model.specs.Calls.{event_by}
 use Rattle.cf_desk.specs.Faults.{HasRoom, IsDue, IsFitting, IsOnStage}
-use Rattle.cf_desk.specs.Results.{Answers, CaughtUp, IsRecorded, Refuses}
+use Rattle.cf_desk.specs.Results.{DeskAnswers, CaughtUp, IsRecorded, Refuses}
 use Rattle.cf_desk.specs.Views.{Acts, Desk, Follows, IsSamePass, Pass, SeesFull}
 use Rattle.cf_desk.proofs.Passes.{caught_as, caught_longer, still_fitting, still_on_stage}
 
@@ -34,7 +34,7 @@ module _ (d : Desk) (p m q : Pass) (call : Call) (known : Bool) (to : IsTrue kno
   here : CaughtUp d (IsOnStage p (event_by p.known.caller call)) p m
   here = caught_as d p m (IsTrue known) (IsOnStage p (event_by p.known.caller call)) to from caught
 
-  pub answered_there : (reply : Reply) → IsOnStage m (event_by m.known.caller call) → IsFitting m (event_by m.known.caller call) → HasRoom m → Acts m call reply q → Answers d p call reply q
+  pub answered_there : (reply : Reply) → IsOnStage m (event_by m.known.caller call) → IsFitting m (event_by m.known.caller call) → HasRoom m → Acts m call reply q → DeskAnswers d p call reply q
   answered_there reply there fits room acts = record {
     found = m;
     caught = here;
@@ -74,7 +74,7 @@ found_records : (d : Desk) (p q : Pass) (knows : Type 0) → CaughtUp d knows p 
 found_records d p q knows (inl h) = ap (λ (x : Pass). x.records) h.1
 found_records d p q knows (inr h) = ap (λ (x : Pass). x.records) h.1.is
 
-pub recorded : (d : Desk) (p q : Pass) (call : Call) (reply : Reply) → Answers d p call reply q → IsRecorded p call reply q
+pub recorded : (d : Desk) (p q : Pass) (call : Call) (reply : Reply) → DeskAnswers d p call reply q → IsRecorded p call reply q
 recorded d p q call reply h =
     let before = h.acts.before in
     let e = event_by h.found.known.caller call in

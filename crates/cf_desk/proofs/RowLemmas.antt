@@ -15,7 +15,7 @@ use Rattle.cf_desk.specs.declared.row.Terms.{Terms}
 use Rattle.cf_desk.specs.declared.row.Known.{Known}
 use Rattle.cf_event.specs.Events.{own}
 use Rattle.cf_desk.specs.Rule.{AllStand, IsLookOf, RowKept, count_in, weight, longest, with_seen}
-use Rattle.cf_desk.specs.Rows.{GoesOn, LooksAtEnd, RowsHold, callers_of, older}
+use Rattle.cf_desk.specs.Rows.{RowGoesOn, LooksAtEnd, RowsHold, callers_of, older}
 use Rattle.cf_desk.proofs.Keeps.{count_two, keeps_view, same_some}
 use Rattle.cf_desk.proofs.Meets.{between, longest_begins, stand_levelled}
 
@@ -65,7 +65,7 @@ fronts_none more rest all e cs h c d lt = (none_of_both (own (at cs c d) more) (
     at : List ℕ → ℕ → ℕ → ℕ
     at cs c d = Rattle.std.proofs.Common.get_or cs c d
 
-goes_on : (setting : Setting) (log : List Event) (v w : List Known) → AllStand setting log v → AllStand setting log w → length (longest v) ≤ length (longest w) → GoesOn v w
+goes_on : (setting : Setting) (log : List Event) (v w : List Known) → AllStand setting log v → AllStand setting log w → length (longest v) ≤ length (longest w) → RowGoesOn v w
 goes_on setting log v w h g le =
     let a = past_longest setting log v h in
     let b = longest_begins setting log w g in

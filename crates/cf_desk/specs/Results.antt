@@ -18,7 +18,7 @@ abbrev pub CaughtUp : Desk → Type 0 → Pass → Pass → Type 0
 CaughtUp d knows p q = (knows × (q ≡ p)) ⊎ ((¬ knows) × Follows p q × LooksOnce d p q)
 
 -- a changing call is answered
-pub record Answers (d : Desk) (p : Pass) (call : Call) (reply : Reply) (q : Pass) : Type 0 where
+pub record DeskAnswers (d : Desk) (p : Pass) (call : Call) (reply : Reply) (q : Pass) : Type 0 where
   pub found : Pass
   pub caught : CaughtUp d (IsOnStage p (event_by p.known.caller call)) p found
   pub there : IsOnStage found (event_by p.known.caller call)
@@ -43,7 +43,7 @@ pub record Refuses (d : Desk) (p : Pass) (call : Call) (q : Pass) (fault : DeskF
   pub due : IsDue q d (event_by p.known.caller call) fault
 
 -- a question is answered, after one look
-pub record Tells (d : Desk) (p : Pass) (ask : Ask) (answer : Told) (q : Pass) : Type 0 where
+pub record DeskTells (d : Desk) (p : Pass) (ask : Ask) (answer : Told) (q : Pass) : Type 0 where
   pub found : Pass
   pub caught : CaughtUp d (AsksStage p ask) p found
   pub there : AsksStage found ask

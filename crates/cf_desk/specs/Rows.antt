@@ -19,8 +19,8 @@ abbrev pub Begins : List Event → List Event → Type 0
 Begins xs log = (rest : List Event) × (log ≡ xs ++ rest)
 
 -- the second seat's list is the first's and then events of callers that aren't the first's
-abbrev pub GoesOn : List Known → List Known → Type 0
-GoesOn v w = (more : List Event) × (longest w ≡ longest v ++ more) × All (λ c. own c more ≡ []) (callers_of v)
+abbrev pub RowGoesOn : List Known → List Known → Type 0
+RowGoesOn v w = (more : List Event) × (longest w ≡ longest v ++ more) × All (λ c. own c more ≡ []) (callers_of v)
 
 -- the same, where all looks were made before so many words were filled
 abbrev pub older : ℕ → Known → Known
@@ -42,7 +42,7 @@ pub record RowHolds (t : Terms) (words : List ℕ) (views : List (List Known)) :
   pub seen : (id : ℕ) (v : List Known) → get_elem? views id ≡ some v → Begins (longest v) log
   pub apart : (i j : ℕ) (v w : List Known) (c : ℕ) → i ≢ j → get_elem? views i ≡ some v → get_elem? views j ≡ some w → Contains (callers_of v) c → ¬ Contains (callers_of w) c
   pub own_seen : (id : ℕ) (v : List Known) (p : ℕ) (e : Event) → get_elem? views id ≡ some v → slice_get log p ≡ Some e → Contains (callers_of v) (who_of e) → p < length (longest v)
-  pub parts : (id : ℕ) (v w : List Known) → get_elem? views id ≡ some (v ++ w) → (length (longest v) ≤ length (longest w) → GoesOn v w) × (length (longest w) ≤ length (longest v) → GoesOn w v)
+  pub parts : (id : ℕ) (v w : List Known) → get_elem? views id ≡ some (v ++ w) → (length (longest v) ≤ length (longest w) → RowGoesOn v w) × (length (longest w) ≤ length (longest v) → RowGoesOn w v)
   pub looks : LooksAtEnd t words views log
 
 -- whatever the rule holds of holds this

@@ -7,7 +7,7 @@ use Rattle.cf_model.specs.States.{State}
 use Rattle.cf_model.specs.Graphs.{Graph}
 use Rattle.cf_model.specs.Events.{answered, state_after}
 use Rattle.cf_model.specs.Ranges.{EventFits, EventsFit}
-use Rattle.cf_event.specs.Replays.{Answers, Nudges, Replays}
+use Rattle.cf_event.specs.Replays.{EventAnswers, Nudges, Replays}
 
 first_of_rest : (nudges : List ℕ) (i : ℕ) → slice_get (drop i nudges) 0 ≡ slice_get nudges i
 first_of_rest nudges zero = refl
@@ -24,7 +24,7 @@ drop_more nudges i = rw add-one (drop_next nudges i)
 
 -- once the next event is done, the rest leads to what the whole does
 pub rest_after : (nudges : List ℕ) (events : List Event) (i : ℕ) (d : Event) (g nudged done end : Graph) → i < length events →
-    Nudges (unwrap_or (slice_get nudges i) 0) g nudged → Answers (get_or events i d) nudged done →
+    Nudges (unwrap_or (slice_get nudges i) 0) g nudged → EventAnswers (get_or events i d) nudged done →
     Replays (drop (i + 1) nudges) (drop (i + 1) events) done end → Replays (drop i nudges) (drop i events) g end
 rest_after nudges events i d g nudged done end l n a rest =
     let split : drop i events ≡ get_or events i d ∷ drop (i + 1) events = rw (add-one, drop-cons events i d) refl in
@@ -40,12 +40,12 @@ next_fits s events i d l fits =
     subst (λ (left : List Event). EventsFit s left) split fits
 
 -- a graph that takes turns, and then does an event, is in the state after it
-answered_here : {k : ℕ} (e : Event) (g nudged done : Graph) → Nudges k g nudged → Answers e nudged done → done.state ≡ (answered g.state e).1
+answered_here : {k : ℕ} (e : Event) (g nudged done : Graph) → Nudges k g nudged → EventAnswers e nudged done → done.state ≡ (answered g.state e).1
 answered_here e g nudged done n a = ap (λ p. p.1) a.told ∙ ap (λ (s : State). (answered s e).1) n.state
 
 -- so the rest fits it
 pub rest_fits : (events : List Event) (i : ℕ) (d : Event) (k : ℕ) (g nudged done : Graph) → i < length events → EventsFit g.state (drop i events) →
-    Nudges k g nudged → Answers (get_or events i d) nudged done → EventsFit done.state (drop (i + 1) events)
+    Nudges k g nudged → EventAnswers (get_or events i d) nudged done → EventsFit done.state (drop (i + 1) events)
 rest_fits events i d k g nudged done l fits n a =
     subst (λ (s : State). EventsFit s (drop (i + 1) events)) (sym (answered_here (get_or events i d) g nudged done n a)) (next_fits g.state events i d l fits).1
 

@@ -13,7 +13,7 @@ pub record Nudges (k : ℕ) (old new : Graph) : Type 0 where
   pub all : new.turns < old.turns + k → new.left ≡ None
 
 -- a graph does an event, with no turn that it doesn't need
-pub record Answers (e : Event) (old new : Graph) : Type 0 where
+pub record EventAnswers (e : Event) (old new : Graph) : Type 0 where
   pub reply : Reply
   pub told : (reply, new.state) ≡ answered old.state e
   pub counted : old.turns ≤ new.turns
@@ -23,4 +23,4 @@ pub record Answers (e : Event) (old new : Graph) : Type 0 where
 abbrev pub Replays : List ℕ → List Event → Graph → Graph → Type 0
 Replays nudges [] old new = new ≡ old
 Replays nudges (e ∷ events) old new =
-    (nudged : Graph) × (done : Graph) × Nudges (unwrap_or (slice_get nudges 0) 0) old nudged × Answers e nudged done × Replays (drop 1 nudges) events done new
+    (nudged : Graph) × (done : Graph) × Nudges (unwrap_or (slice_get nudges 0) 0) old nudged × EventAnswers e nudged done × Replays (drop 1 nudges) events done new

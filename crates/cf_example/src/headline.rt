@@ -18,7 +18,7 @@ ghost use Rattle.cf_expr.specs.Histories.{IsPlain, IsPlainPlan, IsQuiet, nothing
 ghost use Rattle.cf_desk.specs.declared.calls.Rec.TheVariants.{Did};
 ghost use Rattle.cf_desk.specs.Keepings.{caller_kept};
 ghost use Rattle.cf_desk.specs.Laws.{StandsAt, call_of};
-ghost use Rattle.cf_history.specs.Laws.{Tells as SaysSo};
+ghost use Rattle.cf_history.specs.Laws.{CheckTells as SaysSo};
 ghost use Rattle.cf_history.specs.declared.verdict.Verdict.TheVariants.{Fits};
 
 use cf_desk::{Call, CloseFault, Closed, Desk, DeskFault, Pass};

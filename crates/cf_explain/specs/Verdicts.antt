@@ -9,9 +9,9 @@ use Rattle.cf_explain.specs.Places.{area_of}
 
 -- A refusal is told exactly where reading says a fault, and then it has that fault and a place in the part that the fault
 -- names; none is told where reading reads a script.
-abbrev pub Tells : {A : Type 0} → Option Refusal → Result A ReadingFault → Type 0
-Tells None said = IsOk said
-Tells (Some refusal) said = (said ≡ Err refusal.fault) × (refusal.place.area ≡ area_of refusal.fault)
+abbrev pub ExplainTells : {A : Type 0} → Option Refusal → Result A ReadingFault → Type 0
+ExplainTells None said = IsOk said
+ExplainTells (Some refusal) said = (said ≡ Err refusal.fault) × (refusal.place.area ≡ area_of refusal.fault)
 
 -- what bytes say that are refused for this fault
 abbrev pub refused_for : ReadingFault → Result Script ReadingFault

@@ -3,7 +3,7 @@ ghost use Rattle.std.specs.Prelude.{◌≡◌, [], All, IfOk, OnOk, Some};
 ghost use Rattle.serde_json.specs.View.{view};
 ghost use Rattle.cf_reading.specs.Reading.{json_of, reading, script_said};
 ghost use Rattle.cf_explain.specs.Remarks.{AreRemarked, AreRemarks, IsOfWriting};
-ghost use Rattle.cf_explain.specs.Verdicts.{Tells, refused_for};
+ghost use Rattle.cf_explain.specs.Verdicts.{ExplainTells, refused_for};
 
 use crate::behind::remark_behind;
 use crate::idle::idle_steps;
@@ -25,7 +25,7 @@ use std::str;
 /// that the fault names. Of a script that is read, the remarks are those of how it is written, then one of each limit that
 /// never fires, in order, and of steps. It fails only where a growth was refused.
 pub fn explain(alloc: Global, bytes: &[u8]) -> Result<Explanation, AllocError>
-    ensures verdict { IfOk result (λ e. Tells e.refusal (reading bytes.now)) }
+    ensures verdict { IfOk result (λ e. ExplainTells e.refusal (reading bytes.now)) }
     ensures remarks { IfOk result (λ e. AreRemarks (reading bytes.now) (json_of bytes.now) e.remarks.items) }
 {
     if bytes.len() > MAX_BYTES {
@@ -40,7 +40,7 @@ pub fn explain(alloc: Global, bytes: &[u8]) -> Result<Explanation, AllocError>
 
 /// That bytes are refused whole, before anything in them is looked at.
 fn unread(alloc: Global, fault: ReadingFault, why: Why) -> Explanation
-    ensures refused { Tells result.refusal (refused_for fault) }
+    ensures refused { ExplainTells result.refusal (refused_for fault) }
     ensures remarks { result.remarks.items ≡ [] }
 {
     let place = Place::of(area_of(fault));
@@ -53,7 +53,7 @@ fn unread(alloc: Global, fault: ReadingFault, why: Why) -> Explanation
 
 /// What is wrong with a script that is this JSON value, and what is odd about it as these bytes write it.
 fn explain_json(alloc: Global, bytes: &[u8], json: &Json) -> Result<Explanation, AllocError>
-    ensures verdict { IfOk result (λ e. Tells e.refusal (script_said (view json.now))) }
+    ensures verdict { IfOk result (λ e. ExplainTells e.refusal (script_said (view json.now))) }
     ensures remarks { IfOk result (λ e. AreRemarks (script_said (view json.now)) (Some (view json.now)) e.remarks.items) }
 {
     match script_of(alloc, json) {

@@ -73,8 +73,8 @@ abbrev pub IsWithin : ℕ → Search → Type 0
 IsWithin bound search = 0 < bound → length search.found.trail.items ≤ bound
 
 -- a search that is on sees all orders of one move more, of which there are at most 2^32 - 1
-abbrev pub GoesOn : Search → Search → Type 0
-GoesOn old new = old.is_on ≡ true → old.found.moves < 4294967295 → new.found.moves ≡ old.found.moves + 1
+abbrev pub SearchGoesOn : Search → Search → Type 0
+SearchGoesOn old new = old.is_on ≡ true → old.found.moves < 4294967295 → new.found.moves ≡ old.found.moves + 1
 
 -- what is found where a bound is given: all orders, or as many situations as the bound, or all orders of fewer moves than it; never more situations
 pub record IsAsked (bound : ℕ) (found : Found) : Type 0 where

@@ -4,7 +4,7 @@ ghost use Rattle.cf_plan.specs.Meanings.{Meanings, meanings_of};
 ghost use Rattle.cf_explore.specs.Programs.{Situated};
 ghost use Rattle.cf_explore.specs.Moves.{moved, moves};
 ghost use Rattle.cf_explore.specs.Layers.{IsLonger, IsNext, IsSpread, KeepsLed, LeadsOn, counted, weigh};
-ghost use Rattle.cf_explore.specs.Found.{AreUpdates, GoesOn, IsAdvance, IsAsked, IsFirst, IsFound, IsLook, IsOver, IsSearch, IsUpdate, IsWithin};
+ghost use Rattle.cf_explore.specs.Found.{AreUpdates, SearchGoesOn, IsAdvance, IsAsked, IsFirst, IsFound, IsLook, IsOver, IsSearch, IsUpdate, IsWithin};
 
 use crate::condition::Condition;
 use crate::found::{Found, Witness};
@@ -88,7 +88,7 @@ impl Program {
         ensures search { IsSearch (meanings_of F.meaning functions.now) self.now conditions.now search.old → IfOk result (λ _. IsSearch (meanings_of F.meaning functions.now) self.now conditions.now search.new) }
         ensures over { IsOver bound search.old → IfOk result (λ _. IsOver bound search.new) }
         ensures within { IsWithin bound search.old → IfOk result (λ _. IsWithin bound search.new) }
-        ensures goes_on { IsSearch (meanings_of F.meaning functions.now) self.now conditions.now search.old → IfOk result (λ _. GoesOn search.old search.new) }
+        ensures goes_on { IsSearch (meanings_of F.meaning functions.now) self.now conditions.now search.old → IfOk result (λ _. SearchGoesOn search.old search.new) }
     {
         if search.is_on
             && search.found.moves < u32::MAX

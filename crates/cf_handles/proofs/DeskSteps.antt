@@ -18,7 +18,7 @@ use Rattle.cf_model.specs.States.{State, claim_at, lowest_ready_of, outcome_at}
 use Rattle.cf_model.specs.declared.calls.Call.TheVariants.{Claim, Finish}
 use Rattle.cf_desk.specs.Log.{state_from}
 use Rattle.cf_desk.specs.declared.faults.DeskFault.{DeskFault}
-use Rattle.cf_desk.specs.Results.{Answers, Refuses}
+use Rattle.cf_desk.specs.Results.{DeskAnswers, Refuses}
 use Rattle.cf_desk.specs.Views.{Acts, Desk, Follows, HoldsClaim, IsSamePass, LooksOnce, Pass, state_of}
 use Rattle.cf_desk.proofs.OpenClaims.{claims_stay_open}
 use Rattle.cf_ledger.specs.declared.step.Held.{Held}
@@ -47,7 +47,7 @@ finish_mine s who i answer e =
     finish_by (option_map_or (λ w. w == who) (claim_at s i) false) (outcome_at s i) (record s { claims = set s.claims i None }) s i answer
     (ap (λ (x : Option ℕ). option_map_or (λ w. w == who) x false) e ∙ same_number who)
 
-pub held_finish : (d : Desk) (p q : Pass) (i : ℕ) (answer : Answer) (reply : Reply) → HoldsClaim p i → Answers d p (Finish i answer) reply q → (reply ≡ ToldFinish Won) ⊎ (reply ≡ ToldFinish Late)
+pub held_finish : (d : Desk) (p q : Pass) (i : ℕ) (answer : Answer) (reply : Reply) → HoldsClaim p i → DeskAnswers d p (Finish i answer) reply q → (reply ≡ ToldFinish Won) ⊎ (reply ≡ ToldFinish Late)
 held_finish d p q i answer reply h a =
     let same : a.found ≡ p = ⊎_elim (λ x. x.1) (λ x. absurd (x.0 h.0)) a.caught in
     let acts : Acts p (Finish i answer) reply q = subst (λ (f : Pass). Acts f (Finish i answer) reply q) same a.acts in
@@ -56,18 +56,18 @@ held_finish d p q i answer reply h a =
     (finish_mine (state_from p.known.setting.plan acts.before) p.known.caller i answer mine)
 
 -- and so is C told
-pub held_finished : (d : Desk) (h : Held) (p q : Pass) (reply : Reply) → HoldsClaim p h.stage → Answers d p (Finish h.stage h.answer) reply q → IsFinished d h p (finish_number reply) q
+pub held_finished : (d : Desk) (h : Held) (p q : Pass) (reply : Reply) → HoldsClaim p h.stage → DeskAnswers d p (Finish h.stage h.answer) reply q → IsFinished d h p (finish_number reply) q
 held_finished d h p q reply held a =
-    ⊎_elim (λ e. record { held = held; reply = Won; answers = subst (λ (r : Reply). Answers d p (Finish h.stage h.answer) r q) e a; tells = ap (λ (n : ℕ). let r : Result ℕ Code = Ok n in r) (sym (ap finish_number e)) })
-    (λ e. record { held = held; reply = Late; answers = subst (λ (r : Reply). Answers d p (Finish h.stage h.answer) r q) e a; tells = ap (λ (n : ℕ). let r : Result ℕ Code = Ok n in r) (sym (ap finish_number e)) })
+    ⊎_elim (λ e. record { held = held; reply = Won; answers = subst (λ (r : Reply). DeskAnswers d p (Finish h.stage h.answer) r q) e a; tells = ap (λ (n : ℕ). let r : Result ℕ Code = Ok n in r) (sym (ap finish_number e)) })
+    (λ e. record { held = held; reply = Late; answers = subst (λ (r : Reply). DeskAnswers d p (Finish h.stage h.answer) r q) e a; tells = ap (λ (n : ℕ). let r : Result ℕ Code = Ok n in r) (sym (ap finish_number e)) })
     (held_finish d p q h.stage h.answer reply held a)
 
 -- one stage more is completed
-completed_push : (d : Desk) (xs : List CfGiven) (x : CfGiven) (p q r : Pass) (reply : Reply) → AreCompleted d xs p q → Answers d q (call_of x) reply r → AreCompleted d (xs ++ x ∷ []) p r
-completed_push d [] x p q r reply h a = (r, (reply, subst (λ (s : Pass). Answers d s (call_of x) reply r) h a), refl)
+completed_push : (d : Desk) (xs : List CfGiven) (x : CfGiven) (p q r : Pass) (reply : Reply) → AreCompleted d xs p q → DeskAnswers d q (call_of x) reply r → AreCompleted d (xs ++ x ∷ []) p r
+completed_push d [] x p q r reply h a = (r, (reply, subst (λ (s : Pass). DeskAnswers d s (call_of x) reply r) h a), refl)
 completed_push d (y ∷ ys) x p q r reply h a = (h.0, h.1, completed_push d ys x h.0 q r reply h.2 a)
 
-pub completed_more : (d : Desk) (xs : List CfGiven) (k : ℕ) (x : CfGiven) (p q r : Pass) (reply : Reply) → k < length xs → AreCompleted d (take k xs) p q → Answers d q (call_of (get_or xs k x)) reply r
+pub completed_more : (d : Desk) (xs : List CfGiven) (k : ℕ) (x : CfGiven) (p q r : Pass) (reply : Reply) → k < length xs → AreCompleted d (take k xs) p q → DeskAnswers d q (call_of (get_or xs k x)) reply r
     → AreCompleted d (take (k + 1) xs) p r
 completed_more d xs k x p q r reply l h a = subst (λ (ys : List CfGiven). AreCompleted d ys p r) (sym (take_more xs k x l)) (completed_push d (take k xs) (get_or xs k x) p q r reply h a)
 
@@ -103,7 +103,7 @@ not_held d h p there none = inr (inl (refl, there, (λ e. none (there, e)), refl
 pub finish_refused : (d : Desk) (h : Held) (p q : Pass) (why : DeskFault) (code : Code) → HoldsClaim p h.stage → Refuses d p (Finish h.stage h.answer) q why → code ≡ desk_code why → Finishes d (Some h) p (Err code) q
 finish_refused d h p q why code held a is = inr (inr (held, record { why = why; refuses = a; tells = is }))
 
-pub claim_lost : (d : Desk) (i : ℕ) (p q : Pass) (reply : Reply) → Answers d p (Claim i) reply q → ((args : Args) → reply ≢ ToldClaim (Granted args)) → IsNotGranted d i p Lost q
+pub claim_lost : (d : Desk) (i : ℕ) (p q : Pass) (reply : Reply) → DeskAnswers d p (Claim i) reply q → ((args : Args) → reply ≢ ToldClaim (Granted args)) → IsNotGranted d i p Lost q
 claim_lost d i p q reply a lost = inl (refl, record { reply = reply; answers = a; lost = lost })
 
 pub claim_refused : (d : Desk) (i : ℕ) (p q : Pass) (why : DeskFault) (code : Code) → Refuses d p (Claim i) q why → code ≡ desk_code why → IsNotGranted d i p code q

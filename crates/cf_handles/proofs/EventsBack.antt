@@ -13,7 +13,7 @@ use Rattle.cf_model.specs.declared.events.Event.{Event}
 use Rattle.cf_model.specs.declared.events.Event.TheVariants.{Complete as Completes, Fail as Fails, Cancel as Cancels, Claim as Claims, Finish as Finishes, Tick as Ticks, Attach as Attaches}
 use Rattle.cf_event.specs.Words.{IsEvent, count_of, first_of, second_of}
 use Rattle.cf_plan.proofs.NamingLemmas.{form_back}
-use Rattle.cf_handles.specs.Answers.{Gives}
+use Rattle.cf_handles.specs.Answers.{HandleGives}
 use Rattle.cf_handles.specs.Plans.{as_function, event_with, function_of, parts_with, sources_with}
 use Rattle.cf_handles.specs.Values.{answer_of, as_answer, as_value, value_of}
 use Rattle.cf_handles.specs.EventWords.{HasWord, as_event, event_of, told_event}
@@ -51,7 +51,7 @@ told_back (Ticks who now) is = refl
 told_back (Attaches who form of function) is = attach_back who form of function _ _ (as_function function) (form_back form) (sources_back of) (function_back function is.3)
 
 -- what C gets of an event that has a word means that event
-pub back_given : (event : Result Event Code) (word code : ℕ) (had has : CfEvent) → IfOk event (λ (e : Event). HasWord e word) → Gives (told_event event) code had has →
+pub back_given : (event : Result Event Code) (word code : ℕ) (had has : CfEvent) → IfOk event (λ (e : Event). HasWord e word) → HandleGives (told_event event) code had has →
     IfOk event (λ (e : Event). (event_of has ≡ Ok e) × HasWord e word)
 back_given (Ok e) word code had has is h = (ap event_of h.1 ∙ told_back e is.has_room, is)
 back_given (Err why) word code had has is h = tt

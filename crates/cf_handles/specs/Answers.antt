@@ -6,9 +6,9 @@ use Rattle.cf_handles.specs.declared.handle.object.Object.{Object}
 use Rattle.cf_handles.specs.Codes.{number_of}
 
 -- what C gets: 0 and the answer, or a code, and then what C had stays
-abbrev pub Gives : {X : Type 0} → Result X Code → ℕ → X → X → Type 0
-Gives (Ok x) code had has = (code ≡ 0) × (has ≡ x)
-Gives (Err fault) code had has = (code ≡ number_of fault) × (has ≡ had)
+abbrev pub HandleGives : {X : Type 0} → Result X Code → ℕ → X → X → Type 0
+HandleGives (Ok x) code had has = (code ≡ 0) × (has ≡ x)
+HandleGives (Err fault) code had has = (code ≡ number_of fault) × (has ≡ had)
 
 -- what stands behind a handle is asked and stays there, and C gets what that answers
 pub record Told {X : Type 0} (Asks : Object → Result X Code → Object → Type 0) (held : Object) (new : Option Object) (code : ℕ) (had has : X) : Type 0 where
@@ -16,12 +16,12 @@ pub record Told {X : Type 0} (Asks : Object → Result X Code → Object → Typ
   pub now : Object
   pub is : new ≡ Some now
   pub asked : Asks held result now
-  pub gives : Gives result code had has
+  pub gives : HandleGives result code had has
 
 -- A call through a handle tells C its code, and where that is 0 its answer. An empty handle stays empty, and C is told so.
-abbrev pub Tells : {X : Type 0} → (Object → Result X Code → Object → Type 0) → Option Object → Option Object → ℕ → X → X → Type 0
-Tells Asks None new code had has = (code ≡ number_of Empty) × (new ≡ None) × (has ≡ had)
-Tells Asks (Some held) new code had has = Told Asks held new code had has
+abbrev pub HandleTells : {X : Type 0} → (Object → Result X Code → Object → Type 0) → Option Object → Option Object → ℕ → X → X → Type 0
+HandleTells Asks None new code had has = (code ≡ number_of Empty) × (new ≡ None) × (has ≡ had)
+HandleTells Asks (Some held) new code had has = Told Asks held new code had has
 
 -- the same where a code is all that C gets
 abbrev pub Codes : Result (Unit {0}) Code → ℕ → Type 0

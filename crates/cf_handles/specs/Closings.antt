@@ -39,15 +39,15 @@ pub record HasMore (before : Closing') (caller : Caller') (closing : Closing') :
   pub passes : closing.passes.items ≡ before.passes.items ++ caller.pass ∷ []
 
 -- why a caller isn't taken: it is seen to be of another desk, or all passes were given back
-abbrev pub IsRefused : Closing' → Code → Type 0
-IsRefused closing OtherDesk = Unit {0}
-IsRefused closing Full = (arc_value closing.desk).setting.callers ≤ length closing.passes.items
-IsRefused closing code = ⊥
+abbrev pub ClosingRefuses : Closing' → Code → Type 0
+ClosingRefuses closing OtherDesk = Unit {0}
+ClosingRefuses closing Full = (arc_value closing.desk).setting.callers ≤ length closing.passes.items
+ClosingRefuses closing code = ⊥
 
 -- a closing takes what is given, if it is a caller that isn't refused; else it stays
 abbrev pub Takes : Closing' → Object → Result (Unit {0}) Code → Closing' → Type 0
 Takes c (Caller d) (Ok done) now = HasMore c d now
-Takes c (Caller d) (Err fault) now = IsRefused c fault × (now ≡ c)
+Takes c (Caller d) (Err fault) now = ClosingRefuses c fault × (now ≡ c)
 Takes c given r now = (r ≡ Err WrongKind) × (now ≡ c)
 
 -- the same from a handle, which is empty then; where it is refused, it stays behind the handle

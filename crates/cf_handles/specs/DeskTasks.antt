@@ -13,7 +13,7 @@ use Rattle.cf_ledger.specs.declared.step.Held.{Held}
 use Rattle.cf_model.specs.declared.calls.Call.{Call}
 use Rattle.cf_model.specs.declared.calls.Call.TheVariants.{Claim, Complete, Finish}
 use Rattle.cf_desk.specs.declared.faults.DeskFault.{DeskFault}
-use Rattle.cf_desk.specs.Results.{Answers, Refuses}
+use Rattle.cf_desk.specs.Results.{DeskAnswers, Refuses}
 use Rattle.cf_desk.specs.Views.{Desk, Follows, HoldsClaim, LooksOnce, Pass, state_of}
 use Rattle.cf_handles.specs.Codes.{desk_code}
 use Rattle.cf_handles.specs.Desks.{AtCaller}
@@ -33,7 +33,7 @@ use Rattle.cf_handles.specs.declared.values.task.CfTask.{CfTask}
 pub record IsFinished (d : Desk) (h : Held) (p : Pass) (told : ℕ) (q : Pass) : Type 0 where
   pub held : HoldsClaim p h.stage
   pub reply : Finished
-  pub answers : Answers d p (Finish h.stage h.answer) (ToldFinish reply) q
+  pub answers : DeskAnswers d p (Finish h.stage h.answer) (ToldFinish reply) q
   pub tells : finished_as reply ≡ Ok told
 
 -- how the finish of a held stage went: it won (0), or came late (1)
@@ -42,7 +42,7 @@ finish_number (ToldFinish Late) = 1
 finish_number reply = 0
 
 -- a call is refused, and C is told why
-pub record IsRefused (d : Desk) (call : Call) (p : Pass) (code : Code) (q : Pass) : Type 0 where
+pub record CallerRefuses (d : Desk) (call : Call) (p : Pass) (code : Code) (q : Pass) : Type 0 where
   pub why : DeskFault
   pub refuses : Refuses d p call q why
   pub tells : code ≡ desk_code why
@@ -52,7 +52,7 @@ abbrev pub IsNotFinished : Desk → Held → Pass → Code → Pass → Type 0
 IsNotFinished d h p code q =
     ((code ≡ NoStage) × (length (state_of p.known).plan.stages ≤ h.stage) × (q ≡ p))
     ⊎ ((code ≡ NotHeld) × (h.stage < length (state_of p.known).plan.stages) × (claim_at (state_of p.known) h.stage ≢ Some p.known.caller) × (q ≡ p))
-    ⊎ (HoldsClaim p h.stage × IsRefused d (Finish h.stage h.answer) p code q)
+    ⊎ (HoldsClaim p h.stage × CallerRefuses d (Finish h.stage h.answer) p code q)
 
 -- what is held is finished, if anything is
 abbrev pub Finishes : Desk → Option Held → Pass → Result ℕ Code → Pass → Type 0
@@ -63,17 +63,17 @@ Finishes d (Some h) p (Err code) q = IsNotFinished d h p code q
 -- the claim is granted, and the task holds the stage, with its function's number and arguments
 pub record IsGranted (d : Desk) (i : ℕ) (p : Pass) (had has : CfTask) (q : Pass) : Type 0 where
   pub args : Args
-  pub answers : Answers d p (Claim i) (ToldClaim (Granted args)) q
+  pub answers : DeskAnswers d p (Claim i) (ToldClaim (Granted args)) q
   pub is : has ≡ record had { held = 1; stage = i; function = number_or_none (function_at (state_of p.known).plan.stages i); args = as_args args }
 
 -- it is answered otherwise: another caller was first
 pub record IsLost (d : Desk) (i : ℕ) (p : Pass) (q : Pass) : Type 0 where
   pub reply : Reply
-  pub answers : Answers d p (Claim i) reply q
+  pub answers : DeskAnswers d p (Claim i) reply q
   pub lost : (args : Args) → reply ≢ ToldClaim (Granted args)
 
 abbrev pub IsNotGranted : Desk → ℕ → Pass → Code → Pass → Type 0
-IsNotGranted d i p code q = ((code ≡ Lost) × IsLost d i p q) ⊎ IsRefused d (Claim i) p code q
+IsNotGranted d i p code q = ((code ≡ Lost) × IsLost d i p q) ⊎ CallerRefuses d (Claim i) p code q
 
 -- the stage that is ready is claimed; where none is, or the claim isn't granted, the task holds nothing
 abbrev pub Claims : Desk → Option ℕ → Pass → CfTask → Result (Unit {0}) Code → CfTask → Pass → Type 0
@@ -118,13 +118,13 @@ call_of x = Complete x.stage (value_of x.value)
 -- stages are completed one after another, each by a call that is answered
 abbrev pub AreCompleted : Desk → List CfGiven → Pass → Pass → Type 0
 AreCompleted d [] p q = q ≡ p
-AreCompleted d (x ∷ xs) p q = (next : Pass) × ((reply : Reply) × Answers d p (call_of x) reply next) × AreCompleted d xs next q
+AreCompleted d (x ∷ xs) p q = (next : Pass) × ((reply : Reply) × DeskAnswers d p (call_of x) reply next) × AreCompleted d xs next q
 
 -- all are completed, or the next one is refused
 abbrev pub Ends : Desk → Option CfGiven → Pass → Result (Unit {0}) Code → Pass → Type 0
 Ends d None p r q = (r ≡ Ok tt) × (q ≡ p)
 Ends d (Some x) p (Ok done) q = ⊥
-Ends d (Some x) p (Err code) q = IsRefused d (call_of x) p code q
+Ends d (Some x) p (Err code) q = CallerRefuses d (call_of x) p code q
 
 -- the first stages are completed, and C is told how many these are
 pub record IsRow (d : Desk) (given : List CfGiven) (p : Pass) (r : Result (Unit {0}) Code) (q : Pass) (has : ℕ) : Type 0 where

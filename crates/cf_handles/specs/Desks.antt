@@ -14,7 +14,7 @@ use Rattle.cf_model.specs.declared.calls.Call.TheVariants.{Attach}
 use Rattle.cf_desk.specs.declared.calls.Joined.{Joined}
 use Rattle.cf_desk.specs.declared.calls.Joined.TheVariants.{Value as GotValue, Completion as Fails, Cancellation as Cancels, NotYet}
 use Rattle.cf_desk.specs.declared.faults.DeskFault.{DeskFault}
-use Rattle.cf_desk.specs.Results.{Answers, Refuses, RefusesToTell, Tells, TellsJoined}
+use Rattle.cf_desk.specs.Results.{DeskAnswers, Refuses, RefusesToTell, DeskTells, TellsJoined}
 use Rattle.cf_desk.specs.Views.{Follows, IsSamePass, LooksOnce, Pass, state_of}
 use Rattle.cf_handles.specs.Codes.{desk_code}
 use Rattle.cf_handles.specs.Graphs.{or_nothing}
@@ -49,7 +49,7 @@ ByCaller Asks held r new = (r ≡ Err WrongKind) × (new ≡ held)
 -- a changing call is answered, and so is C
 pub record IsCalled (c : Caller') (call : Call) (told : CfReply) (d : Caller') : Type 0 where
   pub reply : Reply
-  pub answers : Answers (arc_value c.desk) c.pass call reply d.pass
+  pub answers : DeskAnswers (arc_value c.desk) c.pass call reply d.pass
   pub tells : told ≡ as_reply reply
 
 -- it is refused
@@ -70,9 +70,9 @@ call_with (Ok parts) = Ok (Attach parts.form parts.of parts.function)
 call_with (Err fault) = Err fault
 
 -- a question is answered, after a look
-pub record IsTold {X : Type 0} (shows : Told → X) (ask : Ask) (c : Caller') (told : X) (d : Caller') : Type 0 where
+pub record CallerIsTold {X : Type 0} (shows : Told → X) (ask : Ask) (c : Caller') (told : X) (d : Caller') : Type 0 where
   pub answer : Told
-  pub tells : Tells (arc_value c.desk) c.pass ask answer d.pass
+  pub tells : DeskTells (arc_value c.desk) c.pass ask answer d.pass
   pub is : told ≡ shows answer
 
 -- it is refused
@@ -82,7 +82,7 @@ pub record IsNotTold (ask : Ask) (c : Caller') (code : Code) (d : Caller') : Typ
   pub tells : code ≡ desk_code why
 
 abbrev pub Reads : {X : Type 0} → (Told → X) → Ask → Caller' → Result X Code → Caller' → Type 0
-Reads shows ask c (Ok told) d = IsTold shows ask c told d
+Reads shows ask c (Ok told) d = CallerIsTold shows ask c told d
 Reads shows ask c (Err code) d = IsNotTold ask c code d
 
 -- what is told of a stage's outcome, and of a stage at present

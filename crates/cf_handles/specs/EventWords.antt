@@ -7,7 +7,7 @@ use Rattle.cf_model.specs.declared.events.Event.TheVariants.{Complete as Complet
 use Rattle.cf_event.specs.Decoding.{event_of as event_of_word}
 use Rattle.cf_plan.specs.Naming.{form_number}
 use Rattle.cf_event.specs.Words.{IsEvent, count_of, first_of, second_of, word_of}
-use Rattle.cf_handles.specs.Answers.{Gives}
+use Rattle.cf_handles.specs.Answers.{HandleGives}
 use Rattle.cf_handles.specs.Plans.{as_function, event_with, form_of, parts_with, sources_with}
 use Rattle.cf_handles.specs.Values.{answer_of, as_answer, as_value, value_of}
 use Rattle.cf_handles.specs.declared.code.Code.{Code}
@@ -56,7 +56,7 @@ IsWordOf (Err why) r = r ≡ Err why
 pub record GivesWord (event : Result Event Code) (code had has : ℕ) : Type 0 where
   pub told : Result ℕ Code
   pub is : IsWordOf event told
-  pub gives : Gives told code had has
+  pub gives : HandleGives told code had has
 
 -- the event that was found, or that the word is no event's
 abbrev pub event_or : Option Event → Result Event Code

@@ -21,10 +21,10 @@ use Rattle.cf_handles.specs.declared.values.CfNow.{CfNow}
 use Rattle.cf_handles.specs.declared.values.CfOutcome.{CfOutcome}
 
 -- why an event isn't done to a graph of so many stages: a stage of it isn't there, or else what it attaches doesn't fit its form
-abbrev pub IsRefused : ℕ → Event → Code → Type 0
-IsRefused n e NoStage = ¬ EventNames n e
-IsRefused n e BadAttach = EventNames n e × (¬ EventFits n e)
-IsRefused n e code = ⊥
+abbrev pub GraphRefuses : ℕ → Event → Code → Type 0
+GraphRefuses n e NoStage = ¬ EventNames n e
+GraphRefuses n e BadAttach = EventNames n e × (¬ EventFits n e)
+GraphRefuses n e code = ⊥
 
 -- the event is done to the graph, which gives the sequential graph's reply and is then at the sequential graph's state, and takes no turn that it doesn't need
 pub record IsDone (g : Graph') (e : Event) (told : CfReply) (new : Object) : Type 0 where
@@ -37,11 +37,11 @@ pub record IsDone (g : Graph') (e : Event) (told : CfReply) (new : Object) : Typ
   pub tells : told ≡ as_reply reply
 
 -- a graph is handed an event, or why there is none
-abbrev pub Answers : Result Event Code → Object → Result CfReply Code → Object → Type 0
-Answers (Ok e) (Graph g) (Ok told) new = IsDone g e told new
-Answers (Ok e) (Graph g) (Err fault) new = IsRefused (length g.state.plan.stages) e fault × (new ≡ Graph g)
-Answers (Err fault) (Graph g) r new = (r ≡ Err fault) × (new ≡ Graph g)
-Answers e held r new = (r ≡ Err WrongKind) × (new ≡ held)
+abbrev pub GraphAnswers : Result Event Code → Object → Result CfReply Code → Object → Type 0
+GraphAnswers (Ok e) (Graph g) (Ok told) new = IsDone g e told new
+GraphAnswers (Ok e) (Graph g) (Err fault) new = GraphRefuses (length g.state.plan.stages) e fault × (new ≡ Graph g)
+GraphAnswers (Err fault) (Graph g) r new = (r ≡ Err fault) × (new ≡ Graph g)
+GraphAnswers e held r new = (r ≡ Err WrongKind) × (new ≡ held)
 
 -- the graph may have taken turns, unless it is at rest, and is at the state at which it was
 pub record IsSame (AtRest : Graph' → Type 0) (g : Graph') (new : Object) : Type 0 where

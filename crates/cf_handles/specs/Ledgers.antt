@@ -11,7 +11,7 @@ use Rattle.cf_model.specs.States.{State, claim_at, is_ready, start}
 use Rattle.cf_event.specs.Words.{word_of}
 use Rattle.cf_ledger.specs.declared.faults.LedgerFault.{LedgerFault}
 use Rattle.cf_ledger.specs.declared.faults.LedgerFault.TheVariants as faults
-use Rattle.cf_ledger.specs.Ledgers.{Ledger as Ledger', Does, DoesAll, IsFirstRefused, IsRefused, state_at, state_of, with_more}
+use Rattle.cf_ledger.specs.Ledgers.{Ledger as Ledger', Does, DoesAll, IsFirstRefused, LedgerRefuses, state_at, state_of, with_more}
 use Rattle.cf_ledger.specs.News.{AreNews}
 use Rattle.cf_handles.specs.Answers.{Codes}
 use Rattle.cf_handles.specs.Building.{Fills}
@@ -137,7 +137,7 @@ word_code faults.NoRoom = NoRoom
 -- a word isn't done, for this reason
 pub record IsNotDone (s : State) (word : ℕ) (code : Code) : Type 0 where
   pub why : LedgerFault
-  pub due : IsRefused s word why
+  pub due : LedgerRefuses s word why
   pub is : code ≡ word_code why
 
 abbrev pub blank_news : ℕ → CfNews

@@ -19,7 +19,7 @@ use Rattle.cf_history.specs.declared.verdict.Misfit.{Misfit}
 use Rattle.cf_history.specs.declared.verdict.Misfit.TheVariants.{Before, Behind, Skips, Other, Reply as Replies, NoStage, Told as Tells}
 use Rattle.cf_event.specs.Events.{own}
 use Rattle.cf_event.specs.Histories.{place_of}
-use Rattle.cf_history.specs.Records.{AreRight, GoesOn, IsRight, state_in}
+use Rattle.cf_history.specs.Records.{AreRight, RecordGoesOn, IsRight, state_in}
 use Rattle.cf_history.specs.Verdicts.{IsFirstMisfit, IsMisfit, IsNext, IsReached, IsSkipped, LeavesOut}
 use Rattle.cf_history.proofs.Owns.{own_there, not_skipped}
 
@@ -113,7 +113,7 @@ passed_more c s rest i d now next l other after p =
     }
 
 pub walk_on : (c : ℕ) (s : State) (history : List Event) (records : List Record) (k at : ℕ) (d : Record) (now next : State) → k < length records →
-    GoesOn c now (drop at history) at (get_or records k d) next → Walked c s history records k at now →
+    RecordGoesOn c now (drop at history) at (get_or records k d) next → Walked c s history records k at now →
     Walked c s history records (k + 1) (place_of (get_or records k d)) next
 walk_on c s history records k at d now next l g w =
     let r = get_or records k d in
@@ -162,7 +162,7 @@ some_same d e both = cc
 -- a question fits that was told so
 pub told_on : (c : ℕ) (s : State) (rest : List Event) (at place passed : ℕ) (ask : Ask) (answer given : Told) (now next : State) → at ≤ place → place - at ≤ length rest →
     passed ≡ place - at → own c (take passed rest) ≡ [] → now ≡ state_in s rest passed → AskFits (length now.plan.stages) ask → given ≡ told now ask → given ≡ answer →
-    next ≡ now → GoesOn c s rest at (Saw place ask answer) next
+    next ≡ now → RecordGoesOn c s rest at (Saw place ask answer) next
 told_on c s rest at place passed ask answer given now next le within is none now_is fits given_is same next_is =
     let there : now ≡ state_in s rest (place - at) = now_is ∙ ap (state_in s rest) is in
     record {
@@ -181,7 +181,7 @@ told_on c s rest at place passed ask answer given now next le within is none now
 -- a call fits that was answered so
 pub called_on : (c : ℕ) (s : State) (rest : List Event) (at place passed : ℕ) (e : Event) (reply given : Reply) (now next : State) → at < place → place - at - 1 < length rest →
     passed ≡ place - at - 1 → own c (take passed rest) ≡ [] → now ≡ state_in s rest passed → slice_get rest (place - at - 1) ≡ Some e → who_of e ≡ c → IsEvent e → (given, next) ≡ answered now e → given ≡ reply →
-    GoesOn c s rest at (Did place e reply) next
+    RecordGoesOn c s rest at (Did place e reply) next
 called_on c s rest at place passed e reply given now next lt within is none now_is at_there mine word answer_is same =
     let there : now ≡ state_in s rest (place - at - 1) = now_is ∙ ap (state_in s rest) is in
     let found : get_or rest (place - at - 1) e ≡ e = some_same (get_or rest (place - at - 1) e) e (sym (slice_get-get_or rest (place - at - 1) e within) ∙ at_there) in

@@ -22,7 +22,7 @@ pub record AreCallersOf (told : List (ℕ × List Record)) (callers : List Calle
   pub each : (c : ℕ) (k : Caller) → slice_get callers c ≡ Some k → Contains told (c, k.records.items)
 
 -- a history says what callers were told: the words of these events, the callers' records, and the graph's outcomes, if any
-pub record Tells (plan : Planned) (functions : ℕ) (events : List Event) (told : List (ℕ × List Record)) (h : History) : Type 0 where
+pub record CheckTells (plan : Planned) (functions : ℕ) (events : List Event) (told : List (ℕ × List Record)) (h : History) : Type 0 where
   pub functions_are : h.functions ≡ functions
   pub words : h.words.items ≡ map word_of events
   pub callers : AreCallersOf told h.callers.items
@@ -40,4 +40,4 @@ OneSharedVerdict = (plan : Planned) (shared : SharedHistory) (v w : Verdict) →
 abbrev pub OneHistoriesFit : Type 0
 OneHistoriesFit =
     (plan : Planned) (functions : ℕ) (events : List Event) (told : List (ℕ × List Record)) (h : History) →
-    IsOneHistory plan functions events told → Tells plan functions events told h → FitsOneGraph plan h
+    IsOneHistory plan functions events told → CheckTells plan functions events told h → FitsOneGraph plan h

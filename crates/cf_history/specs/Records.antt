@@ -30,7 +30,7 @@ pub record IsCalled (c : ℕ) (s : State) (rest : List Event) (at place : ℕ) (
 
 -- A question fits: none of the caller's events stands between the record before it and its place, and the answer is what the graph
 -- tells there.
-pub record IsTold (c : ℕ) (s : State) (rest : List Event) (at place : ℕ) (ask : Ask) (answer : Told) : Type 0 where
+pub record RecordIsTold (c : ℕ) (s : State) (rest : List Event) (at place : ℕ) (ask : Ask) (answer : Told) : Type 0 where
   pub not_before : at ≤ place
   pub within : place - at ≤ length rest
   pub none : own c (take (place - at) rest) ≡ []
@@ -39,7 +39,7 @@ pub record IsTold (c : ℕ) (s : State) (rest : List Event) (at place : ℕ) (as
 
 abbrev pub IsRight : ℕ → State → List Event → ℕ → Record → Type 0
 IsRight c s rest at (Did place event reply) = IsCalled c s rest at place event reply
-IsRight c s rest at (Saw place ask answer) = IsTold c s rest at place ask answer
+IsRight c s rest at (Saw place ask answer) = RecordIsTold c s rest at place ask answer
 
 -- each record fits behind the one before it, and behind the last one stands no event of the caller
 abbrev pub AreRight : ℕ → State → List Event → ℕ → List Record → Type 0
@@ -48,7 +48,7 @@ AreRight c s rest at (r ∷ records) =
     IsRight c s rest at r × AreRight c (state_in s rest (place_of r - at)) (drop (place_of r - at) rest) (place_of r) records
 
 -- the record fits, and s' is the state at its place
-pub record GoesOn (c : ℕ) (s : State) (rest : List Event) (at : ℕ) (r : Record) (s' : State) : Type 0 where
+pub record RecordGoesOn (c : ℕ) (s : State) (rest : List Event) (at : ℕ) (r : Record) (s' : State) : Type 0 where
   pub right : IsRight c s rest at r
   pub not_before : at ≤ place_of r
   pub within : place_of r - at ≤ length rest

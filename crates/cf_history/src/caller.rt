@@ -2,7 +2,7 @@
 ghost use Rattle.std.specs.Prelude.{◌≡◌, ◌<◌, ◌≤◌, ◌↔◌, [], IsTrue, MatchResult, Some, length, slice_get, take, drop};
 ghost use Rattle.cf_model.specs.Ranges.{AskFits, EventsFit};
 ghost use Rattle.cf_event.specs.Events.{own};
-ghost use Rattle.cf_history.specs.Records.{GoesOn, state_in};
+ghost use Rattle.cf_history.specs.Records.{RecordGoesOn, state_in};
 ghost use Rattle.cf_history.specs.Callers.{IsJudged};
 ghost use Rattle.cf_history.specs.Verdicts.{IsMisfit, IsNext};
 ghost use Rattle.cf_event.specs.declared.record.Record.TheVariants.{Did, Saw};
@@ -60,7 +60,7 @@ fn judge_record(
     told: &Record,
 ) -> Result<(), Misfit>
     requires { EventsFit graph.old.state rest.now }
-    ensures { MatchResult result (λ _. GoesOn caller graph.old.state rest.now at told.now graph.new.state) (λ why. IsMisfit caller graph.old.state rest.now at told.now why) }
+    ensures { MatchResult result (λ _. RecordGoesOn caller graph.old.state rest.now at told.now graph.new.state) (λ why. IsMisfit caller graph.old.state rest.now at told.now why) }
 {
     match *told {
         Record::Did {
@@ -85,7 +85,7 @@ fn judge_call(
     reply: Reply,
 ) -> Result<(), Misfit>
     requires { EventsFit graph.old.state rest.now }
-    ensures { MatchResult result (λ _. GoesOn caller graph.old.state rest.now at (Did place event reply) graph.new.state) (λ why. IsMisfit caller graph.old.state rest.now at (Did place event reply) why) }
+    ensures { MatchResult result (λ _. RecordGoesOn caller graph.old.state rest.now at (Did place event reply) graph.new.state) (λ why. IsMisfit caller graph.old.state rest.now at (Did place event reply) why) }
 {
     if place <= at {
         return Err(Misfit::Before);
@@ -142,7 +142,7 @@ fn judge_question(
     told: Told,
 ) -> Result<(), Misfit>
     requires { EventsFit graph.old.state rest.now }
-    ensures { MatchResult result (λ _. GoesOn caller graph.old.state rest.now at (Saw place ask told) graph.new.state) (λ why. IsMisfit caller graph.old.state rest.now at (Saw place ask told) why) }
+    ensures { MatchResult result (λ _. RecordGoesOn caller graph.old.state rest.now at (Saw place ask told) graph.new.state) (λ why. IsMisfit caller graph.old.state rest.now at (Saw place ask told) why) }
 {
     if place < at {
         return Err(Misfit::Before);

@@ -27,7 +27,7 @@ use Rattle.cf_event.specs.Words.{word_of}
 use Rattle.cf_event.specs.Decoding.{decoded, decoded_with, event_of}
 use Rattle.cf_ledger.specs.declared.faults.LedgerFault.{LedgerFault}
 use Rattle.cf_ledger.specs.declared.faults.LedgerFault.TheVariants.{NoMemory, NoEvent, NoStage, NoRoom}
-use Rattle.cf_ledger.specs.Ledgers.{AreTaken, HasRoomFor, IsFirstRefused, IsRefused, IsTaken}
+use Rattle.cf_ledger.specs.Ledgers.{AreTaken, HasRoomFor, IsFirstRefused, LedgerRefuses, IsTaken}
 
 -- the state with room for more
 abbrev pub roomier : ℕ → State → State
@@ -136,7 +136,7 @@ state_more more s (e ∷ events) h =
 some_is : (o : Option Event) (d e : Event) → o ≡ Some d → o ≡ Some e → d ≡ e
 some_is o d e x y = ap (λ (z : Option Event). unwrap_or z d) (sym x ∙ y)
 
-not_refused : (s : State) (w : ℕ) (e : Event) (why : LedgerFault) → event_of w ≡ Some e → IsTaken s e → why ≢ NoMemory → IsRefused s w why → ⊥
+not_refused : (s : State) (w : ℕ) (e : Event) (why : LedgerFault) → event_of w ≡ Some e → IsTaken s e → why ≢ NoMemory → LedgerRefuses s w why → ⊥
 not_refused s w e NoMemory is taken other u = other refl
 not_refused s w e NoEvent is taken other u = let no : None ≡ Some e = sym u ∙ is in cc
 not_refused s w e NoStage is taken other u = u.2 (subst (EventFits (length s.plan.stages)) (some_is (event_of w) e u.0 is u.1) taken.fits)

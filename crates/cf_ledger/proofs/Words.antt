@@ -12,7 +12,7 @@ use Rattle.cf_model.specs.States.{State, start}
 use Rattle.cf_model.specs.Events.{answered, state_after}
 use Rattle.cf_event.specs.Words.{word_of}
 use Rattle.cf_event.specs.Decoding.{decoded, decoded_with, event_of}
-use Rattle.cf_ledger.specs.Ledgers.{DoesAll, AreTaken, Does, IsFirstRefused, IsKept, IsRefused, IsTaken, Ledger, state_of}
+use Rattle.cf_ledger.specs.Ledgers.{DoesAll, AreTaken, Does, IsFirstRefused, IsKept, LedgerRefuses, IsTaken, Ledger, state_of}
 use Rattle.cf_ledger.specs.declared.faults.LedgerFault.{LedgerFault}
 use Rattle.std.proofs.Common.{drop, get_or}
 use Rattle.std.proofs.lemmas.List.{drop_more, drop_all}
@@ -140,7 +140,7 @@ done_more s words i old new reply l d h =
           (d.event, d.read, d.taken, subst (λ (x : State). IsFirstRefused x k (drop (i + 1) words) why) next u)));
     }
 
-pub done_refused : (s : State) (words : List ℕ) (i : ℕ) (now : Ledger) (why : LedgerFault) → i < length words → IsRefused (state_of now) (get_or words i 0) why → Done s words i now →
+pub done_refused : (s : State) (words : List ℕ) (i : ℕ) (now : Ledger) (why : LedgerFault) → i < length words → LedgerRefuses (state_of now) (get_or words i 0) why → Done s words i now →
     IsFirstRefused s i words why
 done_refused s words i now why l u h =
     let split : drop i words ≡ get_or words i 0 ∷ drop (i + 1) words = drop_more words i 0 l in

@@ -62,16 +62,16 @@ pub record DoesAll (old : Ledger) (words : List ℕ) (new : Ledger) : Type 0 whe
   pub written : new ≡ record old { events = old.events ++ decoded words }
 
 -- why a word isn't done: the first of these, want of memory being the last
-abbrev pub IsRefused : State → ℕ → LedgerFault → Type 0
-IsRefused s word NoMemory = (e : Event) × (event_of word ≡ Some e) × EventFits (length s.plan.stages) e × HasRoomFor s e
-IsRefused s word NoEvent = event_of word ≡ None
-IsRefused s word NoStage = (e : Event) × (event_of word ≡ Some e) × ¬ EventFits (length s.plan.stages) e
-IsRefused s word NoRoom = (e : Event) × (event_of word ≡ Some e) × EventFits (length s.plan.stages) e × ¬ HasRoomFor s e
+abbrev pub LedgerRefuses : State → ℕ → LedgerFault → Type 0
+LedgerRefuses s word NoMemory = (e : Event) × (event_of word ≡ Some e) × EventFits (length s.plan.stages) e × HasRoomFor s e
+LedgerRefuses s word NoEvent = event_of word ≡ None
+LedgerRefuses s word NoStage = (e : Event) × (event_of word ≡ Some e) × ¬ EventFits (length s.plan.stages) e
+LedgerRefuses s word NoRoom = (e : Event) × (event_of word ≡ Some e) × EventFits (length s.plan.stages) e × ¬ HasRoomFor s e
 
 -- the words before the k-th are those of events that are taken, and the k-th isn't done for this reason
 abbrev pub IsFirstRefused : State → ℕ → List ℕ → LedgerFault → Type 0
 IsFirstRefused s k [] why = ⊥
-IsFirstRefused s zero (w ∷ words) why = IsRefused s w why
+IsFirstRefused s zero (w ∷ words) why = LedgerRefuses s w why
 IsFirstRefused s (suc k) (w ∷ words) why =
     (e : Event) × (event_of w ≡ Some e) × IsTaken s e × IsFirstRefused ((answered s e).1) k words why
 

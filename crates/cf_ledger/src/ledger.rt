@@ -4,7 +4,7 @@ ghost use Rattle.cf_plan.specs.Plans.{function_at, has_place, reopened, with_roo
 ghost use Rattle.cf_model.specs.Graphs.{NoneReady, stage_in};
 ghost use Rattle.cf_model.specs.States.{claim_at, is_ready, lowest_ready_of, outcome_at, start};
 ghost use Rattle.cf_event.specs.Words.{word_of};
-ghost use Rattle.cf_ledger.specs.Ledgers.{Does, DoesAll, HasRoomFor, IsFirstRefused, IsRefused, state_at, state_of, with_more};
+ghost use Rattle.cf_ledger.specs.Ledgers.{Does, DoesAll, HasRoomFor, IsFirstRefused, LedgerRefuses, state_at, state_of, with_more};
 ghost use Rattle.cf_ledger.specs.News.{AreNews};
 ghost use Rattle.cf_ledger.specs.Steps.{IsNoStep, Steps};
 ghost use Rattle.cf_event.specs.Decoding.{decoded};
@@ -90,7 +90,7 @@ impl Ledger {
     pub fn apply(&mut self, word: u64) -> Result<Reply, LedgerFault>
         ensures done { IfOk result (λ reply. Does word self.old reply self.new) }
         ensures refused { OnErr result (self.new ≡ self.old) }
-        ensures why { IfErr result (λ fault. IsRefused (state_of self.old) word fault) }
+        ensures why { IfErr result (λ fault. LedgerRefuses (state_of self.old) word fault) }
     {
         let Some(event) = decode(word) else {
             return Err(LedgerFault::NoEvent);
@@ -178,7 +178,7 @@ impl Ledger {
         ensures all { OnOk result (DoesAll self.old words.now self.new) }
         ensures front { IfErr result (λ m. DoesAll self.old (take m.place words.now) self.new) }
         ensures there { IfErr result (λ m. m.place < length words.now) }
-        ensures why { IfErr result (λ m. IsRefused (state_of self.new) (get_or words.now m.place 0) m.why) }
+        ensures why { IfErr result (λ m. LedgerRefuses (state_of self.new) (get_or words.now m.place 0) m.why) }
     {
         for (place, word) in words.iter().enumerate() {
             match self.apply(*word) {

@@ -13,11 +13,11 @@ abbrev pub after_script : Script → State
 after_script s = after_steps s.functions (start (opening s)) s.steps
 
 -- Why no picture is drawn: memory was refused, or the bytes are no script, and then the fault is the one that a run tells.
-abbrev pub IsRefused : Result Script ReadingFault → ScriptFault → Type 0
-IsRefused said faults.NoMemory = Unit {0}
-IsRefused said fault = (e : ReadingFault) × (said ≡ Err e) × (fault ≡ fault_of_reading e)
+abbrev pub PictureRefuses : Result Script ReadingFault → ScriptFault → Type 0
+PictureRefuses said faults.NoMemory = Unit {0}
+PictureRefuses said fault = (e : ReadingFault) × (said ≡ Err e) × (fault ≡ fault_of_reading e)
 
 -- what drawing gives for what the bytes say: a text where they are a script, of which nothing more is said here
 abbrev pub Draws : {A : Type 0} → Result Script ReadingFault → Result A ScriptFault → Type 0
 Draws said (Ok text) = IsOk said
-Draws said (Err fault) = IsRefused said fault
+Draws said (Err fault) = PictureRefuses said fault

@@ -55,17 +55,17 @@ zip_push R (a ∷ xs) [] x y h r = absurd h
 zip_push R (a ∷ xs) (b ∷ ys) x y h r = (h.0, zip_push R xs ys x y h.1 r)
 
 -- what a loop over a list has made so far: beside it goes what the others lead to
-abbrev pub GoesOn : {A B : Type 0} → (A → B → Type 0) → List A → List A → List B → Type 0
-GoesOn {A} {B} R all rest ys = (zs : List B) → AllZip R rest zs → AllZip R all (ys ++ zs)
+abbrev pub PoolGoesOn : {A B : Type 0} → (A → B → Type 0) → List A → List A → List B → Type 0
+PoolGoesOn {A} {B} R all rest ys = (zs : List B) → AllZip R rest zs → AllZip R all (ys ++ zs)
 
-pub zip_begun : {A B : Type 0} (R : A → B → Type 0) (all rest : List A) (ys : List B) → rest ≡ all → ys ≡ [] → GoesOn R all rest ys
+pub zip_begun : {A B : Type 0} (R : A → B → Type 0) (all rest : List A) (ys : List B) → rest ≡ all → ys ≡ [] → PoolGoesOn R all rest ys
 zip_begun R all rest ys same none zs h = subst (λ l. AllZip R all (l ++ zs)) (sym none) (subst (λ l. AllZip R l zs) same h)
 
-pub zip_step : {A B : Type 0} (R : A → B → Type 0) (all was rest : List A) (ys now : List B) (x : A) (y : B) → was ≡ x ∷ rest → now ≡ ys ++ y ∷ [] → R x y → GoesOn R all was ys → GoesOn R all rest now
+pub zip_step : {A B : Type 0} (R : A → B → Type 0) (all was rest : List A) (ys now : List B) (x : A) (y : B) → was ≡ x ∷ rest → now ≡ ys ++ y ∷ [] → R x y → PoolGoesOn R all was ys → PoolGoesOn R all rest now
 zip_step R all was rest ys now x y first items r g zs h =
     subst (AllZip R all) (sym (append_assoc ys (y ∷ []) zs) ∙ ap (λ l. l ++ zs) (sym items)) (g (y ∷ zs) (subst (λ l. AllZip R l (y ∷ zs)) (sym first) (r, h)))
 
-pub zip_ended : {A B : Type 0} (R : A → B → Type 0) (all rest : List A) (ys : List B) → length rest ≡ 0 → GoesOn R all rest ys → AllZip R all ys
+pub zip_ended : {A B : Type 0} (R : A → B → Type 0) (all rest : List A) (ys : List B) → length rest ≡ 0 → PoolGoesOn R all rest ys → AllZip R all ys
 zip_ended R all [] ys none g = subst (AllZip R all) (append-nil ys) (g [] tt)
 zip_ended R all (x ∷ rest) ys none g = absurd (omega arith)
 

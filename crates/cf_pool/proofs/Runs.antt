@@ -29,7 +29,7 @@ use Rattle.cf_pool.specs.declared.pool.Met.{Met}
 use Rattle.cf_pool.specs.declared.pool.Worked.{Worked}
 use Rattle.cf_model.specs.Calling.{CallsOf}
 use Rattle.cf_pool.specs.Calling.{CallsOnce, EachCalls, TellsOf}
-use Rattle.cf_pool.specs.Closings.{HadThreads, HaveCalled, IsDueToTell, IsRefused, IsTold, Ran, RanOut, told}
+use Rattle.cf_pool.specs.Closings.{HadThreads, HaveCalled, IsDueToTell, RunRefuses, RunTells, Ran, RanOut, told}
 use Rattle.cf_pool.specs.Runs.{EndsBelow, EndsIf, HasEnded, HasWorked, IsFirst, IsLowest, IsMet, IsWorkedBy, IsWorkedFrom, OfEach, SeesMore, SeesOn, Stop, WasStopped, first_with, is_any_alone, stop_of}
 use Rattle.cf_pool.specs.Stops.{IsNextCall, Stops}
 use Rattle.cf_pool.specs.Waits.{Ends, Waits, last_place}
@@ -391,7 +391,7 @@ due_told d qs stood stopped after history call NoStage c there f s fits stage du
 pub back_told : {M : Type 0} (meanings : Meanings) (d : Desk) (mine met done : Pass) (ps qs : List Pass) (ws : List (Worked M)) (others : Option Met) (fault : Option DeskFault) → Back meanings d mine met done ps qs ws others fault
     → (closed : Closed) → Shut d (done ∷ qs) closed.history.items closed.passes.items closed.graph.state
     → (first : Met) → first_with others done.known.caller fault ≡ Some first
-    → IsTold meanings d (mine ∷ ps) first.fault closed
+    → RunTells meanings d (mine ∷ ps) first.fault closed
 unfolding back_ran
 back_told meanings d mine met done ps qs ws others fault b closed shut first some =
     let lowest : IsLowest meanings d (mine ∷ ps) (done ∷ qs) first.caller first.fault = subst (IsMet meanings d (mine ∷ ps) (done ∷ qs)) some (back_met meanings d mine met done ps qs ws others fault b) in
@@ -473,7 +473,7 @@ pub record Leaves {M : Type 0} (tells : TellsOf M) (calls : CallsOf M) (meanings
   pub called : HaveCalled tells calls ps ms left
   pub threads : HadThreads meanings d ps left refused
   pub out : first ≡ None → RanOut meanings d ps left.closed.history.items left.closed.passes.items left.closed.graph.state
-  pub stopped : (met : Met) → first ≡ Some met → IsTold meanings d ps met.fault left.closed
+  pub stopped : (met : Met) → first ≡ Some met → RunTells meanings d ps met.fault left.closed
 
 pub back_leaves : {M : Type 0} (tells : TellsOf M) (calls : CallsOf M) (of_worker : M → Meanings) (meanings : Meanings) (d : Desk) (mine met done : Pass) (hs : List (Pass × M)) (qs : List Pass) (ws : List (Worked M)) (others : Option Met) (fault : Option DeskFault) (m n : M)
     → Back meanings d mine met done (map (λ (h : Pass × M). h.0) hs) qs ws others fault → AllZip (IsWorkedBy tells calls of_worker d 1000) hs ws → CallsOnce tells calls (state_of done.known).plan.stages met.known.caller met.records done.records m n
@@ -496,7 +496,7 @@ told_left P false None left h = h refl refl
 told_left P false (Some met) left h = tt
 
 pub told_refused : {M : Type 0} (tells : TellsOf M) (calls : CallsOf M) (meanings : Meanings) (d : Desk) (ps : List Pass) (ms : List M) (refused : Bool) (first : Option Met) (left : Left M) → Leaves tells calls meanings d ps ms refused first left
-    → IfErr (told refused first left) (IsRefused tells calls meanings d ps ms)
+    → IfErr (told refused first left) (RunRefuses tells calls meanings d ps ms)
 told_refused tells calls meanings d ps ms true first left h = (h.ran, h.called, h.threads)
 told_refused tells calls meanings d ps ms false None left h = tt
 told_refused tells calls meanings d ps ms false (Some met) left h = (h.stopped met refl, h.called, h.threads)

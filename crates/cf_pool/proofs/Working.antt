@@ -23,7 +23,7 @@ use Rattle.cf_desk.specs.declared.faults.DeskFault.{DeskFault}
 use Rattle.cf_model.specs.Calls.{event_by}
 use Rattle.cf_desk.specs.Faults.{HasRoom, IsOnStage}
 use Rattle.cf_desk.specs.Log.{state_from}
-use Rattle.cf_desk.specs.Results.{Answers, CaughtUp, Refuses}
+use Rattle.cf_desk.specs.Results.{DeskAnswers, CaughtUp, Refuses}
 use Rattle.cf_desk.specs.Views.{Acts, Desk, Follows, Pass, state_of}
 use Rattle.cf_pool.specs.Jobs.{granted_by}
 use Rattle.cf_pool.specs.Works.{AreWork, IsNext, Owed, owed_by}
@@ -61,7 +61,7 @@ as_it_was : (d : Desk) (knows : Type 0) (p q : Pass) → knows → CaughtUp d kn
 as_it_was d knows p q k (inl h) = h.1
 as_it_was d knows p q k (inr h) = absurd (h.0 k)
 
-pub acts_known : (d : Desk) (p q : Pass) (call : Call) (reply : Reply) → IsOnStage p (event_by p.known.caller call) → Answers d p call reply q → Acts p call reply q × HasRoom p
+pub acts_known : (d : Desk) (p q : Pass) (call : Call) (reply : Reply) → IsOnStage p (event_by p.known.caller call) → DeskAnswers d p call reply q → Acts p call reply q × HasRoom p
 acts_known d p q call reply there a =
     let same = as_it_was d (IsOnStage p (event_by p.known.caller call)) p a.found there a.caught in
     subst (λ (m : Pass). Acts m call reply q × HasRoom m) same (a.acts, a.room)

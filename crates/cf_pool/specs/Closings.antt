@@ -47,7 +47,7 @@ IsDueToTell words qs history NoStage = ⊥
 IsDueToTell words qs history BadAttach = ⊥
 
 -- the closed desk after a fault: why it is told, and that it is the fault of the lowest caller that met one
-pub record IsTold (meanings : Meanings) (d : Desk) (ps : List Pass) (fault : DeskFault) (closed : Closed) : Type 0 where
+pub record RunTells (meanings : Meanings) (d : Desk) (ps : List Pass) (fault : DeskFault) (closed : Closed) : Type 0 where
   pub ran : Ran meanings d ps closed.history.items closed.passes.items closed.graph.state
   pub due : IsDueToTell d.words ran.qs closed.history.items fault
   pub caller : ℕ
@@ -83,9 +83,9 @@ IsForRoom (ToldDesk fault left) = ⊥
 
 -- Why a run tells a fault, and what it leaves then: memory was refused, and nothing has begun; a thread was refused, and all have worked; or none was, and it is
 -- the desk's.
-abbrev pub IsRefused : {M : Type 0} → TellsOf M → CallsOf M → Meanings → Desk → List Pass → List M → PoolFault M → Type 0
-IsRefused tells calls meanings d ps ms (NoMemory unbegun) = IsAsBefore d ps ms unbegun
-IsRefused tells calls meanings d ps ms (NoThread left) =
+abbrev pub RunRefuses : {M : Type 0} → TellsOf M → CallsOf M → Meanings → Desk → List Pass → List M → PoolFault M → Type 0
+RunRefuses tells calls meanings d ps ms (NoMemory unbegun) = IsAsBefore d ps ms unbegun
+RunRefuses tells calls meanings d ps ms (NoThread left) =
     Ran meanings d ps left.closed.history.items left.closed.passes.items left.closed.graph.state × HaveCalled tells calls ps ms left × HadThreads meanings d ps left true
-IsRefused tells calls meanings d ps ms (ToldDesk fault left) =
-    IsTold meanings d ps fault left.closed × HaveCalled tells calls ps ms left × HadThreads meanings d ps left false
+RunRefuses tells calls meanings d ps ms (ToldDesk fault left) =
+    RunTells meanings d ps fault left.closed × HaveCalled tells calls ps ms left × HadThreads meanings d ps left false

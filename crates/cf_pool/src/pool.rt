@@ -5,7 +5,7 @@ ghost use Rattle.std.specs.List.{AllZip};
 ghost use Rattle.cf_desk.specs.Rule.{AllShort};
 ghost use Rattle.cf_desk.specs.Views.{IsOf, knowns};
 ghost use Rattle.cf_pool.specs.Calling.{MeanAlike, first_meanings};
-ghost use Rattle.cf_pool.specs.Closings.{HadThreads, HaveCalled, IsRefused, RanOut, told};
+ghost use Rattle.cf_pool.specs.Closings.{HadThreads, HaveCalled, RunRefuses, RanOut, told};
 ghost use Rattle.cf_pool.specs.Runs.{IsFirst, IsWorkedBy, SeesMore, SeesOn, first_with, is_any_alone, lower_of, stop_of};
 
 use crate::faults::PoolFault;
@@ -391,7 +391,7 @@ fn run_each<R: Threads + Wait + Sync, W: Worker + Send + Drop>(
     ensures ran { IfOk result (λ left. RanOut (first_meanings W.meanings (map (λ w. w.1) workers.items)) desk (map (λ w. w.0) workers.items) left.closed.history.items left.closed.passes.items left.closed.graph.state) }
     ensures called { IfOk result (HaveCalled W.tells W.calls (map (λ w. w.0) workers.items) (map (λ w. w.1) workers.items)) }
     ensures threads { IfOk result (λ left. HadThreads (first_meanings W.meanings (map (λ w. w.1) workers.items)) desk (map (λ w. w.0) workers.items) left false) }
-    ensures refused { IfErr result (IsRefused W.tells W.calls (first_meanings W.meanings (map (λ w. w.1) workers.items)) desk (map (λ w. w.0) workers.items) (map (λ w. w.1) workers.items)) }
+    ensures refused { IfErr result (RunRefuses W.tells W.calls (first_meanings W.meanings (map (λ w. w.1) workers.items)) desk (map (λ w. w.0) workers.items) (map (λ w. w.1) workers.items)) }
 {
     let one = workers.remove(0);
     let (mut mine, own) = one;
@@ -446,7 +446,7 @@ pub fn run<R: Threads + Wait + Sync, W: Worker + Send + Drop>(
     ensures ran { IfOk result (λ left. RanOut (first_meanings W.meanings workers.items) desk passes.items left.closed.history.items left.closed.passes.items left.closed.graph.state) }
     ensures called { IfOk result (HaveCalled W.tells W.calls passes.items workers.items) }
     ensures threads { IfOk result (λ left. HadThreads (first_meanings W.meanings workers.items) desk passes.items left false) }
-    ensures refused { IfErr result (IsRefused W.tells W.calls (first_meanings W.meanings workers.items) desk passes.items workers.items) }
+    ensures refused { IfErr result (RunRefuses W.tells W.calls (first_meanings W.meanings workers.items) desk passes.items workers.items) }
 {
     let alloc = *passes.allocator();
     match room_for(alloc, workers.len()) {

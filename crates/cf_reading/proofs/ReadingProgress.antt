@@ -7,7 +7,7 @@ use Rattle.cf_reading.specs.declared.func.Func.{Func}
 use Rattle.cf_reading.specs.declared.purpose.Purpose.{Purpose}
 use Rattle.cf_reading.specs.declared.script.Step.{Step}
 use Rattle.cf_reading.specs.declared.script.Step.TheVariants.{Does, Asks, Work, Nudge}
-use Rattle.cf_reading.specs.ReadingProgress.{Progress, FitsNext, GoesOn, IsProgress, extents_after, with_step}
+use Rattle.cf_reading.specs.ReadingProgress.{Progress, FitsNext, ReadingGoesOn, IsProgress, extents_after, with_step}
 use Rattle.cf_reading.specs.Purposes.{IsTaken}
 use Rattle.cf_reading.specs.Scripts.{Extent, StepCalls, StepFits, StepsFit, attached_by, extent_after}
 use Rattle.cf_reading.specs.Stages.{with_function}
@@ -93,6 +93,6 @@ with_step_is purpose start known progress said next taken is =
       kept = omega arith;
     }
 
-pub goes_on_is : (purpose : Purpose) (start : Extent) (known : ℕ) (old new : Progress) → GoesOn purpose old new → IsProgress purpose start known old → IsProgress purpose start known new
+pub goes_on_is : (purpose : Purpose) (start : Extent) (known : ℕ) (old new : Progress) → ReadingGoesOn purpose old new → IsProgress purpose start known old → IsProgress purpose start known new
 goes_on_is purpose start known old new next is =
     subst (IsProgress purpose start known) (sym next.grown) (with_step_is purpose start known old next.said next.fits next.taken is)

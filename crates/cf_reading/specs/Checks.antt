@@ -46,6 +46,6 @@ Fails faults.Read said = ⊥
 Fails fault said = said ≡ Err fault
 
 -- what a function returned, seen by view, is what is said, unless memory ran out
-abbrev pub Gives : {X Y : Type 0} → (X → Y) → Result X ReadingFault → Result Y ReadingFault → Type 0
-Gives view (Ok x) said = said ≡ Ok (view x)
-Gives view (Err fault) said = Fails fault said
+abbrev pub ReadingGives : {X Y : Type 0} → (X → Y) → Result X ReadingFault → Result Y ReadingFault → Type 0
+ReadingGives view (Ok x) said = said ≡ Ok (view x)
+ReadingGives view (Err fault) said = Fails fault said

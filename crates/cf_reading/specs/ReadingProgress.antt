@@ -34,7 +34,7 @@ extents_after [] x = x
 extents_after (step ∷ steps) x = extents_after steps (extent_after step x)
 
 -- one progress is another with one step more, which fits and is taken
-pub record GoesOn (purpose : Purpose) (old new : Progress) : Type 0 where
+pub record ReadingGoesOn (purpose : Purpose) (old new : Progress) : Type 0 where
   pub said : Step × Option Func
   pub grown : new ≡ with_step old said
   pub fits : FitsNext old.extent.stages old.functions said

@@ -1,7 +1,7 @@
 //! The limits of a script.
 ghost use Rattle.std.specs.Prelude.{◌≡◌, OnOk, codes};
 ghost use Rattle.serde_json.specs.View.{items_view, view};
-ghost use Rattle.cf_reading.specs.Checks.{Gives, fold_items};
+ghost use Rattle.cf_reading.specs.Checks.{ReadingGives, fold_items};
 ghost use Rattle.cf_reading.specs.Limits.{kind_named, kind_of, limit_next, number_named};
 
 use crate::fault::{Part, ReadingFault};
@@ -46,7 +46,7 @@ fn moment_said(json: &Json) -> Option<u32>
 /// Takes the next limit into the plan.
 #[tactic(auto, unfolding(crate::specs::Limits::limit_next))]
 fn add_limit(plan: &mut PlanBuilder, json: &Json) -> Result<(), ReadingFault>
-    ensures gives { Gives (λ _. plan.new.plan) result (limit_next plan.old.plan (view json.now)) }
+    ensures gives { ReadingGives (λ _. plan.new.plan) result (limit_next plan.old.plan (view json.now)) }
     ensures stages { OnOk result (plan.new.plan.stages ≡ plan.old.plan.stages) }
 {
     let k = plan.limits().len() as u32;
@@ -64,7 +64,7 @@ fn add_limit(plan: &mut PlanBuilder, json: &Json) -> Result<(), ReadingFault>
 
 /// Takes the limits of an array into the plan, in order.
 pub(crate) fn read_limits(plan: &mut PlanBuilder, list: &[Json]) -> Result<(), ReadingFault>
-    ensures gives { Gives (λ _. plan.new.plan) result (fold_items limit_next plan.old.plan (items_view list.now)) }
+    ensures gives { ReadingGives (λ _. plan.new.plan) result (fold_items limit_next plan.old.plan (items_view list.now)) }
     ensures stages { OnOk result (plan.new.plan.stages ≡ plan.old.plan.stages) }
 {
     'limits: for json in list {

@@ -1,7 +1,7 @@
 //! A script as a whole.
 ghost use Rattle.std.specs.Prelude.{◌≡◌, ◌<◌, ◌≤◌, true, All, Err, IfOk, length, option_map};
 ghost use Rattle.serde_json.specs.View.{items_view, view};
-ghost use Rattle.cf_reading.specs.Checks.{Gives};
+ghost use Rattle.cf_reading.specs.Checks.{ReadingGives};
 ghost use Rattle.cf_reading.specs.Scripts.{FunctionFits};
 ghost use Rattle.cf_reading.specs.Purposes.{IsForRace, IsTaken};
 ghost use Rattle.cf_plan.specs.Plans.{has_place};
@@ -42,7 +42,7 @@ fn planned(
     stages: &[Json],
     limits: &[Json],
 ) -> Result<(Plan, Vec<Func>), ReadingFault>
-    ensures gives { Gives (λ p. record { plan = p.0; functions = p.1.items }) result
+    ensures gives { ReadingGives (λ p. record { plan = p.0; functions = p.1.items }) result
         (drafted_of version room (items_view stages.now) (items_view limits.now)) }
     ensures numbered { IfOk result (λ p. All (FunctionFits (length p.1.items)) p.0.stages) }
     ensures few { IfOk result (λ p. length p.1.items ≤ 4096) }
@@ -66,7 +66,7 @@ fn planned(
 /// What a JSON value says to what it is read for.
 #[tactic(auto, unfolding(crate::specs::Reading::outline_of, crate::specs::Reading::script_of))]
 fn script(alloc: Global, purpose: Purpose, json: &Json) -> Result<Script, ReadingFault>
-    ensures says { Gives (λ s. s) result (script_of purpose (view json.now)) }
+    ensures says { ReadingGives (λ s. s) result (script_of purpose (view json.now)) }
     ensures taken { IfOk result (λ s. All (IsTaken purpose) s.steps) }
 {
     if !json.is_object() {
@@ -101,7 +101,7 @@ fn script(alloc: Global, purpose: Purpose, json: &Json) -> Result<Script, Readin
 /// The script that a JSON value says, or the first fault in it: what `read_script` answers of a text of at most
 /// `MAX_BYTES` that says this value. `TooLong`, `NotJson` and `Read` never come.
 pub fn script_of(alloc: Global, json: &Json) -> Result<Script, ReadingFault>
-    ensures { Gives (λ s. s) result (script_said (view json.now)) }
+    ensures { ReadingGives (λ s. s) result (script_said (view json.now)) }
 {
     script(alloc, Purpose::Run, json)
 }
@@ -113,7 +113,7 @@ pub fn script_of(alloc: Global, json: &Json) -> Result<Script, ReadingFault>
 /// and sources, its function, the builder), each limit (its shape, the builder), the place for the room, each step. A
 /// refused growth is `NoMemory` wherever it is met. `Read` never comes.
 pub fn read_script(alloc: Global, bytes: &[u8]) -> Result<Script, ReadingFault>
-    ensures says { Gives (λ s. s) result (reading bytes.now) }
+    ensures says { ReadingGives (λ s. s) result (reading bytes.now) }
     ensures long { 1048576 < length bytes.now → result ≡ Err ReadingFault.TooLong }
 {
     read_for(alloc, Purpose::Run, bytes)
@@ -122,7 +122,7 @@ pub fn read_script(alloc: Global, bytes: &[u8]) -> Result<Script, ReadingFault>
 /// The same of a script that is raced: a step that isn't a `complete`, `fail`, `cancel`, `tick` or `attach` of
 /// caller 0 is the fault `Step` where it stands in the order of steps.
 pub fn read_race(alloc: Global, bytes: &[u8]) -> Result<Script, ReadingFault>
-    ensures says { Gives (λ s. s) result (race_reading bytes.now) }
+    ensures says { ReadingGives (λ s. s) result (race_reading bytes.now) }
     ensures raced { IfOk result (λ s. All IsForRace s.steps) }
     ensures long { 1048576 < length bytes.now → result ≡ Err ReadingFault.TooLong }
 {
@@ -132,7 +132,7 @@ pub fn read_race(alloc: Global, bytes: &[u8]) -> Result<Script, ReadingFault>
 /// The script that the bytes say to what they are read for, or the first fault in them.
 #[tactic(auto, using(crate::proofs::Texts::json_found, crate::proofs::Texts::json_missing), unfolding(crate::specs::Reading::outline))]
 fn read_for(alloc: Global, purpose: Purpose, bytes: &[u8]) -> Result<Script, ReadingFault>
-    ensures says { Gives (λ s. s) result (reading_for purpose bytes.now) }
+    ensures says { ReadingGives (λ s. s) result (reading_for purpose bytes.now) }
     ensures long { 1048576 < length bytes.now → result ≡ Err ReadingFault.TooLong }
     ensures taken { IfOk result (λ s. All (IsTaken purpose) s.steps) }
 {

@@ -1,7 +1,7 @@
 //! What the builder of plans accepts and refuses, as a script is told.
 ghost use Rattle.std.specs.Prelude.{◌≡◌, OnErr, OnOk};
 ghost use Rattle.cf_plan.specs.Plans.{with_stage};
-ghost use Rattle.cf_reading.specs.Checks.{Gives, refusal_told};
+ghost use Rattle.cf_reading.specs.Checks.{ReadingGives, refusal_told};
 ghost use Rattle.cf_reading.specs.Limits.{limited};
 ghost use Rattle.cf_reading.specs.Stages.{staged};
 
@@ -25,7 +25,7 @@ pub(crate) fn plan_stage(
     of: &[u16],
     function: Option<u16>,
 ) -> Result<(), ReadingFault>
-    ensures gives { Gives (λ _. plan.new.plan) result
+    ensures gives { ReadingGives (λ _. plan.new.plan) result
         (staged plan.old.plan (record { form = form; sources = of.now; function = function })) }
     ensures ok { OnOk result
         (plan.new.plan ≡ with_stage plan.old.plan (record { form = form; sources = of.now; function = function })) }
@@ -45,7 +45,7 @@ pub(crate) fn plan_limit(
     at: u32,
     kind: LimitKind,
 ) -> Result<(), ReadingFault>
-    ensures gives { Gives (λ _. plan.new.plan) result
+    ensures gives { ReadingGives (λ _. plan.new.plan) result
         (limited plan.old.plan (record { stage = stage; at = at; kind = kind })) }
     ensures stages { OnOk result (plan.new.plan.stages ≡ plan.old.plan.stages) }
 {

@@ -1,7 +1,7 @@
 //! The stages of a script.
 ghost use Rattle.std.specs.Prelude.{All, IfOk, OnOk, [], length, option_map};
 ghost use Rattle.serde_json.specs.View.{items_view, view};
-ghost use Rattle.cf_reading.specs.Checks.{Gives, fold_items};
+ghost use Rattle.cf_reading.specs.Checks.{ReadingGives, fold_items};
 ghost use Rattle.cf_reading.specs.Scripts.{FunctionFits};
 ghost use Rattle.cf_reading.specs.Stages.{nothing_drafted, source_next, sources_said, stage_next};
 ghost use Rattle.cf_reading.specs.Views.{drafted};
@@ -19,7 +19,7 @@ use std::alloc::Global;
 
 /// Takes the next source of stage `k`.
 fn add_source(found: &mut Vec<u16>, json: &Json, k: u32) -> Result<(), ReadingFault>
-    ensures { Gives (λ _. found.new.items) result
+    ensures { ReadingGives (λ _. found.new.items) result
         (source_next (ReadingFault.Shape (Part.Stage k)) found.old.items (view json.now)) }
 {
     let Some(n) = small(json) else {
@@ -31,7 +31,7 @@ fn add_source(found: &mut Vec<u16>, json: &Json, k: u32) -> Result<(), ReadingFa
 
 /// The sources of stage `k`, in order.
 fn read_sources(alloc: Global, list: &[Json], k: u32) -> Result<Vec<u16>, ReadingFault>
-    ensures { Gives (λ v. v.items) result
+    ensures { ReadingGives (λ v. v.items) result
         (fold_items (source_next (ReadingFault.Shape (Part.Stage k))) [] (items_view list.now)) }
 {
     let mut found = Vec::new(alloc);
@@ -45,7 +45,7 @@ fn read_sources(alloc: Global, list: &[Json], k: u32) -> Result<Vec<u16>, Readin
 
 /// The sources that stand in stage `k`, none where nothing is said of them.
 fn sources(alloc: Global, said: Option<&Json>, k: u32) -> Result<Vec<u16>, ReadingFault>
-    ensures { Gives (λ v. v.items) result
+    ensures { ReadingGives (λ v. v.items) result
         (sources_said (ReadingFault.Shape (Part.Stage k)) (option_map (λ d. view d.now) said.entry)) }
 {
     let Some(json) = said else {
@@ -65,7 +65,7 @@ fn add_stage(
     draft: &mut Draft,
     json: &Json,
 ) -> Result<(), ReadingFault>
-    ensures gives { Gives (λ _. drafted draft.new) result (stage_next version (drafted draft.old) (view json.now)) }
+    ensures gives { ReadingGives (λ _. drafted draft.new) result (stage_next version (drafted draft.old) (view json.now)) }
     ensures numbered { OnOk result (All (FunctionFits (length draft.old.functions.items)) draft.old.plan.plan.stages
         → All (FunctionFits (length draft.new.functions.items)) draft.new.plan.plan.stages) }
 {
@@ -88,7 +88,7 @@ pub(crate) fn read_stages(
     version: Version,
     list: &[Json],
 ) -> Result<Draft, ReadingFault>
-    ensures gives { Gives drafted result (fold_items (stage_next version) nothing_drafted (items_view list.now)) }
+    ensures gives { ReadingGives drafted result (fold_items (stage_next version) nothing_drafted (items_view list.now)) }
     ensures numbered { IfOk result
         (λ draft. All (FunctionFits (length draft.functions.items)) draft.plan.plan.stages) }
 {

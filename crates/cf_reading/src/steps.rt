@@ -1,9 +1,9 @@
 //! The steps of a script.
 ghost use Rattle.std.specs.Prelude.{◌≡◌, ◌≤◌, IfSome, OnOk, [], length};
 ghost use Rattle.serde_json.specs.View.{items_view, view};
-ghost use Rattle.cf_reading.specs.Checks.{Gives, fold_items};
+ghost use Rattle.cf_reading.specs.Checks.{ReadingGives, fold_items};
 ghost use Rattle.cf_reading.specs.Steps.{NamesWithin, own_step, other_step, step_alone, step_for, step_named, step_next, step_said, step_worded};
-ghost use Rattle.cf_reading.specs.ReadingProgress.{FitsNext, GoesOn, IsProgress};
+ghost use Rattle.cf_reading.specs.ReadingProgress.{FitsNext, ReadingGoesOn, IsProgress};
 ghost use Rattle.cf_reading.specs.Views.{progressed};
 ghost use Rattle.cf_reading.specs.Purposes.{IsTaken};
 
@@ -139,9 +139,9 @@ fn add_step(
     progress: &mut Progress,
     json: &Json,
 ) -> Result<(), ReadingFault>
-    ensures gives { Gives (λ _. progressed progress.new) result
+    ensures gives { ReadingGives (λ _. progressed progress.new) result
         (step_next purpose version (progressed progress.old) (view json.now)) }
-    ensures goes_on { OnOk result (GoesOn purpose (progressed progress.old) (progressed progress.new)) }
+    ensures goes_on { OnOk result (ReadingGoesOn purpose (progressed progress.old) (progressed progress.new)) }
 {
     let k = progress.steps.len();
     if k >= MAX_STEPS {
@@ -166,7 +166,7 @@ pub(crate) fn read_steps(
     list: &[Json],
 ) -> Result<(), ReadingFault>
     requires { progress.old.steps.items ≡ [] }
-    ensures gives { Gives (λ _. progressed progress.new) result
+    ensures gives { ReadingGives (λ _. progressed progress.new) result
         (fold_items (step_next purpose version) (progressed progress.old) (items_view list.now)) }
     ensures leads { OnOk result (IsProgress purpose (record { stages = progress.old.stages; room = progress.old.room })
         (length progress.old.functions.items) (progressed progress.new)) }

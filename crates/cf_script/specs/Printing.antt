@@ -29,17 +29,17 @@ lines_for (Err fault) = fault_line fault
 
 -- Why a script isn't done, by what its input says: that is this fault, or the script is too large. The reader and memory may
 -- fail whatever it says, and a writer is never the cause.
-abbrev pub IsRefused : Result Script ReadingFault → (Script → Type 0) → ScriptFault → Type 0
-IsRefused said IsTooLarge faults.Read = Unit {0}
-IsRefused said IsTooLarge faults.NoMemory = Unit {0}
-IsRefused said IsTooLarge faults.Write = ⊥
-IsRefused said IsTooLarge faults.RaceSize = (s : Script) × (said ≡ Ok s) × IsTooLarge s
-IsRefused said IsTooLarge fault = (e : ReadingFault) × (said ≡ Err e) × (fault ≡ fault_of_reading e)
+abbrev pub ScriptRefuses : Result Script ReadingFault → (Script → Type 0) → ScriptFault → Type 0
+ScriptRefuses said IsTooLarge faults.Read = Unit {0}
+ScriptRefuses said IsTooLarge faults.NoMemory = Unit {0}
+ScriptRefuses said IsTooLarge faults.Write = ⊥
+ScriptRefuses said IsTooLarge faults.RaceSize = (s : Script) × (said ≡ Ok s) × IsTooLarge s
+ScriptRefuses said IsTooLarge fault = (e : ReadingFault) × (said ≡ Err e) × (fault ≡ fault_of_reading e)
 
 -- what an input may give, by what it says: a text of the script, or the fault for which it isn't done
 abbrev pub MayGive : Result Script ReadingFault → (Script → List ℕ → Type 0) → (Script → Type 0) → Given → Type 0
 MayGive said IsText IsTooLarge (Ok text) = (s : Script) × (said ≡ Ok s) × IsText s text
-MayGive said IsText IsTooLarge (Err fault) = IsRefused said IsTooLarge fault
+MayGive said IsText IsTooLarge (Err fault) = ScriptRefuses said IsTooLarge fault
 
 -- What is answered, and what the writer gets, of an input that gives one of these. Ok: the text. A writer that failed: a front
 -- of what was to be printed. Another fault: its line.

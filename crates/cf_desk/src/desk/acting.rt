@@ -3,7 +3,7 @@ ghost use Rattle.std.specs.Prelude.{◌≡◌, IfErr, IfOk, IsTrue, MatchOption}
 ghost use Rattle.cf_model.specs.Calls.{event_by};
 ghost use Rattle.cf_desk.specs.Faults.{HasRoom, IsFitting, IsOnStage};
 ghost use Rattle.cf_desk.specs.Log.{IsDeskEvent};
-ghost use Rattle.cf_desk.specs.Results.{Answers, CaughtUp, IsRecorded, Refuses};
+ghost use Rattle.cf_desk.specs.Results.{DeskAnswers, CaughtUp, IsRecorded, Refuses};
 ghost use Rattle.cf_desk.specs.Views.{Acts, Follows, IsSamePass, SeesFull, state_of};
 
 use crate::desk::Desk;
@@ -22,7 +22,7 @@ impl Desk {
     pub fn act(&self, p: &mut Pass, c: Call) -> Result<Reply, DeskFault>
         requires { p.old.table ≡ self.now.table }
         ensures same { IsSamePass p.old p.new }
-        ensures done { IfOk result (λ reply. Answers self.now p.old c reply p.new) }
+        ensures done { IfOk result (λ reply. DeskAnswers self.now p.old c reply p.new) }
         ensures recorded { IfOk result (λ reply. IsRecorded p.old c reply p.new) }
         ensures refused { IfErr result (Refuses self.now p.old c p.new) }
     {

@@ -5,7 +5,7 @@ ghost use Rattle.cf_model.specs.States.{lowest_ready_of};
 ghost use Rattle.cf_model.specs.Calls.{event_by};
 ghost use Rattle.cf_model.specs.declared.calls.Call.TheVariants.{Claim};
 ghost use Rattle.cf_desk.specs.Faults.{IsOnStage};
-ghost use Rattle.cf_desk.specs.Results.{RefusesToTell, Tells, TellsJoined};
+ghost use Rattle.cf_desk.specs.Results.{RefusesToTell, DeskTells, TellsJoined};
 ghost use Rattle.cf_desk.specs.Views.{Follows, IsSamePass, LooksFor, LooksOnce, Meets, state_of};
 
 use crate::calls::Joined;
@@ -21,7 +21,7 @@ impl Desk {
     pub fn read(&self, p: &mut Pass, a: Ask) -> Result<Told, DeskFault>
         requires { p.old.table ≡ self.now.table }
         ensures same { IsSamePass p.old p.new }
-        ensures told { IfOk result (λ told. Tells self.now p.old a told p.new) }
+        ensures told { IfOk result (λ told. DeskTells self.now p.old a told p.new) }
         ensures refused { IfErr result (RefusesToTell self.now p.old a p.new) }
     {
         let known = p.knows(a);

@@ -2,7 +2,7 @@
 ghost use Rattle.std.specs.Prelude.{◌≡◌, ◌<◌, All, MatchOption, MatchResult, length};
 ghost use Rattle.std.specs.Arc.{arc_value};
 ghost use Rattle.cf_handles.specs.Closed.{IsClosed};
-ghost use Rattle.cf_handles.specs.Closings.{HasMore, IsBegun, IsKept, IsRefused};
+ghost use Rattle.cf_handles.specs.Closings.{HasMore, IsBegun, IsKept, ClosingRefuses};
 
 use crate::code::Code;
 use crate::desk::caller::is_one_desk;
@@ -27,7 +27,7 @@ impl Closing {
 
     /// Why a caller isn't taken, if it isn't.
     pub(crate) fn refusal(&self, caller: &Caller) -> Option<Code>
-        ensures { MatchOption result (length self.now.passes.items < (arc_value self.now.desk).setting.callers) (IsRefused self.now) }
+        ensures { MatchOption result (length self.now.passes.items < (arc_value self.now.desk).setting.callers) (ClosingRefuses self.now) }
     {
         if !is_one_desk(&self.desk, &caller.desk) {
             return Some(Code::OtherDesk);

@@ -2,7 +2,7 @@
 ghost use Rattle.std.specs.Prelude.{◌≡◌, MatchOption, None, Some, if◌then◌else◌};
 ghost use Rattle.cf_handles.specs.declared.code.Code.TheVariants.{NoStage};
 ghost use Rattle.cf_model.specs.Ranges.{EventFits};
-ghost use Rattle.cf_handles.specs.Graphs.{Answers, Asked, IsRefused, Restarts, RestsAlways, RestsAt, RestsAtReady, function_told, now_told, outcome_told, ready_told, stages_told, turns_told};
+ghost use Rattle.cf_handles.specs.Graphs.{GraphAnswers, Asked, GraphRefuses, Restarts, RestsAlways, RestsAt, RestsAtReady, function_told, now_told, outcome_told, ready_told, stages_told, turns_told};
 
 use crate::code::Code;
 use crate::handle::object::Object;
@@ -14,7 +14,7 @@ use cf_plan::fits_form;
 /// Hands a graph an event, unless there is a reason why there is none.
 #[inline(always)]
 pub fn answer(held: &mut Object, event: Result<Event, Code>) -> Result<CfReply, Code>
-    ensures { Answers event held.old result held.new }
+    ensures { GraphAnswers event held.old result held.new }
 {
     let Object::Graph(graph) = held else {
         return Err(Code::WrongKind);
@@ -32,7 +32,7 @@ pub fn answer(held: &mut Object, event: Result<Event, Code>) -> Result<CfReply, 
 /// Why an event isn't done to a graph of so many stages, if it isn't.
 #[inline(always)]
 fn refusal_of(stages: u16, event: &Event) -> Option<Code>
-    ensures { MatchOption result (EventFits stages event.now) (IsRefused stages event.now) }
+    ensures { MatchOption result (EventFits stages event.now) (GraphRefuses stages event.now) }
 {
     match *event {
         Event::Complete { stage, .. } => unless(stage < stages),

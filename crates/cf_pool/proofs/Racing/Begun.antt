@@ -23,7 +23,7 @@ use Rattle.cf_desk.specs.Laws.{call_of}
 use Rattle.cf_event.specs.Events.{own}
 use Rattle.cf_desk.specs.Log.{state_from}
 use Rattle.cf_desk.specs.Records.{dids, Fits}
-use Rattle.cf_desk.specs.Results.{Answers, CaughtUp, Refuses}
+use Rattle.cf_desk.specs.Results.{DeskAnswers, CaughtUp, Refuses}
 use Rattle.cf_desk.specs.Rule.{blank, fresh, with_seen}
 use Rattle.cf_desk.specs.Views.{Acts, Follows, IsOf, Pass, Meets, Desk, SeesFull, new_pass, opened, state_of}
 use Rattle.cf_desk.proofs.Events.{fits_more as event_fits_more}
@@ -92,7 +92,7 @@ found_taken d steps k knows p found h (inl as_it_was) = subst (HasTaken d steps 
 found_taken d steps k knows p found h (inr looked) = none_more d steps k p found h looked.1
 
 -- one step more, by a pass that may have had to catch up first
-pub one_taken : (d : Desk) (steps : List Event) (k : ℕ) (e : Event) (call : Call) (reply : Reply) (p q : Pass) → HasTaken d steps k p → k < length steps → All IsStep steps → call ≡ as_call (get_or steps k e) → Answers d p call reply q → HasTaken d steps (k + 1) q
+pub one_taken : (d : Desk) (steps : List Event) (k : ℕ) (e : Event) (call : Call) (reply : Reply) (p q : Pass) → HasTaken d steps k p → k < length steps → All IsStep steps → call ≡ as_call (get_or steps k e) → DeskAnswers d p call reply q → HasTaken d steps (k + 1) q
 one_taken d steps k e call reply p q h lt are is answers =
     one_acted d steps k e call reply answers.found q (found_taken d steps k (IsOnStage p (event_by p.known.caller call)) p answers.found h answers.caught) lt are is answers.acts
 

@@ -36,7 +36,7 @@ use Rattle.cf_model.specs.Calling.{CallsOf}
 use Rattle.cf_pool.specs.Calling.{TellsOf}
 use Rattle.cf_pool.specs.declared.faults.PoolFault.{PoolFault}
 use Rattle.cf_pool.specs.declared.faults.PoolFault.TheVariants.{Desk as ToldDesk, NoMemory, NoThread}
-use Rattle.cf_pool.specs.Closings.{IsDueToTell, IsForRoom, IsRefused, Ran, RanOut}
+use Rattle.cf_pool.specs.Closings.{IsDueToTell, IsForRoom, RunRefuses, Ran, RanOut}
 use Rattle.cf_pool.specs.Works.{Owed, Works, WorksOut, owed_after}
 use Rattle.cf_pool.specs.Records.{recorded}
 use Rattle.cf_pool.specs.Races.{AreSteps, IsByWorker, IsRaced, IsStep, IsWorkHistory, log_words, plan_after, race_functions}
@@ -276,7 +276,7 @@ never_full meanings d plan steps calls workers ps history kept graph z b PassFul
 
 -- So the run of a race tells no desk's fault.
 pub only_for_room : {M : Type 0} (meanings : Meanings) (d : Desk) (plan : Planned) (steps : List Event) (calls workers : ℕ) (ps : List Pass) (tells : TellsOf M) (has_called : CallsOf M) (ms : List M) → IsSized d plan steps workers calls → HaveBegun d steps calls ps
-    → (fault : PoolFault M) → IsRefused tells has_called meanings d ps ms fault → IsForRoom fault
+    → (fault : PoolFault M) → RunRefuses tells has_called meanings d ps ms fault → IsForRoom fault
 only_for_room meanings d plan steps calls workers ps tells has_called ms z b (NoMemory unbegun) refused = tt
 only_for_room meanings d plan steps calls workers ps tells has_called ms z b (NoThread left) refused = tt
 only_for_room meanings d plan steps calls workers ps tells has_called ms z b (ToldDesk fault left) refused =

@@ -6,7 +6,7 @@ use Rattle.cf_model.specs.declared.events.Event.TheVariants.{Complete as Complet
 use Rattle.cf_model.specs.declared.events.Reply.TheVariants.{Flag}
 use Rattle.cf_event.specs.declared.record.Record.{Record}
 use Rattle.cf_event.specs.declared.record.Record.TheVariants.{Did}
-use Rattle.cf_history.specs.Records.{GoesOn}
+use Rattle.cf_history.specs.Records.{RecordGoesOn}
 use Rattle.cf_history.specs.Verdicts.{IsMisfit}
 use Rattle.cf_history.proofs.Walks.{Walked, walk_misfit, walk_on}
 use Rattle.cf_history.proofs.caller.judge_caller.Goals as goal
@@ -22,4 +22,4 @@ loop-k-preserved c =
     let d : Record = Did 0 (Completes 0 0 Nil) (Flag false) in
     subst (λ (n : ℕ). Walked c.args.caller c.args.graph.now.state c.args.history.now c.args.records.now (c.loop-k.k + 1) n c.judge_record.new.graph.state) (sym c.place-at.ensures)
     (walk_on c.args.caller c.args.graph.now.state c.args.history.now c.args.records.now c.loop-k.k c.loop-k.at d c.loop-k.graph.state c.judge_record.new.graph.state (omega arith)
-    (subst (λ (es : List Event). GoesOn c.args.caller c.loop-k.graph.state es c.loop-k.at (get_or c.args.records.now c.loop-k.k d) c.judge_record.new.graph.state) (take_rest c.args.history.now c.loop-k.at) c.in-Ok.ensures) c.loop-k.invariant)
+    (subst (λ (es : List Event). RecordGoesOn c.args.caller c.loop-k.graph.state es c.loop-k.at (get_or c.args.records.now c.loop-k.k d) c.judge_record.new.graph.state) (take_rest c.args.history.now c.loop-k.at) c.in-Ok.ensures) c.loop-k.invariant)

@@ -3,7 +3,7 @@ use Rattle.std.specs.List.{All}
 use Rattle.std.proofs.lemmas.List.{length-map}
 use Rattle.cf_desk.specs.Views.{IsOf, Pass}
 use Rattle.cf_pool.specs.Calling.{MeanAlike, first_meanings}
-use Rattle.cf_pool.specs.Closings.{HadThreads, HaveCalled, IsRefused, RanOut}
+use Rattle.cf_pool.specs.Closings.{HadThreads, HaveCalled, RunRefuses, RanOut}
 use Rattle.cf_pool.proofs.pool.run.Goals as goal
 
 pub run_each-requires-clause-workers : goal.run_each-requires-clause-workers
@@ -36,8 +36,8 @@ returns-in-Ok-clause-threads g c =
 
 pub returns-in-Ok-clause-refused : goal.returns-in-Ok-clause-refused
 returns-in-Ok-clause-refused g c =
-    subst (λ ps. IfErr c.run_each.result (IsRefused g.W.Worker.tells g.W.Functions.calls (first_meanings g.W.Worker.meanings c.args.workers.items) c.args.desk ps c.args.workers.items)) c.pair-pairs.ensures.passes
-    (subst (λ ms. IfErr c.run_each.result (IsRefused g.W.Worker.tells g.W.Functions.calls (first_meanings g.W.Worker.meanings ms) c.args.desk (map (λ w. w.0) c.pair-pairs.result.items) ms)) c.pair-pairs.ensures.workers c.run_each.ensures.refused)
+    subst (λ ps. IfErr c.run_each.result (RunRefuses g.W.Worker.tells g.W.Functions.calls (first_meanings g.W.Worker.meanings c.args.workers.items) c.args.desk ps c.args.workers.items)) c.pair-pairs.ensures.passes
+    (subst (λ ms. IfErr c.run_each.result (RunRefuses g.W.Worker.tells g.W.Functions.calls (first_meanings g.W.Worker.meanings ms) c.args.desk (map (λ w. w.0) c.pair-pairs.result.items) ms)) c.pair-pairs.ensures.workers c.run_each.ensures.refused)
 
 pub pair-pairs-requires-clause-room : goal.pair-pairs-requires-clause-room
 pair-pairs-requires-clause-room g c = let r = c.in-Ok.ensures.room.0 in let l = c.len.ensures in let p = c.requires.passes.1 in omega arith

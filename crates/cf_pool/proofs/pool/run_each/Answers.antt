@@ -6,7 +6,7 @@ use Rattle.cf_desk.specs.Views.{IsOf, Pass}
 use Rattle.cf_pool.specs.declared.pool.Left.{Left}
 use Rattle.cf_pool.specs.declared.pool.Worked.{Worked}
 use Rattle.cf_pool.specs.Calling.{MeanAlike, first_meanings}
-use Rattle.cf_pool.specs.Closings.{HadThreads, HaveCalled, IsRefused, RanOut}
+use Rattle.cf_pool.specs.Closings.{HadThreads, HaveCalled, RunRefuses, RanOut}
 use Rattle.cf_pool.specs.Runs.{IsFirst, IsWorkedFrom, first_with, is_any_alone, stop_of}
 use Rattle.cf_pool.proofs.Pools.{all_mapped}
 use Rattle.cf_pool.proofs.Runs.{Back, Leaves, all_from, back_leaves, back_of, first_and, shut_of, told_left, told_refused, worked_of, zip_length}
@@ -159,4 +159,4 @@ pub returns-clause-refused : goal.returns-clause-refused
 returns-clause-refused g c =
     let at = goal.at.returns-clause-refused g c in
     let h = leaves g at.In-Ok (split g at.After-remove-one) (back g at.After-put_first-workers (of g at.After-remove-one) (work g at.After-spread-worked (alike g at.After-remove-one))) in
-    subst (λ r. IfErr r (IsRefused g.W.Worker.tells g.W.Functions.calls (first_meanings g.W.Worker.meanings (map (λ w. w.1) c.args.workers.items)) c.args.desk (map (λ w. w.0) c.args.workers.items) (map (λ w. w.1) c.args.workers.items))) (sym c.told.ensures) (told_refused _ _ _ _ _ _ _ _ _ h)
+    subst (λ r. IfErr r (RunRefuses g.W.Worker.tells g.W.Functions.calls (first_meanings g.W.Worker.meanings (map (λ w. w.1) c.args.workers.items)) c.args.desk (map (λ w. w.0) c.args.workers.items) (map (λ w. w.1) c.args.workers.items))) (sym c.told.ensures) (told_refused _ _ _ _ _ _ _ _ _ h)
