@@ -7,7 +7,7 @@ use std::process::Abort;
 
 /// A stage that is attached to the one plan and added to the other: its form, its sources as each takes them, and its
 /// function.
-#[derive(Clone, Copy, Debug)]
+#[derive(Clone, Copy)]
 struct Row<'a>(Form, Of, &'a [u16], Option<u16>);
 
 /// Attaches a stage where it fits and there is room, and says whether it did.
@@ -24,7 +24,8 @@ fn attaches(plan: &mut GrowingPlan, form: Form, of: Of, function: Option<u16>) -
 /// Attaches a stage to the one plan, and adds it to the other.
 fn add(rt: &impl Abort, plan: &mut GrowingPlan, builder: &mut PlanBuilder, row: Row<'_>) {
     let Row(form, of, list, function) = row;
-    holds(rt, attaches(plan, form, of, function), row);
+    let i = plan.stages();
+    holds(rt, attaches(plan, form, of, function), ("stage", i));
     must(rt, builder.stage(form, list, function));
 }
 
@@ -35,37 +36,31 @@ fn add_all(rt: &impl Abort, plan: &mut GrowingPlan, builder: &mut PlanBuilder, r
     }
 }
 
-/// The dependents of a stage in rising order, as those of a plan that was built whole, and none of a stage that isn't
-/// there.
-fn dependents(rt: &impl Abort, alloc: Global, plan: &GrowingPlan, i: u16) -> Vec<u16> {
+/// Whether these are a stage's dependents in rising order: those of the opening, and behind them those that were attached,
+/// the newest of which is told first.
+fn has_dependents(plan: &GrowingPlan, i: u16, named: &[u16]) -> bool {
     if i >= plan.stages() {
-        return Vec::new(alloc);
+        return false;
     }
-    let mut all = must(rt, Vec::from_slice(alloc, plan.dependents(i)));
-    let first = all.len();
+    let first = plan.dependents(i);
+    let (opening, attached) = named.split_at(first.len().min(named.len()));
     let mut later = plan.attached_dependents(i);
-    for _ in 0..plan.edges() {
-        let Some(k) = later.pop() else {
-            break;
-        };
-        let place = first.min(all.len());
-        must(rt, all.insert(place, k));
+    let mut right = opening == first;
+    for k in attached.iter().rev() {
+        right = later.pop() == Some(*k) && right;
     }
-    all
+    right && later.pop().is_none() && later.pop().is_none()
 }
 
-/// Whether a stage is there and has the form, the function and the sources that it has in the plan that was built whole.
+/// Whether a stage is there and has the form, the function, the sources and the dependents that it has in the plan that was
+/// built whole.
 fn is_same(plan: &GrowingPlan, whole: &Plan, i: u16) -> bool {
     i < plan.stages()
         && i < whole.stages()
         && plan.form(i) == whole.form(i)
         && plan.function(i) == whole.function(i)
         && plan.sources(i) == whole.sources(i)
-}
-
-/// Whether these are the dependents of a stage.
-fn has_dependents(whole: &Plan, i: u16, named: &[u16]) -> bool {
-    i < whole.stages() && named == whole.dependents(i)
+        && has_dependents(plan, i, whole.dependents(i))
 }
 
 /// Whether both have as many stages and edges, and the same limits.
@@ -76,19 +71,17 @@ fn has_counts(plan: &GrowingPlan, whole: &Plan) -> bool {
 }
 
 /// The plan is the one that was built whole.
-fn assert_same(rt: &impl Abort, alloc: Global, plan: &GrowingPlan, whole: &Plan) {
-    assert!(rt; has_counts(plan, whole));
+fn assert_same(rt: &impl Abort, plan: &GrowingPlan, whole: &Plan) {
+    holds(rt, has_counts(plan, whole), "counts");
     for i in 0..whole.stages() {
-        let named = dependents(rt, alloc, plan, i);
-        let same = is_same(plan, whole, i) && has_dependents(whole, i, named.as_slice());
-        holds(rt, same, ("stage", i));
+        holds(rt, is_same(plan, whole, i), ("stage", i));
     }
 }
 
 /// The plan is the one that is built here, with no room left.
-fn assert_full(rt: &impl Abort, alloc: Global, plan: &GrowingPlan, builder: PlanBuilder) {
+fn assert_full(rt: &impl Abort, plan: &GrowingPlan, builder: PlanBuilder) {
     same(rt, plan.room(), 0);
-    assert_same(rt, alloc, plan, &must(rt, builder.build()));
+    assert_same(rt, plan, &must(rt, builder.build()));
 }
 
 const SOURCE: Row<'static> = Row(Form::Source, Of::None, &[], None);
@@ -148,7 +141,7 @@ const EACH_COUNT: [Row<'static>; 4] = [
 fn fill(rt: &impl Abort, alloc: Global, plan: &mut GrowingPlan, rows: &[Row<'_>]) {
     let mut builder = opening(rt, alloc);
     add_all(rt, plan, &mut builder, rows);
-    assert_full(rt, alloc, plan, builder);
+    assert_full(rt, plan, builder);
 }
 
 #[test]
@@ -158,25 +151,13 @@ fn stages_are_attached_behind_the_opening(rt: HostRuntime) {
     holds(&rt, is_left(&plan, 0, 3, 1), "opening");
 }
 
-/// Whether stage 1 has these attached dependents in this order, no other attached, and none in the opening.
-fn names_of_one(plan: &GrowingPlan, wanted: &[u16]) -> bool {
-    if plan.stages() < 2 {
-        return false;
-    }
-    let mut later = plan.attached_dependents(1);
-    let mut right = plan.dependents(1).is_empty();
-    for k in wanted {
-        right = later.pop() == Some(*k) && right;
-    }
-    right && later.pop().is_none() && later.pop().is_none()
-}
-
 /// Attaches two stages to stage 1, of which the second names it twice and comes first.
 fn attach_to_one(plan: &mut GrowingPlan) -> bool {
     attaches(plan, Form::Apply, Of::One(1), Some(0))
         && attaches(plan, Form::AllOf, Of::Two(1, 1), None)
         && plan.stages() == 5
-        && names_of_one(plan, &[4, 4, 3])
+        && plan.dependents(1).is_empty()
+        && has_dependents(plan, 1, &[3, 4, 4])
 }
 
 #[test]
@@ -203,7 +184,7 @@ fn add_most(rt: &impl Abort, plan: &mut GrowingPlan, builder: &mut PlanBuilder) 
 fn fill_with_most(rt: &impl Abort, alloc: Global, plan: &mut GrowingPlan) {
     let mut builder = PlanBuilder::new(alloc);
     add_most(rt, plan, &mut builder);
-    assert_full(rt, alloc, plan, builder);
+    assert_full(rt, plan, builder);
 }
 
 #[test]
@@ -215,10 +196,10 @@ fn as_many_are_attached_as_there_may_be(rt: HostRuntime) {
 }
 
 /// The plan is restarted, and then it is the one that was built whole, with room for four stages.
-fn restart(rt: &impl Abort, alloc: Global, plan: &mut GrowingPlan, whole: &Plan) {
+fn restart(rt: &impl Abort, plan: &mut GrowingPlan, whole: &Plan) {
     plan.restart();
     same(rt, plan.room(), 4);
-    assert_same(rt, alloc, plan, whole);
+    assert_same(rt, plan, whole);
 }
 
 /// Attaches three stages, after which there is room for one more and there are five edges.
@@ -230,25 +211,20 @@ fn attach_three(plan: &mut GrowingPlan) -> bool {
         && plan.edges() == 5
 }
 
-/// Restarts the plan three times, each time after three stages were attached.
-fn restart_thrice(rt: &impl Abort, alloc: Global, plan: &mut GrowingPlan, whole: &Plan) {
+/// Restarts the plan as it is, and three times after three stages were attached.
+fn restart_often(rt: &impl Abort, plan: &mut GrowingPlan, whole: &Plan) {
+    restart(rt, plan, whole);
     for _ in 0..3 {
-        assert!(rt; attach_three(plan));
-        restart(rt, alloc, plan, whole);
+        holds(rt, attach_three(plan), "three");
+        restart(rt, plan, whole);
     }
 }
 
-/// Restarts the plan as it is, and after stages were attached.
-fn restart_often(rt: &impl Abort, alloc: Global, plan: &mut GrowingPlan) {
-    let whole = must(rt, opening(rt, alloc).build());
-    restart(rt, alloc, plan, &whole);
-    restart_thrice(rt, alloc, plan, &whole);
-}
+const FOUR_ALIKE: [Row<'static>; 4] = [Row(Form::AllOf, Of::Two(0, 0), &[0, 0], None); 4];
 
 #[test]
 fn a_restart_takes_out_what_was_attached(rt: HostRuntime) {
     let mut plan = with_four(&rt, rt.alloc());
-    restart_often(&rt, rt.alloc(), &mut plan);
-    let row = Row(Form::AllOf, Of::Two(0, 0), &[0, 0], None);
-    fill(&rt, rt.alloc(), &mut plan, &[row; 4]);
+    restart_often(&rt, &mut plan, &must(&rt, opening(&rt, rt.alloc()).build()));
+    fill(&rt, rt.alloc(), &mut plan, &FOUR_ALIKE);
 }

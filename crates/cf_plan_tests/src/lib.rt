@@ -5,8 +5,6 @@
 #[cfg(test)]
 mod checks;
 #[cfg(test)]
-mod composing;
-#[cfg(test)]
 mod growing;
 #[cfg(test)]
 mod naming;

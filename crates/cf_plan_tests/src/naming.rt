@@ -1,45 +1,44 @@
-//! The numbers and the names of forms.
+//! The numbers and the names of forms, and which forms' functions answer with a stage.
 use crate::checks::holds;
-use cf_plan::Form;
+use cf_plan::{Form, composes};
 
-/// Each form with its number and its name.
-const FORMS: [(u8, Form, &str); 19] = [
-    (0, Form::Source, "source"),
-    (1, Form::Supply, "supply"),
-    (2, Form::RunAsync, "runAsync"),
-    (3, Form::Apply, "apply"),
-    (4, Form::Accept, "accept"),
-    (5, Form::ThenRun, "thenRun"),
-    (6, Form::Combine, "combine"),
-    (7, Form::AcceptBoth, "acceptBoth"),
-    (8, Form::RunBoth, "runBoth"),
-    (9, Form::ApplyEither, "applyEither"),
-    (10, Form::AcceptEither, "acceptEither"),
-    (11, Form::RunEither, "runEither"),
-    (12, Form::Compose, "compose"),
-    (13, Form::Handle, "handle"),
-    (14, Form::WhenComplete, "whenComplete"),
-    (15, Form::Exceptionally, "exceptionally"),
-    (16, Form::AllOf, "allOf"),
-    (17, Form::AnyOf, "anyOf"),
-    (18, Form::ExceptionallyCompose, "exceptionallyCompose"),
+/// Each form with its number, its name, and whether its function answers with a stage.
+const FORMS: [(u8, Form, &str, bool); 19] = [
+    (0, Form::Source, "source", false),
+    (1, Form::Supply, "supply", false),
+    (2, Form::RunAsync, "runAsync", false),
+    (3, Form::Apply, "apply", false),
+    (4, Form::Accept, "accept", false),
+    (5, Form::ThenRun, "thenRun", false),
+    (6, Form::Combine, "combine", false),
+    (7, Form::AcceptBoth, "acceptBoth", false),
+    (8, Form::RunBoth, "runBoth", false),
+    (9, Form::ApplyEither, "applyEither", false),
+    (10, Form::AcceptEither, "acceptEither", false),
+    (11, Form::RunEither, "runEither", false),
+    (12, Form::Compose, "compose", true),
+    (13, Form::Handle, "handle", false),
+    (14, Form::WhenComplete, "whenComplete", false),
+    (15, Form::Exceptionally, "exceptionally", false),
+    (16, Form::AllOf, "allOf", false),
+    (17, Form::AnyOf, "anyOf", false),
+    (18, Form::ExceptionallyCompose, "exceptionallyCompose", true),
 ];
 
-/// Whether this is the form's number, and the other way round.
-fn has_number(form: Form, number: u8) -> bool {
-    form.number() == number && Form::numbered(u32::from(number)) == Some(form)
+/// Whether these are the form's number and its name, and the other way round, and it composes or doesn't.
+fn is_so(form: Form, number: u8, name: &str, answers_a_stage: bool) -> bool {
+    composes(form) == answers_a_stage
+        && form.number() == number
+        && Form::numbered(u32::from(number)) == Some(form)
+        && form.name() == name
+        && Form::named(name) == Some(form)
 }
 
-/// Whether this is the form's name, and the other way round.
-fn has_name(form: Form, name: &str) -> bool {
-    form.name() == name && Form::named(name) == Some(form)
-}
-
+/// Two forms compose.
 #[test]
 fn each_form_has_its_number_and_its_name(rt: HostRuntime) {
-    for (number, form, name) in &FORMS {
-        holds(&rt, has_number(*form, *number), number);
-        holds(&rt, has_name(*form, name), name);
+    for (number, form, name, answers_a_stage) in &FORMS {
+        holds(&rt, is_so(*form, *number, name, *answers_a_stage), number);
     }
 }
 

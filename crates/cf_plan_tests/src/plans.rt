@@ -31,52 +31,62 @@ const LIMITS: [Limit; 3] = [
 
 #[test]
 fn limits_stand_in_firing_order(rt: HostRuntime) {
-    let steps = [
-        SOURCE,
-        Step::Stage(Form::Source, &[], None, Ok(1)),
-        Step::Limit(0, 12, LimitKind::Timeout, Ok(())),
-        Step::Limit(0, 10, GIVE, Ok(())),
-        Step::Limit(1, 10, LimitKind::Timeout, Ok(())),
-        Step::Limits(&LIMITS),
-    ];
-    check_after(&rt, rt.alloc(), &steps, &[Ask::Limits(&LIMITS)]);
+    check_after(
+        &rt,
+        rt.alloc(),
+        &[
+            SOURCE,
+            Step::Stage(Form::Source, &[], None, Ok(1)),
+            Step::Limit(0, 12, LimitKind::Timeout, Ok(())),
+            Step::Limit(0, 10, GIVE, Ok(())),
+            Step::Limit(1, 10, LimitKind::Timeout, Ok(())),
+            Step::Limits(&LIMITS),
+        ],
+        &[Ask::Limits(&LIMITS)],
+    );
 }
 
 #[test]
 fn a_plan_is_what_was_accepted(rt: HostRuntime) {
-    let steps = [
-        SOURCE,
-        Step::Stage(Form::Combine, &[0, 0], Some(9), Ok(1)),
-        Step::Stage(Form::AnyOf, &[1, 0, 1], None, Ok(2)),
-        Step::Stages(3),
-    ];
-    let asks = [
-        Ask::Stages(3),
-        Ask::Edges(5),
-        Ask::Form(2, Form::AnyOf),
-        Ask::Function(1, Some(9)),
-        Ask::Function(2, None),
-        Ask::Sources(2, &[1, 0, 1]),
-        Ask::Dependents(0, &[1, 1, 2]),
-        Ask::Dependents(1, &[2, 2]),
-        Ask::Dependents(2, &[]),
-    ];
-    check_after(&rt, rt.alloc(), &steps, &asks);
+    check_after(
+        &rt,
+        rt.alloc(),
+        &[
+            SOURCE,
+            Step::Stage(Form::Combine, &[0, 0], Some(9), Ok(1)),
+            Step::Stage(Form::AnyOf, &[1, 0, 1], None, Ok(2)),
+            Step::Stages(3),
+        ],
+        &[
+            Ask::Stages(3),
+            Ask::Edges(5),
+            Ask::Form(2, Form::AnyOf),
+            Ask::Function(1, Some(9)),
+            Ask::Function(2, None),
+            Ask::Sources(2, &[1, 0, 1]),
+            Ask::Dependents(0, &[1, 1, 2]),
+            Ask::Dependents(1, &[2, 2]),
+            Ask::Dependents(2, &[]),
+        ],
+    );
 }
 
 #[test]
 fn a_refused_stage_leaves_the_builder(rt: HostRuntime) {
-    let steps = [
-        SOURCE,
-        Step::Stage(Form::Apply, &[0, 1], None, Err(PlanFault::WrongSourceCount)),
-        Step::Stage(Form::Apply, &[1], None, Err(PlanFault::SourceNotLower)),
-        Step::Stage(Form::Apply, &[0], None, Err(PlanFault::FunctionMissing)),
-        Step::Stage(Form::AllOf, &[0], Some(0), Err(PlanFault::FunctionUnwanted)),
-        Step::Limit(1, 5, LimitKind::Timeout, Err(PlanFault::NoSuchStage)),
-        Step::Stage(Form::Apply, &[0], Some(0), Ok(1)),
-        Step::Limit(1, 5, LimitKind::Timeout, Ok(())),
-    ];
-    taken(&rt, rt.alloc(), &steps);
+    taken(
+        &rt,
+        rt.alloc(),
+        &[
+            SOURCE,
+            Step::Stage(Form::Apply, &[0, 1], None, Err(PlanFault::WrongSourceCount)),
+            Step::Stage(Form::Apply, &[1], None, Err(PlanFault::SourceNotLower)),
+            Step::Stage(Form::Apply, &[0], None, Err(PlanFault::FunctionMissing)),
+            Step::Stage(Form::AllOf, &[0], Some(0), Err(PlanFault::FunctionUnwanted)),
+            Step::Limit(1, 5, LimitKind::Timeout, Err(PlanFault::NoSuchStage)),
+            Step::Stage(Form::Apply, &[0], Some(0), Ok(1)),
+            Step::Limit(1, 5, LimitKind::Timeout, Ok(())),
+        ],
+    );
 }
 
 /// As many limits of stage 0 as there may be, the latest first.
@@ -104,11 +114,14 @@ fn take_edges(rt: &impl Abort, builder: &mut PlanBuilder, of: &[u16]) {
 /// As many limits are added as there may be, and no limit behind them is taken.
 fn take_limits(rt: &impl Abort, builder: &mut PlanBuilder) {
     add_limits(rt, builder);
-    let steps = [
-        Step::Limit(0, 0, LimitKind::Timeout, Err(PlanFault::TooManyLimits)),
-        Step::Limit(3, 0, LimitKind::Timeout, Err(PlanFault::NoSuchStage)),
-    ];
-    take(rt, builder, &steps);
+    take(
+        rt,
+        builder,
+        &[
+            Step::Limit(0, 0, LimitKind::Timeout, Err(PlanFault::TooManyLimits)),
+            Step::Limit(3, 0, LimitKind::Timeout, Err(PlanFault::NoSuchStage)),
+        ],
+    );
 }
 
 #[test]
@@ -155,19 +168,30 @@ fn walked(plan: &Plan) -> Option<usize> {
     Some(total)
 }
 
-/// Whether a plan has 4,096 stages and 16,384 dependents.
-fn is_largest(plan: &Plan) -> bool {
-    plan.stages() == 4_096 && walked(plan) == Some(16_384)
+/// A plan has 4,096 stages and 16,384 dependents.
+fn assert_largest(rt: &impl Abort, plan: &Plan) {
+    holds(
+        rt,
+        plan.stages() == 4_096 && walked(plan) == Some(16_384),
+        "largest",
+    );
+}
+
+/// It takes no stage more, and is built and walked, as is its copy.
+fn walk_largest(rt: &impl Abort, mut builder: PlanBuilder) {
+    take(
+        rt,
+        &mut builder,
+        &[Step::Stage(Form::Source, &[], None, Err(PlanFault::TooManyStages))],
+    );
+    let plan = must(rt, builder.build());
+    assert_largest(rt, &plan);
+    assert_largest(rt, &must(rt, plan.copy()));
 }
 
 #[test]
 fn the_largest_plan_is_built_and_walked(rt: HostRuntime) {
-    let mut builder = largest(&rt, rt.alloc());
-    let step = Step::Stage(Form::Source, &[], None, Err(PlanFault::TooManyStages));
-    take(&rt, &mut builder, &[step]);
-    let plan = must(&rt, builder.build());
-    holds(&rt, is_largest(&plan), "plan");
-    holds(&rt, is_largest(&must(&rt, plan.copy())), "copy");
+    walk_largest(&rt, largest(&rt, rt.alloc()));
 }
 
 /// Numbers of edges from none up to the most, and those beside the powers of two that blocks grow by.
@@ -177,34 +201,34 @@ const EDGES: [usize; 12] = [
 
 /// A source, and a stage that names it as often as said. One edge more than there may be, in one stage or in two, is
 /// refused.
-fn build_edges(rt: &impl Abort, alloc: Global, of: &[u16], edges: usize) {
+fn add_edges(rt: &impl Abort, builder: &mut PlanBuilder, of: &[u16], edges: usize) {
     let (named, one_too_many) = of.split_at(edges.min(of.len()));
+    let full = Err(PlanFault::TooManyEdges);
     let steps = [
         SOURCE,
-        Step::Stage(Form::AllOf, of, None, Err(PlanFault::TooManyEdges)),
+        Step::Stage(Form::AllOf, of, None, full),
         Step::Stage(Form::AllOf, named, None, Ok(1)),
-        Step::Stage(
-            Form::AllOf,
-            one_too_many,
-            None,
-            Err(PlanFault::TooManyEdges),
-        ),
+        Step::Stage(Form::AllOf, one_too_many, None, full),
     ];
-    let plan = must(rt, taken(rt, alloc, &steps).build());
-    holds(rt, has_edges(&plan, edges), edges);
-    holds(
-        rt,
-        has_edges(&must(rt, plan.copy()), edges),
-        ("copy", edges),
-    );
+    take(rt, builder, &steps);
 }
 
-/// Whether a plan has two stages, and so many edges from the first to the second.
-fn has_edges(plan: &Plan, edges: usize) -> bool {
-    plan.stages() == 2
+/// A plan of both, and its copy, has so many edges.
+fn build_edges(rt: &impl Abort, alloc: Global, of: &[u16], edges: usize) {
+    let mut builder = PlanBuilder::new(alloc);
+    add_edges(rt, &mut builder, of, edges);
+    let plan = must(rt, builder.build());
+    assert_edges(rt, &plan, edges);
+    assert_edges(rt, &must(rt, plan.copy()), edges);
+}
+
+/// A plan has two stages, and so many edges from the first to the second.
+fn assert_edges(rt: &impl Abort, plan: &Plan, edges: usize) {
+    let has_all = plan.stages() == 2
         && plan.edges() as usize == edges
         && plan.sources(1).len() == edges
-        && plan.dependents(0).len() == edges
+        && plan.dependents(0).len() == edges;
+    holds(rt, has_all, edges);
 }
 
 #[test]
@@ -307,38 +331,41 @@ fn are_of_each(limits: &[Limit]) -> bool {
     limits.len() == 4_096
 }
 
-/// Whether a plan has as many stages, edges and limits as there may be at once.
-fn is_fullest(plan: &Plan) -> bool {
-    plan.stages() == 4_096 && plan.edges() == 16_384 && are_of_each(plan.limits())
+/// A plan has as many stages, edges and limits as there may be at once.
+fn assert_fullest(rt: &impl Abort, plan: &Plan) {
+    let has_all = plan.stages() == 4_096 && plan.edges() == 16_384 && are_of_each(plan.limits());
+    holds(rt, has_all, "fullest");
 }
 
-/// Each stage has a limit, and no limit behind them is taken.
-fn fill_with_limits(rt: &impl Abort, builder: &mut PlanBuilder) {
-    limit_each(rt, builder);
-    let steps = [
-        Step::Limit(
-            4_095,
-            u32::MAX,
-            LimitKind::Timeout,
-            Err(PlanFault::TooManyLimits),
-        ),
-        Step::Limit(
-            4_096,
-            u32::MAX,
-            LimitKind::Timeout,
-            Err(PlanFault::NoSuchStage),
-        ),
-    ];
-    take(rt, builder, &steps);
+/// Each stage has a limit, no limit behind them is taken, and it is built and copied.
+fn build_fullest(rt: &impl Abort, mut builder: PlanBuilder) {
+    limit_each(rt, &mut builder);
+    take(
+        rt,
+        &mut builder,
+        &[
+            Step::Limit(
+                4_095,
+                u32::MAX,
+                LimitKind::Timeout,
+                Err(PlanFault::TooManyLimits),
+            ),
+            Step::Limit(
+                4_096,
+                u32::MAX,
+                LimitKind::Timeout,
+                Err(PlanFault::NoSuchStage),
+            ),
+        ],
+    );
+    let plan = must(rt, builder.build());
+    assert_fullest(rt, &plan);
+    assert_fullest(rt, &must(rt, plan.copy()));
 }
 
 #[test]
 fn the_fullest_plan_is_built(rt: HostRuntime) {
-    let mut builder = largest(&rt, rt.alloc());
-    fill_with_limits(&rt, &mut builder);
-    let plan = must(&rt, builder.build());
-    holds(&rt, is_fullest(&plan), "plan");
-    holds(&rt, is_fullest(&must(&rt, plan.copy())), "copy");
+    build_fullest(&rt, largest(&rt, rt.alloc()));
 }
 
 const FAULTS: [(PlanFault, &str); 9] = [
@@ -436,26 +463,32 @@ fn copied_in_the_end(plan: &Plan) -> Result<Plan, PlanFault> {
 fn a_refused_growth_can_be_tried_again(rt: HostRuntime) {
     let plan = must(&rt, built_in_the_end(&rt, rt.alloc()));
     let copy = must(&rt, copied_in_the_end(&plan));
-    let asks = [
-        Ask::Stages(3),
-        Ask::Dependents(0, &[1, 2, 2]),
-        Ask::Dependents(1, &[2]),
-    ];
-    check(&rt, &copy, &asks);
+    check(
+        &rt,
+        &copy,
+        &[
+            Ask::Stages(3),
+            Ask::Dependents(0, &[1, 2, 2]),
+            Ask::Dependents(1, &[2]),
+        ],
+    );
     same(&rt, copy.limits().len(), 1);
 }
 
 /// A plan of three stages with four edges, built with room for them. Once the room is made, none of the stages is refused.
 fn built_with_room(rt: &impl Abort, alloc: Global) -> Result<Plan, PlanFault> {
     let mut builder = PlanBuilder::with_room(alloc, 3, 4)?;
-    let steps = [
-        Step::Stages(0),
-        Step::Limits(&[]),
-        SOURCE,
-        Step::Stage(Form::Apply, &[0], Some(4), Ok(1)),
-        Step::Stage(Form::AnyOf, &[0, 1, 0], None, Ok(2)),
-    ];
-    take(rt, &mut builder, &steps);
+    take(
+        rt,
+        &mut builder,
+        &[
+            Step::Stages(0),
+            Step::Limits(&[]),
+            SOURCE,
+            Step::Stage(Form::Apply, &[0], Some(4), Ok(1)),
+            Step::Stage(Form::AnyOf, &[0, 1, 0], None, Ok(2)),
+        ],
+    );
     builder.build()
 }
 
@@ -505,16 +538,20 @@ fn room_is_no_bound(rt: HostRuntime) {
 
 #[test]
 fn stages_that_start_are_told(rt: HostRuntime) {
-    let steps = [
-        SOURCE,
-        Step::Stage(Form::Supply, &[], Some(0), Ok(1)),
-        Step::Stage(Form::AllOf, &[], None, Ok(2)),
-        Step::Stage(Form::AnyOf, &[], None, Ok(3)),
-        Step::Stage(Form::Apply, &[1], Some(1), Ok(4)),
-        Step::Stage(Form::AllOf, &[2], None, Ok(5)),
-        Step::Stage(Form::RunAsync, &[], Some(2), Ok(6)),
-        Step::Stage(Form::Source, &[], None, Ok(7)),
-    ];
-    check_after(&rt, rt.alloc(), &steps, &[Ask::Starts(&[1, 2, 6])]);
+    check_after(
+        &rt,
+        rt.alloc(),
+        &[
+            SOURCE,
+            Step::Stage(Form::Supply, &[], Some(0), Ok(1)),
+            Step::Stage(Form::AllOf, &[], None, Ok(2)),
+            Step::Stage(Form::AnyOf, &[], None, Ok(3)),
+            Step::Stage(Form::Apply, &[1], Some(1), Ok(4)),
+            Step::Stage(Form::AllOf, &[2], None, Ok(5)),
+            Step::Stage(Form::RunAsync, &[], Some(2), Ok(6)),
+            Step::Stage(Form::Source, &[], None, Ok(7)),
+        ],
+        &[Ask::Starts(&[1, 2, 6])],
+    );
     check_after(&rt, rt.alloc(), &[SOURCE], &[Ask::Starts(&[])]);
 }

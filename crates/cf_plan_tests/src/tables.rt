@@ -1,7 +1,7 @@
 //! The tables of forms: what a stage does by its sources, where an answer lands, and which stages fit their form.
 ghost use Rattle.std.specs.Prelude.{◌≡◌};
 
-use crate::checks::{same, same_at};
+use crate::checks::{holds, same};
 use cf_outcome::{Cause, Outcome, Value};
 use cf_plan::{
     Answer, Args, Due, Form, Landing, Of, StageFn, due_one, due_two, fits_form, landing,
@@ -98,7 +98,7 @@ const ONE: [(Form, Outcome, Due); 20] = [
 #[test]
 fn one_source_decides(rt: HostRuntime) {
     for (form, outcome, due) in &ONE {
-        same_at(&rt, due_one(*form, *outcome), *due, form);
+        holds(&rt, due_one(*form, *outcome) == *due, form);
     }
 }
 
@@ -125,7 +125,7 @@ const TWO: [(Form, Outcome, Outcome, Due); 6] = [
 #[test]
 fn two_sources_decide(rt: HostRuntime) {
     for (form, first, second, due) in &TWO {
-        same_at(&rt, due_two(*form, *first, *second), *due, form);
+        holds(&rt, due_two(*form, *first, *second) == *due, form);
     }
 }
 
@@ -191,7 +191,7 @@ const ANSWERS: [(Form, Option<Outcome>, Answer, Landing); 15] = [
 #[test]
 fn an_answer_lands(rt: HostRuntime) {
     for (form, source, answer, lands) in &ANSWERS {
-        same_at(&rt, landing(*form, 5, *source, *answer), *lands, form);
+        holds(&rt, landing(*form, 5, *source, *answer) == *lands, form);
     }
 }
 
@@ -214,10 +214,9 @@ const FITTING: [(Form, Of, bool, bool); 12] = [
 #[test]
 fn stages_fit_their_form(rt: HostRuntime) {
     for (form, of, has_function, fits) in &FITTING {
-        same_at(
+        holds(
             &rt,
-            fits_form(*form, of.count(), *has_function),
-            *fits,
+            fits_form(*form, of.count(), *has_function) == *fits,
             form,
         );
     }
