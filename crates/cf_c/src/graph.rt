@@ -1,7 +1,7 @@
 //! A graph that one caller has alone.
 ghost use Rattle.std.specs.Prelude.{Ok};
 ghost use Rattle.cf_model.specs.declared.events.Event.TheVariants.{Complete as Completes, Fail as Fails, Cancel as Cancels, Claim as Claims, Finish as Finishes, Tick as Ticks};
-ghost use Rattle.cf_handles.specs.GraphAnswers.{Does, HandleTells};
+ghost use Rattle.cf_handles.specs.Answers.{Does, HandleTells};
 ghost use Rattle.cf_handles.specs.Building.{GraphOf, Opens};
 ghost use Rattle.cf_handles.specs.EventWords.{event_at};
 ghost use Rattle.cf_handles.specs.Graphs.{GraphAnswers, Asked, Restarts, RestsAlways, RestsAt, RestsAtReady, function_told, now_told, outcome_told, ready_told, stages_told, turns_told};
