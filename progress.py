@@ -2,8 +2,8 @@
 
 rt says when a crate or its tests are proved, when it begins with a crate's must-fail edits, and what it takes from earlier runs. Of the
 edits it tells the end only when all is done. So what is left is told by the seconds of a processor: those that the whole takes by the
-tables below, less those that rt and what it started have taken. They were measured on four cores of 2.5 GHz, but for the tests of
-cf_event_tests, cf_outcome_tests and cf_script_tests, which are guessed; a crate that isn't in a table counts as OTHER.
+tables below, less those that rt and what it started have taken. They were measured on four cores of 2.5 GHz; a crate that isn't in a
+table counts as OTHER.
 """
 import os
 import re
@@ -15,17 +15,19 @@ from typing import IO, Callable, Dict, Iterator, Optional, Set
 
 from crates import TOP, own
 
-OTHER = 150
+OTHER = 100
 PROOFS = {
-    "cf_handles": 905, "cf_look": 750, "cf_c": 554, "cf_explain": 490, "cf_refused": 452, "cf_bench": 424, "cf_orders": 385, "cf_page": 363, "cf_core": 348,
-    "cf_stress": 328, "cf_explore": 325, "cf_pool": 296, "cf_reading": 273, "cf_desk": 218, "cf_plan": 216, "cf_plain": 176, "cf_history": 162, "cf_ledger": 158,
-    "cf_script": 151, "cf_picture": 127, "cf_example": 105, "cf": 87, "cf_event": 64, "cf_command": 60, "cf_model": 56, "cf_outcome": 53,
+    "cf_look": 545, "cf_explain": 307, "cf_orders": 282, "cf_bench": 273, "cf_handles": 259, "cf_core": 243, "cf_stress": 230,
+    "cf_page": 222, "cf_refused": 205, "cf_explore": 200, "cf_reading": 187, "cf_pool": 155, "cf_plan": 154, "cf_desk": 130,
+    "cf_plain": 124, "cf_history": 119, "cf_c": 115, "cf_script": 106, "cf_ledger": 102, "cf_picture": 85, "cf": 78, "cf_example": 75,
+    "cf_command": 53, "cf_model": 48, "cf_outcome": 47, "cf_event": 43, "cf_bits": 21, "cf_expr": 18, "cf_covers": 12,
 }  # fmt: skip
 TESTS = {
-    "cf_script_tests": 200, "cf_desk_tests": 475, "cf_pool_tests": 409, "cf_plan_tests": 262, "cf_plain_tests": 248, "cf_core_tests": 203, "cf_event_tests": 130, "cf_reading_tests": 110,
-    "cf_outcome_tests": 60, "cf_ledger_tests": 83, "cf_explore_tests": 73, "cf": 70, "cf_bits": 38,
+    "cf_pool_tests": 242, "cf_desk_tests": 240, "cf_core_tests": 156, "cf_script_tests": 123, "cf_plan_tests": 122, "cf_plain_tests": 90,
+    "cf_reading_tests": 88, "cf_ledger_tests": 72, "cf": 71, "cf_event_tests": 66, "cf_explore_tests": 60, "cf_outcome_tests": 49,
+    "cf_bits": 33,
 }  # fmt: skip
-OF_TESTS = 9  # to prove a crate that holds tests alone
+OF_TESTS = 5  # to prove a crate that holds tests alone
 CALLERS = 420  # seconds, for the library for C and its callers, where they don't run beside rt ci
 EVERY = 30  # seconds from one line to the next
 TICKS = os.sysconf("SC_CLK_TCK")
@@ -91,7 +93,7 @@ class Gate:
     def of_edits(self, name: str, count: int) -> float:
         """One edit is a whole proof. Several are a proof once more, and then a part of it for each and for the crate as it is."""
         proof = self.proofs[name]
-        return 0 if not count else proof if count == 1 else proof + (count + 1) * (10 + proof / 10)
+        return 0 if not count else proof if count == 1 else proof + (count + 1) * (8 + proof / 20)
 
     def whole(self) -> float:
         edits = sum(self.of_edits(name, count) for name, count in self.edits.items())
