@@ -5,7 +5,6 @@ ghost use Rattle.cf_outcome.specs.declared.outcome.Outcome.TheVariants.{Value as
 ghost use Rattle.cf_plan.specs.declared.forms.Due.TheVariants.{Needs};
 ghost use Rattle.cf_plan.specs.Forms.{first_fault, due_of_both};
 ghost use Rattle.cf_model.specs.declared.stage.Stage.TheVariants.{Linked, Pending, Ready};
-ghost use Rattle.cf_model.specs.Laws.{is_decided_by_first};
 ghost use Rattle.cf_core.specs.Keeping.Sound.{kept_at};
 ghost use Rattle.cf_core.specs.Keeping.Treatment.{dated_in, due_kept, earlier, earliest, late_due, latest, linked_kept, outcome_part, treated};
 ghost use Rattle.cf_core.specs.Keeping.Offers.{takes_values, two_values};
@@ -14,7 +13,7 @@ use crate::cells::Cells;
 use crate::kept::KeptStage;
 use cf_model::Stage;
 use cf_outcome::{Outcome, Value, is_exceptional, wrap};
-use cf_plan::{Args, Due, Form, due_one, due_two};
+use cf_plan::{Args, Due, Form, due_one, due_two, is_decided_by_first};
 
 /// Treats stage `m`, which waits, by its form and its sources, and writes what becomes of it part by part.
 #[inline(always)]
@@ -62,7 +61,7 @@ fn offer_due<F>(kept: &mut Cells, form: Form, sources: &[u16], m: u16) -> Option
     ensures room { kept.new.capacity ≡ kept.old.capacity }
 {
     if let [j] = sources {
-        if waits_for_one(form) {
+        if is_decided_by_first(form) {
             return kept.offer_one(form, *j, m);
         }
     }
@@ -168,7 +167,7 @@ fn take_due(kept: &mut Cells, form: Form, sources: &[u16], m: u16)
     ensures room { kept.new.capacity ≡ kept.old.capacity }
 {
     if let [j] = sources {
-        if waits_for_one(form) {
+        if is_decided_by_first(form) {
             kept.take_one(form, *j, m);
             return;
         }
@@ -197,23 +196,6 @@ fn take_due(kept: &mut Cells, form: Form, sources: &[u16], m: u16)
             None => take(kept, Due::Waits, 0, m),
             Some((o, at)) => take(kept, due_one(form, o), at, m),
         },
-    }
-}
-
-/// Whether a form takes what its first source to settle has.
-#[inline(always)]
-fn waits_for_one(form: Form) -> bool
-    ensures { result ≡ is_decided_by_first form }
-{
-    match form {
-        Form::Source
-        | Form::Supply
-        | Form::RunAsync
-        | Form::Combine
-        | Form::AcceptBoth
-        | Form::RunBoth
-        | Form::AllOf => false,
-        _ => true,
     }
 }
 

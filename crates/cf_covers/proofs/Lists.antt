@@ -63,16 +63,6 @@ some-sum {A} f (x ∷ xs) h = split (f x) refl (some-sum f xs)
         (rest.0, contains-later x rest.0 xs rest.1, rest.2)
 
 -- an element behind others
-pub slice_get-push : {A : Type 0} (xs : List A) (x y : A) (j : ℕ) → slice_get (xs ++ x ∷ []) j ≡ Some y → (slice_get xs j ≡ Some y) ⊎ ((j ≡ length xs) × (x ≡ y))
-slice_get-push [] x y zero e = inr (refl, (let is : x ≡ y = cc in is))
-slice_get-push [] x y (suc j) e = absurd (let impossible : ⊥ = cc in impossible)
-slice_get-push (w ∷ xs) x y zero e = inl e
-slice_get-push {A} (w ∷ xs) x y (suc j) e = split (slice_get-push xs x y j e)
-  where
-    split : (slice_get xs j ≡ Some y) ⊎ ((j ≡ length xs) × (x ≡ y)) → (slice_get xs j ≡ Some y) ⊎ ((suc j ≡ suc (length xs)) × (x ≡ y))
-    split (inl h) = inl h
-    split (inr h) = inr (ap suc h.0, h.1)
-
 pub slice_get-mapped : {A B : Type 0} (f : A → B) (xs : List A) (x : A) (ys : List A) → slice_get (map f (xs ++ x ∷ ys)) (length xs) ≡ Some (f x)
 slice_get-mapped f [] x ys = refl
 slice_get-mapped f (w ∷ xs) x ys = slice_get-mapped f xs x ys

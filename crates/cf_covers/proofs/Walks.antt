@@ -28,7 +28,8 @@ use Rattle.cf_explore.specs.Programs.{Programmed, Situated, hand_at, place_at, s
 use Rattle.cf_explore.specs.Moves.{carried_out, event_of, moved, moves, onward, step_event}
 use Rattle.cf_explore.specs.Orders.{AreMoves, led}
 use Rattle.cf_covers.specs.Tellings.{AreWork, IsToldBy, IsToldIn, TellsEach, and_event, but_vain, came_before, events_by, step_for}
-use Rattle.cf_covers.proofs.Lists.{same-rest, slice_get-push}
+use Rattle.cf_plan.proofs.ListLemmas.{slice_get-push}
+use Rattle.cf_covers.proofs.Lists.{same-rest}
 use Rattle.cf_covers.proofs.Orders.{events-push, led-push, moves-push}
 use Rattle.cf_covers.proofs.Callers.{IsNextDid, IsPast, after-push, at-done, but_vain-took, caller-took, calling-is, event-is, may-step, mine, moved-step, next-did, next-step, onward-other, onward-self, order-later, other-number, same_number, taken-done}
 
@@ -119,7 +120,7 @@ tells-still m p history order by c so_far h = λ j r e. told-still m p history o
 tells-more : (w : Walk) (k : ℕ) (done rest : List Event) (order : List Move) (s : Situated) (c : ℕ) (so_far : List Record) (r : Record) → done ++ rest ≡ w.history → Comes w k done order s →
     TellsEach w.meanings w.program w.history order c so_far → (place_at s c).at ≡ length so_far → IsToldIn s.state r → k ≡ came_before r →
     TellsEach w.meanings w.program w.history (order ++ moving.Step c ∷ []) c (so_far ++ r ∷ [])
-tells-more w k done rest order s c so_far r whole h before at says so_many = λ j q e. split j q (slice_get-push so_far r q j e)
+tells-more w k done rest order s c so_far r whole h before at says so_many = λ j q e. split j q (slice_get-push so_far r j q e)
   where
     here : IsToldBy w.meanings w.program w.history (order ++ moving.Step c ∷ []) c (length so_far) r
     here = record {

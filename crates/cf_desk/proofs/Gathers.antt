@@ -6,7 +6,7 @@ use mathlib.Core.List.{map-append}
 use Rattle.std.proofs.lemmas.List.Elements.{All-head, All-tail}
 use Rattle.atomic_table.specs.Table.{Me}
 use Rattle.cf_model.specs.declared.events.Event.{Event}
-use Rattle.cf_desk.specs.declared.row.Known.{Known}
+use Rattle.cf_desk.specs.declared.row.CallerView.{CallerView}
 use Rattle.cf_desk.specs.declared.calls.Kept.{Kept}
 use Rattle.cf_model.specs.Graphs.{Graph}
 use Rattle.cf_model.specs.States.{State}
@@ -19,7 +19,7 @@ pub all_at : {A : Type 0} (P : A → Type 0) (xs : List A) (x : A) (ys : List A)
 all_at P [] x ys h = All-head P x ys h
 all_at P (y ∷ xs) x ys h = all_at P xs x ys (All-tail P y (xs ++ x ∷ ys) h)
 
-pub joined_one : (done : List Pass) (p : Pass) (k : Known) (seat other new : Me ℕ (List Known)) → seat ≡ (knowns done, []) → other ≡ (k ∷ [], []) → k ≡ p.known → new ≡ (seat.0 ++ other.0, seat.1) → new ≡ (knowns (done ++ p ∷ []), [])
+pub joined_one : (done : List Pass) (p : Pass) (k : CallerView) (seat other new : Me ℕ (List CallerView)) → seat ≡ (knowns done, []) → other ≡ (k ∷ [], []) → k ≡ p.known → new ≡ (seat.0 ++ other.0, seat.1) → new ≡ (knowns (done ++ p ∷ []), [])
 joined_one done p k seat other new s o is n =
     n ∙ (λ i. ((s i).0 ++ (o i).0, (s i).1)) ∙ (λ i. (knowns done ++ is i ∷ [], [])) ∙ (λ i. (sym (map-append (λ (h : Pass). h.known) done (p ∷ [])) i, []))
 
@@ -27,24 +27,24 @@ pub kept_one : (kept now : List Kept) (done : List Pass) (k : Kept) (p : Pass) �
 kept_one kept now done k p h n e =
     ap (map pass_kept) n ∙ map-append pass_kept kept (k ∷ []) ∙ (λ i. h i ++ e i ∷ []) ∙ sym (map-append pass_did done (p ∷ []))
 
--- the copy that has seen most, with one pass more
-one_before : (plan : Planned) (seen : List Event) (ks : List Known) (k : Known) → (plan ≡ k.setting.plan) × (seen ≡ k.seen) → IsOneOf plan seen (ks ++ k ∷ [])
+-- the replica that has seen most, with one pass more
+one_before : (plan : Planned) (seen : List Event) (ks : List CallerView) (k : CallerView) → (plan ≡ k.setting.plan) × (seen ≡ k.seen) → IsOneOf plan seen (ks ++ k ∷ [])
 one_before plan seen [] k h = inl h
 one_before plan seen (l ∷ ks) k h = inr (one_before plan seen ks k h)
 
-one_still : (plan : Planned) (seen : List Event) (ks : List Known) (k : Known) → IsOneOf plan seen ks → IsOneOf plan seen (ks ++ k ∷ [])
+one_still : (plan : Planned) (seen : List Event) (ks : List CallerView) (k : CallerView) → IsOneOf plan seen ks → IsOneOf plan seen (ks ++ k ∷ [])
 one_still plan seen [] k h = absurd h
 one_still plan seen (l ∷ ks) k h = ⊎_elim inl (λ r. inr (one_still plan seen ks k r)) h
 
-pub short_push : (n : ℕ) (ks : List Known) (k : Known) → AllShort n ks → length k.seen ≤ n → AllShort n (ks ++ k ∷ [])
+pub short_push : (n : ℕ) (ks : List CallerView) (k : CallerView) → AllShort n ks → length k.seen ≤ n → AllShort n (ks ++ k ∷ [])
 short_push n [] k h le = (le, tt)
 short_push n (l ∷ ks) k h le = (h.0, short_push n ks k h.1 le)
 
 knowns_push : (ps : List Pass) (p : Pass) → knowns (ps ++ p ∷ []) ≡ knowns ps ++ p.known ∷ []
 knowns_push ps p = map-append (λ (h : Pass). h.known) ps (p ∷ [])
 
-latest_new : (most : ℕ) (s : State) (ps : List Pass) (p : Pass) (count : ℕ) (copy : State) → most < count → count ≡ length p.known.seen → copy ≡ state_of p.known → IsLatest most s (knowns ps) → IsLatest count copy (knowns (ps ++ p ∷ []))
-latest_new most s ps p count copy more is state h = subst (IsLatest count copy) (sym (knowns_push ps p)) (record {
+latest_new : (most : ℕ) (s : State) (ps : List Pass) (p : Pass) (count : ℕ) (replica : State) → most < count → count ≡ length p.known.seen → replica ≡ state_of p.known → IsLatest most s (knowns ps) → IsLatest count replica (knowns (ps ++ p ∷ []))
+latest_new most s ps p count replica more is state h = subst (IsLatest count replica) (sym (knowns_push ps p)) (record {
   plan = p.known.setting.plan;
   seen = p.known.seen;
   state = state;
@@ -53,8 +53,8 @@ latest_new most s ps p count copy more is state h = subst (IsLatest count copy) 
   short = short_push count (knowns ps) p.known (short_more most count (omega arith) (knowns ps) h.short) (omega arith);
 })
 
-latest_still : (most now : ℕ) (s copy : State) (ps : List Pass) (p : Pass) (count : ℕ) → now ≡ most → copy ≡ s → count ≤ most → count ≡ length p.known.seen → IsLatest most s (knowns ps) → IsLatest now copy (knowns (ps ++ p ∷ []))
-latest_still most now s copy ps p count same kept less is h = subst (IsLatest now copy) (sym (knowns_push ps p)) (record {
+latest_still : (most now : ℕ) (s replica : State) (ps : List Pass) (p : Pass) (count : ℕ) → now ≡ most → replica ≡ s → count ≤ most → count ≡ length p.known.seen → IsLatest most s (knowns ps) → IsLatest now replica (knowns (ps ++ p ∷ []))
+latest_still most now s replica ps p count same kept less is h = subst (IsLatest now replica) (sym (knowns_push ps p)) (record {
   plan = h.plan;
   seen = h.seen;
   state = kept ∙ h.state;
@@ -63,9 +63,9 @@ latest_still most now s copy ps p count same kept less is h = subst (IsLatest no
   short = short_push now (knowns ps) p.known (subst (λ (n : ℕ). AllShort n (knowns ps)) (sym same) h.short) (omega arith);
 })
 
--- the copy of the first pass
-latest_first : (now : ℕ) (copy : State) (p : Pass) (count : ℕ) → now ≡ count → count ≡ length p.known.seen → copy ≡ state_of p.known → IsLatest now copy (knowns (p ∷ []))
-latest_first now copy p count same is state = record {
+-- the replica of the first pass
+latest_first : (now : ℕ) (replica : State) (p : Pass) (count : ℕ) → now ≡ count → count ≡ length p.known.seen → replica ≡ state_of p.known → IsLatest now replica (knowns (p ∷ []))
+latest_first now replica p count same is state = record {
   plan = p.known.setting.plan;
   seen = p.known.seen;
   state = state;
@@ -74,26 +74,26 @@ latest_first now copy p count same is state = record {
   short = (omega arith, tt);
 }
 
--- the copy so far is of the passes so far that has seen most, if there are passes
+-- the replica so far is of the passes so far that has seen most, if there are passes
 abbrev pub LatestSoFar : Option Graph → ℕ → List Pass → Type 0
-LatestSoFar copy most done = MatchOption copy ((done ≡ []) × (most ≡ 0)) (λ g. IsLatest most g.state (knowns done))
+LatestSoFar replica most done = MatchOption replica ((done ≡ []) × (most ≡ 0)) (λ g. IsLatest most g.state (knowns done))
 
-pub latest_next : (most now : ℕ) (old : Option Graph) (mine copy : Graph) (ps : List Pass) (p : Pass) (count : ℕ) → now ≡ max most count → (most < count → copy ≡ mine) → (count ≤ most → copy ≡ unwrap_or old mine) → count ≡ length p.known.seen → mine.state ≡ state_of p.known
-    → LatestSoFar old most ps → IsLatest now copy.state (knowns (ps ++ p ∷ []))
-latest_next most now None mine copy ps p count n newer older is state h =
-    subst (λ (l : List Pass). IsLatest now copy.state (knowns (l ++ p ∷ []))) (sym h.0)
-    (latest_first now copy.state p count (let none = h.1 in omega arith) is (ap (λ (g : Graph). g.state) (go (leb count most) refl) ∙ state))
+pub latest_next : (most now : ℕ) (old : Option Graph) (mine replica : Graph) (ps : List Pass) (p : Pass) (count : ℕ) → now ≡ max most count → (most < count → replica ≡ mine) → (count ≤ most → replica ≡ unwrap_or old mine) → count ≡ length p.known.seen → mine.state ≡ state_of p.known
+    → LatestSoFar old most ps → IsLatest now replica.state (knowns (ps ++ p ∷ []))
+latest_next most now None mine replica ps p count n newer older is state h =
+    subst (λ (l : List Pass). IsLatest now replica.state (knowns (l ++ p ∷ []))) (sym h.0)
+    (latest_first now replica.state p count (let none = h.1 in omega arith) is (ap (λ (g : Graph). g.state) (go (leb count most) refl) ∙ state))
   where
-    go : (b : Bool) → leb count most ≡ b → copy ≡ mine
+    go : (b : Bool) → leb count most ≡ b → replica ≡ mine
     go true e = older (leb-true count most e)
     go false e = newer (leb-false count most e)
-latest_next most now (Some g) mine copy ps p count n newer older is state h = go (leb count most) refl
+latest_next most now (Some g) mine replica ps p count n newer older is state h = go (leb count most) refl
   where
-    go : (b : Bool) → leb count most ≡ b → IsLatest now copy.state (knowns (ps ++ p ∷ []))
-    go true e = let le : count ≤ most = leb-true count most e in latest_still most now g.state copy.state ps p count (omega arith) (ap (λ (x : Graph). x.state) (older le)) le is h
-    go false e = let lt : most < count = leb-false count most e in latest_new most g.state ps p now copy.state (omega arith) (let m : now ≡ count = omega arith in m ∙ is) (ap (λ (x : Graph). x.state) (newer lt) ∙ state) h
+    go : (b : Bool) → leb count most ≡ b → IsLatest now replica.state (knowns (ps ++ p ∷ []))
+    go true e = let le : count ≤ most = leb-true count most e in latest_still most now g.state replica.state ps p count (omega arith) (ap (λ (x : Graph). x.state) (older le)) le is h
+    go false e = let lt : most < count = leb-false count most e in latest_new most g.state ps p now replica.state (omega arith) (let m : now ≡ count = omega arith in m ∙ is) (ap (λ (x : Graph). x.state) (newer lt) ∙ state) h
 
 -- of all passes
-pub latest_of_all : (copy : Option Graph) (most : ℕ) (done all : List Pass) → done ≡ all → LatestSoFar copy most done → MatchOption copy (all ≡ []) (λ g. (m : ℕ) × IsLatest m g.state (knowns all))
+pub latest_of_all : (replica : Option Graph) (most : ℕ) (done all : List Pass) → done ≡ all → LatestSoFar replica most done → MatchOption replica (all ≡ []) (λ g. (m : ℕ) × IsLatest m g.state (knowns all))
 latest_of_all None most done all is h = sym is ∙ h.0
 latest_of_all (Some g) most done all is h = (most, subst (λ (l : List Pass). IsLatest most g.state (knowns l)) is h)

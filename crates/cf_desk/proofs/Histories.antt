@@ -1,6 +1,7 @@
 -- What one history shows.
 use Rattle.cf_plan.specs.Plans.{IsBuilt, Planned}
-use Rattle.std.proofs.Common.{◌≡◌, ℕ, zero, suc, ◌-◌, ◌≤◌, ◌<◌, Bool, true, false, cond, eqb, Some, List, [], ◌∷◌, ◌++◌, map, length, take, slice_get, All, sym, refl, ap, ◌∙◌, subst, append_assoc, length-append, arith}
+use Rattle.cf_plan.proofs.ListLemmas.{slice_get-seam}
+use Rattle.std.proofs.Common.{◌≡◌, ℕ, zero, suc, ◌-◌, ◌≤◌, ◌<◌, Bool, true, false, cond, eqb, List, [], ◌∷◌, ◌++◌, map, length, take, slice_get, All, sym, refl, ap, ◌∙◌, subst, append_assoc, length-append, arith}
 use Rattle.std.specs.List.{filter}
 use Rattle.std.proofs.lemmas.List.Elements.{All-nil, All-cons, All-head, All-tail}
 use Rattle.cf_model.specs.declared.events.Event.{Event}
@@ -35,10 +36,6 @@ calls_of c n (w ∷ ws) = split (eqb (who_of w) c) (calls_of c (suc n) ws)
     split false e = e
 
 -- they stand at their places
-get_at : (xs : List Event) (w : Event) (ws : List Event) → slice_get (xs ++ w ∷ ws) (length xs) ≡ Some w
-get_at [] w ws = refl
-get_at (x ∷ xs) w ws = get_at xs w ws
-
 stand : (c : ℕ) (xs ws : List Event) (n : ℕ) → n ≡ length xs → All (StandsAt (xs ++ ws)) (filter (mine c) (placed n ws))
 stand c xs [] n is = All-nil (StandsAt (xs ++ []))
 stand c xs (w ∷ ws) n is = split (eqb (who_of w) c)
@@ -48,7 +45,7 @@ stand c xs (w ∷ ws) n is = split (eqb (who_of w) c)
     longer xs e = omega (arith, length-append xs (w ∷ []))
 
     here : StandsAt (xs ++ w ∷ ws) (suc n, w)
-    here = ap (slice_get (xs ++ w ∷ ws)) (let e : suc n - 1 ≡ length xs = omega arith in e) ∙ get_at xs w ws
+    here = ap (slice_get (xs ++ w ∷ ws)) (let e : suc n - 1 ≡ length xs = omega arith in e) ∙ slice_get-seam xs w ws
 
     split : (b : Bool) → All (StandsAt (xs ++ w ∷ ws)) (filter (mine c) (placed (suc n) ws)) → All (StandsAt (xs ++ w ∷ ws)) (cond b ((suc n, w) ∷ filter (mine c) (placed (suc n) ws)) (filter (mine c) (placed (suc n) ws)))
     split true h = All-cons (StandsAt (xs ++ w ∷ ws)) (suc n, w) (filter (mine c) (placed (suc n) ws)) here h

@@ -12,9 +12,9 @@ use Rattle.atomic_table.specs.Table.{State, Step, Me, step, stepped, keeps, Allo
 use Rattle.atomic_table.proofs.Lists.{at_set, exchanged}
 use Rattle.cf_model.specs.declared.events.Event.{Event}
 use Rattle.cf_desk.proofs.Lists.{none_of_both, one_of}
-use Rattle.cf_desk.specs.declared.row.Setting.{Setting}
-use Rattle.cf_desk.specs.declared.row.Terms.{Terms}
-use Rattle.cf_desk.specs.declared.row.Known.{Known}
+use Rattle.cf_desk.specs.declared.row.DeskConfig.{DeskConfig}
+use Rattle.cf_desk.specs.declared.row.LogConfig.{LogConfig}
+use Rattle.cf_desk.specs.declared.row.CallerView.{CallerView}
 use Rattle.cf_model.specs.Calls.{who_of}
 use Rattle.cf_event.specs.Words.{word_of}
 use Rattle.cf_event.specs.Decoding.{event_of}
@@ -37,7 +37,7 @@ at_seam : (seen : List Event) (ys : List ℕ) → get_or (map word_of seen ++ ys
 at_seam [] ys = refl
 at_seam (x ∷ xs) ys = at_seam xs ys
 
-pub at_next : (t : Terms) (log : List Event) (words : List ℕ) (seen rest : List Event) → IsRow t log words → log ≡ seen ++ rest → Next rest (slice_index words (length seen))
+pub at_next : (t : LogConfig) (log : List Event) (words : List ℕ) (seen rest : List Event) → IsRow t log words → log ≡ seen ++ rest → Next rest (slice_index words (length seen))
 at_next t log words seen [] r e =
     inl (ap (λ (l : List ℕ). get_or l (length seen) 0) (r.words_are ∙ ap (λ (l : List Event). map word_of l ++ replicate r.free 0) (e ∙ append-nil seen)) ∙ at_seam seen (replicate r.free 0) ∙ zeros_at r.free, refl)
 at_next t log words seen (x ∷ xs) r e =
@@ -47,24 +47,24 @@ at_next t log words seen (x ∷ xs) r e =
     inr (x, is, (xs, refl))
 
 -- a view's change, where it stands for the same passes
-pub count_set : (c : ℕ) (views : List (List Known)) (id : ℕ) (v w : List Known) → get_elem? views id ≡ some v → count_all c (set views id w) + count_in c v ≡ count_all c views + count_in c w
+pub count_set : (c : ℕ) (views : List (List CallerView)) (id : ℕ) (v w : List CallerView) → get_elem? views id ≡ some v → count_all c (set views id w) + count_in c v ≡ count_all c views + count_in c w
 count_set c [] id v w e = absurd (some-ne-none v (sym e))
 count_set c (x ∷ xs) zero v w e = let is : count_in c x ≡ count_in c v = ap (count_in c) (some-injective x v e) in omega arith
 count_set c (x ∷ xs) (suc id) v w e = let r = count_set c xs id v w e in omega arith
 
-pub count_at : (c : ℕ) (views : List (List Known)) (id : ℕ) (v : List Known) → get_elem? views id ≡ some v → count_in c v ≤ count_all c views
+pub count_at : (c : ℕ) (views : List (List CallerView)) (id : ℕ) (v : List CallerView) → get_elem? views id ≡ some v → count_in c v ≤ count_all c views
 count_at c [] id v e = absurd (some-ne-none v (sym e))
 count_at c (x ∷ xs) zero v e = let is : count_in c x ≡ count_in c v = ap (count_in c) (some-injective x v e) in omega arith
 count_at c (x ∷ xs) (suc id) v e = let r = count_at c xs id v e in omega arith
 
-pub count_two : (c : ℕ) (views : List (List Known)) (i j : ℕ) (v w : List Known) → i ≢ j → get_elem? views i ≡ some v → get_elem? views j ≡ some w → count_in c v + count_in c w ≤ count_all c views
+pub count_two : (c : ℕ) (views : List (List CallerView)) (i j : ℕ) (v w : List CallerView) → i ≢ j → get_elem? views i ≡ some v → get_elem? views j ≡ some w → count_in c v + count_in c w ≤ count_all c views
 count_two c [] i j v w n e f = absurd (some-ne-none v (sym e))
 count_two c (x ∷ xs) zero zero v w n e f = absurd (n refl)
 count_two c (x ∷ xs) zero (suc j) v w n e f = let is : count_in c x ≡ count_in c v = ap (count_in c) (some-injective x v e) in let r = count_at c xs j w f in omega arith
 count_two c (x ∷ xs) (suc i) zero v w n e f = let is : count_in c x ≡ count_in c w = ap (count_in c) (some-injective x w f) in let r = count_at c xs i v e in omega arith
 count_two c (x ∷ xs) (suc i) (suc j) v w n e f = let r = count_two c xs i j v w (λ h. n (ap suc h)) e f in omega arith
 
-pub keeps_view : (t : Terms) (words : List ℕ) (views : List (List Known)) (h : RowKept t words views) (id : ℕ) (v w : List Known) → get_elem? views id ≡ some v → AllStand t.setting h.log w → ((c : ℕ) → count_in c w ≤ count_in c v)
+pub keeps_view : (t : LogConfig) (words : List ℕ) (views : List (List CallerView)) (h : RowKept t words views) (id : ℕ) (v w : List CallerView) → get_elem? views id ≡ some v → AllStand t.setting h.log w → ((c : ℕ) → count_in c w ≤ count_in c v)
     → RowKept t words (set views id w)
 keeps_view t words views h id v w at stand less = record {
   log = h.log;
@@ -78,7 +78,7 @@ own-snoc : (c : ℕ) (rest : List Event) (w : Event) → own c rest ≡ [] → (
 own-snoc c rest w e n = filter-append (λ x. eqb (who_of x) c) rest (w ∷ []) ∙ (rw e (ap (λ b. cond b (w ∷ []) []) (ne_eqb (who_of w) c n)))
 
 -- a pass that has seen more, beside a longer log
-pub looks_stay : (log log' now : List Event) (k : Known) → length log ≤ length log' → length k.seen ≤ length now → LooksKept log k → LooksKept log' (record k { seen = now })
+pub looks_stay : (log log' now : List Event) (k : CallerView) → length log ≤ length log' → length k.seen ≤ length now → LooksKept log k → LooksKept log' (record k { seen = now })
 looks_stay log log' now k more on l = record {
   filled = (let f = l.filled in omega arith);
   since = l.since;
@@ -87,7 +87,7 @@ looks_stay log log' now k more on l = record {
 }
 
 -- a look behind what was seen, where the log ends
-look_kept : (log : List Event) (k : Known) → length log ≡ length k.seen → LooksKept log k → LooksKept log (looked k)
+look_kept : (log : List Event) (k : CallerView) → length log ≡ length k.seen → LooksKept log k → LooksKept log (looked k)
 look_kept log k end l = record {
   filled = l.filled;
   since = l.since ++ length k.seen ∷ [];
@@ -95,7 +95,7 @@ look_kept log k end l = record {
   looks = All-push (IsLookOf k.filled k.seen) l.since (length k.seen) l.looks ((let f = l.filled in omega arith), (omega arith));
 }
 
-others_stand : (setting : Setting) (log : List Event) (word : Event) (u : List Known) → count_in (who_of word) u ≡ 0 → AllStand setting log u → AllStand setting (log ++ word ∷ []) u
+others_stand : (setting : DeskConfig) (log : List Event) (word : Event) (u : List CallerView) → count_in (who_of word) u ≡ 0 → AllStand setting log u → AllStand setting (log ++ word ∷ []) u
 others_stand setting log word [] zero_in h = tt
 others_stand setting log word (k ∷ ks) zero_in h = dite (ℕ_discrete k.caller (who_of word))
     (λ (same : k.caller ≡ who_of word). absurd (let one : weight (eqb k.caller (who_of word)) ≡ 1 = ap weight (eq-eqb k.caller (who_of word) same) in omega arith))
@@ -108,8 +108,8 @@ pub same_some : (d e : Event) → Some d ≡ Some e → d ≡ e
 same_some d e h = cc
 
 -- a load of the next word
-looks_kept : (t : Terms) (words : List ℕ) (views : List (List Known)) (h : RowKept t words views) (id : ℕ) (k : Known) → get_elem? views id ≡ some (k ∷ []) → (st : Stands t.setting h.log k) → (found : ℕ) → Next st.rest found
-    → (w : List Known) × RowKept t words (set views id w) × LooksNext k found w
+looks_kept : (t : LogConfig) (words : List ℕ) (views : List (List CallerView)) (h : RowKept t words views) (id : ℕ) (k : CallerView) → get_elem? views id ≡ some (k ∷ []) → (st : Stands t.setting h.log k) → (found : ℕ) → Next st.rest found
+    → (w : List CallerView) × RowKept t words (set views id w) × LooksNext k found w
 looks_kept t words views h id k at st found next = ⊎_elim
     (λ (p : (found ≡ 0) × (st.rest ≡ [])). (
       looked k ∷ [],
@@ -131,16 +131,16 @@ looks_kept t words views h id k at st found next = ⊎_elim
     ))
     next
 
-pub looks : {S : Type 0} (t : Terms) (slots id : ℕ) (k : Known) (c : List (ℕ × S)) → Allows (holds {S = S} t) slots id (k ∷ [], c) (length k.seen) (λ n. n) (looks_next (step slots (length k.seen) 0 0 none) (k ∷ [], c))
+pub looks : {S : Type 0} (t : LogConfig) (slots id : ℕ) (k : CallerView) (c : List (ℕ × S)) → Allows (holds {S = S} t) slots id (k ∷ [], c) (length k.seen) (λ n. n) (looks_next (step slots (length k.seen) 0 0 none) (k ∷ [], c))
 looks t slots id k c s h len at lt =
     let st = (h.known id (k ∷ []) at).0 in
     let found : ℕ = slice_index s.words (length k.seen) in
     let did = looks_kept t s.words s.views h id k at st found (at_next t h.log s.words k.seen st.rest h.row st.split) in
     let same : set s.words (length k.seen) found ≡ s.words = set-get_or s.words (length k.seen) 0 in
-    (did.0, keeps, tt, subst (λ ws. RowKept t ws (set s.views id did.0)) (sym same) did.1, (refl, λ k' e. subst (λ (x : Known). LooksNext x found did.0) (one_of k k' e) did.2))
+    (did.0, keeps, tt, subst (λ ws. RowKept t ws (set s.views id did.0)) (sym same) did.1, (refl, λ k' e. subst (λ (x : CallerView). LooksNext x found did.0) (one_of k k' e) did.2))
 
 -- an exchange of the next word that is won
-adds_kept : (t : Terms) (words : List ℕ) (views : List (List Known)) (h : RowKept t words views) (id : ℕ) (k : Known) → get_elem? views id ≡ some (k ∷ []) → (st : Stands t.setting h.log k) → st.rest ≡ []
+adds_kept : (t : LogConfig) (words : List ℕ) (views : List (List CallerView)) (h : RowKept t words views) (id : ℕ) (k : CallerView) → get_elem? views id ≡ some (k ∷ []) → (st : Stands t.setting h.log k) → st.rest ≡ []
     → length k.seen < t.words → (e : Event) → IsDeskEvent t.setting (state_from t.setting.plan k.seen) e → who_of e ≡ k.caller → RowKept t (set words (length k.seen) (word_of e)) (set views id (saw k e ∷ []))
 adds_kept t words views h id k at st end room e event mine =
     let all : h.log ≡ k.seen = st.split ∙ ap (λ l. k.seen ++ l) end ∙ append-nil k.seen in
@@ -166,7 +166,7 @@ adds_kept t words views h id k at st end room e event mine =
     put_at [] (suc n) h = ap (λ (m : ℕ). word_of e ∷ replicate m 0) (let p : n ≡ suc n - 1 = omega arith in p)
     put_at (x ∷ log) (suc n) h = ap (λ (l : List ℕ). word_of x ∷ l) (put_at log (suc n) h)
 
-pub adds : {S : Type 0} (t : Terms) (slots id : ℕ) (k : Known) (c : List (ℕ × S)) (e : Event) → length k.seen < t.words → IsDeskEvent k.setting (state_from k.setting.plan k.seen) e → who_of e ≡ k.caller
+pub adds : {S : Type 0} (t : LogConfig) (slots id : ℕ) (k : CallerView) (c : List (ℕ × S)) (e : Event) → length k.seen < t.words → IsDeskEvent k.setting (state_from k.setting.plan k.seen) e → who_of e ≡ k.caller
     → Allows (holds {S = S} t) slots id (k ∷ [], c) (length k.seen) (λ n. either (eqb n 0) (word_of e) n) (adds_next (step slots (length k.seen) 0 (word_of e) none) (k ∷ [], c))
 adds {S} t slots id k c e room event mine s h len at lt =
     let i : ℕ = length k.seen in
@@ -174,7 +174,7 @@ adds {S} t slots id k c e room event mine s h len at lt =
     let found : ℕ = slice_index s.words i in
     let st = (h.known id (k ∷ []) at).0 in
     let next = at_next t h.log s.words k.seen st.rest h.row st.split in
-    let Goal : ℕ → Type 0 = λ n. (w : List Known) × (a : Rattle.atomic_table.specs.Table.Act S) × Rattle.atomic_table.specs.Table.Valid s.homes c a × RowKept t (set s.words i n) (set s.views id w) × adds_next (step slots i 0 word none) (k ∷ [], c) found (w, Rattle.atomic_table.specs.Table.carried_after c a) in
+    let Goal : ℕ → Type 0 = λ n. (w : List CallerView) × (a : Rattle.atomic_table.specs.Table.Act S) × Rattle.atomic_table.specs.Table.Valid s.homes c a × RowKept t (set s.words i n) (set s.views id w) × adds_next (step slots i 0 word none) (k ∷ [], c) found (w, Rattle.atomic_table.specs.Table.carried_after c a) in
     exchanged found 0 word Goal
     (λ zero_there. let end = is_end st.rest found zero_there next in (
       saw k e ∷ [],
@@ -183,7 +183,7 @@ adds {S} t slots id k c e room event mine s h len at lt =
       adds_kept t s.words s.views h id k at st end room e (subst (λ n. IsDeskEvent n (state_from n.plan k.seen) e) st.terms event) mine,
       (
         refl,
-        λ k' f. subst (λ (x : Known). AddsNext x word found (saw k e ∷ [])) (one_of k k' f) (record {
+        λ k' f. subst (λ (x : CallerView). AddsNext x word found (saw k e ∷ [])) (one_of k k' f) (record {
           won = λ d is none. ap (λ (x : Event). saw k x ∷ []) (same_some e d (sym (event_of_own_word e event.event) ∙ is));
           lost = λ d some. absurd (let none = ap event_of zero_there ∙ event_of_zero in cc);
         }),
@@ -198,7 +198,7 @@ adds {S} t slots id k c e room event mine s h len at lt =
       subst (λ ws. RowKept t ws (set s.views id did.0)) (sym same) did.1,
       (
         refl,
-        λ k' f. subst (λ (x : Known). AddsNext x word found did.0) (one_of k k' f) (record {
+        λ k' f. subst (λ (x : CallerView). AddsNext x word found did.0) (one_of k k' f) (record {
           won = λ d is none. absurd (not_none st.rest (h.row.events) st.split some_there next none);
           lost = did.2.taken;
         }),

@@ -5,7 +5,7 @@ use Rattle.std.proofs.lemmas.List.Elements.{All-nil, All-cons, All-append, All-w
 use Rattle.cf_model.specs.declared.events.Event.{Event}
 use Rattle.cf_model.specs.States.{State, outcome_at}
 use Rattle.cf_model.specs.Events.{state_at}
-use Rattle.cf_desk.specs.declared.row.Known.{Known}
+use Rattle.cf_desk.specs.declared.row.CallerView.{CallerView}
 use Rattle.cf_desk.specs.Log.{state_from}
 use Rattle.cf_desk.specs.Rule.{looked}
 use Rattle.cf_desk.specs.Views.{Pass, Desk, Follows, SeesFull, IsLook, LooksOnce, IsUnsettledAt, LooksFor, state_of}
@@ -107,17 +107,17 @@ looks_found d stage n m p q le settled l = record {
 pub looks_told : (d : Desk) (p q r : Pass) → r.known ≡ q.known → LooksOnce d p q → LooksOnce d p r
 looks_told d p q r same l = record {
   look = l.look;
-  is = ap (λ (k : Known). k.looks) same ∙ l.is;
-  last = subst (λ (k : Known). (l.look ≡ length k.seen ∷ []) ⊎ ((l.look ≡ []) × (length k.seen ≡ d.words))) (sym same) l.last;
+  is = ap (λ (k : CallerView). k.looks) same ∙ l.is;
+  last = subst (λ (k : CallerView). (l.look ≡ length k.seen ∷ []) ⊎ ((l.look ≡ []) × (length k.seen ≡ d.words))) (sym same) l.last;
 }
 
 pub looked_told : (d : Desk) (stage n : ℕ) (p q r : Pass) → r.known ≡ q.known → LooksFor d stage n p q → LooksFor d stage n p r
 looked_told d stage n p q r same l = record {
   earlier = l.earlier;
   look = l.look;
-  is = ap (λ (k : Known). k.looks) same ∙ l.is;
-  unsettled = subst (λ (k : Known). All (λ place. (place ≤ length k.seen) × (outcome_at (state_at k.setting.plan k.seen place) stage ≡ None)) l.earlier) (sym same) l.unsettled;
-  last = subst (λ (k : Known). (l.look ≡ length k.seen ∷ []) ⊎ ((l.look ≡ []) × (length k.seen ≡ d.words))) (sym same) l.last;
+  is = ap (λ (k : CallerView). k.looks) same ∙ l.is;
+  unsettled = subst (λ (k : CallerView). All (λ place. (place ≤ length k.seen) × (outcome_at (state_at k.setting.plan k.seen place) stage ≡ None)) l.earlier) (sym same) l.unsettled;
+  last = subst (λ (k : CallerView). (l.look ≡ length k.seen ∷ []) ⊎ ((l.look ≡ []) × (length k.seen ≡ d.words))) (sym same) l.last;
   at_most = l.at_most;
-  all = subst (λ (k : Known). outcome_at (state_of k) stage ≡ None → (length l.earlier + length l.look ≡ n) ⊎ (length k.seen ≡ d.words)) (sym same) l.all;
+  all = subst (λ (k : CallerView). outcome_at (state_of k) stage ≡ None → (length l.earlier + length l.look ≡ n) ⊎ (length k.seen ≡ d.words)) (sym same) l.all;
 }

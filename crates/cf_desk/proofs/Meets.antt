@@ -9,9 +9,9 @@ use Rattle.atomic_table.specs.Table.{Me, step, keeps, Allows, Splits, Joins, Ent
 use Rattle.atomic_table.proofs.Lists.{at_set, at_snoc}
 use Rattle.cf_model.specs.declared.events.Event.{Event}
 use Rattle.cf_desk.proofs.Lists.{none_of_both, one_of}
-use Rattle.cf_desk.specs.declared.row.Setting.{Setting}
-use Rattle.cf_desk.specs.declared.row.Terms.{Terms}
-use Rattle.cf_desk.specs.declared.row.Known.{Known}
+use Rattle.cf_desk.specs.declared.row.DeskConfig.{DeskConfig}
+use Rattle.cf_desk.specs.declared.row.LogConfig.{LogConfig}
+use Rattle.cf_desk.specs.declared.row.CallerView.{CallerView}
 use Rattle.cf_model.specs.Calls.{who_of}
 use Rattle.cf_event.specs.Words.{word_of}
 use Rattle.cf_event.specs.Decoding.{event_of}
@@ -23,19 +23,19 @@ use Rattle.cf_event.proofs.Events.{event_at, events_front}
 use Rattle.cf_desk.specs.Rule.{AllStand, count_in, count_all, RowKept, holds, longer_if, longest, with_seen, level, AllCatch, AllLogged, AllShort, levels, finds, FindsSeen, head_of, rest_of}
 use Rattle.cf_desk.proofs.Keeps.{count_set, keeps_view, looks_stay, same_some}
 
-count_snoc : (c : ℕ) (views : List (List Known)) (v : List Known) → count_all c (views ++ v ∷ []) ≡ count_all c views + count_in c v
+count_snoc : (c : ℕ) (views : List (List CallerView)) (v : List CallerView) → count_all c (views ++ v ∷ []) ≡ count_all c views + count_in c v
 count_snoc c [] v = omega arith
 count_snoc c (x ∷ xs) v = let r = count_snoc c xs v in omega arith
 
-count_append : (c : ℕ) (v w : List Known) → count_in c (v ++ w) ≡ count_in c v + count_in c w
+count_append : (c : ℕ) (v w : List CallerView) → count_in c (v ++ w) ≡ count_in c v + count_in c w
 count_append c [] w = omega arith
 count_append c (k ∷ ks) w = let r = count_append c ks w in omega arith
 
-pub stand_append : (setting : Setting) (log : List Event) (v w : List Known) → AllStand setting log v → AllStand setting log w → AllStand setting log (v ++ w)
+pub stand_append : (setting : DeskConfig) (log : List Event) (v w : List CallerView) → AllStand setting log v → AllStand setting log w → AllStand setting log (v ++ w)
 stand_append setting log [] w h g = g
 stand_append setting log (k ∷ ks) w h g = (h.0, stand_append setting log ks w h.1 g)
 
-splits : {S : Type 0} (t : Terms) (id : ℕ) (v left right : List Known) → ((log : List Event) → AllStand t.setting log v → AllStand t.setting log left × AllStand t.setting log right)
+splits : {S : Type 0} (t : LogConfig) (id : ℕ) (v left right : List CallerView) → ((log : List Event) → AllStand t.setting log v → AllStand t.setting log left × AllStand t.setting log right)
     → ((c : ℕ) → count_in c left + count_in c right ≡ count_in c v) → Splits (holds {S = S} t) id v left right
 splits t id v left right stand counts s h at =
     let both = stand h.log (h.known id v at) in record {
@@ -48,21 +48,21 @@ splits t id v left right stand counts s h at =
       apart = λ c. let a = h.apart c in let n = counts c in let s1 = count_set c s.views id v left at in let s2 = count_snoc c (set s.views id left) right in omega arith;
     }
 
-head_stands : (setting : Setting) (log : List Event) (v : List Known) → AllStand setting log v → AllStand setting log (head_of v) × AllStand setting log (rest_of v)
+head_stands : (setting : DeskConfig) (log : List Event) (v : List CallerView) → AllStand setting log v → AllStand setting log (head_of v) × AllStand setting log (rest_of v)
 head_stands setting log [] h = (tt, tt)
 head_stands setting log (k ∷ ks) h = ((h.0, tt), h.1)
 
-count_head : (c : ℕ) (v : List Known) → count_in c (head_of v) + count_in c (rest_of v) ≡ count_in c v
+count_head : (c : ℕ) (v : List CallerView) → count_in c (head_of v) + count_in c (rest_of v) ≡ count_in c v
 count_head c [] = refl
 count_head c (k ∷ ks) = omega arith
 
-pub gives_first : {S : Type 0} (t : Terms) (id : ℕ) (v : List Known) → Splits (holds {S = S} t) id v (rest_of v) (head_of v)
+pub gives_first : {S : Type 0} (t : LogConfig) (id : ℕ) (v : List CallerView) → Splits (holds {S = S} t) id v (rest_of v) (head_of v)
 gives_first t id v = splits t id v (rest_of v) (head_of v) (λ log h. let p = head_stands t.setting log v h in (p.1, p.0)) (λ c. let n = count_head c v in omega arith)
 
-pub keeps_first : {S : Type 0} (t : Terms) (id : ℕ) (v : List Known) → Splits (holds {S = S} t) id v (head_of v) (rest_of v)
+pub keeps_first : {S : Type 0} (t : LogConfig) (id : ℕ) (v : List CallerView) → Splits (holds {S = S} t) id v (head_of v) (rest_of v)
 keeps_first t id v = splits t id v (head_of v) (rest_of v) (λ log h. head_stands t.setting log v h) (λ c. count_head c v)
 
-pub joins : {S : Type 0} (t : Terms) (id : ℕ) (v : List Known) (other : ℕ) (w : List Known) → Joins (holds {S = S} t) id v other w (v ++ w) []
+pub joins : {S : Type 0} (t : LogConfig) (id : ℕ) (v : List CallerView) (other : ℕ) (w : List CallerView) → Joins (holds {S = S} t) id v other w (v ++ w) []
 joins t id v other w s h at apart there =
     let theirs = ⊎_elim (λ (p : (other ≡ id) × (v ++ w ≡ w)). absurd (apart p.0)) (λ (p : (other ≢ id) × (get_elem? s.views other ≡ some w)). p.1) (at_set s.views id other (v ++ w) w there) in
     let both = stand_append t.setting h.log v w (h.known id v at) (h.known other w theirs) in record {
@@ -78,7 +78,7 @@ joins t id v other w s h at apart there =
       apart = λ c. let a = h.apart c in let s1 = count_set c s.views id v (v ++ w) at in let s2 = count_set c (set s.views id (v ++ w)) other w [] there in let n = count_append c v w in omega arith;
     }
 
-pub sits_down : {S : Type 0} (t : Terms) (slots word : ℕ) → Enters (holds {S = S} t) slots word (λ n w. ◌≡◌ {A = Me S (List Known)} (w, []) ([], []))
+pub sits_down : {S : Type 0} (t : LogConfig) (slots word : ℕ) → Enters (holds {S = S} t) slots word (λ n w. ◌≡◌ {A = Me S (List CallerView)} (w, []) ([], []))
 sits_down t slots word s h len lt = (
   [],
   record {
@@ -110,20 +110,20 @@ longer_begins : (xs ys log : List Event) (b : Bool) → Begins xs log → Begins
 longer_begins xs ys log true h g = g
 longer_begins xs ys log false h g = h
 
-pub longest_begins : (setting : Setting) (log : List Event) (v : List Known) → AllStand setting log v → Begins (longest v) log
+pub longest_begins : (setting : DeskConfig) (log : List Event) (v : List CallerView) → AllStand setting log v → Begins (longest v) log
 longest_begins setting log [] h = (log, refl)
 longest_begins setting log (k ∷ ks) h = longer_begins k.seen (longest ks) log (leb (length k.seen) (length (longest ks))) (h.0.rest, h.0.split) (longest_begins setting log ks h.1)
 
-pub short_more : (n m : ℕ) → n ≤ m → (v : List Known) → AllShort n v → AllShort m v
+pub short_more : (n m : ℕ) → n ≤ m → (v : List CallerView) → AllShort n v → AllShort m v
 short_more n m le [] h = tt
 short_more n m le (k ∷ ks) h = (let a = h.0 in omega arith, short_more n m le ks h.1)
 
-all_short : (v : List Known) → AllShort (length (longest v)) v
+all_short : (v : List CallerView) → AllShort (length (longest v)) v
 all_short [] = tt
 all_short (k ∷ ks) = let p = longer_short k.seen (longest ks) (leb (length k.seen) (length (longest ks))) refl in (p.0, short_more (length (longest ks)) (length (longest (k ∷ ks))) p.1 ks (all_short ks))
 
 -- where all begin the log, and none is longer than this beginning, they may all be taken to have seen it
-levelled : (setting : Setting) (log now rest : List Event) → log ≡ now ++ rest → (v : List Known) → AllShort (length now) v → AllStand setting log v → AllCatch now v × AllStand setting log (map (with_seen now) v)
+levelled : (setting : DeskConfig) (log now rest : List Event) → log ≡ now ++ rest → (v : List CallerView) → AllShort (length now) v → AllStand setting log v → AllCatch now v × AllStand setting log (map (with_seen now) v)
 levelled setting log now rest e [] short h = (tt, tt)
 levelled setting log now rest e (k ∷ ks) short h =
     let st = h.0 in
@@ -134,24 +134,24 @@ levelled setting log now rest e (k ∷ ks) short h =
       (record { terms = st.terms; caller = st.caller; rest = rest; split = e; none = parts.1; looks = looks_stay log log now k (omega arith) short.0 st.looks }, more.1),
     )
 
-pub stand_levelled : (setting : Setting) (log : List Event) (v : List Known) → AllStand setting log v → AllCatch (longest v) v × AllStand setting log (level v)
+pub stand_levelled : (setting : DeskConfig) (log : List Event) (v : List CallerView) → AllStand setting log v → AllCatch (longest v) v × AllStand setting log (level v)
 stand_levelled setting log v h = let b = longest_begins setting log v h in levelled setting log (longest v) b.0 b.1 v (all_short v) h
 
-logged : (setting : Setting) (log now : List Event) → AreLogged setting now → (v : List Known) → AllStand setting log v → AllLogged now v
+logged : (setting : DeskConfig) (log now : List Event) → AreLogged setting now → (v : List CallerView) → AllStand setting log v → AllLogged now v
 logged setting log now events [] h = tt
 logged setting log now events (k ∷ ks) h = (subst (λ n. AreLogged n now) (sym h.0.terms) events, logged setting log now events ks h.1)
 
 -- the events of the longest list are those of the desk
-longest_logged : (setting : Setting) (log : List Event) (v : List Known) → AreLogged setting log → AllStand setting log v → AllLogged (longest v) v
+longest_logged : (setting : DeskConfig) (log : List Event) (v : List CallerView) → AreLogged setting log → AllStand setting log v → AllLogged (longest v) v
 longest_logged setting log v events h =
     let b = longest_begins setting log v h in
     logged setting log (longest v) (events_front setting.callers setting.functions (start setting.plan) (longest v) b.0 (subst (AreLogged setting) b.1 events)) v h
 
-count_level : (c : ℕ) (now : List Event) (v : List Known) → count_in c (map (with_seen now) v) ≡ count_in c v
+count_level : (c : ℕ) (now : List Event) (v : List CallerView) → count_in c (map (with_seen now) v) ≡ count_in c v
 count_level c now [] = refl
 count_level c now (k ∷ ks) = let r = count_level c now ks in omega arith
 
-pub levels_out : {S : Type 0} (t : Terms) (slots id : ℕ) (v : List Known) (c : List (ℕ × S)) (i : ℕ) → Allows (holds {S = S} t) slots id (v, c) i (λ n. n) (levels (step slots i 0 0 none) (v, c))
+pub levels_out : {S : Type 0} (t : LogConfig) (slots id : ℕ) (v : List CallerView) (c : List (ℕ × S)) (i : ℕ) → Allows (holds {S = S} t) slots id (v, c) i (λ n. n) (levels (step slots i 0 0 none) (v, c))
 levels_out t slots id v c i s h len at lt =
     let p = stand_levelled t.setting h.log v (h.known id v at) in
     let kept = keeps_view t s.words s.views h id v (level v) at p.1 (λ n. let e = count_level n (longest v) v in omega arith) in
@@ -167,7 +167,7 @@ word_at [] rest zs i e h = absurd (none-some e h)
 word_at (x ∷ xs) rest zs zero e h = ap word_of (same_some x e h)
 word_at (x ∷ xs) rest zs (suc i) e h = word_at xs rest zs i e h
 
-pub found_there : {S : Type 0} (t : Terms) (slots id : ℕ) (k : Known) (c : List (ℕ × S)) (i : ℕ) → i < length k.seen → Allows (holds {S = S} t) slots id (k ∷ [], c) i (λ n. n) (finds (step slots i 0 0 none) (k ∷ [], c))
+pub found_there : {S : Type 0} (t : LogConfig) (slots id : ℕ) (k : CallerView) (c : List (ℕ × S)) (i : ℕ) → i < length k.seen → Allows (holds {S = S} t) slots id (k ∷ [], c) i (λ n. n) (finds (step slots i 0 0 none) (k ∷ [], c))
 found_there t slots id k c i inside s h len at lt =
     let st = (h.known id (k ∷ []) at).0 in
     let found : ℕ = slice_index s.words i in
@@ -179,5 +179,5 @@ found_there t slots id k c i inside s h len at lt =
       keeps,
       tt,
       subst (λ ws. RowKept t ws (set s.views id (k ∷ []))) (sym (set-get_or s.words i 0)) kept,
-      (refl, λ k' f. subst (λ (x : Known). FindsSeen x i found) (one_of k k' f) (record { event = e.0; there = e.1; is = ap event_of is ∙ event_of_own_word e.0 event.event })),
+      (refl, λ k' f. subst (λ (x : CallerView). FindsSeen x i found) (one_of k k' f) (record { event = e.0; there = e.1; is = ap event_of is ∙ event_of_own_word e.0 event.event })),
     )

@@ -1,88 +1,29 @@
 -- An open claim stays open, whatever events of other callers come.
-use Rattle.std.proofs.Common.{◌≡◌, ◌≢◌, ◌==◌, ℕ, zero, suc, ◌+◌, ◌⊎◌, inl, inr, Bool, true, false, cond, eqb, Option, Some, None, List, [], ◌∷◌, ◌++◌, length, set, replicate, sym, refl, ap, ◌∙◌, arith}
-use Rattle.std.specs.Prelude.{slice_get, unwrap_or, nat_lt}
+use Rattle.std.proofs.Common.{◌≡◌, ◌≢◌, ◌==◌, ℕ, zero, suc, ◌⊎◌, inl, inr, Bool, true, false, cond, eqb, Option, Some, None, List, [], ◌∷◌, length, set, sym, refl, ap, ◌∙◌, arith}
+use Rattle.std.specs.Prelude.{slice_get, unwrap_or}
 use Rattle.std.specs.Option.{option_map_or}
 use Rattle.std.proofs.lemmas.Bool.Decides.{nat_tests}
-use Rattle.cf_outcome.specs.declared.outcome.Outcome.{Outcome}
 use Rattle.cf_outcome.specs.declared.outcome.Outcome.TheVariants.{Value as Gives, Fault}
 use Rattle.cf_outcome.specs.declared.outcome.Cause.TheVariants.{Thrown}
 use Rattle.cf_plan.specs.declared.forms.Args.{Args}
 use Rattle.cf_plan.specs.declared.forms.Answer.{Answer}
-use Rattle.cf_plan.specs.declared.forms.Landing.{Landing}
-use Rattle.cf_plan.specs.declared.forms.Landing.TheVariants.{Settles as Lands, Links}
-use Rattle.cf_plan.specs.declared.limits.Limit.{Limit}
-use Rattle.cf_plan.specs.Forms.{landing}
-use Rattle.cf_plan.specs.Plans.{Planned, PlannedStage, attached_stage, form_at}
+use Rattle.cf_plan.specs.Plans.{Planned, PlannedStage, attached_stage}
 use Rattle.cf_model.specs.declared.stage.Stage.{Stage}
 use Rattle.cf_model.specs.declared.stage.Stage.TheVariants.{Pending, Ready, Claimed, Linked, Settled}
 use Rattle.cf_model.specs.declared.replies.Finished.TheVariants.{NotYours}
-use Rattle.cf_model.specs.declared.replies.Ticked.TheVariants.{Fired, Past}
 use Rattle.cf_model.specs.declared.events.Event.{Event}
 use Rattle.cf_model.specs.declared.events.Event.TheVariants.{Complete as Completes, Fail as Fails, Cancel as Cancels, Claim as Claims, Finish as Finishes, Tick as Ticks, Attach as Attaches}
 use Rattle.cf_model.specs.States.{State, start, stage_at, claim_at, outcome_at}
-use Rattle.cf_model.specs.Events.{answered, state_after, claimed_by, finished_by, landed, linked_to, settled_by, settling, cancelled_by, firing, due_limits, limit_outcome, source_outcome, attached_by}
+use Rattle.cf_model.specs.Events.{answered, state_after, claimed_by, finished_by, attached_by}
 use Rattle.cf_model.specs.Calls.{who_of}
 use Rattle.cf_model.specs.Claims.{is_claimable}
 use Rattle.cf_model.proofs.Claimable.{state_after-not_claimable}
 use Rattle.cf_model.proofs.Histories.{state_after-append}
+use Rattle.cf_model.proofs.OpenClaims.{cancelled_claims, claim_before_close, claim_before_push, claim_before_set, finished_claims, none_open, pushed_claim, same_claim, settled_claims, ticked_claims}
 use Rattle.cf_model.proofs.StateLemmas.{slice_get-set_other}
 use Rattle.cf_event.specs.Events.{own}
 use Rattle.cf_desk.specs.Laws.{ClaimsStayOpen}
 use Rattle.cf_desk.specs.Log.{state_from}
-
--- ---- which claims an event leaves
-
-abbrev claim_in : List (Option ℕ) → ℕ → Option ℕ
-claim_in claims i = unwrap_or (slice_get claims i) None
-
-same_claim : (i : ℕ) (xs ys : List (Option ℕ)) → ys ≡ xs → claim_in ys i ≡ claim_in xs i
-same_claim i xs ys e = ap (λ (l : List (Option ℕ)). claim_in l i) e
-
-settled_claims : (x : Option Outcome) (s : State) (i : ℕ) (o : Outcome) → (settled_by x s i o).1.claims ≡ s.claims
-settled_claims (Some old) s i o = refl
-settled_claims None s i o = refl
-
-cancelled_claims : (x : Option Outcome) (s : State) (i : ℕ) → (cancelled_by x s i).1.claims ≡ s.claims
-cancelled_claims (Some old) s i = refl
-cancelled_claims None s i = refl
-
-firing_claims : (limits : List Limit) (count : ℕ) (s : State) → (firing count s limits).1.claims ≡ s.claims
-firing_claims [] count s = refl
-firing_claims (l ∷ limits) count s =
-    let done = settling s l.stage (limit_outcome l.kind) in
-    firing_claims limits _ done.1 ∙ settled_claims (outcome_at s l.stage) s l.stage (limit_outcome l.kind)
-
-chosen_claims : {X : Type 0} (b : Bool) (s : State) (p q : X × State) → p.1.claims ≡ s.claims → q.1.claims ≡ s.claims → (cond b p q).1.claims ≡ s.claims
-chosen_claims true s p q e f = e
-chosen_claims false s p q e f = f
-
-ticked_claims : (s : State) (who now : ℕ) → (answered s (Ticks who now)).1.claims ≡ s.claims
-ticked_claims s who now =
-    let fired = firing 0 s (due_limits s now) in
-    chosen_claims (nat_lt now s.moment) s (Past, s) (Fired fired.0, record fired.1 { moment = now; used = s.used + length (due_limits s now) }) refl (firing_claims (due_limits s now) 0 s)
-
-linked_claims : (x : Option Outcome) (s : State) (i j : ℕ) → (linked_to x s i j).claims ≡ s.claims
-linked_claims (Some o) s i j = refl
-linked_claims None s i j = refl
-
-landed_claims : (to : Landing) (s : State) (i : ℕ) → (landed s i to).claims ≡ s.claims
-landed_claims (Lands o) s i = refl
-landed_claims (Links j) s i = linked_claims (outcome_at s j) s i j
-
-finished_claims : (x : Option Outcome) (s : State) (i : ℕ) (answer : Answer) → (finished_by x s i answer).1.claims ≡ s.claims
-finished_claims (Some old) s i answer = refl
-finished_claims None s i answer = landed_claims (landing (form_at s.plan.stages i) i (source_outcome s i) answer) s i
-
-pushed : (xs : List (Option ℕ)) (i c : ℕ) → claim_in xs i ≡ Some c → claim_in (xs ++ None ∷ []) i ≡ Some c
-pushed [] i c e = (let no : ⊥ = cc in absurd no)
-pushed (x ∷ xs) zero c e = e
-pushed (x ∷ xs) (suc i) c e = pushed xs i c e
-
-pushed_none : (xs : List (Option ℕ)) (i c : ℕ) → claim_in (xs ++ None ∷ []) i ≡ Some c → claim_in xs i ≡ Some c
-pushed_none [] zero c e = e
-pushed_none [] (suc i) c e = e
-pushed_none (x ∷ xs) zero c e = e
-pushed_none (x ∷ xs) (suc i) c e = pushed_none xs i c e
 
 -- ---- what has an open claim can't be claimed
 
@@ -96,34 +37,16 @@ CameFrom s t = (i c : ℕ) → claim_at t i ≡ Some c → (claim_at s i ≡ Som
 no_new : (s t : State) → t.claims ≡ s.claims → CameFrom s t
 no_new s t same i c e = inl (sym (same_claim i s.claims t.claims same) ∙ e)
 
-set_either : (xs : List (Option ℕ)) (j i : ℕ) (x : Option ℕ) (w : ℕ) → claim_in (set xs j x) i ≡ Some w → (i ≡ j) ⊎ (claim_in xs i ≡ Some w)
-set_either [] j i x w e = inr e
-set_either (y ∷ xs) zero zero x w e = inl refl
-set_either (y ∷ xs) zero (suc i) x w e = inr e
-set_either (y ∷ xs) (suc j) zero x w e = inr e
-set_either (y ∷ xs) (suc j) (suc i) x w e = further (set_either xs j i x w e)
-  where
-    further : (i ≡ j) ⊎ (claim_in xs i ≡ Some w) → (suc i ≡ suc j) ⊎ (claim_in xs i ≡ Some w)
-    further (inl h) = inl (ap suc h)
-    further (inr h) = inr h
-
-set_none : (xs : List (Option ℕ)) (j i w : ℕ) → claim_in (set xs j None) i ≡ Some w → claim_in xs i ≡ Some w
-set_none [] j i w e = e
-set_none (y ∷ xs) zero zero w e = (let no : ⊥ = cc in absurd no)
-set_none (y ∷ xs) zero (suc i) w e = e
-set_none (y ∷ xs) (suc j) zero w e = e
-set_none (y ∷ xs) (suc j) (suc i) w e = set_none xs j i w e
-
 claimed_there : (xs : List Stage) (i : ℕ) (args : Args) → unwrap_or (slice_get xs i) Pending ≡ Ready args → is_claimable (unwrap_or (slice_get (set xs i Claimed) i) Pending) ≡ false
 claimed_there [] i args e = (let no : ⊥ = cc in absurd no)
 claimed_there (x ∷ xs) zero args e = refl
 claimed_there (x ∷ xs) (suc i) args e = claimed_there xs i args e
 
 claim_from : (x : Stage) (s : State) (who j : ℕ) → stage_at s j ≡ x → CameFrom s ((claimed_by x s who j).1)
-claim_from (Ready args) s who j at i c e = split (set_either s.claims j i (Some who) c e)
+claim_from (Ready args) s who j at i c e = split (claim_before_set s.claims j i (Some who) c e)
   where
-    split : (i ≡ j) ⊎ (claim_at s i ≡ Some c) → (claim_at s i ≡ Some c) ⊎ (is_claimable (unwrap_or (slice_get (set s.stages j Claimed) i) Pending) ≡ false)
-    split (inl h) = inr (ap (λ (k : ℕ). is_claimable (unwrap_or (slice_get (set s.stages j Claimed) k) Pending)) h ∙ claimed_there s.stages j args at)
+    split : ((i ≡ j) × (Some who ≡ Some c)) ⊎ (claim_at s i ≡ Some c) → (claim_at s i ≡ Some c) ⊎ (is_claimable (unwrap_or (slice_get (set s.stages j Claimed) i) Pending) ≡ false)
+    split (inl h) = inr (ap (λ (k : ℕ). is_claimable (unwrap_or (slice_get (set s.stages j Claimed) k) Pending)) h.0 ∙ claimed_there s.stages j args at)
     split (inr h) = inl h
 claim_from Pending s who j at i c e = inl e
 claim_from Claimed s who j at i c e = inl e
@@ -133,12 +56,12 @@ claim_from (Settled o) s who j at i c e = inl e
 finish_from : (b : Bool) (s : State) (j : ℕ) (answer : Answer) → CameFrom s ((cond b (finished_by (outcome_at s j) (record s { claims = set s.claims j None }) j answer) (NotYours, s)).1)
 finish_from true s j answer i c e =
     let closed : State = record s { claims = set s.claims j None } in
-    inl (set_none s.claims j i c (sym (same_claim i closed.claims _ (finished_claims (outcome_at s j) closed j answer)) ∙ e))
+    inl ((claim_before_close s.claims j i c (sym (same_claim i closed.claims _ (finished_claims (outcome_at s j) closed j answer)) ∙ e)).1)
 finish_from false s j answer i c e = inl e
 
 attach_from : (room : ℕ) (s : State) (new : PlannedStage) → CameFrom s ((attached_by room s new).1)
 attach_from zero s new i c e = inl e
-attach_from (suc room) s new i c e = inl (pushed_none s.claims i c e)
+attach_from (suc room) s new i c e = inl (claim_before_push s.claims i c e)
 
 came_from : (s : State) (e : Event) → CameFrom s ((answered s e).1)
 came_from s (Completes who j v) = no_new s ((answered s (Completes who j v)).1) (settled_claims (outcome_at s j) s j (Gives v))
@@ -160,13 +83,8 @@ taken_along : (s : State) (events : List Event) → AreTaken s → AreTaken (sta
 taken_along s [] h = h
 taken_along s (e ∷ events) h = taken_along ((answered s e).1) events (taken_still s e h)
 
-none_there : (n i : ℕ) → claim_in (let l : List (Option ℕ) = replicate n None in l) i ≡ None
-none_there zero i = refl
-none_there (suc n) zero = refl
-none_there (suc n) (suc i) = none_there n i
-
 taken_from : (plan : Planned) (events : List Event) → AreTaken (state_from plan events)
-taken_from plan events = taken_along (start plan) events (λ i c e. (let none = none_there (length plan.stages) i in let no : ⊥ = cc in absurd no))
+taken_from plan events = taken_along (start plan) events (λ i c e. (let none = none_open (length plan.stages) i in let no : ⊥ = cc in absurd no))
 
 -- ---- an event of another caller
 
@@ -199,7 +117,7 @@ finish_stays false s who j i c answer mine different e = e
 
 attach_stays : (room : ℕ) (s : State) (new : PlannedStage) (i c : ℕ) → StaysOpen s ((attached_by room s new).1) i c
 attach_stays zero s new i c e = e
-attach_stays (suc room) s new i c e = pushed s.claims i c e
+attach_stays (suc room) s new i c e = pushed_claim s.claims i c e
 
 stays : (s : State) (e : Event) (i c : ℕ) → AreTaken s → eqb (who_of e) c ≡ false → StaysOpen s ((answered s e).1) i c
 stays s (Completes who j v) i c h other = still s ((answered s (Completes who j v)).1) i c (settled_claims (outcome_at s j) s j (Gives v))

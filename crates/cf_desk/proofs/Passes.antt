@@ -10,8 +10,8 @@ use prog.Atomic.{either}
 use Rattle.atomic_table.specs.Table.{Me, step, Allows}
 use Rattle.atomic_table.specs.Seated.{TableId}
 use Rattle.cf_model.specs.declared.events.Event.{Event}
-use Rattle.cf_desk.specs.declared.row.Terms.{Terms}
-use Rattle.cf_desk.specs.declared.row.Known.{Known}
+use Rattle.cf_desk.specs.declared.row.LogConfig.{LogConfig}
+use Rattle.cf_desk.specs.declared.row.CallerView.{CallerView}
 use Rattle.cf_model.specs.declared.asks.Ask.{Ask}
 use Rattle.cf_model.specs.declared.asks.Told.{Told}
 use Rattle.cf_model.specs.declared.events.Reply.{Reply}
@@ -45,29 +45,29 @@ use Rattle.cf_desk.proofs.Recs.{own_call, state_snoc, fits_more, fits_did, fits_
 use Rattle.cf_desk.proofs.Keeps.{looks, adds, same_some}
 use Rattle.cf_desk.proofs.Meets.{found_there}
 
-pub looks_at : (t : Terms) (slots id : ℕ) (me : Me ℕ (List Known)) (k : Known) (i : ℕ) → me ≡ (k ∷ [], []) → i ≡ length k.seen → Allows (holds {S = ℕ} t) slots id me i (λ n. n) (looks_next (step slots i 0 0 none) me)
-looks_at t slots id me k i one at = subst (λ (m : Me ℕ (List Known)). Allows (holds {S = ℕ} t) slots id m i (λ n. n) (looks_next (step slots i 0 0 none) m)) (sym one)
+pub looks_at : (t : LogConfig) (slots id : ℕ) (me : Me ℕ (List CallerView)) (k : CallerView) (i : ℕ) → me ≡ (k ∷ [], []) → i ≡ length k.seen → Allows (holds {S = ℕ} t) slots id me i (λ n. n) (looks_next (step slots i 0 0 none) me)
+looks_at t slots id me k i one at = subst (λ (m : Me ℕ (List CallerView)). Allows (holds {S = ℕ} t) slots id m i (λ n. n) (looks_next (step slots i 0 0 none) m)) (sym one)
     (subst (λ (n : ℕ). Allows (holds {S = ℕ} t) slots id (k ∷ [], []) n (λ n. n) (looks_next (step slots n 0 0 none) (k ∷ [], []))) (sym at) (looks {S = ℕ} t slots id k []))
 
-pub adds_at : (t : Terms) (slots id : ℕ) (me : Me ℕ (List Known)) (k : Known) (i word : ℕ) (e : Event) → me ≡ (k ∷ [], []) → i ≡ length k.seen → i < t.words → word ≡ word_of e → IsDeskEvent k.setting (state_of k) e → who_of e ≡ k.caller
+pub adds_at : (t : LogConfig) (slots id : ℕ) (me : Me ℕ (List CallerView)) (k : CallerView) (i word : ℕ) (e : Event) → me ≡ (k ∷ [], []) → i ≡ length k.seen → i < t.words → word ≡ word_of e → IsDeskEvent k.setting (state_of k) e → who_of e ≡ k.caller
     → Allows (holds {S = ℕ} t) slots id me i (λ n. either (eqb n 0) word n) (adds_next (step slots i 0 word none) me)
-adds_at t slots id me k i word e one at room is event mine = subst (λ (m : Me ℕ (List Known)). Allows (holds {S = ℕ} t) slots id m i (λ n. either (eqb n 0) word n) (adds_next (step slots i 0 word none) m)) (sym one)
+adds_at t slots id me k i word e one at room is event mine = subst (λ (m : Me ℕ (List CallerView)). Allows (holds {S = ℕ} t) slots id m i (λ n. either (eqb n 0) word n) (adds_next (step slots i 0 word none) m)) (sym one)
     (subst (λ (n : ℕ). Allows (holds {S = ℕ} t) slots id (k ∷ [], []) n (λ n. either (eqb n 0) word n) (adds_next (step slots n 0 word none) (k ∷ [], []))) (sym at)
     (subst (λ (w : ℕ). Allows (holds {S = ℕ} t) slots id (k ∷ [], []) (length k.seen) (λ n. either (eqb n 0) w n) (adds_next (step slots (length k.seen) 0 w none) (k ∷ [], []))) (sym is)
     (adds {S = ℕ} t slots id k [] e (subst (λ n. n < t.words) at room) event mine)))
 
-pub finds_at : (t : Terms) (slots id : ℕ) (me : Me ℕ (List Known)) (k : Known) (i : ℕ) → me ≡ (k ∷ [], []) → i < length k.seen → Allows (holds {S = ℕ} t) slots id me i (λ n. n) (finds (step slots i 0 0 none) me)
-finds_at t slots id me k i one inside = subst (λ (m : Me ℕ (List Known)). Allows (holds {S = ℕ} t) slots id m i (λ n. n) (finds (step slots i 0 0 none) m)) (sym one) (found_there {S = ℕ} t slots id k [] i inside)
+pub finds_at : (t : LogConfig) (slots id : ℕ) (me : Me ℕ (List CallerView)) (k : CallerView) (i : ℕ) → me ≡ (k ∷ [], []) → i < length k.seen → Allows (holds {S = ℕ} t) slots id me i (λ n. n) (finds (step slots i 0 0 none) me)
+finds_at t slots id me k i one inside = subst (λ (m : Me ℕ (List CallerView)). Allows (holds {S = ℕ} t) slots id m i (λ n. n) (finds (step slots i 0 0 none) m)) (sym one) (found_there {S = ℕ} t slots id k [] i inside)
 
-pub one_known : (me : Me ℕ (List Known)) (k : Known) → me.0 ≡ k ∷ [] → me.1 ≡ [] → me ≡ (known_of me.0 ∷ [], [])
-one_known me k e f = let is : me.0 ≡ known_of me.0 ∷ [] = e ∙ ap (λ (x : Known). x ∷ []) (sym (ap known_of e)) in λ i. (is i, f i)
+pub one_known : (me : Me ℕ (List CallerView)) (k : CallerView) → me.0 ≡ k ∷ [] → me.1 ≡ [] → me ≡ (known_of me.0 ∷ [], [])
+one_known me k e f = let is : me.0 ≡ known_of me.0 ∷ [] = e ∙ ap (λ (x : CallerView). x ∷ []) (sym (ap known_of e)) in λ i. (is i, f i)
 
-pub agrees_looked : (k k' : Known) (caller most count : ℕ) (copy : State) (records : List Rec) → k' ≡ looked k → Agrees k caller most count copy records → Agrees k' caller most count copy records
-agrees_looked k k' caller most count copy records is a = subst (λ (x : Known). Agrees x caller most count copy records) (sym is) (record { caller = a.caller; one_of = a.one_of; few = a.few; functions = a.functions; count = a.count; state = a.state; events = a.events; fits = a.fits })
+pub agrees_looked : (k k' : CallerView) (caller most count : ℕ) (replica : State) (records : List Rec) → k' ≡ looked k → Agrees k caller most count replica records → Agrees k' caller most count replica records
+agrees_looked k k' caller most count replica records is a = subst (λ (x : CallerView). Agrees x caller most count replica records) (sym is) (record { caller = a.caller; one_of = a.one_of; few = a.few; functions = a.functions; count = a.count; state = a.state; events = a.events; fits = a.fits })
 
-pub agrees_other : (k k' : Known) (caller most count : ℕ) (copy copy' : State) (records : List Rec) (found : Event) → k' ≡ saw k found → IsDeskEvent k.setting (state_of k) found → own k.caller (found ∷ []) ≡ [] → copy' ≡ (answered copy found).1 → Agrees k caller most count copy records
-    → Agrees k' caller most (count + 1) copy' records
-agrees_other k k' caller most count copy copy' records found is event other now a = subst (λ (x : Known). Agrees x caller most (count + 1) copy' records) (sym is) (record {
+pub agrees_other : (k k' : CallerView) (caller most count : ℕ) (replica replica' : State) (records : List Rec) (found : Event) → k' ≡ saw k found → IsDeskEvent k.setting (state_of k) found → own k.caller (found ∷ []) ≡ [] → replica' ≡ (answered replica found).1 → Agrees k caller most count replica records
+    → Agrees k' caller most (count + 1) replica' records
+agrees_other k k' caller most count replica replica' records found is event other now a = subst (λ (x : CallerView). Agrees x caller most (count + 1) replica' records) (sym is) (record {
   caller = a.caller;
   one_of = a.one_of;
   few = a.few;
@@ -78,11 +78,11 @@ agrees_other k k' caller most count copy copy' records found is event other now 
   fits = fits_more k.setting.plan k.caller k.seen (k.seen ++ found ∷ []) records (record { others = found ∷ []; joined = refl; none = other }) a.fits;
 })
 
-pub agrees_own : (k k' : Known) (caller most count : ℕ) (copy copy' : State) (records records' : List Rec) (call : Call) (reply : Reply) → k' ≡ saw k (event_by k.caller call) → IsDeskEvent k.setting (state_of k) (event_by k.caller call) → (reply, copy') ≡ answered copy (event_by k.caller call)
-    → records' ≡ records ++ Did (count + 1) call reply ∷ [] → Agrees k caller most count copy records → Agrees k' caller most (count + 1) copy' records'
-agrees_own k k' caller most count copy copy' records records' call reply is event now more a =
+pub agrees_own : (k k' : CallerView) (caller most count : ℕ) (replica replica' : State) (records records' : List Rec) (call : Call) (reply : Reply) → k' ≡ saw k (event_by k.caller call) → IsDeskEvent k.setting (state_of k) (event_by k.caller call) → (reply, replica') ≡ answered replica (event_by k.caller call)
+    → records' ≡ records ++ Did (count + 1) call reply ∷ [] → Agrees k caller most count replica records → Agrees k' caller most (count + 1) replica' records'
+agrees_own k k' caller most count replica replica' records records' call reply is event now more a =
     let e : Event = event_by k.caller call in
-    subst (λ (x : Known). Agrees x caller most (count + 1) copy' records') (sym is) (record {
+    subst (λ (x : CallerView). Agrees x caller most (count + 1) replica' records') (sym is) (record {
       caller = a.caller;
       one_of = a.one_of;
       few = a.few;
@@ -94,9 +94,9 @@ agrees_own k k' caller most count copy copy' records records' call reply is even
           (fits_did k.setting.plan k.caller k.seen records call reply (own_call k.caller call) (ap (λ (x : Reply × State). x.0) now ∙ ap (λ s. (answered s e).0) a.state) a.fits);
     })
 
-pub agrees_told : (k : Known) (caller most count : ℕ) (copy copy' : State) (records records' : List Rec) (ask : Ask) (answer : Told) → copy' ≡ copy → answer ≡ told copy ask → AskFits (length copy.plan.stages) ask
-    → records' ≡ records ++ Saw count ask answer ∷ [] → Agrees k caller most count copy records → Agrees k caller most count copy' records'
-agrees_told k caller most count copy copy' records records' ask answer same is there more a = record {
+pub agrees_told : (k : CallerView) (caller most count : ℕ) (replica replica' : State) (records records' : List Rec) (ask : Ask) (answer : Told) → replica' ≡ replica → answer ≡ told replica ask → AskFits (length replica.plan.stages) ask
+    → records' ≡ records ++ Saw count ask answer ∷ [] → Agrees k caller most count replica records → Agrees k caller most count replica' records'
+agrees_told k caller most count replica replica' records records' ask answer same is there more a = record {
   caller = a.caller;
   one_of = a.one_of;
   few = a.few;
@@ -108,21 +108,21 @@ agrees_told k caller most count copy copy' records records' ask answer same is t
       (fits_saw k.setting.plan k.caller k.seen records ask answer (is ∙ ap (λ (s : State). told s ask) a.state) (subst (λ (s : State). AskFits (length s.plan.stages) ask) a.state there) a.fits);
 }
 
--- an event that fits what the pass has seen is one that its copy takes
-pub on_plan : (k : Known) (copy : State) (e : Event) → copy ≡ state_of k → IsDeskEvent k.setting (state_of k) e → EventFits (length copy.plan.stages) e
-on_plan k copy e is h = subst (λ (s : State). EventFits (length s.plan.stages) e) (sym is) h.fits
+-- an event that fits what the pass has seen is one that its replica takes
+pub on_plan : (k : CallerView) (replica : State) (e : Event) → replica ≡ state_of k → IsDeskEvent k.setting (state_of k) e → EventFits (length replica.plan.stages) e
+on_plan k replica e is h = subst (λ (s : State). EventFits (length s.plan.stages) e) (sym is) h.fits
 
 -- and so is a question
-pub asked_there : (k : Known) (copy : State) (ask : Ask) → copy ≡ state_of k → AskFits (length (state_of k).plan.stages) ask → AskFits (length copy.plan.stages) ask
-asked_there k copy ask is h = subst (λ (s : State). AskFits (length s.plan.stages) ask) (sym is) h
+pub asked_there : (k : CallerView) (replica : State) (ask : Ask) → replica ≡ state_of k → AskFits (length (state_of k).plan.stages) ask → AskFits (length replica.plan.stages) ask
+asked_there k replica ask is h = subst (λ (s : State). AskFits (length s.plan.stages) ask) (sym is) h
 
 -- a ready stage is there
-pub ready_there : (k : Known) (x : Option ℕ) → x ≡ lowest_ready_of (state_of k) → IfSome x (λ i. i < length (state_of k).plan.stages)
+pub ready_there : (k : CallerView) (x : Option ℕ) → x ≡ lowest_ready_of (state_of k) → IfSome x (λ i. i < length (state_of k).plan.stages)
 ready_there k None is = tt
 ready_there k (Some i) is = subst (λ n. i < n) (reached_length k.setting.plan k.seen) (lowest_ready-within (state_of k) i (sym is))
 
-pub on_plan_at : (k : Known) (copy : State) (i : ℕ) (e : Event) → copy ≡ state_from k.setting.plan (take i k.seen) → AreLogged k.setting k.seen → slice_get k.seen i ≡ Some e → EventFits (length copy.plan.stages) e
-on_plan_at k copy i e is events there = subst (λ (s : State). EventFits (length s.plan.stages) e) (sym is) (event_at k.setting.callers k.setting.functions (start k.setting.plan) k.seen i e there events).fits
+pub on_plan_at : (k : CallerView) (replica : State) (i : ℕ) (e : Event) → replica ≡ state_from k.setting.plan (take i k.seen) → AreLogged k.setting k.seen → slice_get k.seen i ≡ Some e → EventFits (length replica.plan.stages) e
+on_plan_at k replica i e is events there = subst (λ (s : State). EventFits (length s.plan.stages) e) (sym is) (event_at k.setting.callers k.setting.functions (start k.setting.plan) k.seen i e there events).fits
 
 more_stages : (p q : Pass) → Follows p q → length (state_of p.known).plan.stages ≤ length (state_of q.known).plan.stages
 more_stages p q f =
@@ -135,13 +135,13 @@ still_on_stage p q e f h = names_more (length (state_of p.known).plan.stages) (l
 
 -- and as many functions
 pub still_fitting : (p q : Pass) (e : Event) → Follows p q → IsFitting p e → IsFitting q e
-still_fitting p q e f h = subst (λ (k : Known). AttachFits k.setting.functions e) (sym (ap (λ (x : Pass). x.known) f.is)) h
+still_fitting p q e f h = subst (λ (k : CallerView). AttachFits k.setting.functions e) (sym (ap (λ (x : Pass). x.known) f.is)) h
 
 -- and a call that fitted still does
 pub still_event : (p q : Pass) (call : Call) → Follows p q → IsDeskEvent p.known.setting (state_of p.known) (event_by p.known.caller call) → IsDeskEvent q.known.setting (state_of q.known) (event_by q.known.caller call)
 still_event p q call f h =
     let is : q.known ≡ record p.known { seen = f.now; looks = p.known.looks ++ f.more } = ap (λ (x : Pass). x.known) f.is in
-    subst (λ (k : Known). IsDeskEvent k.setting (state_of q.known) (event_by k.caller call)) (sym is) (record {
+    subst (λ (k : CallerView). IsDeskEvent k.setting (state_of q.known) (event_by k.caller call)) (sym is) (record {
       event = h.event;
       caller = h.caller;
       fits = event_fits_more (length (state_of p.known).plan.stages) (length (state_of q.known).plan.stages) (event_by p.known.caller call) (more_stages p q f) h.fits;
@@ -185,7 +185,7 @@ follows_more p q r f a =
       more = f.more;
       between = wider (length p.known.seen) (length p.known.seen) (length f.now) (length (f.now ++ a.found ∷ [])) f.more (omega arith) (omega (arith, length-append f.now (a.found ∷ []))) f.between;
       is = a.is ∙ ap (λ (h : Pass). record h { known = saw h.known a.found }) f.is;
-      caught = one_new p.known.caller p.known.seen f.now a.found f.caught (ap (λ (x : Known). own x.caller (a.found ∷ [])) (sym k) ∙ a.other);
+      caught = one_new p.known.caller p.known.seen f.now a.found f.caught (ap (λ (x : CallerView). own x.caller (a.found ∷ [])) (sym k) ∙ a.other);
     }
 
 pub looks_same : (q r : Pass) → AddedByOther q r → r.known.looks ≡ q.known.looks
@@ -204,8 +204,8 @@ follows_looked p q r f e = record {
 pub follows_then : (p q r : Pass) → Follows p q → Follows q r → Follows p r
 follows_then p q r f g =
     let k : q.known ≡ record p.known { seen = f.now; looks = p.known.looks ++ f.more } = ap (λ (h : Pass). h.known) f.is in
-    let caught : Catches p.known.caller f.now g.now = subst (λ (x : Known). Catches x.caller x.seen g.now) k g.caught in
-    let between : All (IsBetween (length f.now) (length g.now)) g.more = subst (λ (x : Known). All (IsBetween (length x.seen) (length g.now)) g.more) k g.between in
+    let caught : Catches p.known.caller f.now g.now = subst (λ (x : CallerView). Catches x.caller x.seen g.now) k g.caught in
+    let between : All (IsBetween (length f.now) (length g.now)) g.more = subst (λ (x : CallerView). All (IsBetween (length x.seen) (length g.now)) g.more) k g.between in
     let low = caught_longer p.known.caller p.known.seen f.now f.caught in
     let high = caught_longer p.known.caller f.now g.now caught in record {
       now = g.now;
@@ -225,19 +225,19 @@ follows_then p q r f g =
 pub acts_then : (p q r : Pass) (call : Call) (reply : Reply) → Follows p q → q.known.looks ≡ p.known.looks → AddedOwn q call reply r → Acts p call reply r
 acts_then p q r call reply f same a =
     let k : q.known ≡ record p.known { seen = f.now; looks = p.known.looks ++ f.more } = ap (λ (h : Pass). h.known) f.is in
-    let l : p.known.looks ++ f.more ≡ p.known.looks = ap (λ (x : Known). x.looks) (sym k) ∙ same in record {
+    let l : p.known.looks ++ f.more ≡ p.known.looks = ap (λ (x : CallerView). x.looks) (sym k) ∙ same in record {
       before = f.now;
       caught = f.caught;
       is = a.is ∙ ap (λ (h : Pass). record h { known = saw h.known (event_by h.known.caller call); records = h.records ++ Did (length h.known.seen + 1) call reply ∷ [] }) f.is
           ∙ ap (λ (n : List ℕ). record p { known = record p.known { seen = f.now ++ event_by p.known.caller call ∷ []; looks = n }; records = p.records ++ Did (length f.now + 1) call reply ∷ [] }) l;
-      replied = a.replied ∙ ap (λ (x : Known). (answered (state_of x) (event_by x.caller call)).0) k;
+      replied = a.replied ∙ ap (λ (x : CallerView). (answered (state_of x) (event_by x.caller call)).0) k;
     }
 
 pub reads_then : (p q r : Pass) (ask : Ask) (answer : Told) → Follows p q → Reads q ask answer r → r.known ≡ q.known → Reads p ask answer r
 reads_then p q r ask answer f a same =
     let k : q.known ≡ record p.known { seen = f.now; looks = p.known.looks ++ f.more } = ap (λ (h : Pass). h.known) f.is in
-    let seen : a.now ≡ f.now = ap (λ (h : Pass). h.known.seen) (sym a.is) ∙ ap (λ (x : Known). x.seen) (same ∙ k) in
-    let looks : q.known.looks ++ a.more ≡ p.known.looks ++ f.more = ap (λ (h : Pass). h.known.looks) (sym a.is) ∙ ap (λ (x : Known). x.looks) (same ∙ k) in record {
+    let seen : a.now ≡ f.now = ap (λ (h : Pass). h.known.seen) (sym a.is) ∙ ap (λ (x : CallerView). x.seen) (same ∙ k) in
+    let looks : q.known.looks ++ a.more ≡ p.known.looks ++ f.more = ap (λ (h : Pass). h.known.looks) (sym a.is) ∙ ap (λ (x : CallerView). x.looks) (same ∙ k) in record {
       now = f.now;
       more = f.more;
       caught = f.caught;
@@ -249,7 +249,7 @@ reads_then p q r ask answer f a same =
 -- what a read of an outcome is told is the outcome
 pub outcome_told : (p q : Pass) (stage : ℕ) (answer : Told) (outcome : Option Outcome) → Reads p (AsksOutcome stage) answer q → q.known ≡ p.known → outcome ≡ outcome_at (state_of p.known) stage → Reads p (AsksOutcome stage) (ToldOutcome outcome) q
 outcome_told p q stage answer outcome r same is =
-    let seen : r.now ≡ p.known.seen = ap (λ (h : Pass). h.known.seen) (sym r.is) ∙ ap (λ (x : Known). x.seen) same in
+    let seen : r.now ≡ p.known.seen = ap (λ (h : Pass). h.known.seen) (sym r.is) ∙ ap (λ (x : CallerView). x.seen) same in
     let told_so : answer ≡ ToldOutcome outcome = r.told_is ∙ ap (λ (l : List Event). ToldOutcome (outcome_at (state_from p.known.setting.plan l) stage)) seen ∙ ap ToldOutcome (sym is) in
     subst (λ (x : Told). Reads p (AsksOutcome stage) x q) told_so r
 
@@ -285,15 +285,15 @@ state_more plan seen i state e state' now was is =
     take_next (y ∷ ys) zero x h = ap (λ (z : Event). z ∷ []) (sym (same_some y x h))
     take_next (y ∷ ys) (suc n) x h = ap (λ l. y ∷ l) (take_next ys n x h)
 
-pub levelled_from : (a b o j m x y : Me ℕ (List Known)) → IsOne a → IsOne b → o ≡ b → j ≡ (a.0 ++ o.0, a.1) → m.1 ≡ j.1 → m.0 ≡ level j.0 → AllCatch (longest j.0) j.0 × AllLogged (longest j.0) j.0 → x ≡ (head_of m.0, m.1) → y ≡ (rest_of m.0, []) → Levelled a b x y
+pub levelled_from : (a b o j m x y : Me ℕ (List CallerView)) → IsOne a → IsOne b → o ≡ b → j ≡ (a.0 ++ o.0, a.1) → m.1 ≡ j.1 → m.0 ≡ level j.0 → AllCatch (longest j.0) j.0 × AllLogged (longest j.0) j.0 → x ≡ (head_of m.0, m.1) → y ≡ (rest_of m.0, []) → Levelled a b x y
 levelled_from a b o j m x y one two is both held level_is told left right =
     let k = known_of a.0 in
     let l = known_of b.0 in
-    let j0 : j.0 ≡ k ∷ l ∷ [] = ap (λ (z : Me ℕ (List Known)). z.0) both ∙ (λ i. (one i).0 ++ (is i).0) ∙ (λ i. (k ∷ []) ++ (two i).0) in
-    let j1 : j.1 ≡ [] = ap (λ (z : Me ℕ (List Known)). z.1) both ∙ ap (λ (z : Me ℕ (List Known)). z.1) one in
+    let j0 : j.0 ≡ k ∷ l ∷ [] = ap (λ (z : Me ℕ (List CallerView)). z.0) both ∙ (λ i. (one i).0 ++ (is i).0) ∙ (λ i. (k ∷ []) ++ (two i).0) in
+    let j1 : j.1 ≡ [] = ap (λ (z : Me ℕ (List CallerView)). z.1) both ∙ ap (λ (z : Me ℕ (List CallerView)). z.1) one in
     let m0 : m.0 ≡ level (k ∷ l ∷ []) = level_is ∙ ap level j0 in
     let m1 : m.1 ≡ [] = held ∙ j1 in
-    let shown = subst (λ (v : List Known). AllCatch (longest v) v × AllLogged (longest v) v) j0 told in record {
+    let shown = subst (λ (v : List CallerView). AllCatch (longest v) v × AllLogged (longest v) v) j0 told in record {
       left = left ∙ (λ i. (head_of (m0 i), m1 i));
       right = right ∙ (λ i. (rest_of (m0 i), []));
       begins_left = shown.0.0;
@@ -311,25 +311,25 @@ longer_none xs false e = refl
 longer_none [] true e = refl
 longer_none (x ∷ xs) true e = absurd (let h : length (x ∷ xs) ≤ 0 = leb-true (length (x ∷ xs)) 0 e in omega arith)
 
-pub longer_either : (k l : Known) → (longer_of k l ≡ k.seen) ⊎ (longer_of k l ≡ l.seen)
+pub longer_either : (k l : CallerView) → (longer_of k l ≡ k.seen) ⊎ (longer_of k l ≡ l.seen)
 longer_either k l = ⊎_elim inl (λ e. inr (e ∙ longer_none l.seen (leb (length l.seen) 0) refl)) (longer_one k.seen (longest (l ∷ [])) (leb (length k.seen) (length (longest (l ∷ [])))))
 
 longer_max : (xs ys : List Event) (b : Bool) → leb (length xs) (length ys) ≡ b → length (longer_if b xs ys) ≡ max (length xs) (length ys)
 longer_max xs ys true e = let h : length xs ≤ length ys = leb-true (length xs) (length ys) e in omega arith
 longer_max xs ys false e = let h : length ys < length xs = leb-false (length xs) (length ys) e in omega arith
 
-pub longest_count : (k l : Known) (n m to : ℕ) → n ≡ length k.seen → m ≡ length l.seen → to ≡ max n m → to ≡ length (longer_of k l)
+pub longest_count : (k l : CallerView) (n m to : ℕ) → n ≡ length k.seen → m ≡ length l.seen → to ≡ max n m → to ≡ length (longer_of k l)
 longest_count k l n m to a b e =
     let one : longest (l ∷ []) ≡ l.seen = longer_none l.seen (leb (length l.seen) 0) refl in
     let both = longer_max k.seen (longest (l ∷ [])) (leb (length k.seen) (length (longest (l ∷ [])))) refl in
     let same = ap length one in
     e ∙ (λ i. max (a i) (b i)) ∙ ap (max (length k.seen)) (sym same) ∙ sym both
 
-pub agrees_levelled : (k : Known) (all : List Event) (old new : Me ℕ (List Known)) (caller most count to : ℕ) (copy copy' : State) (records : List Rec) → old ≡ (with_seen all k ∷ [], []) → new ≡ old → Catches k.caller k.seen all → AreLogged k.setting all → to ≡ length all
-    → copy' ≡ state_of (known_of old.0) → Agrees k caller most count copy records → Agrees (known_of new.0) caller most to copy' records
-agrees_levelled k all old new caller most count to copy copy' records is same catch events len now a =
+pub agrees_levelled : (k : CallerView) (all : List Event) (old new : Me ℕ (List CallerView)) (caller most count to : ℕ) (replica replica' : State) (records : List Rec) → old ≡ (with_seen all k ∷ [], []) → new ≡ old → Catches k.caller k.seen all → AreLogged k.setting all → to ≡ length all
+    → replica' ≡ state_of (known_of old.0) → Agrees k caller most count replica records → Agrees (known_of new.0) caller most to replica' records
+agrees_levelled k all old new caller most count to replica replica' records is same catch events len now a =
     let known : known_of new.0 ≡ with_seen all k = (λ i. known_of (same i).0) ∙ (λ i. known_of (is i).0) in
-    subst (λ (x : Known). Agrees x caller most to copy' records) (sym known) (record {
+    subst (λ (x : CallerView). Agrees x caller most to replica' records) (sym known) (record {
       caller = a.caller;
       one_of = a.one_of;
       few = a.few;

@@ -10,9 +10,9 @@ use Rattle.atomic_table.proofs.Lists.{set_here}
 use Rattle.cf_model.specs.declared.events.Event.{Event}
 use Rattle.cf_model.specs.Calls.{who_of}
 use Rattle.cf_desk.proofs.Lists.{none_of_both, same_rest}
-use Rattle.cf_desk.specs.declared.row.Setting.{Setting}
-use Rattle.cf_desk.specs.declared.row.Terms.{Terms}
-use Rattle.cf_desk.specs.declared.row.Known.{Known}
+use Rattle.cf_desk.specs.declared.row.DeskConfig.{DeskConfig}
+use Rattle.cf_desk.specs.declared.row.LogConfig.{LogConfig}
+use Rattle.cf_desk.specs.declared.row.CallerView.{CallerView}
 use Rattle.cf_event.specs.Events.{own}
 use Rattle.cf_desk.specs.Rule.{AllStand, IsLookOf, RowKept, count_in, weight, longest, with_seen}
 use Rattle.cf_desk.specs.Rows.{RowGoesOn, LooksAtEnd, RowsHold, callers_of, older}
@@ -20,7 +20,7 @@ use Rattle.cf_desk.proofs.Keeps.{count_two, keeps_view, same_some}
 use Rattle.cf_desk.proofs.Meets.{between, longest_begins, stand_levelled}
 
 -- a caller of a seat is counted in it
-counted : (v : List Known) (c : ℕ) → Contains (callers_of v) c → 0 < count_in c v
+counted : (v : List CallerView) (c : ℕ) → Contains (callers_of v) c → 0 < count_in c v
 counted [] c h = absurd (let l = h.1 in omega arith)
 counted (k ∷ ks) c h = ⊎_elim
     (λ (one : Contains (k.caller ∷ []) c).
@@ -31,13 +31,13 @@ counted (k ∷ ks) c h = ⊎_elim
     (Contains-append_cases (k.caller ∷ []) (callers_of ks) c h)
 
 -- past what its passes have seen the log has no event of a seat's callers
-past : (setting : Setting) (log now rest : List Event) → log ≡ now ++ rest → (v : List Known) → AllStand setting log (map (with_seen now) v) → All (λ c. own c rest ≡ []) (callers_of v)
+past : (setting : DeskConfig) (log now rest : List Event) → log ≡ now ++ rest → (v : List CallerView) → AllStand setting log (map (with_seen now) v) → All (λ c. own c rest ≡ []) (callers_of v)
 past setting log now rest e [] h = All-nil (λ c. own c rest ≡ [])
 past setting log now rest e (k ∷ ks) h =
     let same : h.0.rest ≡ rest = same_rest now h.0.rest rest (sym h.0.split ∙ e) in
     All-cons (λ c. own c rest ≡ []) k.caller (callers_of ks) (ap (own k.caller) (sym same) ∙ h.0.none) (past setting log now rest e ks h.1)
 
-pub past_longest : (setting : Setting) (log : List Event) (v : List Known) → AllStand setting log v → (rest : List Event) × (log ≡ longest v ++ rest) × All (λ c. own c rest ≡ []) (callers_of v)
+pub past_longest : (setting : DeskConfig) (log : List Event) (v : List CallerView) → AllStand setting log v → (rest : List Event) × (log ≡ longest v ++ rest) × All (λ c. own c rest ≡ []) (callers_of v)
 past_longest setting log v h =
     let b = longest_begins setting log v h in
     (b.0, b.1, past setting log (longest v) b.0 b.1 v (stand_levelled setting log v h).1)
@@ -65,23 +65,23 @@ fronts_none more rest all e cs h c d lt = (none_of_both (own (at cs c d) more) (
     at : List ℕ → ℕ → ℕ → ℕ
     at cs c d = Rattle.std.proofs.Common.get_or cs c d
 
-goes_on : (setting : Setting) (log : List Event) (v w : List Known) → AllStand setting log v → AllStand setting log w → length (longest v) ≤ length (longest w) → RowGoesOn v w
+goes_on : (setting : DeskConfig) (log : List Event) (v w : List CallerView) → AllStand setting log v → AllStand setting log w → length (longest v) ≤ length (longest w) → RowGoesOn v w
 goes_on setting log v w h g le =
     let a = past_longest setting log v h in
     let b = longest_begins setting log w g in
     let m = between (longest v) a.0 (longest w) b.0 (sym a.1 ∙ b.1) le in
     (m.0, m.1, fronts_none m.0 b.0 a.0 m.2 (callers_of v) a.2)
 
-front_stand : (setting : Setting) (log : List Event) (v w : List Known) → AllStand setting log (v ++ w) → AllStand setting log v × AllStand setting log w
+front_stand : (setting : DeskConfig) (log : List Event) (v w : List CallerView) → AllStand setting log (v ++ w) → AllStand setting log v × AllStand setting log w
 front_stand setting log [] w h = (tt, h)
 front_stand setting log (k ∷ ks) w h = let r = front_stand setting log ks w h.1 in ((h.0, r.0), r.1)
 
-within : (views : List (List Known)) (id : ℕ) (v : List Known) → get_elem? views id ≡ some v → id < length views
+within : (views : List (List CallerView)) (id : ℕ) (v : List CallerView) → get_elem? views id ≡ some v → id < length views
 within [] id v e = absurd (some-ne-none v (sym e))
 within (x ∷ xs) zero v e = omega arith
 within (x ∷ xs) (suc id) v e = let r = within xs id v e in omega arith
 
-looks_at_end : (t : Terms) (words : List ℕ) (views : List (List Known)) (h : RowKept t words views) → LooksAtEnd t words views h.log
+looks_at_end : (t : LogConfig) (words : List ℕ) (views : List (List CallerView)) (h : RowKept t words views) → LooksAtEnd t words views h.log
 looks_at_end t words views h = record {
   may_be = λ id k at.
       let st = (h.known id (k ∷ []) at).0 in
@@ -89,7 +89,7 @@ looks_at_end t words views h = record {
       (record { terms = st.terms; caller = st.caller; rest = st.rest; split = st.split; none = st.none; looks = record { filled = (omega arith); since = []; are = sym (append-nil k.looks); looks = All-nil (IsLookOf (length h.log) k.seen) } }, tt)
       (λ c. omega arith);
   end = λ id k n now at g.
-      let with_look : Known = record (older (length h.log) k) { looks = k.looks ++ n ∷ [] } in
+      let with_look : CallerView = record (older (length h.log) k) { looks = k.looks ++ n ∷ [] } in
       let st = (h.known id (k ∷ []) at).0 in
       let l = (g.known id (with_look ∷ []) (set_here views id (with_look ∷ []) (within views id (k ∷ []) at))).0.looks in
       let one : l.since ≡ n ∷ [] = sym (append_cancel_left k.looks (n ∷ []) l.since l.are) in

@@ -3,14 +3,14 @@ use Rattle.std.specs.Prelude.{◌≡◌, ℕ, ◌<◌, ◌≤◌, List, [], ◌�
 use Rattle.cf_desk.specs.declared.pass.Pass.TheInside.{Inside as InPass}
 use Rattle.cf_desk.specs.declared.desk.Desk.TheInside.{Inside as InDesk}
 use Rattle.cf_desk.specs.declared.calls.Rec.{Rec}
-use Rattle.cf_desk.specs.declared.row.Known.{Known}
+use Rattle.cf_desk.specs.declared.row.CallerView.{CallerView}
 use Rattle.cf_model.specs.States.{State}
 use Rattle.cf_desk.specs.Log.{AreLogged}
 use Rattle.cf_desk.specs.Records.{Fits}
 use Rattle.cf_desk.specs.Views.{known_of, state_of}
 
 -- the fields of a pass agree with what it knows
-pub record Agrees (k : Known) (by most n : ℕ) (s : State) (records : List Rec) : Type 0 where
+pub record Agrees (k : CallerView) (by most n : ℕ) (s : State) (records : List Rec) : Type 0 where
   pub caller : by ≡ k.caller
   pub one_of : k.caller < k.setting.callers
   pub few : k.setting.callers ≤ 64
@@ -22,7 +22,7 @@ pub record Agrees (k : Known) (by most n : ℕ) (s : State) (records : List Rec)
 
 pub record PassKept (p : InPass) : Type 0 where
   pub one : p.seat.me ≡ (known_of p.seat.me.0 ∷ [], [])
-  pub agrees : Agrees (known_of p.seat.me.0) p.caller p.functions p.count p.copy.state p.records.items
+  pub agrees : Agrees (known_of p.seat.me.0) p.caller p.functions p.count p.replica.state p.records.items
   pub room : p.calls ≤ vec_capacity p.records
   pub within : length p.records.items ≤ p.calls
   pub short : p.count ≤ p.seat.table_id.words

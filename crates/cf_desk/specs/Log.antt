@@ -5,14 +5,14 @@ use Rattle.cf_model.specs.States.{State, start}
 use Rattle.cf_model.specs.declared.events.Event.{Event}
 use Rattle.cf_model.specs.Events.{state_after}
 use Rattle.cf_event.specs.Events.{AreEventsOf, IsEventOf, own}
-use Rattle.cf_desk.specs.declared.row.Setting.{Setting}
+use Rattle.cf_desk.specs.declared.row.DeskConfig.{DeskConfig}
 
 -- an event of one of a desk's callers can stand in its log, where the graph is in this state
-abbrev pub IsDeskEvent : Setting → State → Event → Type 0
+abbrev pub IsDeskEvent : DeskConfig → State → Event → Type 0
 IsDeskEvent setting s e = IsEventOf setting.callers setting.functions s e
 
 -- these events can be a log of the desk, from its plan's start on
-abbrev pub AreLogged : Setting → List Event → Type 0
+abbrev pub AreLogged : DeskConfig → List Event → Type 0
 AreLogged setting events = AreEventsOf setting.callers setting.functions (start setting.plan) events
 
 -- the state that a list of events leaves from the plan's start

@@ -15,8 +15,8 @@ use Rattle.cf_model.specs.declared.calls.Call.{Call}
 use Rattle.cf_desk.specs.declared.calls.Joined.{Joined}
 use Rattle.cf_desk.specs.declared.calls.Rec.{Rec}
 use Rattle.cf_desk.specs.declared.calls.Rec.TheVariants.{Did, Saw}
-use Rattle.cf_desk.specs.declared.row.Known.{Known}
-use Rattle.cf_desk.specs.declared.row.Setting.{Setting}
+use Rattle.cf_desk.specs.declared.row.CallerView.{CallerView}
+use Rattle.cf_desk.specs.declared.row.DeskConfig.{DeskConfig}
 use Rattle.cf_model.specs.Calls.{event_by}
 use Rattle.cf_desk.specs.Calls.{joined}
 use Rattle.cf_event.specs.Events.{own}
@@ -30,7 +30,7 @@ pub record Pass : Type 0 where
   -- the row of its desk
   pub table : TableId
   -- what the desk was opened with, the pass's caller, the events that it has seen, and the places at which it looked and found nothing
-  pub known : Known
+  pub known : CallerView
   -- what it has recorded so far, in order
   pub records : List Rec
   -- how many records it may hold
@@ -40,19 +40,19 @@ pub record Desk : Type 0 where
   -- its row
   pub table : TableId
   -- its plan with the room for more stages, the number of its callers, and how many functions it has
-  pub setting : Setting
+  pub setting : DeskConfig
   -- how many words the row has, filled or empty
   pub words : ℕ
 
-abbrev pub no_one : Known
+abbrev pub no_one : CallerView
 no_one = record { setting = record { plan = plan_of [] []; callers = 0; functions = 0 }; caller = 0; seen = []; looks = []; filled = 0; before = [] }
 
-abbrev pub known_of : List Known → Known
+abbrev pub known_of : List CallerView → CallerView
 known_of [] = no_one
 known_of (k ∷ ks) = k
 
 -- the state of what a pass has seen
-abbrev pub state_of : Known → State
+abbrev pub state_of : CallerView → State
 state_of k = state_from k.setting.plan k.seen
 
 -- the stage is there in what the pass has seen, and the claim of it that is open there is its caller's
@@ -109,15 +109,15 @@ pub record Joins (p : Pass) (stage : ℕ) (answer : Joined) (q : Pass) : Type 0 
   pub answered_so : answer ≡ joined outcome
 
 -- a seat that stands for one pass and holds no slot
-abbrev pub IsOne : Me ℕ (List Known) → Type 0
+abbrev pub IsOne : Me ℕ (List CallerView) → Type 0
 IsOne me = me ≡ (known_of me.0 ∷ [], [])
 
 -- the longer of what two passes have seen
-abbrev pub longer_of : Known → Known → List Event
+abbrev pub longer_of : CallerView → CallerView → List Event
 longer_of k l = longest (k ∷ l ∷ [])
 
 -- two seats know the longer list of the two, which is of events of their desk, and goes on behind each with those of other callers
-pub record Levelled (a b : Me ℕ (List Known)) (a' b' : Me ℕ (List Known)) : Type 0 where
+pub record Levelled (a b : Me ℕ (List CallerView)) (a' b' : Me ℕ (List CallerView)) : Type 0 where
   pub left : a' ≡ (with_seen (longer_of (known_of a.0) (known_of b.0)) (known_of a.0) ∷ [], [])
   pub right : b' ≡ (with_seen (longer_of (known_of a.0) (known_of b.0)) (known_of b.0) ∷ [], [])
   pub begins_left : Catches (known_of a.0).caller (known_of a.0).seen (longer_of (known_of a.0) (known_of b.0))
@@ -137,13 +137,13 @@ pub record Meets (p q p' q' : Pass) : Type 0 where
   pub fits_right : Fits q.known.setting.plan q.known.caller all q.records
 
 -- passes that have seen and recorded nothing
-abbrev pub new_pass : TableId → ℕ → Known → Pass
+abbrev pub new_pass : TableId → ℕ → CallerView → Pass
 new_pass z calls k = record { table = z; known = k; records = []; calls = calls }
 
-abbrev pub opened : TableId → Setting → ℕ → List Pass
+abbrev pub opened : TableId → DeskConfig → ℕ → List Pass
 opened z setting calls = map (new_pass z calls) (fresh setting 0 setting.callers)
 
-abbrev pub knowns : List Pass → List Known
+abbrev pub knowns : List Pass → List CallerView
 knowns ps = map (λ (p : Pass). p.known) ps
 
 -- the history is the longest list that one of these passes has seen, each other list begins it, and each caller has one of them
@@ -159,12 +159,12 @@ abbrev pub IsSamePass : Pass → Pass → Type 0
 IsSamePass p q = (q.table ≡ p.table) × (q.known.setting ≡ p.known.setting) × (q.known.caller ≡ p.known.caller) × (q.calls ≡ p.calls)
 
 -- a plan and a list are those of one of these
-abbrev pub IsOneOf : Planned → List Event → List Known → Type 0
+abbrev pub IsOneOf : Planned → List Event → List CallerView → Type 0
 IsOneOf plan seen [] = ⊥
 IsOneOf plan seen (k ∷ ks) = ((plan ≡ k.setting.plan) × (seen ≡ k.seen)) ⊎ IsOneOf plan seen ks
 
 -- the state after the longest list that one of these has seen
-pub record IsLatest (most : ℕ) (s : State) (ks : List Known) : Type 0 where
+pub record IsLatest (most : ℕ) (s : State) (ks : List CallerView) : Type 0 where
   pub plan : Planned
   pub seen : List Event
   pub state : s ≡ state_from plan seen

@@ -16,7 +16,7 @@ use crate::calls::{Kept, Rec};
 use crate::faults::OpenFault;
 use crate::functions::function_bound;
 use crate::pass::Pass;
-use crate::row::{GivesFirst, RowRule, Setting, Terms, View};
+use crate::row::{DeskConfig, GivesFirst, LogConfig, RowRule, SeatView};
 use atomic_table::Table;
 use cf_core::Graph;
 use cf_model::{Ask, Event, Told};
@@ -24,13 +24,13 @@ use cf_plan::{GrowingPlan, Plan};
 use std::alloc::{AllocError, Global};
 use std::marker::Model;
 
-type Row = Table<u8, View, Terms, RowRule, Global>;
+type Row = Table<u8, SeatView, LogConfig, RowRule, Global>;
 
 /// A graph that callers share. It may be lent to any number of threads.
 #[derive(Drop)]
 pub struct Desk {
     table: Row,
-    terms: Terms,
+    terms: LogConfig,
     history: Vec<Event>,
     kept: Vec<Kept>,
 }
@@ -273,8 +273,8 @@ fn open_with(
     let history = Vec::with_capacity(alloc, log as usize)?;
     let kept = Vec::with_capacity(alloc, callers as usize)?;
     let zeros = vec![in alloc; 0u64; log as usize]?;
-    let terms = Terms {
-        setting: Setting {
+    let terms = LogConfig {
+        setting: DeskConfig {
             plan: growing(alloc, plan, room)?,
             callers,
             functions,
@@ -285,14 +285,14 @@ fn open_with(
     let mut passes = Vec::with_capacity(alloc, callers as usize)?;
     for caller in 0..callers {
         let records = no_records(alloc, calls)?;
-        let copy = copy_of(alloc, plan, room)?;
+        let replica = copy_of(alloc, plan, room)?;
         let mine = table.shared.split_seat::<GivesFirst>(&mut seat);
         let pass = Pass {
             seat: mine,
             caller,
             count: 0,
             functions,
-            copy,
+            replica,
             records,
             calls,
             padding: [0; 16],

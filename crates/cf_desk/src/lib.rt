@@ -17,7 +17,7 @@
 //! | place | a number in the log: a record's counts the events up to and with its own, or those that were seen |
 //! | pass (`Pass`) | what one caller holds: a seat, a graph of its own, and records |
 //! | seat | a pass's hold on the row, which carries its view from step to step |
-//! | view | for each pass that a seat stands for, what that pass knows (`Known`): no code holds it, proofs do |
+//! | view | for each pass that a seat stands for, what that pass knows (`CallerView`): no code holds it, proofs do |
 //! | record (`Rec`) | what a pass keeps of one call: the call, its place and its answer; with its caller it is a `Record` of `cf_event` |
 //! | closed desk (`Closed`) | the history, each pass's caller and records (`Kept`), and the graph |
 #![tactic(auto)]

@@ -10,7 +10,7 @@ ghost use Rattle.cf_desk.specs.Log.{IsDeskEvent};
 ghost use Rattle.cf_desk.specs.Views.{HoldsClaim, Joins, Reads, state_of};
 
 use crate::calls::{Joined, Rec, joined_as};
-use crate::row::View;
+use crate::row::SeatView;
 use atomic_table::Seat;
 use cf_core::Graph;
 use cf_model::{Ask, Call, Told};
@@ -24,11 +24,11 @@ const LAST_FUNCTION: u16 = 4095;
 /// A caller's seat and what it has seen. It moves between threads by ownership.
 #[derive(Drop)]
 pub struct Pass {
-    pub(crate) seat: Seat<u8, View>,
+    pub(crate) seat: Seat<u8, SeatView>,
     pub(crate) caller: u8,
     pub(crate) count: u16,
     pub(crate) functions: u32,
-    pub(crate) copy: Graph,
+    pub(crate) replica: Graph,
     pub(crate) records: Vec<Rec>,
     pub(crate) calls: u16,
     // It keeps two neighbours out of one cache line.
@@ -82,7 +82,7 @@ impl Pass {
         requires { i < length (state_of self.now.known).plan.stages }
         ensures { result ≡ function_at (state_of self.now.known).plan.stages i }
     {
-        self.copy.function(i)
+        self.replica.function(i)
     }
 
     /// Whether its caller has an open claim of a stage, in what the pass has seen: it was granted, and isn't finished yet.
@@ -90,7 +90,7 @@ impl Pass {
     pub fn holds(&self, i: u16) -> bool
         ensures { IsTrue result ↔ HoldsClaim self.now i }
     {
-        i < self.stages() && self.copy.claimant(i) == Some(self.caller)
+        i < self.stages() && self.replica.claimant(i) == Some(self.caller)
     }
 
     /// Whether the stages that a call names are there, in what the pass has seen.
@@ -149,7 +149,7 @@ impl Pass {
         ensures few { result ≤ 4096 }
         ensures caller { (self.now.known.caller < self.now.known.setting.callers) × (self.now.known.setting.callers ≤ 64) }
     {
-        self.copy.stages()
+        self.replica.stages()
     }
 
     /// The outcome of a stage in what the pass has seen.
@@ -158,7 +158,7 @@ impl Pass {
         ensures told { result ≡ outcome_at (state_of self.old.known) stage }
         ensures same { self.new ≡ self.old }
     {
-        self.copy.outcome(stage)
+        self.replica.outcome(stage)
     }
 
     /// The lowest ready stage in what the pass has seen.
@@ -167,7 +167,7 @@ impl Pass {
         ensures there { IfSome result (λ stage. stage < length (state_of self.old.known).plan.stages) }
         ensures same { self.new ≡ self.old }
     {
-        self.copy.lowest_ready()
+        self.replica.lowest_ready()
     }
 
     /// Records and tells what a join of a stage is answered of what the pass has seen.
@@ -187,7 +187,7 @@ impl Pass {
         requires asked { AsksStage self.old ask }
         ensures { Reads self.old ask result self.new × (self.new.known ≡ self.old.known) }
     {
-        let told = self.copy.tell(ask);
+        let told = self.replica.tell(ask);
         let record = Rec::Saw {
             place: self.count,
             ask,

@@ -6,7 +6,7 @@ use std::collections::LinkedList;
 
 /// What a desk is opened with: its plan with the room for more stages, and the numbers of its callers and functions.
 #[derive(Drop)]
-pub struct Setting {
+pub struct DeskConfig {
     pub plan: GrowingPlan,
     pub callers: u8,
     pub functions: u32,
@@ -14,15 +14,15 @@ pub struct Setting {
 
 /// What the row is told when it is made.
 #[derive(Drop)]
-pub struct Terms {
-    pub setting: Setting,
+pub struct LogConfig {
+    pub setting: DeskConfig,
     pub words: u16,
 }
 
 /// What a pass knows of the log. No value of it is made.
-pub struct Known {
+pub struct CallerView {
     /// What the desk was opened with.
-    pub setting: Setting,
+    pub setting: DeskConfig,
     /// The pass's caller.
     pub caller: u8,
     /// The events that it has seen, from the first on.
@@ -36,12 +36,12 @@ pub struct Known {
 }
 
 /// What a seat knows: for each pass that it stands for, what that pass knows.
-pub type View = LinkedList<Known>;
+pub type SeatView = LinkedList<CallerView>;
 
 /// The rule of the row.
 pub struct RowRule;
 
-impl TableRule<u8, View, Terms> for RowRule {
+impl TableRule<u8, SeatView, LogConfig> for RowRule {
     ghost use Rattle.cf_desk.specs.Rule.{holds, first};
 
     ghost holds = { holds };
@@ -52,7 +52,7 @@ impl TableRule<u8, View, Terms> for RowRule {
 /// A load of the next word.
 pub struct Looks;
 
-impl Play<u8, View> for Looks {
+impl Play<u8, SeatView> for Looks {
     ghost use Rattle.cf_desk.specs.Rule.{looks_next};
 
     ghost then = { looks_next };
@@ -61,7 +61,7 @@ impl Play<u8, View> for Looks {
 /// An exchange of the next word.
 pub struct Adds;
 
-impl Play<u8, View> for Adds {
+impl Play<u8, SeatView> for Adds {
     ghost use Rattle.cf_desk.specs.Rule.{adds_next};
 
     ghost then = { adds_next };
@@ -70,7 +70,7 @@ impl Play<u8, View> for Adds {
 /// A load that levels what the passes of one seat have seen.
 pub struct Levels;
 
-impl Play<u8, View> for Levels {
+impl Play<u8, SeatView> for Levels {
     ghost use Rattle.cf_desk.specs.Rule.{levels};
 
     ghost then = { levels };
@@ -79,7 +79,7 @@ impl Play<u8, View> for Levels {
 /// A load of a place that was seen.
 pub struct Finds;
 
-impl Play<u8, View> for Finds {
+impl Play<u8, SeatView> for Finds {
     ghost use Rattle.cf_desk.specs.Rule.{finds};
 
     ghost then = { finds };
@@ -88,7 +88,7 @@ impl Play<u8, View> for Finds {
 /// A load with a new seat, which stands for no pass.
 pub struct Sits;
 
-impl Play<u8, View> for Sits {
+impl Play<u8, SeatView> for Sits {
     ghost use Rattle.cf_desk.specs.Rule.{sits};
 
     ghost then = { sits };
@@ -97,7 +97,7 @@ impl Play<u8, View> for Sits {
 /// The new seat has the first pass.
 pub struct GivesFirst;
 
-impl Split<View> for GivesFirst {
+impl Split<SeatView> for GivesFirst {
     ghost use Rattle.cf_desk.specs.Rule.{head_of, rest_of};
 
     ghost left = { rest_of };
@@ -108,7 +108,7 @@ impl Split<View> for GivesFirst {
 /// The new seat has all but the first pass.
 pub struct KeepsFirst;
 
-impl Split<View> for KeepsFirst {
+impl Split<SeatView> for KeepsFirst {
     ghost use Rattle.cf_desk.specs.Rule.{head_of, rest_of};
 
     ghost left = { head_of };
@@ -119,7 +119,7 @@ impl Split<View> for KeepsFirst {
 /// The seat stands for the passes of both.
 pub struct StandsForBoth;
 
-impl Join<View> for StandsForBoth {
+impl Join<SeatView> for StandsForBoth {
     ghost use Rattle.std.specs.Prelude.{[], ◌++◌};
 
     ghost both = { λ v w. v ++ w };

@@ -11,7 +11,7 @@ use Rattle.cf_model.specs.declared.events.Event.{Event}
 use Rattle.cf_model.specs.declared.events.Event.TheVariants.{Complete as Completes, Fail as Fails, Cancel as Cancels, Claim as Claims, Finish as Finishes, Tick as Ticks, Attach as Attaches}
 use Rattle.cf_reading.specs.declared.script.Step.{Step}
 use Rattle.cf_reading.specs.declared.script.Step.TheVariants.{Asks, Does, Nudge, Work}
-use Rattle.cf_explain.specs.declared.idle.Known.{Known}
+use Rattle.cf_explain.specs.declared.idle.StageSoFar.{StageSoFar}
 use Rattle.cf_explain.specs.declared.place.Area.TheVariants as areas
 use Rattle.cf_explain.specs.declared.remark.Idle.{Idle}
 use Rattle.cf_explain.specs.declared.remark.Idle.TheVariants.{NoFunction, NoRoom, NoTurn, NoWork, NotClaimed, NotLater, Settled}
@@ -133,4 +133,4 @@ pub known_more : (stages : List PlannedStage) (i : ℕ) → i < length stages �
     map known_of (take i stages) ++ untouched (is_some (function_at stages i)) ∷ [] ≡ map known_of (take (suc i) stages)
 known_more [] i l = absurd (omega arith)
 known_more (p ∷ stages) zero l = refl
-known_more (p ∷ stages) (suc i) l = ap (λ (r : List Known). known_of p ∷ r) (known_more stages i (omega arith))
+known_more (p ∷ stages) (suc i) l = ap (λ (r : List StageSoFar). known_of p ∷ r) (known_more stages i (omega arith))

@@ -9,8 +9,8 @@ use Rattle.cf_model.specs.declared.events.Event.TheVariants.{Complete as Complet
 use Rattle.cf_reading.specs.Scripts.{Script}
 use Rattle.cf_reading.specs.declared.script.Step.{Step}
 use Rattle.cf_reading.specs.declared.script.Step.TheVariants.{Does, Work, Nudge}
-use Rattle.cf_explain.specs.declared.idle.Known.{Known}
-use Rattle.cf_explain.specs.declared.idle.Seen.{Seen}
+use Rattle.cf_explain.specs.declared.idle.StageSoFar.{StageSoFar}
+use Rattle.cf_explain.specs.declared.idle.RunSoFar.{RunSoFar}
 use Rattle.cf_explain.specs.declared.place.Area.TheVariants as areas
 use Rattle.cf_explain.specs.declared.remark.Idle.{Idle}
 use Rattle.cf_explain.specs.declared.remark.Idle.TheVariants.{NoFunction, Settled, NotClaimed, NoWork, NoRoom, NoTurn}
@@ -21,25 +21,25 @@ use Rattle.cf_explain.specs.Places.{place_of}
 
 -- what is known of each stage, for how many more there is room, and the step of the last tick that wasn't past, with its moment
 pub record Sight : Type 0 where
-  pub stages : List Known
+  pub stages : List StageSoFar
   pub room : ℕ
   pub ticked : Option (ℕ × ℕ)
 
-abbrev pub sight_of : Seen → Sight
+abbrev pub sight_of : RunSoFar → Sight
 sight_of seen = record { stages = seen.stages.items; room = seen.room; ticked = seen.ticked }
 
 -- ---- what is known of a stage
 
 -- a stage that nobody has settled or claimed
-abbrev pub untouched : Bool → Known
+abbrev pub untouched : Bool → StageSoFar
 untouched called = record { called = called; settled = None; claims = 0 }
 
 -- of one that isn't there, that it may have a function
-abbrev pub known_at : List Known → ℕ → Known
+abbrev pub known_at : List StageSoFar → ℕ → StageSoFar
 known_at stages i = unwrap_or (slice_get stages i) (untouched true)
 
 -- it is settled since step k at the latest
-abbrev pub settled_since : ℕ → Known → Known
+abbrev pub settled_since : ℕ → StageSoFar → StageSoFar
 settled_since k known = record known { settled = Some (unwrap_or known.settled k) }
 
 -- the bit of a caller
@@ -47,17 +47,17 @@ abbrev pub bit_of : ℕ → ℕ
 bit_of who = (1 * 2 ^ (who % 64)) % 2 ^ 64
 
 -- a caller may have claimed it, if it has a function and isn't settled
-abbrev pub claimed_by : ℕ → Known → Known
+abbrev pub claimed_by : ℕ → StageSoFar → StageSoFar
 claimed_by who known = if known.called && is_none known.settled then record known { claims = bit_or known.claims (bit_of who) } else known
 
 -- a caller hasn't claimed it any more
-abbrev pub finished_by : ℕ → Known → Known
+abbrev pub finished_by : ℕ → StageSoFar → StageSoFar
 finished_by who known = record known { claims = bit_and known.claims (bit_not w64 (bit_of who)) }
 
 -- ---- what is known once a step is done
 
 -- stage i is so, if it is there, and all others are as they were
-abbrev pub put_at : ℕ → Known → Sight → Sight
+abbrev pub put_at : ℕ → StageSoFar → Sight → Sight
 put_at i known s = record s { stages = slice_set s.stages i known }
 
 abbrev pub settled_at : ℕ → ℕ → Sight → Sight
@@ -99,16 +99,16 @@ seen_by limits step k s = s
 
 -- ---- why a step never does anything, if it is known not to
 
-abbrev pub since : Known → Option Idle
+abbrev pub since : StageSoFar → Option Idle
 since known = option_map Settled known.settled
 
-abbrev pub idle_claim : Known → Option Idle
+abbrev pub idle_claim : StageSoFar → Option Idle
 idle_claim known = if known.called then since known else Some NoFunction
 
-abbrev pub unclaimed : ℕ → Known → Bool
+abbrev pub unclaimed : ℕ → StageSoFar → Bool
 unclaimed who known = bit_and known.claims (bit_of who) == 0
 
-abbrev pub idle_finish : ℕ → Known → Option Idle
+abbrev pub idle_finish : ℕ → StageSoFar → Option Idle
 idle_finish who known = if unclaimed who known then Some NotClaimed else None
 
 abbrev pub idle_event : Sight → Event → Option Idle
@@ -121,8 +121,8 @@ idle_event s (Ticks who moment) = not_later s.ticked moment
 idle_event s (Attaches who form of function) = if s.room == 0 then Some NoRoom else None
 
 -- whether some stage has a function
-abbrev pub is_any_called : List Known → Bool
-is_any_called stages = list_any (λ (known : Known). known.called) stages
+abbrev pub is_any_called : List StageSoFar → Bool
+is_any_called stages = list_any (λ (known : StageSoFar). known.called) stages
 
 abbrev pub idle_by : Sight → Step → Option Idle
 idle_by s (Does event) = idle_event s event
@@ -143,7 +143,7 @@ idles_from limits s k (step ∷ steps) =
     if nat_lt k 4294967296 then idle_remarks k (idle_by s step) ++ idles_from limits (seen_by limits step k s) (k + 1) steps else []
 
 -- what is known of a plan's stages before anything is done
-abbrev pub known_of : PlannedStage → Known
+abbrev pub known_of : PlannedStage → StageSoFar
 known_of stage = untouched (is_some stage.function)
 
 -- what is remarked of a script's steps

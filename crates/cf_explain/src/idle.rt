@@ -17,7 +17,7 @@ const LAST: usize = u32::MAX as usize;
 
 /// What is known of a stage before a step, whatever its functions answer.
 #[derive(Clone, Copy)]
-struct Known {
+struct StageSoFar {
     /// Whether it has a function.
     called: bool,
     /// The step since which it is settled for certain.
@@ -28,8 +28,8 @@ struct Known {
 
 /// What is known of all before a step.
 #[derive(Drop)]
-struct Seen {
-    stages: Vec<Known>,
+struct RunSoFar {
+    stages: Vec<StageSoFar>,
     /// For how many stages more there is room.
     room: u16,
     /// The step of the last tick that wasn't past, and its moment.
@@ -42,7 +42,7 @@ pub(crate) fn idle_steps(alloc: Global, script: Script) -> Result<Vec<Remark>, A
     ensures exact { IfOk result (λ v. v.items ≡ idles script) }
 {
     let (plan, room, _, steps) = script.into_parts();
-    let seen = Seen {
+    let seen = RunSoFar {
         stages: stages_of(alloc, &plan)?,
         room,
         ticked: None,
@@ -53,7 +53,7 @@ pub(crate) fn idle_steps(alloc: Global, script: Script) -> Result<Vec<Remark>, A
 /// What is remarked of these steps.
 fn idle_of(
     alloc: Global,
-    mut seen: Seen,
+    mut seen: RunSoFar,
     limits: &[Limit],
     steps: &[Step],
 ) -> Result<Vec<Remark>, AllocError>
@@ -72,7 +72,7 @@ fn idle_of(
 }
 
 /// Remarks step k, if it is known never to do anything.
-fn remark_step(seen: &Seen, step: Step, k: u32, remarks: &mut Vec<Remark>) -> Result<(), AllocError>
+fn remark_step(seen: &RunSoFar, step: Step, k: u32, remarks: &mut Vec<Remark>) -> Result<(), AllocError>
     ensures { OnOk result (remarks.new.items ≡ remarks.old.items ++ idle_remarks k (idle_by (sight_of seen.now) step)) }
 {
     if let Some(why) = seen.idle(step) {
@@ -89,12 +89,12 @@ fn idle(k: u32, why: Idle) -> Remark
 }
 
 /// What is known of the stages of a plan before anything is done.
-fn stages_of(alloc: Global, plan: &Plan) -> Result<Vec<Known>, AllocError>
+fn stages_of(alloc: Global, plan: &Plan) -> Result<Vec<StageSoFar>, AllocError>
     ensures { IfOk result (λ v. v.items ≡ map known_of plan.now.stages) }
 {
     let mut stages = Vec::new(alloc);
     for i in 0..plan.stages() {
-        stages.push(Known::new(plan.function(i).is_some()))?;
+        stages.push(StageSoFar::new(plan.function(i).is_some()))?;
     }
     Ok(stages)
 }
@@ -107,7 +107,7 @@ fn bit(who: u8) -> u64
 }
 
 /// Whether some stage has a function.
-fn is_any_called(stages: &[Known]) -> bool
+fn is_any_called(stages: &[StageSoFar]) -> bool
     ensures { result ≡ is_any_called stages.now }
 {
     'stages: for known in stages {
@@ -118,11 +118,11 @@ fn is_any_called(stages: &[Known]) -> bool
     false
 }
 
-impl Known {
-    fn new(called: bool) -> Known
+impl StageSoFar {
+    fn new(called: bool) -> StageSoFar
         ensures { result ≡ untouched called }
     {
-        Known {
+        StageSoFar {
             called,
             settled: None,
             claims: 0,
@@ -130,21 +130,21 @@ impl Known {
     }
 
     /// It is settled since step k at the latest.
-    fn settled(self, k: u32) -> Known
+    fn settled(self, k: u32) -> StageSoFar
         ensures { result ≡ settled_since k self }
     {
-        Known {
+        StageSoFar {
             settled: Some(self.settled.unwrap_or(k)),
             ..self
         }
     }
 
     /// A caller may have claimed it.
-    fn claimed(self, who: u8) -> Known
+    fn claimed(self, who: u8) -> StageSoFar
         ensures { result ≡ claimed_by who self }
     {
         if self.called && self.settled.is_none() {
-            Known {
+            StageSoFar {
                 claims: self.claims | bit(who),
                 ..self
             }
@@ -154,10 +154,10 @@ impl Known {
     }
 
     /// A caller hasn't claimed it any more.
-    fn finished(self, who: u8) -> Known
+    fn finished(self, who: u8) -> StageSoFar
         ensures { result ≡ finished_by who self }
     {
-        Known {
+        StageSoFar {
             claims: self.claims & !bit(who),
             ..self
         }
@@ -193,14 +193,14 @@ impl Known {
     }
 }
 
-impl Seen {
+impl RunSoFar {
     /// What is known of a stage.
-    fn stage(&self, i: u16) -> Known
+    fn stage(&self, i: u16) -> StageSoFar
         ensures { result ≡ known_at self.now.stages.items i }
     {
         match self.stages.get(i as usize) {
             Some(known) => *known,
-            None => Known::new(true),
+            None => StageSoFar::new(true),
         }
     }
 
@@ -278,7 +278,7 @@ impl Seen {
     }
 
     /// Puts down what is known of a stage, if it is there.
-    fn put(&mut self, stage: u16, known: Known)
+    fn put(&mut self, stage: u16, known: StageSoFar)
         ensures { sight_of self.new ≡ put_at stage known (sight_of self.old) }
     {
         let i = stage as usize;
@@ -336,7 +336,7 @@ impl Seen {
         ensures { OnOk result (sight_of self.new ≡ attached_to called (sight_of self.old)) }
     {
         if self.room > 0 {
-            self.stages.push(Known::new(called))?;
+            self.stages.push(StageSoFar::new(called))?;
             self.room -= 1;
         }
         Ok(())

@@ -19,7 +19,7 @@ pub(crate) fn remark_twice(
     let mut scratch = Scratch::new(alloc);
     let mut reader = Reader::new(text, &mut scratch)?;
     let mut open = Vec::new(alloc);
-    let mut spot = Spot::START;
+    let mut position = Position::START;
     let most = text.len().saturating_add(1);
     'tokens: for _ in 0..most {
         let offset = reader.offset();
@@ -27,25 +27,25 @@ pub(crate) fn remark_twice(
             return Ok(());
         };
         let name = given_again(alloc, token, &mut open)?;
-        spot = remark_again(alloc, spot.on_to(text.as_bytes(), offset), name, remarks)?;
+        position = remark_again(alloc, position.on_to(text.as_bytes(), offset), name, remarks)?;
     }
     Ok(())
 }
 
-/// Remarks that a name is given again at this spot, if one is.
+/// Remarks that a name is given again at this position, if one is.
 fn remark_again(
     alloc: Global,
-    spot: Spot,
+    position: Position,
     name: Option<&str>,
     remarks: &mut Vec<Remark>,
-) -> Result<Spot, AllocError>
+) -> Result<Position, AllocError>
     requires { All IsOfWriting remarks.old.items }
     ensures { OnOk result (All IsOfWriting remarks.new.items) }
 {
     if let Some(name) = name {
-        remarks.push(spot.twice(alloc, name)?)?;
+        remarks.push(position.twice(alloc, name)?)?;
     }
-    Ok(spot)
+    Ok(position)
 }
 
 /// The name that the token gives again in its object, but for a note. Of each object that is open the names so far are kept.
@@ -79,22 +79,22 @@ fn is_there<'a>(name: &'a str, open: &mut Vec<BTreeSet<&'a str>>) -> Result<bool
 
 /// A place in a text.
 #[derive(Clone, Copy)]
-struct Spot {
+struct Position {
     offset: usize,
     line: usize,
     column: usize,
 }
 
-impl Spot {
+impl Position {
     /// The first byte.
-    const START: Spot = Spot {
+    const START: Position = Position {
         offset: 0,
         line: 1,
         column: 1,
     };
 
     /// The byte at this offset of the text, which isn't before this one.
-    fn on_to(self, text: &[u8], offset: usize) -> Spot {
+    fn on_to(self, text: &[u8], offset: usize) -> Position {
         if offset < self.offset || text.len() < offset {
             return self;
         }
@@ -107,7 +107,7 @@ impl Spot {
                 column = column.saturating_add(1);
             }
         }
-        Spot {
+        Position {
             offset,
             line,
             column,
@@ -119,7 +119,7 @@ impl Spot {
         ensures { IfOk result IsOfWriting }
     {
         let name = String::from_str(alloc, name)?;
-        let Spot { line, column, .. } = self;
+        let Position { line, column, .. } = self;
         Ok(Remark::Twice { name, line, column })
     }
 }

@@ -13,7 +13,8 @@ use Rattle.cf_explore.specs.Programs.{Programmed, Situated}
 use Rattle.cf_explore.specs.Moves.{moved, moves}
 use Rattle.cf_explore.specs.Layers.{IsAdded, IsLed, KeepsLed, LeadsTo, counted, more, weigh, weight}
 use Rattle.cf_explore.proofs.Counting.{counted-merge}
-use Rattle.cf_explore.proofs.Trails.{all_led-longer, leads-longer, slice_get-last}
+use Rattle.cf_plan.proofs.ListLemmas.{slice_get-seam}
+use Rattle.cf_explore.proofs.Trails.{all_led-longer, leads-longer}
 
 pub added-weighs : (f : Situated → ℕ) (old new : List Entry) (s : Situated) (orders number : ℕ) (is : Bool) →
     IsAdded old new s orders number is → counted (weigh f new) ≡ counted (weigh f old + orders * f s)
@@ -63,7 +64,7 @@ pub added-led-new : (m : Meanings) (p : Programmed) (trail : List Trace) (k : �
 added-led-new m p trail k old new before orders number at by h led can numbered all =
     let trace : Trace = record { before = at; by = by } in
     let longer = trail ++ trace ∷ [] in
-    let there : slice_get longer h.0.number ≡ Some trace = rw (h.3, numbered) (slice_get-last trail trace) in
+    let there : slice_get longer h.0.number ≡ Some trace = rw (h.3, numbered) (slice_get-seam trail trace []) in
     let one : IsLed m p longer (suc k) h.0 = (trace, before, there, leads-longer m p trail (trace ∷ []) k at before led, can, h.1) in
     let all_old = all_led-longer m p trail (trace ∷ []) (suc k) old all in
     let both = All-append (IsLed m p longer (suc k)) old (h.0 ∷ []) all_old (all-alone (IsLed m p longer (suc k)) h.0 one) in

@@ -4,19 +4,9 @@ use Rattle.std.specs.Prelude.{◌⊎◌, slice_get}
 use Rattle.std.proofs.Math.Nat.{eq-or-lt_of_le}
 use Rattle.std.proofs.lemmas.Option.{none-some, same_Some}
 use Rattle.cf_outcome.specs.declared.outcome.Outcome.{Outcome}
+use Rattle.cf_plan.proofs.ListLemmas.{slice_get-push}
 use Rattle.cf_explore.specs.declared.found.End.{End}
 use Rattle.cf_explore.specs.Found.{AreApart, AreOthers, HasOutcomes}
-
-pushed-later : (ends : List End) (new e : End) (i : ℕ) → (slice_get ends i ≡ Some e) ⊎ ((i ≡ length ends) × (new ≡ e)) → (slice_get ends i ≡ Some e) ⊎ ((suc i ≡ suc (length ends)) × (new ≡ e))
-pushed-later ends new e i (inl there) = inl there
-pushed-later ends new e i (inr last) = inr (ap suc last.0, last.1)
-
--- what stands at a place, once one stands behind the others
-pushed : (ends : List End) (new e : End) (i : ℕ) → slice_get (ends ++ new ∷ []) i ≡ Some e → (slice_get ends i ≡ Some e) ⊎ ((i ≡ length ends) × (new ≡ e))
-pushed [] new e zero h = inr (refl, same_Some new e h)
-pushed [] new e (suc i) h = absurd (none-some e h)
-pushed (x ∷ ends) new e zero h = inl h
-pushed (x ∷ ends) new e (suc i) h = pushed-later ends new e i (pushed ends new e i h)
 
 apart-by : (ends : List End) (new e g : End) (outcomes : List (Option Outcome)) (i j : ℕ) → new.outcomes.items ≡ outcomes → AreOthers ends outcomes → AreApart ends →
     e.outcomes.items ≡ g.outcomes.items → (slice_get ends i ≡ Some e) ⊎ ((i ≡ length ends) × (new ≡ e)) → (slice_get ends j ≡ Some g) ⊎ ((j ≡ length ends) × (new ≡ g)) → i ≡ j
@@ -30,7 +20,7 @@ apart-by ends new e g outcomes i j is others apart same (inr last) (inr also) = 
 -- one that has other outcomes stands behind them
 pub apart-pushed : (ends : List End) (new : End) (outcomes : List (Option Outcome)) → new.outcomes.items ≡ outcomes → AreOthers ends outcomes → AreApart ends → AreApart (ends ++ new ∷ [])
 apart-pushed ends new outcomes is others apart = λ i j e g first second same.
-    apart-by ends new e g outcomes i j is others apart same (pushed ends new e i first) (pushed ends new g j second)
+    apart-by ends new e g outcomes i j is others apart same (slice_get-push ends new i e first) (slice_get-push ends new j g second)
 
 -- one is changed, and keeps its outcomes
 set-back : (ends : List End) (k : ℕ) (w v : End) (i : ℕ) (e : End) → slice_get ends k ≡ Some w → v.outcomes.items ≡ w.outcomes.items →

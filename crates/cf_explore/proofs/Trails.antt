@@ -1,20 +1,11 @@
 -- Trails that grow.
-use Rattle.std.proofs.Common.{◌≡◌, ℕ, List, [], ◌∷◌, ◌++◌, Some, All, length, refl, zero, suc}
-use Rattle.std.specs.Prelude.{slice_get}
+use Rattle.std.proofs.Common.{ℕ, List, ◌++◌, All, zero, suc}
 use Rattle.cf_explore.specs.declared.layer.Entry.{Entry}
 use Rattle.cf_explore.specs.declared.trail.Trace.{Trace}
 use Rattle.cf_plan.specs.Meanings.{Meanings}
+use Rattle.cf_plan.proofs.ListLemmas.{slice_get-longer}
 use Rattle.cf_explore.specs.Programs.{Programmed, Situated}
 use Rattle.cf_explore.specs.Layers.{IsLed, LeadsTo}
-
-pub slice_get-longer : {A : Type 0} (xs ys : List A) (i : ℕ) (x : A) → slice_get xs i ≡ Some x → slice_get (xs ++ ys) i ≡ Some x
-slice_get-longer [] ys i x e = absurd (let impossible : ⊥ = cc in impossible)
-slice_get-longer (y ∷ xs) ys zero x e = e
-slice_get-longer (y ∷ xs) ys (suc i) x e = slice_get-longer xs ys i x e
-
-pub slice_get-last : {A : Type 0} (xs : List A) (x : A) → slice_get (xs ++ x ∷ []) (length xs) ≡ Some x
-slice_get-last [] x = refl
-slice_get-last (y ∷ xs) x = slice_get-last xs x
 
 pub leads-longer : (m : Meanings) (p : Programmed) (trail later : List Trace) (k n : ℕ) (s : Situated) → LeadsTo m p trail k n s → LeadsTo m p (trail ++ later) k n s
 leads-longer m p trail later zero n s h = h

@@ -1,10 +1,11 @@
 -- Plans that grow: what is known of each stage stays known as one is attached.
-use Rattle.std.proofs.Common.{◌≡◌, ℕ, ◌+◌, ◌<◌, ◌∷◌, ◌++◌, [], List, Option, None, Some, length, suc, zero, arith, ap, sym, ◌∙◌, subst, refl, inl, inr, ◌⊎◌}
+use Rattle.std.proofs.Common.{◌≡◌, ℕ, ◌+◌, ◌∷◌, ◌++◌, [], List, Option, None, Some, length, suc, zero, arith, ap, sym, ◌∙◌, subst, inl, inr}
 use Rattle.std.specs.Prelude.{slice_get, unwrap_or}
 use Rattle.std.proofs.lemmas.Option.{slice_get_within}
 use Rattle.cf_outcome.specs.declared.outcome.Outcome.{Outcome}
 use Rattle.cf_plan.specs.Meanings.{Meanings}
 use Rattle.cf_plan.specs.Plans.{PlannedStage, HasLowerSources}
+use Rattle.cf_plan.proofs.ListLemmas.{slice_get-front, slice_get-longer, slice_get-push, slice_get-seam}
 use Rattle.cf_model.specs.declared.stage.Stage.TheVariants.{Pending}
 use Rattle.cf_model.specs.declared.events.Event.{Event}
 use Rattle.cf_model.specs.States.{State, outcome_at}
@@ -15,32 +16,7 @@ use Rattle.cf_expr.specs.Histories.{Grants}
 use Rattle.cf_expr.proofs.Settles.{IsSet, Owes, all_sound}
 use Rattle.cf_expr.proofs.Writes.{Stands}
 
--- ---- one element more
-
-get_old : {X : Type 0} (xs : List X) (x : X) (i : ℕ) → i < length xs → slice_get (xs ++ x ∷ []) i ≡ slice_get xs i
-get_old [] x i l = absurd (omega arith)
-get_old (y ∷ xs) x zero l = refl
-get_old (y ∷ xs) x (suc i) l = get_old xs x i (omega arith)
-
-get_new : {X : Type 0} (xs : List X) (x : X) → slice_get (xs ++ x ∷ []) (length xs) ≡ Some x
-get_new [] x = refl
-get_new (y ∷ xs) x = get_new xs x
-
-get_push : {X : Type 0} (xs : List X) (x : X) (i : ℕ) (y : X) → slice_get (xs ++ x ∷ []) i ≡ Some y → (slice_get xs i ≡ Some y) ⊎ (i ≡ length xs)
-get_push [] x zero y e = inr refl
-get_push [] x (suc i) y e = cc
-get_push (z ∷ xs) x zero y e = inl e
-get_push (z ∷ xs) x (suc i) y e = elim (get_push xs x i y e) [
-  | inl h ↦ inl h
-  | inr h ↦ inr (ap suc h)
-]
-
 -- ---- the front of a list
-
-get_front : {X : Type 0} (xs ys : List X) (i : ℕ) (x : X) → slice_get xs i ≡ Some x → slice_get (xs ++ ys) i ≡ Some x
-get_front [] ys i x e = cc
-get_front (y ∷ xs) ys zero x e = e
-get_front (y ∷ xs) ys (suc i) x e = get_front xs ys i x e
 
 lower_front : (k : ℕ) (xs ys : List PlannedStage) → HasLowerSources k (xs ++ ys) → HasLowerSources k xs
 lower_front k [] ys h = tt
@@ -49,16 +25,16 @@ lower_front k (x ∷ xs) ys h = (h.0, lower_front (k + 1) xs ys h.1)
 set_front : (meanings : Meanings) (named exprs : ℕ → Option Outcome) (xs ys : List PlannedStage) → IsSet meanings named exprs (xs ++ ys) → IsSet meanings named exprs xs
 set_front meanings named exprs xs ys h = record {
   lower = lower_front 0 xs ys h.lower;
-  counted = λ i p e. h.counted i p (get_front xs ys i p e);
-  plain = λ i p e. h.plain i p (get_front xs ys i p e);
-  by_stage = λ i p e. h.by_stage i p (get_front xs ys i p e);
+  counted = λ i p e. h.counted i p (slice_get-longer xs ys i p e);
+  plain = λ i p e. h.plain i p (slice_get-longer xs ys i p e);
+  by_stage = λ i p e. h.by_stage i p (slice_get-longer xs ys i p e);
 }
 
 -- a stage of the plan so far is one of the last plan
 pub in_last : (s : State) (events : List Event) (last : List PlannedStage) (i : ℕ) (p : PlannedStage) → (state_after s events).plan.stages ≡ last → slice_get s.plan.stages i ≡ Some p → slice_get last i ≡ Some p
 in_last s events last i p is e =
     let g = state_after-grows s events in
-    ap (λ xs. slice_get xs i) (sym is ∙ g.stages) ∙ get_front s.plan.stages g.more i p e
+    ap (λ xs. slice_get xs i) (sym is ∙ g.stages) ∙ slice_get-longer s.plan.stages g.more i p e
 
 module _ (meanings : Meanings) (named exprs : ℕ → Option Outcome) where
   -- the plan so far is set where the last one is
@@ -75,20 +51,20 @@ module _ (meanings : Meanings) (named exprs : ℕ → Option Outcome) where
   attached_stands granted (suc room) s new e h all claims known = record {
     known = known;
     sound = all_sound meanings named exprs (s.plan.stages ++ new ∷ []) known (outcome_at s) granted (λ i. unwrap_or (slice_get (s.claims ++ None ∷ []) i) None) (s.stages ++ Pending ∷ [])
-        (λ i p is. elim (get_push s.plan.stages new i p is) [
+        (λ i p is. elim (slice_get-push s.plan.stages new i p is) [
           | inl old ↦ (let f = h.sound i p old in
               let l = slice_get_within s.plan.stages i p old in
               record {
                 stage = f.stage;
-                there = get_old s.stages Pending i (omega (arith, l, all)) ∙ f.there;
-                owes = subst (λ c. Owes exprs (outcome_at s) (λ w. granted w i) c i p f.stage) (ap (λ c. unwrap_or c None) (sym (get_old s.claims None i (omega (arith, l, claims))))) f.owes;
+                there = slice_get-front s.stages (Pending ∷ []) i (omega (arith, l, all)) ∙ f.there;
+                owes = subst (λ c. Owes exprs (outcome_at s) (λ w. granted w i) c i p f.stage) (ap (λ c. unwrap_or c None) (sym (slice_get-front s.claims (None ∷ []) i (omega (arith, l, claims))))) f.owes;
               })
-          | inr same ↦ (let at : i ≡ length s.stages = omega (arith, same, all) in
-              let at_claims : i ≡ length s.claims = omega (arith, same, claims) in
+          | inr last ↦ (let at : i ≡ length s.stages = omega (arith, last.0, all) in
+              let at_claims : i ≡ length s.claims = omega (arith, last.0, claims) in
               record {
                 stage = Pending;
-                there = ap (slice_get (s.stages ++ Pending ∷ [])) at ∙ get_new s.stages Pending;
-                owes = ap (λ n. unwrap_or (slice_get (s.claims ++ None ∷ []) n) None) at_claims ∙ ap (λ c. unwrap_or c None) (get_new s.claims None);
+                there = ap (slice_get (s.stages ++ Pending ∷ [])) at ∙ slice_get-seam s.stages Pending [];
+                owes = ap (λ n. unwrap_or (slice_get (s.claims ++ None ∷ []) n) None) at_claims ∙ ap (λ c. unwrap_or c None) (slice_get-seam s.claims None []);
               })
         ])
         (λ j o out. new_states-settled [] (s.plan.stages ++ new ∷ []) (s.stages ++ Pending ∷ []) j o (push-settled s.stages j o out));

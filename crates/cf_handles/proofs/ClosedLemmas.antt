@@ -12,7 +12,7 @@ use Rattle.cf_event.proofs.WordLemmas.{event_of_is, event_of_own_word}
 use Rattle.cf_desk.specs.declared.calls.Kept.{Kept as KeptPass}
 use Rattle.cf_desk.specs.declared.calls.Rec.{Rec}
 use Rattle.cf_desk.specs.declared.calls.Rec.TheVariants.{Did, Saw}
-use Rattle.cf_desk.specs.declared.row.Setting.{Setting}
+use Rattle.cf_desk.specs.declared.row.DeskConfig.{DeskConfig}
 use Rattle.cf_desk.specs.Keepings.{IsKeptFit, pass_kept}
 use Rattle.cf_event.specs.Events.{placed}
 use Rattle.cf_desk.specs.Log.{AreLogged}
@@ -54,7 +54,7 @@ pub call_of : (k : KeptPass) (i : ℕ) (r : Rec) → CallsHaveWords k → slice_
 call_of k i r h at = call_at k.caller k.records.items i r h.calls at
 
 -- those of a desk's history, and of passes that fit it
-pub history_has : (t : Setting) (history : List Event) → AreLogged t history → All HasWord history
+pub history_has : (t : DeskConfig) (history : List Event) → AreLogged t history → All HasWord history
 history_has t history h = events_each HasWord t.callers t.functions (λ s e is. event_of_own_word e is.event) (start t.plan) history h
 
 placed_has : (n : ℕ) (history : List Event) → All HasWord history → All DidHasWord (placed n history)

@@ -4,7 +4,7 @@ use Rattle.std.specs.Arc.{arc_value}
 use Rattle.std.specs.Global.{Box}
 use Rattle.cf_plan.specs.Plans.{Planned, with_room}
 use Rattle.cf_desk.specs.declared.faults.OpenFault.{OpenFault}
-use Rattle.cf_desk.specs.declared.row.Setting.{Setting}
+use Rattle.cf_desk.specs.declared.row.DeskConfig.{DeskConfig}
 use Rattle.cf_desk.specs.Faults.{AreCounts, IsDueToGrow, IsDueToOpen}
 use Rattle.cf_desk.specs.Functions.{function_bound}
 use Rattle.cf_desk.specs.Views.{Desk, Pass, opened}
@@ -50,7 +50,7 @@ abbrev pub AreEmpty : List CfHandle → Type 0
 AreEmpty hs = All (λ (h : CfHandle). h.inner.held ≡ None) hs
 
 -- behind these handles stand the callers of a new desk, none of whom has seen or recorded anything
-pub record IsOpenedDesk (setting : Setting) (log calls : ℕ) (hs : List CfHandle) : Type 0 where
+pub record IsOpenedDesk (setting : DeskConfig) (log calls : ℕ) (hs : List CfHandle) : Type 0 where
   pub desk : Desk
   pub setting_is : desk.setting ≡ setting
   pub words : desk.words ≡ log
@@ -63,21 +63,21 @@ pub record IsNotOpened (IsDue : OpenFault → Type 0) (code : Code) : Type 0 whe
   pub is : code ≡ open_code why
 
 -- Of a plan a desk with so many callers as there are handles is opened, if they are all empty. Where it isn't, they stay.
-abbrev pub DeskOf : (Planned → ℕ → Setting) → (Planned → ℕ → OpenFault → Type 0) → ℕ → ℕ → Object → List CfHandle → Result (Unit {0}) Code → List CfHandle → Type 0
+abbrev pub DeskOf : (Planned → ℕ → DeskConfig) → (Planned → ℕ → OpenFault → Type 0) → ℕ → ℕ → Object → List CfHandle → Result (Unit {0}) Code → List CfHandle → Type 0
 DeskOf setting IsDue log calls (Plan p) old (Ok done) new = AreEmpty old × AreCounts (length old) log calls × IsOpenedDesk (setting p (length old)) log calls new
 DeskOf setting IsDue log calls (Plan p) old (Err Full) new = (¬ AreEmpty old) × (new ≡ old)
 DeskOf setting IsDue log calls (Plan p) old (Err code) new = AreEmpty old × IsNotOpened (IsDue p (length old)) code × (new ≡ old)
 DeskOf setting IsDue log calls held old r new = (r ≡ Err WrongKind) × (new ≡ old)
 
 -- without room, and with the functions of the plan
-abbrev pub setting_of : Planned → ℕ → Setting
+abbrev pub setting_of : Planned → ℕ → DeskConfig
 setting_of p callers = record { plan = p; callers = callers; functions = function_bound p.stages }
 
 abbrev pub is_due : ℕ → ℕ → Planned → ℕ → OpenFault → Type 0
 is_due log calls p callers = IsDueToOpen callers log calls
 
 -- with room, and so many functions
-abbrev pub growing_of : ℕ → ℕ → Planned → ℕ → Setting
+abbrev pub growing_of : ℕ → ℕ → Planned → ℕ → DeskConfig
 growing_of room functions p callers = record { plan = with_room p room; callers = callers; functions = functions }
 
 abbrev pub is_due_to_grow : ℕ → ℕ → ℕ → ℕ → Planned → ℕ → OpenFault → Type 0

@@ -62,7 +62,7 @@ pub enum Code {
     NotHeld,
     /// 30: a ledger has no room for the stage that a word attaches.
     NoRoom,
-    /// 31: another caller was first to claim the stage.
+    /// 31: another caller claimed or settled the stage first.
     Lost,
     /// 32: a sweep hasn't all stages behind it yet.
     NotOver,

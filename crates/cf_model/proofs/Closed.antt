@@ -9,7 +9,7 @@ use Rattle.cf_plan.specs.declared.forms.Due.{Due}
 use Rattle.cf_plan.specs.declared.forms.Due.TheVariants.{Waits, Settles, Needs}
 use Rattle.cf_plan.specs.declared.forms.Form.{Form}
 use Rattle.cf_plan.specs.declared.forms.Form.TheVariants.{Source, Supply, RunAsync, Combine, AcceptBoth, RunBoth, AllOf}
-use Rattle.cf_plan.specs.Forms.{due_of_first, first_there, follows}
+use Rattle.cf_plan.specs.Forms.{due_of_first, first_there, follows, is_decided_by_first}
 use Rattle.cf_plan.specs.Plans.{Planned, PlannedStage, HasLowerSources, form_at, sources_at}
 use Rattle.cf_plan.proofs.PlanLemmas.{lower_at}
 use Rattle.cf_model.specs.declared.stage.Stage.{Stage}
@@ -17,7 +17,7 @@ use Rattle.cf_model.specs.declared.stage.Stage.TheVariants.{Pending, Ready, Clai
 use Rattle.cf_model.specs.States.{outcome_of, outcome_in, due_state, linked_state, next_of, new_states, start}
 use Rattle.cf_model.specs.declared.events.Event.{Event}
 use Rattle.cf_model.specs.Events.{state_after}
-use Rattle.cf_model.specs.Laws.{AreLinkedLower, IsClosed, KeepsClosed, PendingHasNoneSettled, ReachedAreClosed, ReachedLinkLower, is_decided_by_first}
+use Rattle.cf_model.specs.Laws.{AreLinkedLower, IsClosed, KeepsClosed, PendingHasNoneSettled, ReachedAreClosed, ReachedLinkLower}
 use Rattle.cf_model.proofs.StateLemmas.{due_one-decides, new_states-at, outcome_in-take}
 use Rattle.cf_model.proofs.Stable.{IsStable, state_after-stable}
 use Rattle.cf_model.proofs.Shape.{length-new_states, state_after-grows}

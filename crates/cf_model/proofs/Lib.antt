@@ -12,3 +12,4 @@ pub mod Stable
 pub mod Closed
 pub mod Histories
 pub mod ClaimedStages
+pub mod OpenClaims

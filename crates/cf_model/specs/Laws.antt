@@ -3,8 +3,7 @@ use Rattle.std.specs.Prelude.{◌≡◌, ℕ, ◌+◌, ◌<◌, ◌≤◌, ◌==
 use Rattle.cf_outcome.specs.declared.outcome.Outcome.{Outcome}
 use Rattle.cf_model.specs.declared.replies.Claimed.TheVariants.{Granted}
 use Rattle.cf_plan.specs.declared.forms.Args.{Args}
-use Rattle.cf_plan.specs.declared.forms.Form.{Form}
-use Rattle.cf_plan.specs.declared.forms.Form.TheVariants.{Source, Supply, RunAsync, Combine, AcceptBoth, RunBoth, AllOf}
+use Rattle.cf_plan.specs.Forms.{is_decided_by_first}
 use Rattle.cf_plan.specs.Plans.{Planned, IsBuilt, form_at, sources_at}
 use Rattle.cf_model.specs.declared.stage.Stage.{Stage}
 use Rattle.cf_model.specs.declared.stage.Stage.TheVariants.{Linked, Pending}
@@ -74,17 +73,6 @@ AreLinkedLower stages = (i j : ℕ) → slice_get stages i ≡ Some (Linked j) �
 -- so it is in each state that events reach from the opening
 abbrev pub ReachedLinkLower : Type 0
 ReachedLinkLower = (plan : Planned) (events : List Event) → AreLinkedLower ((state_after (start plan) events).stages)
-
--- whether the first source that settles decides a form
-abbrev pub is_decided_by_first : Form → Bool
-is_decided_by_first Source = false
-is_decided_by_first Supply = false
-is_decided_by_first RunAsync = false
-is_decided_by_first Combine = false
-is_decided_by_first AcceptBoth = false
-is_decided_by_first RunBoth = false
-is_decided_by_first AllOf = false
-is_decided_by_first form = true
 
 -- While a stage whose first settled source decides it is pending, none of its sources has settled.
 abbrev pub PendingHasNoneSettled : Type 0

@@ -1,6 +1,6 @@
 -- A plan with one more stage attached.
 use Rattle.std.proofs.Common.{◌≡◌, ℕ, ◌+◌, ◌-◌, ◌*◌, ◌<◌, ◌≤◌, ◌∷◌, ◌++◌, [], List, All, Bool, true, false, Option, length, suc, zero, arith, ap, sym, ◌∙◌, subst, refl, map, replicate, append_assoc, append-nil, length-append, zero-add}
-use Rattle.std.specs.Prelude.{is_some, not, ◌==◌, ◌||◌, ◌&&◌, reverse, slice_get}
+use Rattle.std.specs.Prelude.{is_some, not, ◌==◌, ◌||◌, ◌&&◌, reverse}
 use Rattle.std.proofs.lemmas.List.{get_or-replicate, length-map, length-replicate, length-reverse, map-append, replicate-append-replicate, reverse-append, reverse-reverse}
 use Rattle.std.proofs.lemmas.List.Elements.{All-head, All-nil, All-push, All-tail}
 use Rattle.std.specs.List.{sum_by}
@@ -280,14 +280,6 @@ attached_few opening rows i few =
       count_by-le-length (λ j. j == i) (all_sources old),
       length-flat_map (λ (y : PlannedStage). y.sources) old,
     )
-
--- a stage behind the first ones
-pub slice_get-behind : (xs ys : List PlannedStage) (i : ℕ) → length xs ≤ i → slice_get (xs ++ ys) i ≡ slice_get ys (i - length xs)
-slice_get-behind [] ys i past = let e : i - 0 ≡ i = omega arith in ap (slice_get ys) (sym e)
-slice_get-behind (x ∷ xs) ys zero past = absurd (omega arith)
-slice_get-behind (x ∷ xs) ys (suc i) past =
-    let e : suc i - suc (length xs) ≡ i - length xs = omega arith in
-    slice_get-behind xs ys i (omega arith) ∙ ap (slice_get ys) (sym e)
 
 -- each stage has a list
 pub listed : (opening : Planned) (rows : List AttachedRow) (heads : List Head) (cells : List Cell) (room row_room cell_room i : ℕ) → AreGrowing opening rows heads cells room row_room cell_room →

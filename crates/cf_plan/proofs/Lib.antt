@@ -1,3 +1,4 @@
+pub mod ListLemmas
 pub mod PlanLemmas
 pub mod LimitLemmas
 pub mod RowLemmas

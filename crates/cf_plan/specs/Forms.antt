@@ -96,6 +96,17 @@ composes Compose = true
 composes ExceptionallyCompose = true
 composes form = false
 
+-- whether the first source that settles decides a form
+abbrev pub is_decided_by_first : Form → Bool
+is_decided_by_first Source = false
+is_decided_by_first Supply = false
+is_decided_by_first RunAsync = false
+is_decided_by_first Combine = false
+is_decided_by_first AcceptBoth = false
+is_decided_by_first RunBoth = false
+is_decided_by_first AllOf = false
+is_decided_by_first form = true
+
 -- Where stage i lands with the answer of its function. A whenComplete keeps what its source has. A form that composes has
 -- to link to a stage, which has to be lower, and no other form may link.
 abbrev pub landing : Form → ℕ → Option Outcome → Answer → Landing

@@ -46,18 +46,18 @@ impl<F: StageFn> Functions for Each<'_, F> {
 }
 
 /// What a closure is called by: a function's number and its arguments.
-type Call = Box<dyn FnMut(u16, Args) -> Answer>;
+type BoxedFn = Box<dyn FnMut(u16, Args) -> Answer>;
 
 /// A closure as the functions of all stages, by their numbers. It may change what it holds, as one that counts its calls does.
 #[derive(Drop)]
 pub struct Closure {
-    call: Call,
+    call: BoxedFn,
     ghost callable: { IsAlwaysCallable call },
 }
 
 impl Closure {
     /// The functions of a closure that takes any number and any arguments.
-    pub fn new(call: Call) -> Closure
+    pub fn new(call: BoxedFn) -> Closure
         requires { IsAlwaysCallable call }
         ensures { result.call ≡ call }
     {

@@ -40,4 +40,4 @@ pub use growing::GrowingPlan;
 pub use limits::{Limit, LimitKind};
 pub use plan::Plan;
 pub use starting::starts;
-pub use tables::{composes, due_one, due_two, landing};
+pub use tables::{composes, due_one, due_two, is_decided_by_first, landing};

@@ -3,7 +3,7 @@
 //! They are those of Java SE 17's `CompletionStage`: a stage that doesn't handle a fault passes it on inside a
 //! completion exception, which `wrap` says, and one that handles it is told the outcome as it is stored.
 ghost use Rattle.std.specs.Prelude.{◌≡◌, ℕ};
-ghost use Rattle.cf_plan.specs.Forms.{composes, due_one, due_two, kept_value, landing};
+ghost use Rattle.cf_plan.specs.Forms.{composes, due_one, due_two, is_decided_by_first, kept_value, landing};
 
 use crate::forms::{Answer, Args, Due, Form, Landing};
 use cf_outcome::{Cause, Outcome, Value, is_exceptional, wrap};
@@ -78,6 +78,23 @@ pub fn landing(form: Form, stage: u16, source: Option<Outcome>, answer: Answer) 
             (Form::WhenComplete, Some(o)) => Landing::Settles(o),
             _ => Landing::Settles(Outcome::Value(kept(form, v))),
         },
+    }
+}
+
+/// Whether a form takes what the first of its sources to settle has. It is false of a form without sources.
+#[inline(always)]
+pub fn is_decided_by_first(form: Form) -> bool
+    ensures { result ≡ is_decided_by_first form }
+{
+    match form {
+        Form::Source
+        | Form::Supply
+        | Form::RunAsync
+        | Form::Combine
+        | Form::AcceptBoth
+        | Form::RunBoth
+        | Form::AllOf => false,
+        _ => true,
     }
 }
 

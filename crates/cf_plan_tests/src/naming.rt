@@ -1,6 +1,6 @@
-//! The numbers and the names of forms, and which forms' functions answer with a stage.
+//! The numbers and the names of forms, which forms' functions answer with a stage, and which the first settled source decides.
 use crate::checks::holds;
-use cf_plan::{Form, composes};
+use cf_plan::{Form, composes, is_decided_by_first};
 
 /// Each form with its number, its name, and whether its function answers with a stage.
 const FORMS: [(u8, Form, &str, bool); 19] = [
@@ -39,6 +39,43 @@ fn is_so(form: Form, number: u8, name: &str, answers_a_stage: bool) -> bool {
 fn each_form_has_its_number_and_its_name(rt: HostRuntime) {
     for (number, form, name, answers_a_stage) in &FORMS {
         holds(&rt, is_so(*form, *number, name, *answers_a_stage), number);
+    }
+}
+
+/// The forms without a source, and those that wait for all of theirs.
+const WAIT_FOR_ALL: [Form; 7] = [
+    Form::Source,
+    Form::Supply,
+    Form::RunAsync,
+    Form::Combine,
+    Form::AcceptBoth,
+    Form::RunBoth,
+    Form::AllOf,
+];
+
+/// The forms with one source, the either forms, and `anyOf`.
+const TAKE_THE_FIRST: [Form; 12] = [
+    Form::Apply,
+    Form::Accept,
+    Form::ThenRun,
+    Form::ApplyEither,
+    Form::AcceptEither,
+    Form::RunEither,
+    Form::Compose,
+    Form::Handle,
+    Form::WhenComplete,
+    Form::Exceptionally,
+    Form::AnyOf,
+    Form::ExceptionallyCompose,
+];
+
+#[test]
+fn the_first_settled_source_decides_some_forms(rt: HostRuntime) {
+    for form in &WAIT_FOR_ALL {
+        holds(&rt, !is_decided_by_first(*form), form);
+    }
+    for form in &TAKE_THE_FIRST {
+        holds(&rt, is_decided_by_first(*form), form);
     }
 }
 

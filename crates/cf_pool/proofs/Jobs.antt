@@ -23,7 +23,7 @@ use Rattle.cf_model.specs.declared.calls.Call.TheVariants.{Claim, Finish}
 use Rattle.cf_desk.specs.declared.calls.Rec.{Rec}
 use Rattle.cf_desk.specs.declared.calls.Rec.TheVariants.{Did}
 use Rattle.cf_desk.specs.declared.faults.DeskFault.{DeskFault}
-use Rattle.cf_desk.specs.declared.row.Known.{Known}
+use Rattle.cf_desk.specs.declared.row.CallerView.{CallerView}
 use Rattle.cf_model.specs.Calls.{event_by}
 use Rattle.cf_desk.specs.Faults.{HasRoom, IsOnStage}
 use Rattle.cf_desk.specs.Results.{Refuses}
@@ -371,7 +371,7 @@ pub does_end : (meanings : Meanings) (p q : Pass) (done : Done) → AddsCounted 
 unfolding adds_works
 does_end meanings p q done f = record { out = record { works = adds_works meanings p q None f.adds; owes = f.adds.owes_then }; counts = f.counts }
 
-pub ready_is : (k : Known) (i : ℕ) → lowest_ready_of (state_of k) ≡ Some i → is_ready (stage_at (state_of k) i) ≡ true
+pub ready_is : (k : CallerView) (i : ℕ) → lowest_ready_of (state_of k) ≡ Some i → is_ready (stage_at (state_of k) i) ≡ true
 ready_is k i e = lowest_ready-is_ready (state_of k) i e
 
 -- ---- a call that met a fault

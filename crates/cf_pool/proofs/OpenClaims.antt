@@ -1,33 +1,30 @@
 -- Which claims are open along a history, and that work leaves none of its own open.
-use Rattle.std.proofs.Common.{◌≡◌, ◌≢◌, ℕ, zero, suc, ◌+◌, ◌<◌, ◌≤◌, ◌==◌, ◌⊎◌, inl, inr, Bool, true, false, cond, eqb, eq-eqb, Option, Some, None, List, [], ◌∷◌, ◌++◌, length, set, replicate, sym, refl, ap, ◌∙◌, subst, arith, map}
-use Rattle.std.specs.Prelude.{slice_get, unwrap_or, nat_lt}
+use Rattle.std.proofs.Common.{◌≡◌, ◌≢◌, ℕ, zero, suc, ◌+◌, ◌<◌, ◌≤◌, ◌==◌, ◌⊎◌, inl, inr, Bool, true, false, cond, eqb, eq-eqb, Option, Some, None, List, [], ◌∷◌, ◌++◌, length, set, sym, refl, ap, ◌∙◌, subst, arith, map}
+use Rattle.std.specs.Prelude.{slice_get, unwrap_or}
 use Rattle.std.specs.Option.{option_map_or}
 use Rattle.std.specs.List.{All, AllZip, Contains}
 use Rattle.std.proofs.lemmas.Bool.{cases_lt, eqb-true}
 use Rattle.std.proofs.lemmas.Bool.Decides.{nat_tests}
 use Rattle.std.proofs.lemmas.List.Elements.{All-cons, All-nil, All-weaker, Contains-append_right}
-use Rattle.cf_outcome.specs.declared.outcome.Outcome.{Outcome}
 use Rattle.cf_outcome.specs.declared.outcome.Outcome.TheVariants.{Value as Gives, Fault}
 use Rattle.cf_outcome.specs.declared.outcome.Cause.TheVariants.{Thrown}
 use Rattle.cf_plan.specs.declared.forms.Args.{Args}
 use Rattle.cf_plan.specs.declared.forms.Answer.{Answer}
-use Rattle.cf_plan.specs.declared.limits.Limit.{Limit}
-use Rattle.cf_plan.specs.Forms.{landing}
-use Rattle.cf_plan.specs.Plans.{Planned, PlannedStage, attached_stage, form_at}
+use Rattle.cf_plan.specs.Plans.{Planned, PlannedStage, attached_stage}
 use Rattle.cf_plan.specs.Meanings.{Meanings}
 use Rattle.cf_model.specs.declared.stage.Stage.{Stage}
 use Rattle.cf_model.specs.declared.stage.Stage.TheVariants.{Pending, Ready, Claimed, Linked, Settled}
 use Rattle.cf_model.specs.declared.replies.Claimed.TheVariants.{Granted, Settled as IsSettled, Taken, NotReady}
 use Rattle.cf_model.specs.declared.replies.Finished.TheVariants.{NotYours}
-use Rattle.cf_model.specs.declared.replies.Ticked.TheVariants.{Fired, Past}
 use Rattle.cf_model.specs.declared.events.Event.{Event}
 use Rattle.cf_model.specs.declared.events.Event.TheVariants.{Complete as Completes, Fail as Fails, Cancel as Cancels, Claim as Claims, Finish as Finishes, Tick as Ticks, Attach as Attaches}
 use Rattle.cf_model.specs.declared.events.Reply.{Reply}
 use Rattle.cf_model.specs.declared.events.Reply.TheVariants.{Flag as ToldFlag, Claim as ToldClaim, Finish as ToldFinish, Tick as ToldTick, Attach as ToldAttach}
 use Rattle.cf_model.specs.States.{State, start, stage_at, claim_at, outcome_at}
-use Rattle.cf_model.specs.Events.{answered, state_after, claimed_by, finished_by, settled_by, settling, cancelled_by, firing, due_limits, limit_outcome, source_outcome, attached_by}
+use Rattle.cf_model.specs.Events.{answered, state_after, claimed_by, finished_by, attached_by}
 use Rattle.cf_model.specs.Calls.{who_of}
 use Rattle.cf_model.specs.declared.calls.Call.TheVariants.{Claim, Finish}
+use Rattle.cf_model.proofs.OpenClaims.{cancelled_claims, claim_before_close, claim_before_push, claim_before_set, finished_claims, none_open, settled_claims, ticked_claims}
 use Rattle.cf_desk.specs.declared.calls.Rec.{Rec}
 use Rattle.cf_desk.specs.declared.calls.Rec.TheVariants.{Did, Saw}
 use Rattle.cf_desk.specs.Keepings.{IsKeptFit, pass_did}
@@ -40,7 +37,6 @@ use Rattle.cf_pool.specs.Records.{recorded}
 use Rattle.cf_pool.specs.Works.{AreWork, IsNext, Owed, WorksOut, owed_after, owed_by}
 use Rattle.cf_pool.proofs.Racing.Joining.{absent_records, each_pass}
 use Rattle.cf_pool.proofs.Racing.Owing.{rec_of}
-use Rattle.cf_pool.proofs.Racing.Quiet.{landed_claims}
 use Rattle.cf_pool.proofs.Racing.Recorded.{fits_recorded, only_dids}
 use Rattle.cf_pool.proofs.Working.{by_record}
 
@@ -68,47 +64,11 @@ held_less held s t who r before leaves h i c e =
 held_still : (held : ℕ → ℕ → Bool) (s t : State) (who : ℕ) (r : Rec) → t.claims ≡ s.claims → ((i : ℕ) (was : Bool) → open_by i was r ≡ was) → AllHeld held s → AllHeld (held_with held who r) t
 held_still held s t who r same = held_less held s t who r (λ i c e. ap (λ (l : List (Option ℕ)). unwrap_or (slice_get l i) None) (sym same) ∙ e)
 
-settled_claims : (x : Option Outcome) (s : State) (i : ℕ) (o : Outcome) → (settled_by x s i o).1.claims ≡ s.claims
-settled_claims (Some old) s i o = refl
-settled_claims None s i o = refl
-
-cancelled_claims : (x : Option Outcome) (s : State) (i : ℕ) → (cancelled_by x s i).1.claims ≡ s.claims
-cancelled_claims (Some old) s i = refl
-cancelled_claims None s i = refl
-
-firing_claims : (limits : List Limit) (count : ℕ) (s : State) → (firing count s limits).1.claims ≡ s.claims
-firing_claims [] count s = refl
-firing_claims (l ∷ limits) count s =
-    let done = settling s l.stage (limit_outcome l.kind) in
-    firing_claims limits _ done.1 ∙ settled_claims (outcome_at s l.stage) s l.stage (limit_outcome l.kind)
-
-ticked_claims : {X : Type 0} (b : Bool) (s : State) (p q : X × State) → p.1.claims ≡ s.claims → q.1.claims ≡ s.claims → (cond b p q).1.claims ≡ s.claims
-ticked_claims true s p q e f = e
-ticked_claims false s p q e f = f
-
--- on an attached stage there is no claim
-pushed_none : (xs : List (Option ℕ)) (i c : ℕ) → unwrap_or (slice_get (xs ++ None ∷ []) i) None ≡ Some c → unwrap_or (slice_get xs i) None ≡ Some c
-pushed_none [] zero c e = e
-pushed_none [] (suc i) c e = e
-pushed_none (x ∷ xs) zero c e = e
-pushed_none (x ∷ xs) (suc i) c e = pushed_none xs i c e
-
 attached_none : (room : ℕ) (s : State) (new : PlannedStage) (i c : ℕ) → claim_at ((attached_by room s new).1) i ≡ Some c → claim_at s i ≡ Some c
 attached_none zero s new i c e = e
-attached_none (suc room) s new i c e = pushed_none s.claims i c e
+attached_none (suc room) s new i c e = claim_before_push s.claims i c e
 
 -- ---- a claim
-
-set_either : (xs : List (Option ℕ)) (j i : ℕ) (x : Option ℕ) (w : ℕ) → unwrap_or (slice_get (set xs j x) i) None ≡ Some w → ((i ≡ j) × (x ≡ Some w)) ⊎ (unwrap_or (slice_get xs i) None ≡ Some w)
-set_either [] j i x w e = inr e
-set_either (y ∷ xs) zero zero x w e = inl (refl, e)
-set_either (y ∷ xs) zero (suc i) x w e = inr e
-set_either (y ∷ xs) (suc j) zero x w e = inr e
-set_either (y ∷ xs) (suc j) (suc i) x w e = further (set_either xs j i x w e)
-  where
-    further : ((i ≡ j) × (x ≡ Some w)) ⊎ (unwrap_or (slice_get xs i) None ≡ Some w) → ((suc i ≡ suc j) × (x ≡ Some w)) ⊎ (unwrap_or (slice_get xs i) None ≡ Some w)
-    further (inl h) = inl (ap suc h.0, h.1)
-    further (inr h) = inr h
 
 same_number : (m n : ℕ) → m ≡ n → (m == n) ≡ true
 same_number m n e = grind (arith, nat_tests)
@@ -117,7 +77,7 @@ other_number : (m n : ℕ) → m ≢ n → (m == n) ≡ false
 other_number m n ne = grind (arith, nat_tests)
 
 granted_held : (held : ℕ → ℕ → Bool) (n : ℕ) (s : State) (who j : ℕ) (args : Args) → AllHeld held s → AllHeld (held_with held who (Did n (Claim j) (ToldClaim (Granted args)))) ((claimed_by (Ready args) s who j).1)
-granted_held held n s who j args h i c e = split (set_either s.claims j i (Some who) c e)
+granted_held held n s who j args h i c e = split (claim_before_set s.claims j i (Some who) c e)
   where
     split : ((i ≡ j) × (Some who ≡ Some c)) ⊎ (unwrap_or (slice_get s.claims i) None ≡ Some c) → cond (eqb who c) (cond (i == j) true (held c i)) (held c i) ≡ true
     split (inl f) =
@@ -134,22 +94,11 @@ claim_held (Settled o) held n s who j h = held_still held s s who (Did n (Claim 
 
 -- ---- a finish
 
-set_none : (xs : List (Option ℕ)) (j i w : ℕ) → unwrap_or (slice_get (set xs j None) i) None ≡ Some w → (i ≢ j) × (unwrap_or (slice_get xs i) None ≡ Some w)
-set_none [] j i w e = let no : ⊥ = cc in absurd no
-set_none (y ∷ xs) zero zero w e = let no : ⊥ = cc in absurd no
-set_none (y ∷ xs) zero (suc i) w e = (omega arith, e)
-set_none (y ∷ xs) (suc j) zero w e = (omega arith, e)
-set_none (y ∷ xs) (suc j) (suc i) w e = let h = set_none xs j i w e in (let ne : i ≢ j = h.0 in omega arith, h.1)
-
-finished_claims : (x : Option Outcome) (s : State) (i : ℕ) (answer : Answer) → (finished_by x s i answer).1.claims ≡ s.claims
-finished_claims (Some old) s i answer = refl
-finished_claims None s i answer = landed_claims (landing (form_at s.plan.stages i) i (source_outcome s i) answer) s i
-
 finish_held : (b : Bool) (held : ℕ → ℕ → Bool) (n : ℕ) (s : State) (who j : ℕ) (answer : Answer) (reply : Reply) → option_map_or (λ w. w == who) (claim_at s j) false ≡ b → AllHeld held s
     → AllHeld (held_with held who (Did n (Finish j answer) reply)) ((cond b (finished_by (outcome_at s j) (record s { claims = set s.claims j None }) j answer) (NotYours, s)).1)
 finish_held true held n s who j answer reply mine h i c e =
     let closed : State = record s { claims = set s.claims j None } in
-    let was = set_none s.claims j i c (ap (λ (l : List (Option ℕ)). unwrap_or (slice_get l i) None) (sym (finished_claims (outcome_at s j) closed j answer)) ∙ e) in
+    let was = claim_before_close s.claims j i c (ap (λ (l : List (Option ℕ)). unwrap_or (slice_get l i) None) (sym (finished_claims (outcome_at s j) closed j answer)) ∙ e) in
     let old = h i c was.1 in
     same_either (eqb who c) (cond (i == j) false (held c i)) (held c i) true (ap (λ (b : Bool). cond b false (held c i)) (other_number i j was.0) ∙ old) old
 finish_held false held n s who j answer reply missed h i c e = split (eqb who c) refl
@@ -173,8 +122,7 @@ event_held held n s (Cancels who i) h = held_still held s ((answered s (Cancels 
 event_held held n s (Claims who i) h = claim_held (stage_at s i) held (suc n) s who i h
 event_held held n s (Finishes who i answer) h = finish_held (option_map_or (λ w. w == who) (claim_at s i) false) held (suc n) s who i answer ((answered s (Finishes who i answer)).0) refl h
 event_held held n s (Ticks who now) h =
-    let fired = firing 0 s (due_limits s now) in
-    held_still held s ((answered s (Ticks who now)).1) who (rec_of n (Ticks who now) ((answered s (Ticks who now)).0)) (ticked_claims (nat_lt now s.moment) s (Past, s) (Fired fired.0, record fired.1 { moment = now; used = s.used + length (due_limits s now) }) refl (firing_claims (due_limits s now) 0 s)) (λ j was. refl) h
+    held_still held s ((answered s (Ticks who now)).1) who (rec_of n (Ticks who now) ((answered s (Ticks who now)).0)) (ticked_claims s who now) (λ j was. refl) h
 event_held held n s (Attaches who form of function) h =
     held_less held s ((answered s (Attaches who form of function)).1) who (rec_of n (Attaches who form of function) ((answered s (Attaches who form of function)).0)) (attached_none s.plan.room s (attached_stage form of function)) (λ j was. refl) h
 
@@ -189,14 +137,9 @@ held_along held n s (x ∷ events) h i who e =
     sym (open_here i (eqb (who_of x) who) (held who i) r (recorded who (suc n) ((answered s x).1) events))
     ∙ held_along (held_with held (who_of x) r) (suc n) ((answered s x).1) events (event_held held n s x h) i who e
 
-none_there : (n i : ℕ) → unwrap_or (slice_get (let l : List (Option ℕ) = replicate n None in l) i) None ≡ None
-none_there zero i = refl
-none_there (suc n) zero = refl
-none_there (suc n) (suc i) = none_there n i
-
 open_recorded : (plan : Planned) (history : List Event) (i who : ℕ) → claim_at (state_from plan history) i ≡ Some who → open_after i false (recorded who 0 (start plan) history) ≡ true
 open_recorded plan history i who e =
-    held_along (λ c j. false) 0 (start plan) history (λ j c f. (let none = none_there (length plan.stages) j in let no : ⊥ = cc in absurd no)) i who e
+    held_along (λ c j. false) 0 (start plan) history (λ j c f. (let none = none_open (length plan.stages) j in let no : ⊥ = cc in absurd no)) i who e
 
 -- ---- what work leaves open
 

@@ -12,7 +12,7 @@ use Rattle.cf_desk.specs.declared.calls.Closed.{Closed}
 use Rattle.cf_desk.specs.declared.calls.Kept.{Kept}
 use Rattle.cf_desk.specs.declared.faults.DeskFault.{DeskFault}
 use Rattle.cf_desk.specs.declared.faults.DeskFault.TheVariants.{BadAttach, LogFull, NoStage, PassFull}
-use Rattle.cf_desk.specs.declared.row.Known.{Known}
+use Rattle.cf_desk.specs.declared.row.CallerView.{CallerView}
 use Rattle.cf_desk.specs.Faults.{AttachFits, IsDue, IsOnStage}
 use Rattle.cf_desk.specs.Keepings.{AllFit, AreKept, IsKeptFit, pass_did, pass_kept}
 use Rattle.cf_desk.specs.Log.{Catches, state_from}
@@ -39,7 +39,7 @@ use Rattle.cf_model.specs.Growth.{Grows}
 use Rattle.cf_model.proofs.Histories.{state_after-append}
 use Rattle.cf_model.proofs.Shape.{state_after-grows}
 use Rattle.cf_desk.specs.declared.calls.Rec.{Rec}
-use Rattle.cf_desk.specs.declared.row.Setting.{Setting}
+use Rattle.cf_desk.specs.declared.row.DeskConfig.{DeskConfig}
 use Rattle.cf_pool.proofs.Calling.{once_grown}
 use Rattle.cf_pool.proofs.OpenClaims.{were_open}
 use Rattle.cf_pool.proofs.Pools.{first_more, sees_itself, sees_longer}
@@ -289,7 +289,7 @@ longer_short : (b : Bool) (n : ℕ) (xs ys : List Event) → length xs ≤ n →
 longer_short true n xs ys f g = g
 longer_short false n xs ys f g = f
 
-longest_short : (n : ℕ) (ks : List Known) → AllShort n ks → length (longest ks) ≤ n
+longest_short : (n : ℕ) (ks : List CallerView) → AllShort n ks → length (longest ks) ≤ n
 longest_short n [] h = omega arith
 longest_short n (k ∷ ks) h = longer_short (leb (length k.seen) (length (longest ks))) n k.seen (longest ks) h.0 (longest_short n ks h.1)
 
@@ -420,7 +420,7 @@ all_from {M} tells calls meanings first d (h ∷ hs) (w ∷ ws) alike f = (
 -- the plan that a pass has seen last grows to that of the whole history
 grows_whole : (d : Desk) (q : Pass) (history : List Event) → IsOf d q → Catches q.known.caller q.known.seen history → Grows (state_of q.known) (state_from d.setting.plan history)
 grows_whole d q history of c =
-    let was : state_of q.known ≡ state_from d.setting.plan q.known.seen = ap (λ (x : Setting). state_from x.plan q.known.seen) of.1 in
+    let was : state_of q.known ≡ state_from d.setting.plan q.known.seen = ap (λ (x : DeskConfig). state_from x.plan q.known.seen) of.1 in
     let now : state_from d.setting.plan history ≡ state_after (state_from d.setting.plan q.known.seen) c.others = ap (state_from d.setting.plan) c.joined ∙ state_after-append (start d.setting.plan) q.known.seen c.others in
     subst (λ (s : State). Grows s (state_from d.setting.plan history)) (sym was)
     (subst (Grows (state_from d.setting.plan q.known.seen)) (sym now) (state_after-grows (state_from d.setting.plan q.known.seen) c.others))

@@ -1,11 +1,12 @@
 -- What work is made of, and that it stays work as the plan grows.
-use Rattle.std.proofs.Common.{◌≡◌, ℕ, zero, suc, ◌<◌, ◌≤◌, inl, inr, Option, Some, None, List, [], ◌∷◌, ◌++◌, length, sym, refl, ap, ◌∙◌, subst, length-append, arith}
-use Rattle.std.specs.Prelude.{slice_get, unwrap_or}
+use Rattle.std.proofs.Common.{◌≡◌, ℕ, ◌<◌, ◌≤◌, inl, inr, Option, Some, None, List, [], ◌∷◌, ◌++◌, length, sym, refl, ap, ◌∙◌, subst, length-append, arith}
+use Rattle.std.specs.Prelude.{unwrap_or}
 use Rattle.std.specs.Option.{option_map_or}
 use Rattle.cf_plan.specs.declared.forms.Answer.{Answer}
 use Rattle.cf_plan.specs.declared.forms.Args.{Args}
 use Rattle.cf_plan.specs.Meanings.{Meanings, stage_answer}
 use Rattle.cf_plan.specs.Plans.{Planned, PlannedStage, function_at}
+use Rattle.cf_plan.proofs.ListLemmas.{slice_get-front}
 use Rattle.cf_model.specs.declared.events.Event.{Event}
 use Rattle.cf_model.specs.declared.events.Reply.{Reply}
 use Rattle.cf_model.specs.declared.events.Reply.TheVariants.{Flag as ToldFlag, Claim as ToldClaim, Finish as ToldFinish, Tick as ToldTick, Attach as ToldAttach}
@@ -43,14 +44,9 @@ pub more_stages : (s r : State) → Grows s r → length s.plan.stages ≤ lengt
 more_stages s r g = let e = ap (λ (l : List PlannedStage). length l) g.stages in let l = length-append s.plan.stages g.more in omega arith
 
 -- what a stage's function answers stays
-get_front : (xs ys : List PlannedStage) (i : ℕ) → i < length xs → slice_get (xs ++ ys) i ≡ slice_get xs i
-get_front [] ys i l = absurd (omega arith)
-get_front (x ∷ xs) ys zero l = refl
-get_front (x ∷ xs) ys (suc i) l = get_front xs ys i (omega arith)
-
 pub function_stays : (s r : State) (i : ℕ) → Grows s r → i < length s.plan.stages → unwrap_or (function_at s.plan.stages i) 0 ≡ unwrap_or (function_at r.plan.stages i) 0
 function_stays s r i g l =
-    sym (ap (λ stages. unwrap_or (function_at stages i) 0) g.stages ∙ ap (λ (x : Option PlannedStage). unwrap_or (option_map_or (λ (p : PlannedStage). p.function) x None) 0) (get_front s.plan.stages g.more i l))
+    sym (ap (λ stages. unwrap_or (function_at stages i) 0) g.stages ∙ ap (λ (x : Option PlannedStage). unwrap_or (option_map_or (λ (p : PlannedStage). p.function) x None) 0) (slice_get-front s.plan.stages g.more i l))
 
 pub answer_stays : (meanings : Meanings) (s r : State) (i : ℕ) (args : Args) → Grows s r → i < length s.plan.stages → stage_answer meanings s.plan.stages i args ≡ stage_answer meanings r.plan.stages i args
 answer_stays meanings s r i args g l = ap (λ (n : ℕ). meanings n args) (function_stays s r i g l)

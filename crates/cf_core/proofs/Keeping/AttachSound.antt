@@ -1,5 +1,5 @@
 -- What is true of the stages between any two calls stays true when one is attached.
-use Rattle.std.proofs.Common.{◌≡◌, ◌≢◌, ℕ, ◌+◌, ◌<◌, ◌≤◌, ◌∷◌, ◌++◌, [], List, All, Bool, true, false, cond, Some, length, suc, zero, arith, ap, sym, ◌∙◌, refl, map, set, inl, inr, ◌⊎◌, length-append}
+use Rattle.std.proofs.Common.{◌≡◌, ◌≢◌, ℕ, ◌+◌, ◌<◌, ◌≤◌, ◌∷◌, ◌++◌, [], List, All, Bool, true, false, cond, Some, length, suc, zero, arith, ap, sym, ◌∙◌, refl, map, set, inl, inr, length-append}
 use Rattle.std.specs.Prelude.{slice_get, option_and_then, unwrap_or, ◌==◌}
 use Rattle.std.specs.List.{sum_by}
 use Rattle.std.proofs.lemmas.Bool.Decides.{nat_tests}
@@ -10,6 +10,7 @@ use Rattle.cf_plan.specs.declared.forms.Due.{Due}
 use Rattle.cf_plan.specs.declared.forms.Due.TheVariants.{Waits, Settles, Needs}
 use Rattle.cf_plan.specs.Plans.{PlannedStage, HasLowerSources, dependents_of, edges_of, form_at, mentions}
 use Rattle.cf_plan.specs.Rows.{all_sources}
+use Rattle.cf_plan.proofs.ListLemmas.{slice_get-front, slice_get-push, slice_get-seam}
 use Rattle.cf_plan.proofs.PlanLemmas.{HasLowerSources-push}
 use Rattle.cf_plan.proofs.DependentLemmas.{length-dependents_from, mentions-append, mentions_none, all_sources_below}
 use Rattle.cf_model.specs.declared.stage.Stage.{Stage}
@@ -26,32 +27,14 @@ use Rattle.cf_core.proofs.Keeping.Soundness.{All-more, bound_within, due_marks, 
 
 -- ---- one element more
 
-get_old : {X : Type 0} (xs : List X) (x : X) (i : ℕ) → i < length xs → slice_get (xs ++ x ∷ []) i ≡ slice_get xs i
-get_old [] x i l = absurd (omega arith)
-get_old (y ∷ xs) x zero l = refl
-get_old (y ∷ xs) x (suc i) l = get_old xs x i (omega arith)
-
-get_new : {X : Type 0} (xs : List X) (x : X) → slice_get (xs ++ x ∷ []) (length xs) ≡ Some x
-get_new [] x = refl
-get_new (y ∷ xs) x = get_new xs x
-
 pub set-push : {X : Type 0} (xs : List X) (x y : X) → set (xs ++ x ∷ []) (length xs) y ≡ xs ++ y ∷ []
 set-push [] x y = refl
 set-push (z ∷ xs) x y = ap (λ r. z ∷ r) (set-push xs x y)
 
-get_push : {X : Type 0} (xs : List X) (x : X) (i : ℕ) (y : X) → slice_get (xs ++ x ∷ []) i ≡ Some y → (slice_get xs i ≡ Some y) ⊎ ((i ≡ length xs) × (x ≡ y))
-get_push [] x zero y e = inr (refl, cc)
-get_push [] x (suc i) y e = cc
-get_push (z ∷ xs) x zero y e = inl e
-get_push (z ∷ xs) x (suc i) y e = elim (get_push xs x i y e) [
-  | inl h ↦ inl h
-  | inr h ↦ inr (ap suc h.0, h.1)
-]
-
 -- ---- outcomes with their steps
 
 dated_old : (kept : List KeptStage) (k : KeptStage) (j : ℕ) → j < length kept → dated_in (kept ++ k ∷ []) j ≡ dated_in kept j
-dated_old kept k j l = ap (option_and_then dated_of) (get_old kept k j l)
+dated_old kept k j l = ap (option_and_then dated_of) (slice_get-front kept (k ∷ []) j l)
 
 map_old : (kept : List KeptStage) (k : KeptStage) (sources : List ℕ) → All (λ j. j < length kept) sources → map (dated_in (kept ++ k ∷ [])) sources ≡ map (dated_in kept) sources
 map_old kept k [] h = refl
@@ -70,7 +53,7 @@ treated_old kept new p (Settled o) step h l = refl
 -- ---- linked stages
 
 kept_old : (kept : List KeptStage) (k : KeptStage) (i : ℕ) → i < length kept → kept_at (kept ++ k ∷ []) i ≡ kept_at kept i
-kept_old kept k i l = ap (λ x. unwrap_or x (record { stage = Pending; step = 0 })) (get_old kept k i l)
+kept_old kept k i l = ap (λ x. unwrap_or x (record { stage = Pending; step = 0 })) (slice_get-front kept (k ∷ []) i l)
 
 bound_old : (kept : List KeptStage) (k : KeptStage) (i : ℕ) → is_bound ((kept_at kept i).stage) ≡ true → is_bound ((kept_at (kept ++ k ∷ []) i).stage) ≡ true
 bound_old kept k i e = ap (λ (x : KeptStage). is_bound x.stage) (kept_old kept k i (bound_within kept i e)) ∙ e
@@ -269,20 +252,20 @@ attach_sound plan kept marks ready links steps turns h p due turns2 is few edges
       all_marks = omega (arith, longer, marks_longer, all_marks);
       all_links = λ d c. omega (arith, longer);
       ready_are = ap (λ xs. xs ++ is_ready fresh.stage ∷ []) h.ready_are ∙ sym (map-append (λ (k : KeptStage). is_ready k.stage) kept (fresh ∷ []));
-      waits = λ i q k eq ek em. elim (get_push plan p i q eq) [
+      waits = λ i q k eq ek em. elim (slice_get-push plan p i q eq) [
         | inl old ↦ (let l = there_within plan i q old in
-            let ek' : slice_get kept i ≡ Some k = sym (get_old kept fresh i (in_kept i l)) ∙ ek in
-            let em' : slice_get marks i ≡ Some false = sym (get_old marks false i (omega (arith, all_marks))) ∙ em in
+            let ek' : slice_get kept i ≡ Some k = sym (slice_get-front kept (fresh ∷ []) i (in_kept i l)) ∙ ek in
+            let em' : slice_get marks i ≡ Some false = sym (slice_get-front marks (false ∷ []) i (omega (arith, all_marks))) ∙ em in
             let below = sources_below plan i q h.sources_lower old in
             treated_old kept fresh q k.stage k.step (All-more (λ j. j < i) (λ j. j < length kept) q.sources (λ j s. in_kept j (omega (arith, s, l))) below) (λ j e. (let s = h.listed i j k ek' e in let t = s.lower in in_kept j (omega (arith, t, l))))
             ∙ h.waits i q k old ek' em')
         | inr new ↦ (let same : i ≡ length kept = omega (arith, new.0, all_kept) in
-            let is_k : Some k ≡ Some fresh = sym ek ∙ ap (slice_get (kept ++ fresh ∷ [])) same ∙ get_new kept fresh in
+            let is_k : Some k ≡ Some fresh = sym ek ∙ ap (slice_get (kept ++ fresh ∷ [])) same ∙ slice_get-seam kept fresh [] in
             let k_is : k ≡ fresh = cc in
             let q_is = new.1 in
             rw (k_is, ← q_is) (treated_old kept fresh p fresh.stage fresh.step (All-more (λ j. j < n) (λ j. j < length kept) p.sources (λ j s. in_kept j s) lower) (λ j e. absurd (never_linked due (steps + 1) 0 j e)) ∙ again))
       ];
-      listed = λ i j k ek linked. elim (get_push kept fresh i k ek) [
+      listed = λ i j k ek linked. elim (slice_get-push kept fresh i k ek) [
         | inl old ↦ (let s = h.listed i j k old linked in
             let l = not_yet i k old in
             let t = s.lower in

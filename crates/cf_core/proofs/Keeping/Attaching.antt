@@ -6,13 +6,12 @@ use Rattle.cf_plan.specs.declared.forms.Form.{Form}
 use Rattle.cf_plan.specs.declared.forms.Form.TheVariants.{Source, Supply, RunAsync, Apply, Accept, ThenRun, Combine, AcceptBoth, RunBoth, ApplyEither, AcceptEither, RunEither, Compose, Handle, WhenComplete, Exceptionally, ExceptionallyCompose, AllOf, AnyOf}
 use Rattle.cf_plan.specs.declared.forms.Due.{Due}
 use Rattle.cf_plan.specs.declared.forms.Due.TheVariants.{Waits, Settles, Needs}
-use Rattle.cf_plan.specs.Forms.{follows, due_of_first, first_there}
+use Rattle.cf_plan.specs.Forms.{follows, due_of_first, first_there, is_decided_by_first}
 use Rattle.cf_plan.specs.Plans.{PlannedStage}
 use Rattle.cf_model.specs.declared.stage.Stage.{Stage}
 use Rattle.cf_model.specs.declared.stage.Stage.TheVariants.{Pending, Ready, Claimed, Linked, Settled}
 use Rattle.cf_model.specs.States.{outcome_in, due_state, linked_state, next_of, new_states}
 use Rattle.cf_core.specs.declared.kept.KeptStage.{KeptStage}
-use Rattle.cf_model.specs.Laws.{is_decided_by_first}
 use Rattle.cf_core.specs.Keeping.Treatment.{all_treated, dated_in, due_kept, earliest, late_due, linked_kept, outcome_part, stages_of, step_part, latest, treated, treated_by}
 use Rattle.cf_core.specs.Keeping.Sound.{settled_view}
 use Rattle.cf_core.specs.Keeping.Attaching.{AttachingIsAfter, attached_kept, due_now}

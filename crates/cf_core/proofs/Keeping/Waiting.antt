@@ -8,14 +8,13 @@ use Rattle.cf_outcome.specs.declared.outcome.Outcome.{Outcome}
 use Rattle.cf_plan.specs.declared.forms.Form.{Form}
 use Rattle.cf_plan.specs.declared.forms.Due.{Due}
 use Rattle.cf_plan.specs.declared.forms.Due.TheVariants.{Waits as IsWaits, Settles, Needs}
-use Rattle.cf_plan.specs.Forms.{follows, due_of_first}
+use Rattle.cf_plan.specs.Forms.{follows, due_of_first, is_decided_by_first}
 use Rattle.cf_plan.specs.Plans.{PlannedStage, HasLowerSources, dependents_of, mentions}
 use Rattle.cf_plan.proofs.PlanLemmas.{lower_at}
 use Rattle.cf_model.specs.declared.stage.Stage.{Stage}
 use Rattle.cf_model.specs.declared.stage.Stage.TheVariants.{Pending, Ready, Claimed, Linked, Settled}
 use Rattle.cf_model.specs.States.{outcome_of}
 use Rattle.cf_core.specs.declared.kept.KeptStage.{KeptStage}
-use Rattle.cf_model.specs.Laws.{is_decided_by_first}
 use Rattle.cf_core.specs.Keeping.Treatment.{StepsUpTo, IsSteady, all_treated, treated, treated_by, due_kept, late_due, dated_in, dated_of, linked_kept, earlier, earliest, latest, step_part, outcome_part}
 use Rattle.cf_core.specs.Keeping.Marks.{WaitsNow}
 use Rattle.cf_core.specs.Keeping.Links.{list_at}

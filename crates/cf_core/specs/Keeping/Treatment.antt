@@ -6,12 +6,11 @@ use Rattle.cf_outcome.specs.Outcomes.{wrap}
 use Rattle.cf_plan.specs.declared.forms.Form.{Form}
 use Rattle.cf_plan.specs.declared.forms.Due.{Due}
 use Rattle.cf_plan.specs.declared.forms.Due.TheVariants.{Waits, Settles, Needs}
-use Rattle.cf_plan.specs.Forms.{follows, due_of_first}
+use Rattle.cf_plan.specs.Forms.{follows, due_of_first, is_decided_by_first}
 use Rattle.cf_plan.specs.Plans.{PlannedStage}
 use Rattle.cf_model.specs.declared.stage.Stage.{Stage}
 use Rattle.cf_model.specs.declared.stage.Stage.TheVariants.{Pending, Ready, Linked, Settled}
 use Rattle.cf_model.specs.States.{outcome_of, outcome_in, new_states}
-use Rattle.cf_model.specs.Laws.{is_decided_by_first}
 use Rattle.cf_core.specs.declared.kept.KeptStage.{KeptStage}
 
 -- an outcome with the step of its settling

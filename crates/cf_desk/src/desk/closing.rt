@@ -12,7 +12,7 @@ use crate::calls::{Closed, Kept};
 use crate::desk::{Desk, Row};
 use crate::faults::CloseFault;
 use crate::pass::Pass;
-use crate::row::{Sits, StandsForBoth, View};
+use crate::row::{SeatView, Sits, StandsForBoth};
 use atomic_table::Seat;
 use cf_core::Graph;
 use cf_event::decode;
@@ -39,11 +39,11 @@ impl Desk {
             history,
             kept,
         } = self;
-        let (seat, copy, kept) = gather(&table, passes, kept);
+        let (seat, replica, kept) = gather(&table, passes, kept);
         let closed = table.close_with(seat);
         let history = decode_row(&closed, terms.words, history);
         closed.free();
-        match copy {
+        match replica {
             // There is a pass, since there is a caller.
             None => unreachable!(),
             Some(graph) => Ok(Closed {
@@ -55,21 +55,21 @@ impl Desk {
     }
 }
 
-/// Joins the seats of all passes into one, and finds the copy that has seen most.
+/// Joins the seats of all passes into one, and finds the replica that has seen most.
 fn gather(
     row: &Row,
     passes: Vec<Pass>,
     mut kept: Vec<Kept>,
-) -> (Seat<u8, View>, Option<Graph>, Vec<Kept>)
+) -> (Seat<u8, SeatView>, Option<Graph>, Vec<Kept>)
     requires table { (0 < row.now.shared.table_id.words) × All (λ p. p.table ≡ row.now.shared.table_id) passes.items }
     requires kept { (kept.items ≡ []) × (vec_len passes ≤ vec_capacity kept) }
     ensures seat { (result.0.table_id ≡ row.now.shared.table_id) × (result.0.me ≡ (knowns passes.items, [])) }
-    ensures copy { MatchOption result.1 (passes.items ≡ []) (λ copy. (most : ℕ) × IsLatest most copy.state (knowns passes.items)) }
+    ensures replica { MatchOption result.1 (passes.items ≡ []) (λ replica. (most : ℕ) × IsLatest most replica.state (knowns passes.items)) }
     ensures kept { AreKept result.2.items passes.items }
     ensures fit { All IsFit passes.items }
 {
     let mut seat = row.shared.load_new_seat::<Sits>(0).1;
-    let mut copy = None;
+    let mut replica = None;
     let mut most = 0;
     let mut rest = passes.into_iter();
     'next: while let Some(pass) = rest.next() {
@@ -78,26 +78,26 @@ fn gather(
             caller,
             count,
             functions: _,
-            copy: mine,
+            replica: mine,
             records,
             calls: _,
             padding: _,
         } = pass;
         row.shared.join_seat::<StandsForBoth>(&mut seat, other);
-        copy = Some(later(copy, most, mine, count));
+        replica = Some(later(replica, most, mine, count));
         most = most.max(count);
         kept.push_reserved(Kept { caller, records });
     }
-    (seat, copy, kept)
+    (seat, replica, kept)
 }
 
-/// Of two copies the one that has seen more.
-fn later(copy: Option<Graph>, most: u16, mine: Graph, count: u16) -> Graph
+/// Of two replicas the one that has seen more.
+fn later(replica: Option<Graph>, most: u16, mine: Graph, count: u16) -> Graph
     ensures newer { most < count → result ≡ mine }
-    ensures older { count ≤ most → result ≡ unwrap_or copy mine }
+    ensures older { count ≤ most → result ≡ unwrap_or replica mine }
 {
-    match copy {
-        Some(copy) if count <= most => copy,
+    match replica {
+        Some(replica) if count <= most => replica,
         _ => mine,
     }
 }

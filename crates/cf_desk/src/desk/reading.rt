@@ -78,9 +78,9 @@ impl Desk {
     {
         self.level(&mut p.seat, &mut q.seat);
         let to = p.count.max(q.count);
-        self.catch_up(&mut p.seat, &mut p.copy, p.count, to);
+        self.catch_up(&mut p.seat, &mut p.replica, p.count, to);
         p.count = to;
-        self.catch_up(&mut q.seat, &mut q.copy, q.count, to);
+        self.catch_up(&mut q.seat, &mut q.replica, q.count, to);
         q.count = to;
     }
 

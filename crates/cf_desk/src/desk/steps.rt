@@ -8,7 +8,7 @@ ghost use Rattle.cf_desk.specs.Views.{AddedByOther, AddedOwn, IsOne, Levelled, k
 use crate::calls::Rec;
 use crate::desk::Desk;
 use crate::pass::Pass;
-use crate::row::{Adds, Finds, KeepsFirst, Levels, Looks, Sits, StandsForBoth, View};
+use crate::row::{Adds, Finds, KeepsFirst, Levels, Looks, SeatView, Sits, StandsForBoth};
 use atomic_table::Seat;
 use cf_core::Graph;
 use cf_event::{apply, decode, encode};
@@ -35,7 +35,7 @@ impl Desk {
         p.count += 1;
         match decode(found) {
             None => {
-                let reply = apply(&mut p.copy, &event);
+                let reply = apply(&mut p.replica, &event);
                 let record = Rec::Did {
                     place: p.count,
                     call,
@@ -45,7 +45,7 @@ impl Desk {
                 Some(reply)
             }
             Some(theirs) => {
-                apply(&mut p.copy, &theirs);
+                apply(&mut p.replica, &theirs);
                 None
             }
         }
@@ -63,14 +63,14 @@ impl Desk {
             None => false,
             Some(next) => {
                 p.count += 1;
-                apply(&mut p.copy, &next);
+                apply(&mut p.replica, &next);
                 true
             }
         }
     }
 
     /// Lets two seats know the longer of what they have seen.
-    pub(crate) fn level(&self, p: &mut Seat<u8, View>, q: &mut Seat<u8, View>)
+    pub(crate) fn level(&self, p: &mut Seat<u8, SeatView>, q: &mut Seat<u8, SeatView>)
         requires table { (p.old.table_id ≡ self.now.table) × (q.old.table_id ≡ self.now.table) }
         requires one { IsOne p.old.me × IsOne q.old.me }
         ensures table { (p.new.table_id ≡ self.now.table) × (q.new.table_id ≡ self.now.table) }
@@ -83,22 +83,28 @@ impl Desk {
         *q = self.table.shared.split_seat::<KeepsFirst>(p);
     }
 
-    /// Loads the places that the seat knows from `from` up to `to`, and brings the copy up to there.
-    pub(crate) fn catch_up(&self, seat: &mut Seat<u8, View>, copy: &mut Graph, from: u16, to: u16)
+    /// Loads the places that the seat knows from `from` up to `to`, and brings the replica up to there.
+    pub(crate) fn catch_up(
+        &self,
+        seat: &mut Seat<u8, SeatView>,
+        replica: &mut Graph,
+        from: u16,
+        to: u16,
+    )
         requires table { seat.old.table_id ≡ self.now.table }
         requires one { IsOne seat.old.me }
         requires places { (from ≤ to) × (to ≡ length (known_of seat.old.me.0).seen) × (to ≤ seat.old.table_id.words) }
         requires events { AreLogged (known_of seat.old.me.0).setting (known_of seat.old.me.0).seen }
-        requires copy { copy.old.state ≡ state_from (known_of seat.old.me.0).setting.plan (take from (known_of seat.old.me.0).seen) }
+        requires replica { replica.old.state ≡ state_from (known_of seat.old.me.0).setting.plan (take from (known_of seat.old.me.0).seen) }
         ensures same { (seat.new.table_id ≡ seat.old.table_id) × (seat.new.me ≡ seat.old.me) }
-        ensures copy { copy.new.state ≡ state_of (known_of seat.old.me.0) }
+        ensures replica { replica.new.state ≡ state_of (known_of seat.old.me.0) }
     {
         for place in from..to {
             let word = self.table.shared.load::<Finds>(seat, place as usize);
             match decode(word) {
                 None => unreachable!(),
                 Some(event) => {
-                    apply(copy, &event);
+                    apply(replica, &event);
                 }
             }
         }

@@ -17,7 +17,7 @@ use Rattle.cf_desk.specs.declared.calls.Rec.{Rec}
 use Rattle.cf_desk.specs.declared.calls.Rec.TheVariants.{Did, Saw}
 use Rattle.cf_desk.specs.declared.faults.DeskFault.{DeskFault}
 use Rattle.cf_desk.specs.declared.faults.DeskFault.TheVariants.{NoStage, BadAttach, LogFull, PassFull}
-use Rattle.cf_desk.specs.declared.row.Setting.{Setting}
+use Rattle.cf_desk.specs.declared.row.DeskConfig.{DeskConfig}
 use Rattle.cf_desk.specs.Faults.{AttachFits, EventNames, IsDue, IsFitting, IsOnStage}
 use Rattle.cf_desk.specs.Laws.{call_of}
 use Rattle.cf_event.specs.Events.{own}
@@ -143,14 +143,14 @@ held_up_by_log d steps k calls p h functions are seen room enough held = by_caus
     e = get_or steps k held.default
 
     state : state_of p.known ≡ state_after (start d.setting.plan) (take k steps)
-    state = ap (λ (s : Setting). state_from s.plan p.known.seen) h.of.1 ∙ ap (state_from d.setting.plan) seen
+    state = ap (λ (s : DeskConfig). state_from s.plan p.known.seen) h.of.1 ∙ ap (state_from d.setting.plan) seen
 
     there : IsOnStage p e
     there = fits_names (length (state_of p.known).plan.stages) e
         (subst (λ (s : State). EventFits (length s.plan.stages) e) (sym state) (fits_at (start d.setting.plan) steps k held.default held.few are.1))
 
     fits : IsFitting p e
-    fits = subst (λ (n : ℕ). AttachFits n e) (sym functions ∙ sym (ap (λ (s : Setting). s.functions) h.of.1)) (All-get_or IsStep steps k held.default held.few are.0).1
+    fits = subst (λ (n : ℕ). AttachFits n e) (sym functions ∙ sym (ap (λ (s : DeskConfig). s.functions) h.of.1)) (All-get_or IsStep steps k held.default held.few are.0).1
 
     by_cause : (fault : DeskFault) → IsDue p d e fault → SeesFull d p
     by_cause NoStage due = absurd (due there)

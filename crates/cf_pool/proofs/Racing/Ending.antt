@@ -7,7 +7,7 @@ use Rattle.cf_plan.specs.Plans.{Planned}
 use Rattle.cf_model.specs.declared.events.Event.{Event}
 use Rattle.cf_model.specs.Calls.{who_of}
 use Rattle.cf_plan.specs.Meanings.{Meanings}
-use Rattle.cf_desk.specs.declared.row.Setting.{Setting}
+use Rattle.cf_desk.specs.declared.row.DeskConfig.{DeskConfig}
 use Rattle.cf_desk.specs.Keepings.{IsKeptFit, pass_did}
 use Rattle.cf_desk.specs.Laws.{call_of}
 use Rattle.cf_event.specs.Events.{events_of, own}
@@ -56,7 +56,7 @@ back_all P (x ∷ xs) ys h = back_all P xs ys (All-tail P x (xs ++ ys) h)
 pub first_begun : (d : Desk) (steps : List Event) (calls : ℕ) (p : Pass) → HasDoneSteps d steps p → p.calls ≡ calls → HadBegun d.setting p.known.seen (length steps) calls p
 first_begun d steps calls p t room = record {
   setting_is = t.done.of.1;
-  fits = subst (λ (s : Setting). Fits s.plan p.known.caller p.known.seen p.records) t.done.of.1 t.done.fit;
+  fits = subst (λ (s : DeskConfig). Fits s.plan p.known.caller p.known.seen p.records) t.done.of.1 t.done.fit;
   few = (let h = t.done.held in let f = t.few in omega arith);
   calls_are = room;
 }
@@ -90,7 +90,7 @@ seen_is d steps p callers t h none =
 -- ---- the history of a run
 
 -- it begins with what caller 0 had seen, and each caller goes on with work over the plan that it leaves
-pub record Whole (meanings : Meanings) (setting : Setting) (history seen work : List Event) : Type 0 where
+pub record Whole (meanings : Meanings) (setting : DeskConfig) (history seen work : List Event) : Type 0 where
   pub history_is : history ≡ seen ++ work
   pub by : All (ByCaller setting.callers) (seen ++ work)
   pub shares_of : (c : ℕ) → c < setting.callers → Shares meanings (last_plan setting (seen ++ work)) (recorded c (length seen) (state_from setting.plan seen) work)
@@ -98,7 +98,7 @@ pub record Whole (meanings : Meanings) (setting : Setting) (history seen work : 
 no_work : (meanings : Meanings) (plan : Planned) → Shares meanings plan []
 no_work meanings plan = record { work = tt; once = λ i. omega arith }
 
-pub all_share : (meanings : Meanings) (setting : Setting) (history seen work : List Event) → Whole meanings setting history seen work → (c : ℕ) → Shares meanings (last_plan setting (seen ++ work)) (recorded c (length seen) (state_from setting.plan seen) work)
+pub all_share : (meanings : Meanings) (setting : DeskConfig) (history seen work : List Event) → Whole meanings setting history seen work → (c : ℕ) → Shares meanings (last_plan setting (seen ++ work)) (recorded c (length seen) (state_from setting.plan seen) work)
 all_share meanings setting history seen work w c = split (cases_lt c setting.callers)
   where
     split : (c < setting.callers) ⊎ (setting.callers ≤ c) → Shares meanings (last_plan setting (seen ++ work)) (recorded c (length seen) (state_from setting.plan seen) work)

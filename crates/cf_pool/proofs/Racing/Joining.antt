@@ -14,7 +14,7 @@ use Rattle.cf_model.proofs.Shape.{state_after-grows}
 use Rattle.cf_model.specs.Calls.{who_of}
 use Rattle.cf_plan.specs.Meanings.{Meanings}
 use Rattle.cf_desk.specs.declared.calls.Rec.{Rec}
-use Rattle.cf_desk.specs.declared.row.Setting.{Setting}
+use Rattle.cf_desk.specs.declared.row.DeskConfig.{DeskConfig}
 use Rattle.cf_desk.specs.Keepings.{IsKeptFit, pass_did}
 use Rattle.cf_desk.specs.Log.{Catches, state_from}
 use Rattle.cf_desk.specs.Records.{Fits}
@@ -76,14 +76,14 @@ pub record Shares (meanings : Meanings) (plan : Planned) (rs : List Rec) : Type 
   pub once : (i : ℕ) → claims_of i rs ≤ 1
 
 -- before its workers began, a pass held what its caller did of what was seen
-pub record HadBegun (setting : Setting) (seen : List Event) (most calls : ℕ) (p : Pass) : Type 0 where
+pub record HadBegun (setting : DeskConfig) (seen : List Event) (most calls : ℕ) (p : Pass) : Type 0 where
   pub setting_is : p.known.setting ≡ setting
   pub fits : Fits setting.plan p.known.caller seen p.records
   pub few : length p.records ≤ most
   pub calls_are : p.calls ≡ calls
 
 -- the plan that a history leaves
-abbrev pub last_plan : Setting → List Event → Planned
+abbrev pub last_plan : DeskConfig → List Event → Planned
 last_plan setting history = (state_from setting.plan history).plan
 
 -- the history begins with what the pass had seen after its work
@@ -91,14 +91,14 @@ abbrev pub WorksIn : Meanings → List Event → Pass → Pass → Type 0
 WorksIn meanings history p q = Works meanings p q × Catches q.known.caller q.known.seen history
 
 -- so the plan that the pass saw last grows to the one that the history leaves
-grows_in : (meanings : Meanings) (setting : Setting) (history : List Event) (p q : Pass) → WorksIn meanings history p q → p.known.setting ≡ setting → Grows (state_of q.known) (state_from setting.plan history)
+grows_in : (meanings : Meanings) (setting : DeskConfig) (history : List Event) (p q : Pass) → WorksIn meanings history p q → p.known.setting ≡ setting → Grows (state_of q.known) (state_from setting.plan history)
 grows_in meanings setting history p q w is =
-    let was : state_of q.known ≡ state_from setting.plan q.known.seen = ap (λ (s : Setting). state_from s.plan q.known.seen) (w.0.same.1 ∙ is) in
+    let was : state_of q.known ≡ state_from setting.plan q.known.seen = ap (λ (s : DeskConfig). state_from s.plan q.known.seen) (w.0.same.1 ∙ is) in
     let now : state_from setting.plan history ≡ state_after (state_from setting.plan q.known.seen) w.1.others = ap (state_from setting.plan) w.1.joined ∙ state_after-append (start setting.plan) q.known.seen w.1.others in
     subst (λ (s : State). Grows s (state_from setting.plan history)) (sym was)
     (subst (Grows (state_from setting.plan q.known.seen)) (sym now) (state_after-grows (state_from setting.plan q.known.seen) w.1.others))
 
-pub shares : (meanings : Meanings) (setting : Setting) (seen work : List Event) (most calls : ℕ) (p q : Pass) → WorksIn meanings (seen ++ work) p q → HadBegun setting seen most calls p → Fits setting.plan q.known.caller (seen ++ work) q.records
+pub shares : (meanings : Meanings) (setting : DeskConfig) (seen work : List Event) (most calls : ℕ) (p q : Pass) → WorksIn meanings (seen ++ work) p q → HadBegun setting seen most calls p → Fits setting.plan q.known.caller (seen ++ work) q.records
     → Shares meanings (last_plan setting (seen ++ work)) (recorded p.known.caller (length seen) (state_from setting.plan seen) work)
 shares meanings setting seen work most calls p q both begun fit =
     let w = both.0 in
@@ -109,7 +109,7 @@ shares meanings setting seen work most calls p q both begun fit =
       once = λ i. subst (λ (l : List Rec). claims_of i l ≤ 1) is (w.once i);
     }
 
-pub owes_none : (meanings : Meanings) (setting : Setting) (seen work : List Event) (most calls : ℕ) (p q : Pass) → WorksOut meanings p q → HadBegun setting seen most calls p → Fits setting.plan q.known.caller (seen ++ work) q.records
+pub owes_none : (meanings : Meanings) (setting : DeskConfig) (seen work : List Event) (most calls : ℕ) (p q : Pass) → WorksOut meanings p q → HadBegun setting seen most calls p → Fits setting.plan q.known.caller (seen ++ work) q.records
     → owed_after None (recorded p.known.caller (length seen) (state_from setting.plan seen) work) ≡ None
 owes_none meanings setting seen work most calls p q w begun fit =
     ap (owed_after None) (sym (more_is meanings setting.plan seen work p q w.works begun.fits fit)) ∙ w.owes
@@ -139,7 +139,7 @@ shares_few meanings plan n rs few h =
     let b = grants_at_most rs in
     (records_at_most meanings plan n rs h.work below h.once, omega (arith, a, b))
 
-pub has_room : (meanings : Meanings) (setting : Setting) (seen work : List Event) (most calls stages : ℕ) → most + 2 * stages < calls → length (last_plan setting (seen ++ work)).stages ≤ stages
+pub has_room : (meanings : Meanings) (setting : DeskConfig) (seen work : List Event) (most calls stages : ℕ) → most + 2 * stages < calls → length (last_plan setting (seen ++ work)).stages ≤ stages
     → (p q : Pass) → WorksIn meanings (seen ++ work) p q → HadBegun setting seen most calls p → Fits setting.plan q.known.caller (seen ++ work) q.records → length q.records < q.calls
 has_room meanings setting seen work most calls stages room all p q both begun fit =
     let w = both.0 in

@@ -7,8 +7,6 @@ use Rattle.std.proofs.lemmas.Bool.Decides.{nat_tests}
 use Rattle.cf_outcome.specs.declared.outcome.Outcome.{Outcome}
 use Rattle.cf_plan.specs.declared.forms.Args.{Args}
 use Rattle.cf_plan.specs.declared.forms.Answer.{Answer}
-use Rattle.cf_plan.specs.declared.forms.Landing.{Landing}
-use Rattle.cf_plan.specs.declared.forms.Landing.TheVariants.{Settles as Lands, Links}
 use Rattle.cf_plan.specs.Forms.{landing}
 use Rattle.cf_plan.specs.Plans.{Planned, form_at}
 use Rattle.cf_model.specs.declared.stage.Stage.{Stage}
@@ -19,9 +17,10 @@ use Rattle.cf_model.specs.declared.events.Event.TheVariants.{Claim as Claims, Fi
 use Rattle.cf_model.specs.declared.events.Reply.{Reply}
 use Rattle.cf_model.specs.declared.events.Reply.TheVariants.{Claim as ToldClaim}
 use Rattle.cf_model.specs.States.{State, outcome_of, outcome_at, stage_at, claim_at}
-use Rattle.cf_model.specs.Events.{answered, state_after, claimed_by, finished_by, landed, linked_to, source_outcome}
+use Rattle.cf_model.specs.Events.{answered, state_after, claimed_by, finished_by, landed, source_outcome}
 use Rattle.cf_core.proofs.Keeping.Marking.{get-set_same}
 use Rattle.cf_model.proofs.Shape.{answered-shape}
+use Rattle.cf_model.proofs.OpenClaims.{landed_claims}
 use Rattle.cf_model.proofs.StateLemmas.{slice_get-set_other}
 use Rattle.cf_model.specs.Calls.{who_of}
 use Rattle.cf_plan.specs.Meanings.{Meanings}
@@ -127,14 +126,6 @@ settled_unclaimed (Some (Ready args)) o e c = cc
 settled_unclaimed (Some Claimed) o e c = cc
 settled_unclaimed (Some (Linked j)) o e c = cc
 settled_unclaimed (Some (Settled p)) o e c = cc
-
-linked_to_claims : (x : Option Outcome) (s : State) (i j : ℕ) → (linked_to x s i j).claims ≡ s.claims
-linked_to_claims (Some o) s i j = refl
-linked_to_claims None s i j = refl
-
-pub landed_claims : (where_to : Landing) (s : State) (i : ℕ) → (landed s i where_to).claims ≡ s.claims
-landed_claims (Lands o) s i = refl
-landed_claims (Links j) s i = linked_to_claims (outcome_at s j) s i j
 
 -- once the claim of stage i is closed, the others are open as before
 closed_owed : (owes : ℕ → Owed) (s t : State) (r : Rec) (who i : ℕ) (args : Args) → AllOwed owes s → owes who ≡ Some (i, args) → t.claims ≡ set s.claims i None

@@ -24,7 +24,7 @@ use Rattle.cf_expr.specs.Histories.{grants_after, nothing_granted}
 use Rattle.cf_desk.specs.declared.calls.Kept.{Kept}
 use Rattle.cf_desk.specs.declared.faults.DeskFault.{DeskFault}
 use Rattle.cf_desk.specs.declared.faults.DeskFault.TheVariants.{BadAttach, LogFull, NoStage, PassFull}
-use Rattle.cf_desk.specs.declared.row.Setting.{Setting}
+use Rattle.cf_desk.specs.declared.row.DeskConfig.{DeskConfig}
 use Rattle.cf_desk.specs.Keepings.{IsKeptFit, pass_did}
 use Rattle.cf_event.specs.Events.{own}
 use Rattle.cf_desk.specs.Log.{Catches, state_from}
@@ -82,7 +82,7 @@ few_stages plan events =
     let room = grown.room in
     omega (arith, stages, room)
 
-work_few : (meanings : Meanings) (setting : Setting) (history seen work : List Event) → Whole meanings setting history seen work → length work ≤ most_stages setting.plan * setting.callers + most_stages setting.plan
+work_few : (meanings : Meanings) (setting : DeskConfig) (history seen work : List Event) → Whole meanings setting history seen work → length work ≤ most_stages setting.plan * setting.callers + most_stages setting.plan
 work_few meanings setting history seen work w =
     history_at_most setting.callers (most_stages setting.plan) (length seen) (state_from setting.plan seen) work
     (back_all (ByCaller setting.callers) seen work w.by) (start_few setting.plan seen)
@@ -178,7 +178,7 @@ run_ended meanings d steps calls workers ps history kept graph b r callers words
 abbrev nobody : ℕ → Owed
 nobody c = None
 
-none_owed : (meanings : Meanings) (setting : Setting) (history seen work : List Event) (most calls : ℕ) (ps qs : List Pass) → Whole meanings setting history seen work → All (HadBegun setting seen most calls) ps → AllZip (WorksOut meanings) ps qs → ((c : ℕ) → c < setting.callers → count_in c (knowns qs) ≡ 1)
+none_owed : (meanings : Meanings) (setting : DeskConfig) (history seen work : List Event) (most calls : ℕ) (ps qs : List Pass) → Whole meanings setting history seen work → All (HadBegun setting seen most calls) ps → AllZip (WorksOut meanings) ps qs → ((c : ℕ) → c < setting.callers → count_in c (knowns qs) ≡ 1)
     → All (IsKeptFit setting.plan (seen ++ work)) (map pass_did qs) → (c : ℕ) → owed_after None (recorded c (length seen) (state_from setting.plan seen) work) ≡ None
 none_owed meanings setting history seen work most calls ps qs w begun zip each fits c = split (cases_lt c setting.callers)
   where
@@ -241,13 +241,13 @@ pub record IsSized (d : Desk) (plan : Planned) (steps : List Event) (workers cal
 sized_ended : (meanings : Meanings) (d : Desk) (plan : Planned) (steps : List Event) (calls workers : ℕ) (ps : List Pass) (history : List Event) (kept : List Kept) (graph : State) → IsSized d plan steps workers calls → HaveBegun d steps calls ps
     → (r : Ran meanings d ps history kept graph) → Ended meanings d steps calls ps r.qs history
 sized_ended meanings d plan steps calls workers ps history kept graph z b r =
-    let same : d.setting.plan ≡ plan = ap (λ (s : Setting). s.plan) z.setting_is in
+    let same : d.setting.plan ≡ plan = ap (λ (s : DeskConfig). s.plan) z.setting_is in
     let n : most_stages d.setting.plan ≡ most_stages plan = ap most_stages same in
     let calls_are = z.calls_are in
-    run_ended meanings d steps calls workers ps history kept graph b r (ap (λ (s : Setting). s.callers) z.setting_is)
+    run_ended meanings d steps calls workers ps history kept graph b r (ap (λ (s : DeskConfig). s.callers) z.setting_is)
     (z.words_are ∙ ap (λ (k : ℕ). log_words (length steps) k workers) (sym n))
     (record {
-      functions = ap (λ (s : Setting). s.functions) z.setting_is;
+      functions = ap (λ (s : DeskConfig). s.functions) z.setting_is;
       are = subst (λ (p : Planned). AreSteps p steps) (sym same) z.are;
       enough = omega (arith, n, calls_are);
     })
@@ -256,9 +256,9 @@ sized_ended meanings d plan steps calls workers ps history kept graph z b r =
 pub raced : (meanings : Meanings) (d : Desk) (plan : Planned) (steps : List Event) (calls workers : ℕ) (ps : List Pass) (history : List Event) (kept : List Kept) (graph : State) → IsSized d plan steps workers calls → HaveBegun d steps calls ps
     → IsGrowing plan → RanOut meanings d ps history kept graph → IsRaced meanings plan steps workers graph
 raced meanings d plan steps calls workers ps history kept graph z b growing o =
-    let same : d.setting.plan ≡ plan = ap (λ (s : Setting). s.plan) z.setting_is in
+    let same : d.setting.plan ≡ plan = ap (λ (s : DeskConfig). s.plan) z.setting_is in
     subst (λ (p : Planned). IsRaced meanings p steps workers graph) same
-    (race_ended meanings d steps calls workers ps history kept graph (ap (λ (s : Setting). s.callers) z.setting_is) (subst IsGrowing (sym same) growing) (subst (λ (p : Planned). AreSteps p steps) (sym same) z.are) o
+    (race_ended meanings d steps calls workers ps history kept graph (ap (λ (s : DeskConfig). s.callers) z.setting_is) (subst IsGrowing (sym same) growing) (subst (λ (p : Planned). AreSteps p steps) (sym same) z.are) o
     (sized_ended meanings d plan steps calls workers ps history kept graph z b o.ran))
 
 -- and it meets no fault of the desk

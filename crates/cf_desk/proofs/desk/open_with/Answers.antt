@@ -4,7 +4,7 @@ use Rattle.cf_desk.specs.Views.{known_of}
 use Rattle.cf_desk.proofs.Meets.{gives_first}
 use Rattle.cf_desk.proofs.Closing.{begins, split_next, new_one, agrees_new}
 use Rattle.cf_desk.proofs.Passes.{one_known}
-use Rattle.cf_desk.specs.declared.row.Setting.{Setting}
+use Rattle.cf_desk.specs.declared.row.DeskConfig.{DeskConfig}
 use Rattle.cf_desk.specs.Rule.{blank}
 use Rattle.cf_desk.proofs.desk.open_with.Goals as goal
 use Rattle.cf_desk.proofs.desk.open_with.Goals.{After-split_seat-mine}
@@ -15,7 +15,7 @@ of_words-requires c = begins _ _ (c.as_slice.ensures.value ∙ c.in_ok-zeros.ens
 pub split_seat-mine-requires : goal.split_seat-mine-requires
 split_seat-mine-requires c = (c.loop-caller.invariant.table, (let e = c.in_ok-table.ensures.0 in let l = c.as_slice.ensures.len in let z = c.in_ok-zeros.ensures.len in omega arith), gives_first _ _ _)
 
-abbrev setting : After-split_seat-mine → Setting
+abbrev setting : After-split_seat-mine → DeskConfig
 setting c = record { plan = with_room c.args.plan.now c.args.room; callers = c.args.callers; functions = c.args.functions }
 
 mine : (c : After-split_seat-mine) → c.split_seat-mine.result.me ≡ (blank (setting c) c.loop-caller.caller ∷ [], [])
@@ -26,7 +26,7 @@ invariant_of-pass c =
     let me = mine (goal.at.invariant_of-pass c).After-split_seat-mine in
     let none = c.in_ok-records.ensures.items in record {
       one = one_known _ (blank (setting (goal.at.invariant_of-pass c).After-split_seat-mine) c.loop-caller.caller) (ap (λ m. m.0) me) (ap (λ m. m.1) me);
-      agrees = agrees_new _ _ _ _ _ _ c.loop-caller-test.true c.requires.counts.1 refl me c.in_ok-copy.ensures none;
+      agrees = agrees_new _ _ _ _ _ _ c.loop-caller-test.true c.requires.counts.1 refl me c.in_ok-replica.ensures none;
       room = (let r = c.in_ok-records.ensures.capacity in omega arith);
       within = (let e = ap length none in omega arith);
       short = omega arith;

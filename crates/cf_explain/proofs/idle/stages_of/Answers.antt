@@ -1,6 +1,6 @@
 use Rattle.std.proofs.Common.{◌≡◌, ◌<◌, ◌+◌, ◌++◌, ◌∷◌, [], ℕ, List, ap, arith, is_some, length, map, rules, suc, take, ◌∙◌}
 use Rattle.cf_plan.specs.Plans.{function_at}
-use Rattle.cf_explain.specs.declared.idle.Known.{Known}
+use Rattle.cf_explain.specs.declared.idle.StageSoFar.{StageSoFar}
 use Rattle.cf_explain.specs.Sights.{known_of, untouched}
 use Rattle.cf_explain.proofs.Remarking.{known_more}
 use Rattle.cf_explain.proofs.idle.stages_of.Goals as goal
@@ -17,8 +17,8 @@ loop-i-preserved c =
       all = so_far.all;
       so_far =
           c.in_ok-push.ensures.items
-          ∙ ap (λ (x : Known). c.loop-i.stages.items ++ x ∷ []) here
-          ∙ ap (λ (xs : List Known). xs ++ untouched (is_some (function_at stages i)) ∷ []) so_far.so_far
+          ∙ ap (λ (x : StageSoFar). c.loop-i.stages.items ++ x ∷ []) here
+          ∙ ap (λ (xs : List StageSoFar). xs ++ untouched (is_some (function_at stages i)) ∷ []) so_far.so_far
           ∙ known_more stages i within
           ∙ ap (λ (n : ℕ). map known_of (take n stages)) next;
     }

@@ -5,7 +5,7 @@ use Rattle.cf_model.specs.declared.events.Reply.{Reply}
 use Rattle.cf_model.specs.States.{State}
 use Rattle.cf_model.specs.Events.{answered}
 use Rattle.cf_model.specs.Calls.{event_by, who_of}
-use Rattle.cf_desk.specs.declared.row.Known.{Known}
+use Rattle.cf_desk.specs.declared.row.CallerView.{CallerView}
 use Rattle.cf_desk.specs.Log.{IsDeskEvent}
 use Rattle.cf_desk.specs.Rule.{saw, AddsNext}
 use Rattle.cf_desk.specs.declared.calls.Rec.TheVariants.{Did}
@@ -22,7 +22,7 @@ event_is c = c.event_by-event.ensures ∙ ap (λ (n : ℕ). event_by n c.args.ca
 of_pass : (c : After-event_by-event) → IsDeskEvent (known_of c.p.inside.seat.me.0).setting (state_of (known_of c.p.inside.seat.me.0)) (event_by (known_of c.p.inside.seat.me.0).caller c.args.call)
 of_pass c =
     let known = ap (λ (h : Pass). h.known) c.p.view_is in
-    subst (λ (x : Known). IsDeskEvent x.setting (state_of x) (event_by x.caller c.args.call)) (sym known) c.requires.event
+    subst (λ (x : CallerView). IsDeskEvent x.setting (state_of x) (event_by x.caller c.args.call)) (sym known) c.requires.event
 
 of_desk : (c : After-event_by-event) → IsDeskEvent (known_of c.p.inside.seat.me.0).setting (state_of (known_of c.p.inside.seat.me.0)) c.event_by-event.result
 of_desk c = subst (IsDeskEvent (known_of c.p.inside.seat.me.0).setting (state_of (known_of c.p.inside.seat.me.0))) (sym (event_is c)) (of_pass c)
@@ -82,8 +82,8 @@ won c =
     (told (goal.at.After-push_reserved c).After-compare_exchange-found).won c.event_by-event.result c.encode-word.ensures.back (sym c.in-None.ensures.value)
     ∙ ap (λ (e : Event). saw (known_of c.p.inside.seat.me.0) e ∷ []) (event_is (goal.at.After-push_reserved c).After-event_by-event)
 
-now : (c : After-push_reserved) → (c.apply-reply.result, c.apply-reply.new.g.state) ≡ answered c.p.inside.copy.state (event_by (known_of c.p.inside.seat.me.0).caller c.args.call)
-now c = c.apply-reply.ensures.told ∙ ap (answered c.p.inside.copy.state) (event_is (goal.at.After-push_reserved c).After-event_by-event)
+now : (c : After-push_reserved) → (c.apply-reply.result, c.apply-reply.new.g.state) ≡ answered c.p.inside.replica.state (event_by (known_of c.p.inside.seat.me.0).caller c.args.call)
+now c = c.apply-reply.ensures.told ∙ ap (answered c.p.inside.replica.state) (event_is (goal.at.After-push_reserved c).After-event_by-event)
 
 pub invariant_of-p : goal.invariant_of-p
 invariant_of-p c =

@@ -14,7 +14,7 @@ free-requires c = λ k lt. absurd (let n = c.close_with-closed.ensures.counts.1 
 
 latest : (c : In-Some) → (most : ℕ) × IsLatest most c.in-Some.graph.state (knowns c.args.passes.items)
 latest c =
-    subst (λ (o : Option Graph). MatchOption o (c.args.passes.items ≡ []) (λ g. (most : ℕ) × IsLatest most g.state (knowns c.args.passes.items))) c.in-Some.is c.gather-seat.ensures.copy
+    subst (λ (o : Option Graph). MatchOption o (c.args.passes.items ≡ []) (λ g. (most : ℕ) × IsLatest most g.state (knowns c.args.passes.items))) c.in-Some.is c.gather-seat.ensures.replica
 
 shown : (c : In-Some) → Shown c.args.self c.args.passes.items (latest c).0 c.in-Some.graph.state c.decode_row-history.result.items
 shown c =

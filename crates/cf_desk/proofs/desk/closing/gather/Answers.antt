@@ -36,7 +36,7 @@ next-preserved c =
       table = c.join_seat.ensures.0 ∙ i.table;
       seat = joined_one i.done c.in-Some.pass (known_of c.pass.inside.seat.me.0) _ _ _ i.seat c.pass.invariant.one (ap (λ (h : Pass). h.known) v) c.join_seat.ensures.2;
       kept = kept_one _ _ _ _ _ i.kept items (λ j. ((a.caller ∙ ap (λ (h : Pass). h.known.caller) v) j, ap (λ (h : Pass). h.records) v j));
-      copy = latest_next _ _ _ _ _ i.done c.in-Some.pass _ c.max-most.ensures c.later.ensures.newer c.later.ensures.older (a.count ∙ ap (λ (h : Pass). length h.known.seen) v) (a.state ∙ ap (λ (h : Pass). state_of h.known) v) i.copy;
+      replica = latest_next _ _ _ _ _ i.done c.in-Some.pass _ c.max-most.ensures c.later.ensures.newer c.later.ensures.older (a.count ∙ ap (λ (h : Pass). length h.known.seen) v) (a.state ∙ ap (λ (h : Pass). state_of h.known) v) i.replica;
       fit = All-push IsFit i.done c.in-Some.pass i.fit (subst IsFit v a.fits);
     }
 
@@ -48,7 +48,7 @@ next-init c = record {
   table = c.load_new_seat.ensures.0;
   seat = c.load_new_seat.ensures.2;
   kept = ap (map pass_kept) c.requires.kept.0;
-  copy = (refl, refl);
+  replica = (refl, refl);
   fit = All-nil IsFit;
 }
 
@@ -65,8 +65,8 @@ all_done c =
     let empty : into_iter_items c.next.rest ≡ [] = none_left (into_iter_items c.next.rest) (omega arith) in
     sym (i.parts ∙ ap (λ l. i.done ++ l) empty ∙ append-nil i.done)
 
-pub returns-clause-copy : goal.returns-clause-copy
-returns-clause-copy c = latest_of_all _ _ _ _ (all_done (goal.at.returns-clause-copy c).After-drop-rest) c.next.invariant.copy
+pub returns-clause-replica : goal.returns-clause-replica
+returns-clause-replica c = latest_of_all _ _ _ _ (all_done (goal.at.returns-clause-replica c).After-drop-rest) c.next.invariant.replica
 
 pub returns-clause-fit : goal.returns-clause-fit
 returns-clause-fit c = subst (All IsFit) (all_done (goal.at.returns-clause-fit c).After-drop-rest) c.next.invariant.fit

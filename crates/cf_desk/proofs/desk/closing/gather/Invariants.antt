@@ -13,7 +13,7 @@ invariant-next l = record {
   table : l.seat.table_id ≡ l.row.shared.table_id;
   seat : l.seat.me ≡ (knowns done, []);
   kept : AreKept l.kept.items done;
-  copy : LatestSoFar l.copy l.most done;
+  replica : LatestSoFar l.replica l.most done;
   fit : All IsFit done;
 }
 

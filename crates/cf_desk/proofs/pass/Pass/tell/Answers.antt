@@ -4,7 +4,7 @@ use Rattle.cf_desk.specs.declared.calls.Rec.TheVariants.{Saw}
 use Rattle.cf_model.specs.States.{State}
 use Rattle.cf_model.specs.Events.{told}
 use Rattle.cf_model.specs.Ranges.{AskFits}
-use Rattle.cf_desk.specs.declared.row.Known.{Known}
+use Rattle.cf_desk.specs.declared.row.CallerView.{CallerView}
 use Rattle.cf_desk.specs.Views.{Pass, IsBetween, known_of, state_of}
 use Rattle.cf_desk.proofs.Passes.{agrees_told, none_new, asked_there}
 use Rattle.cf_desk.proofs.pass.Pass.tell.Goals as goal
@@ -16,7 +16,7 @@ more c = c.push_reserved.ensures.items
 pub tell-told-requires : goal.tell-told-requires
 tell-told-requires c =
     let known = ap (λ (h : Pass). h.known) c.self.view_is in
-    asked_there (known_of c.self.inside.seat.me.0) _ c.args.ask c.self.invariant.agrees.state (subst (λ (x : Known). AskFits (length (state_of x).plan.stages) c.args.ask) (sym known) c.requires.asked)
+    asked_there (known_of c.self.inside.seat.me.0) _ c.args.ask c.self.invariant.agrees.state (subst (λ (x : CallerView). AskFits (length (state_of x).plan.stages) c.args.ask) (sym known) c.requires.asked)
 
 pub invariant_of-self : goal.invariant_of-self
 invariant_of-self c =
@@ -26,7 +26,7 @@ invariant_of-self c =
     let calls = ap (λ (h : Pass). h.calls) c.self.view_is in
     let longer = ap length m in
     let known = ap (λ (h : Pass). h.known) c.self.view_is in
-    let there = asked_there (known_of c.self.inside.seat.me.0) _ c.args.ask i.agrees.state (subst (λ (x : Known). AskFits (length (state_of x).plan.stages) c.args.ask) (sym known) c.requires.asked) in record {
+    let there = asked_there (known_of c.self.inside.seat.me.0) _ c.args.ask i.agrees.state (subst (λ (x : CallerView). AskFits (length (state_of x).plan.stages) c.args.ask) (sym known) c.requires.asked) in record {
       one = i.one;
       agrees = agrees_told _ _ _ _ _ _ _ _ c.args.ask c.tell-told.result c.tell-told.ensures.unchanged c.tell-told.ensures.told there m i.agrees;
       room = (let r = i.room in omega (arith, c.push_reserved.ensures.capacity));

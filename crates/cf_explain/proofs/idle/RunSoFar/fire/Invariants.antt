@@ -1,6 +1,6 @@
 use Rattle.std.proofs.Common.{◌≡◌, drop}
 use Rattle.cf_explain.specs.Sights.{fired_to, sight_of}
-use Rattle.cf_explain.proofs.idle.Seen.fire.Given as goal
+use Rattle.cf_explain.proofs.idle.RunSoFar.fire.Given as goal
 
 -- what the limits that are left settle, all settle
 abbrev pub invariant-limits : goal.invariant-limits

@@ -2,7 +2,7 @@ use Rattle.std.proofs.Common.{◌≡◌, ◌<◌, ◌≤◌, ◌-◌, ◌++◌, 
 use Rattle.std.specs.Prelude.{slice_get}
 use Rattle.std.proofs.lemmas.Option.{slice_get_read}
 use Rattle.cf_plan.specs.Plans.{Planned, PlannedStage}
-use Rattle.cf_plan.proofs.GrowingLemmas.{slice_get-behind}
+use Rattle.cf_plan.proofs.ListLemmas.{slice_get-behind}
 use Rattle.cf_plan.proofs.PlanLemmas.{lower_at}
 use Rattle.cf_plain.proofs.plan.PlainPlan.sources.Goals as goal
 

@@ -5,7 +5,7 @@ use Rattle.std.proofs.lemmas.List.{length-map}
 use Rattle.std.proofs.lemmas.Option.{slice_get_read, slice_get-map}
 use Rattle.cf_plan.specs.Growing.{attached_of}
 use Rattle.cf_plan.specs.Plans.{Planned}
-use Rattle.cf_plan.proofs.GrowingLemmas.{slice_get-behind}
+use Rattle.cf_plan.proofs.ListLemmas.{slice_get-behind}
 use Rattle.cf_plan.proofs.PlanLemmas.{lower_at}
 use Rattle.cf_plan.proofs.growing.GrowingPlan.sources.Goals as goal
 

@@ -1,6 +1,6 @@
 use Rattle.std.proofs.Common.{◌≡◌, ◌∷◌, sym, ◌∙◌, ap, arith, subst, vec_len, ℕ}
 use Rattle.std.specs.List.{All}
-use Rattle.cf_desk.specs.declared.row.Setting.{Setting}
+use Rattle.cf_desk.specs.declared.row.DeskConfig.{DeskConfig}
 use Rattle.cf_desk.specs.Views.{Pass}
 use Rattle.cf_pool.specs.Beginnings.{HaveBegun, IsApart, IsIdle}
 use Rattle.cf_pool.proofs.Racing.Begun.{Parted, begun_of, none_taken, parted}
@@ -12,7 +12,7 @@ first_and_others c =
     let o = c.in-Ok.ensures.opened in
     let n = c.in-Ok.ensures.counts.0 in
     let r = c.remove-first.ensures in
-    let callers : c.in-Ok.opened.0.setting.callers ≡ c.args.callers = ap (λ (s : Setting). s.callers) o.0 in
+    let callers : c.in-Ok.opened.0.setting.callers ≡ c.args.callers = ap (λ (s : DeskConfig). s.callers) o.0 in
     parted c.in-Ok.opened.0 c.args.calls c.in-Ok.opened.1.items _ _ (let l = n.0 in omega arith) o.2 r.value r.by_index.2
 
 pub take_steps-requires : goal.take_steps-requires
