@@ -68,7 +68,7 @@ typedef enum {
   CF_STILL_SHARED = 28,       /* all callers were given back, and the desk is held all the same */
   CF_NOT_HELD = 29,           /* the caller hasn't claimed the stage that its task holds */
   CF_NO_ROOM = 30,            /* a ledger has no room for the stage that a word attaches */
-  CF_LOST = 31,               /* another caller of the desk was first to claim the stage */
+  CF_LOST = 31,               /* another caller of the desk claimed or settled the stage first */
   CF_NOT_OVER = 32,           /* a sweep hasn't all stages behind it yet */
   CF_NULL = 255               /* a pointer is null that may not be; nothing was done */
 } cf_code;
@@ -173,8 +173,8 @@ uint32_t cf_build(cf_handle *builder);
 
 /* ---- Graphs: one thread has one alone ---- */
 
-/* Puts a graph of the plan behind an empty handle, with room for so many stages that are attached later. The plan stays. CF_ROOM,
- * CF_FULL, CF_NO_MEMORY. */
+/* Puts a graph of the plan behind an empty handle, with room for so many stages that are attached later. The plan stays. CF_FULL,
+ * CF_ROOM, CF_NO_MEMORY, in this order. */
 uint32_t cf_graph_new(cf_handle *plan, uint16_t room, cf_handle *graph);
 
 /* Settle a stage of any form, unless it is settled. CF_NO_STAGE. */
@@ -216,7 +216,7 @@ uint32_t cf_work(cf_handle *graph, uint8_t who, const cf_stage_function *functio
  * goes on to the lowest ready stage, and writes it into the task, as cf_next does. CF_NOTHING where none is ready then: all stages are behind
  * the sweep, and the task holds nothing. CF_NOT_HELD where the sweep stands at a stage and the task holds another or none, or where the sweep
  * stands at none and the task holds one: nothing is changed then, the task neither.
- * cf_sweep_end: CF_NOT_OVER where stages aren't behind it yet, which is so until cf_sweep_next has answered CF_NOTHING: go on, or free it. */
+ * cf_sweep_end: CF_NOT_OVER where stages aren't behind it yet: go on until cf_sweep_next answers CF_NOTHING, or free it. */
 uint32_t cf_sweep_begin(cf_handle *graph);
 uint32_t cf_sweep_next(cf_handle *sweep, cf_task *task);
 uint32_t cf_sweep_end(cf_handle *sweep);
@@ -289,10 +289,11 @@ uint32_t cf_desk_attach(cf_handle *caller, uint32_t form, const uint16_t *of, si
 uint32_t cf_desk_complete_many(cf_handle *caller, const cf_given *given, size_t n, size_t *done);
 
 /* One step of a caller's loop, as cf_next does it: finishes the stage that the task holds, looks as cf_desk_ready does, claims the lowest
- * stage that is ready then, and writes it into the task. CF_NOTHING where none is ready then, and CF_LOST where another caller was first:
- * ask again. The finish and the claim take a record and a place of the log each: CF_PASS_FULL and CF_LOG_FULL where there is none. After
- * each of these codes a task that holds nothing is finished, and one that holds a stage is as it was, and so is its claim. CF_NO_STAGE and
- * CF_NOT_HELD, where the task's stage isn't there or this caller has no open claim of it, in what it has seen: nothing is changed then. */
+ * stage that is ready then, and writes it into the task. CF_NOTHING where none is ready then, and CF_LOST where another caller claimed or
+ * settled it first: ask again. The finish and the claim take a record and a place of the log each: CF_PASS_FULL and CF_LOG_FULL where
+ * there is none. After each of these codes a task that holds nothing is finished, and one that holds a stage is as it was, and so is its
+ * claim. CF_NO_STAGE and CF_NOT_HELD, where the task's stage isn't there or this caller has no open claim of it, in what it has seen:
+ * nothing is changed then. */
 uint32_t cf_desk_next(cf_handle *caller, cf_task *task);
 
 /* One look at all that is there, and what it tells of the stage, as cf_get and cf_get_now; recorded. CF_NO_STAGE, CF_PASS_FULL. */

@@ -1,6 +1,6 @@
 //! The words after the program's name.
 use anyhow::{Result, anyhow};
-use cf_orders::Shape as OrderShape;
+use cf_orders::OrderShape;
 use clap::{Arg, ArgAction, ArgMatches, Command, Error};
 use std::alloc::Global;
 use std::rt::{Env, Files};

@@ -3,7 +3,7 @@ use crate::args::Exploring;
 use anyhow::{Result, anyhow};
 use cf_explore::Search;
 use cf_orders::{
-    Grouped, Question, QuestionFault, Shape, Standing, grouped_by, json_of, read_question,
+    Grouped, OrderShape, Question, QuestionFault, Standing, grouped_by, json_of, read_question,
     standing_of, text_of, witness_of, witnesses,
 };
 use serde_json::Value as Json;

@@ -1,6 +1,7 @@
 //! A history as JSON.
+use crate::fault::Unreadable;
 use crate::texts::{is_unknown, now, reply, settled};
-use anyhow::{Result, anyhow};
+use anyhow::Result;
 use cf_event::decode;
 use cf_history::{
     Entry, History, Record, Session, SharedCaller, SharedHistory, Verdict, check, check_shared,
@@ -24,10 +25,10 @@ pub(crate) struct Account {
 
 /// The verdict on a history that is written in JSON.
 pub(crate) fn judge(alloc: Global, bytes: &[u8]) -> Result<Verdict> {
-    let json = Json::from_slice(alloc, bytes).map_err(|_| anyhow!("no JSON"))?;
+    let json = json_of(alloc, bytes)?;
     let (plan, room, shared) = shared_of(alloc, &json)?;
     if !plan.has_place(room) {
-        return Err(anyhow!("plan: room"));
+        return Err(Unreadable::Room.into());
     }
     Ok(check_shared(alloc, &plan, room, shared)?)
 }
@@ -36,7 +37,7 @@ pub(crate) fn judge(alloc: Global, bytes: &[u8]) -> Result<Verdict> {
 pub(crate) fn account_of(alloc: Global, json: &Json) -> Result<Account> {
     let (plan, room, shared) = shared_of(alloc, json)?;
     if !plan.has_place(room) {
-        return Err(anyhow!("plan: room"));
+        return Err(Unreadable::Room.into());
     }
     let history = fill_in(alloc, &plan, room, shared)?;
     Ok(Account {
@@ -49,9 +50,17 @@ pub(crate) fn account_of(alloc: Global, json: &Json) -> Result<Account> {
 /// The verdict on it.
 pub(crate) fn verdict_on(alloc: Global, account: &Account) -> Result<Verdict> {
     if !account.plan.has_place(account.room) {
-        return Err(anyhow!("plan: room"));
+        return Err(Unreadable::Room.into());
     }
     Ok(check(alloc, &account.plan, account.room, &account.history)?)
+}
+
+/// The JSON of these bytes.
+fn json_of(alloc: Global, bytes: &[u8]) -> Result<Json> {
+    match Json::from_slice(alloc, bytes) {
+        Ok(json) => Ok(json),
+        Err(_) => Err(Unreadable::Json.into()),
+    }
 }
 
 /// What sessions say, with the plan and the room for it.
@@ -59,7 +68,7 @@ fn shared_of(alloc: Global, json: &Json) -> Result<(Plan, u16, SharedHistory)> {
     let (plan, room, count) = plan_of(alloc, json)?;
     let functions = match json.get("functions") {
         None => count,
-        Some(said) => number(said).ok_or_else(|| anyhow!("functions"))?,
+        Some(said) => number(said).ok_or(Unreadable::Functions)?,
     };
     let shared = SharedHistory {
         functions,
@@ -72,22 +81,26 @@ fn shared_of(alloc: Global, json: &Json) -> Result<(Plan, u16, SharedHistory)> {
 
 /// The plan, for how many stages it has room, and how many functions it brings.
 fn plan_of(alloc: Global, json: &Json) -> Result<(Plan, u16, u32)> {
-    let said = json.get("plan").ok_or_else(|| anyhow!("plan"))?;
-    let script = script_of(alloc, said).map_err(|fault| anyhow!("plan: {fault}"))?;
+    let said = json.get("plan").ok_or(Unreadable::Plan)?;
+    let script = match script_of(alloc, said) {
+        Ok(script) => script,
+        Err(fault) => return Err(Unreadable::NoPlan(fault).into()),
+    };
     let (plan, room, functions, steps) = script.into_parts();
     if !steps.is_empty() {
-        return Err(anyhow!("plan: steps"));
+        return Err(Unreadable::PlanSteps.into());
     }
-    let count = u32::try_from(functions.len()).map_err(|_| anyhow!("plan: functions"))?;
+    let count = u32::try_from(functions.len()).ok();
+    let count = count.ok_or(Unreadable::PlanFunctions)?;
     Ok((plan, room, count))
 }
 
 fn words_of(alloc: Global, json: &Json) -> Result<Vec<u64>> {
     let list = json.get("events").and_then(Json::as_array);
-    let list = list.ok_or_else(|| anyhow!("events"))?;
+    let list = list.ok_or(Unreadable::Events)?;
     let mut words = Vec::new(alloc);
     for (k, said) in list.iter().enumerate() {
-        words.push(word(said).ok_or_else(|| anyhow!("events[{k}]"))?)?;
+        words.push(word(said).ok_or(Unreadable::Event(k))?)?;
     }
     Ok(words)
 }
@@ -102,7 +115,7 @@ pub(crate) fn word(json: &Json) -> Option<u64> {
 
 fn callers_of(alloc: Global, json: &Json) -> Result<Vec<SharedCaller>> {
     let list = json.get("callers").and_then(Json::as_array);
-    let list = list.ok_or_else(|| anyhow!("callers"))?;
+    let list = list.ok_or(Unreadable::Callers)?;
     let mut callers = Vec::new(alloc);
     for (c, said) in list.iter().enumerate() {
         callers.push(caller_of(alloc, c, said)?)?;
@@ -115,14 +128,11 @@ fn caller_of(alloc: Global, c: usize, said: &Json) -> Result<SharedCaller> {
     let mut sessions = Vec::new(alloc);
     match said.get("sessions") {
         None => {
-            let own = said.as_array().ok_or_else(|| anyhow!("callers[{c}]"))?;
-            let session = session_of(alloc, own.as_slice())?;
-            sessions.push(session.map_err(|k| anyhow!("callers[{c}][{k}]"))?)?;
+            let own = said.as_array().ok_or(Unreadable::Caller(c))?;
+            sessions.push(session_of(alloc, c, None, own.as_slice())?)?;
         }
         Some(said) => {
-            let list = said
-                .as_array()
-                .ok_or_else(|| anyhow!("callers[{c}].sessions"))?;
+            let list = said.as_array().ok_or(Unreadable::Sessions(c))?;
             add_sessions(alloc, c, list.as_slice(), &mut sessions)?;
         }
     }
@@ -131,25 +141,28 @@ fn caller_of(alloc: Global, c: usize, said: &Json) -> Result<SharedCaller> {
 
 fn add_sessions(alloc: Global, c: usize, list: &[Json], sessions: &mut Vec<Session>) -> Result<()> {
     for (n, said) in list.iter().enumerate() {
-        let own = said
-            .as_array()
-            .ok_or_else(|| anyhow!("callers[{c}].sessions[{n}]"))?;
-        let session = session_of(alloc, own.as_slice())?;
-        sessions.push(session.map_err(|k| anyhow!("callers[{c}].sessions[{n}][{k}]"))?)?;
+        let own = said.as_array().ok_or(Unreadable::Session(c, n))?;
+        sessions.push(session_of(alloc, c, Some(n), own.as_slice())?)?;
     }
     Ok(())
 }
 
-/// The session of these records, or which of them is none.
-fn session_of(alloc: Global, list: &[Json]) -> Result<Result<Session, usize>> {
+/// The session of these records of caller `c`: its only one, or session `n`.
+fn session_of(alloc: Global, c: usize, n: Option<usize>, list: &[Json]) -> Result<Session> {
     let mut entries = Vec::new(alloc);
     for (k, said) in list.iter().enumerate() {
-        match entry(alloc, said)? {
-            Some(told) => entries.push(told)?,
-            None => return Ok(Err(k)),
-        }
+        let told = entry(alloc, said)?;
+        entries.push(told.ok_or(no_record(c, n, k))?)?;
     }
-    Ok(Ok(Session { entries }))
+    Ok(Session { entries })
+}
+
+/// Record `k` is none.
+fn no_record(c: usize, n: Option<usize>, k: usize) -> Unreadable {
+    match n {
+        None => Unreadable::Record(c, k),
+        Some(n) => Unreadable::SessionRecord(c, n, k),
+    }
 }
 
 /// `["did",place,word,reply]`, where the reply may be `unknown`, `["now",place,stage,absent,told]` or
@@ -202,13 +215,13 @@ fn outcomes_of(alloc: Global, json: &Json) -> Result<Option<Vec<Option<Outcome>>
     let Some(said) = json.get("outcomes") else {
         return Ok(None);
     };
-    let list = said.as_array().ok_or_else(|| anyhow!("outcomes"))?;
+    let list = said.as_array().ok_or(Unreadable::Outcomes)?;
     let mut outcomes = Vec::new(alloc);
     for (i, said) in list.iter().enumerate() {
-        let text = said.as_str().ok_or_else(|| anyhow!("outcomes[{i}]"))?;
+        let text = said.as_str().ok_or(Unreadable::Outcome(i))?;
         let words: Vec<&str> = text.split_whitespace().collect(alloc)?;
         let outcome = settled(words.as_slice());
-        outcomes.push(outcome.ok_or_else(|| anyhow!("outcomes[{i}]"))?)?;
+        outcomes.push(outcome.ok_or(Unreadable::Outcome(i))?)?;
     }
     Ok(Some(outcomes))
 }

@@ -30,6 +30,7 @@ ghost use Rattle.std.specs.Prelude.{◌≡◌, ◌≢◌};
 
 mod args;
 mod explore;
+mod fault;
 mod history;
 mod named;
 mod page;
@@ -44,7 +45,7 @@ use cf_explain::Verdict as Said;
 use cf_history::Verdict;
 use explore::{explore_one, fault_of, is_question};
 use history::judge;
-use page::{Known, read_in, text_of, write_refusal};
+use page::{ReadInput, read_in, text_of, write_refusal};
 use script::{Drawn, draw, explain_script, script_in};
 use serde_json::Value as Json;
 use show::line_of;
@@ -165,11 +166,11 @@ fn show_bytes<R: Print + Eprint + AllocGlobal>(rt: &R, shape: Shape, bytes: &[u8
         }
     };
     match found {
-        Known::Refused(fault) => {
+        ReadInput::Refused(fault) => {
             write_refusal(rt, bytes, fault)?;
             Ok(REFUSED)
         }
-        Known::Shown(shown) => {
+        ReadInput::Shown(shown) => {
             let text = text_of(rt.alloc(), &shown, shape)?;
             print!(rt; "{text}")?;
             Ok(DRAWN)

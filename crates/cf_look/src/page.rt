@@ -1,9 +1,10 @@
 //! Pages, traces and spans of an account or a script.
 use crate::args::Shape;
+use crate::fault::Unreadable;
 use crate::history::{account_of, verdict_on};
 use crate::people::{people_in, people_of};
 use crate::show::line_of;
-use anyhow::{Result, anyhow};
+use anyhow::Result;
 use cf_explain::explain;
 use cf_history::Verdict;
 use cf_page::{People, page_of, scene_of, spans_of, trace_of, words_of};
@@ -24,7 +25,7 @@ pub(crate) struct Shown {
 
 /// What is known of an input.
 #[derive(Drop)]
-pub(crate) enum Known {
+pub(crate) enum ReadInput {
     /// It can be shown.
     Shown(Shown),
     /// It is neither an account nor a script, for which `cf run` has this fault.
@@ -32,9 +33,11 @@ pub(crate) enum Known {
 }
 
 /// The account or the script of these bytes.
-pub(crate) fn read_in(alloc: Global, bytes: &[u8]) -> Result<Known> {
+pub(crate) fn read_in(alloc: Global, bytes: &[u8]) -> Result<ReadInput> {
     match Json::from_slice(alloc, bytes) {
-        Ok(json) if json.get("plan").is_some() => Ok(Known::Shown(shown_account(alloc, &json)?)),
+        Ok(json) if json.get("plan").is_some() => Ok(ReadInput::Shown(shown_account(
+            alloc, &json,
+        )?)),
         Ok(json) => read_in_script(alloc, bytes, Some(&json)),
         Err(_) => read_in_script(alloc, bytes, None),
     }
@@ -56,17 +59,17 @@ fn shown_account(alloc: Global, json: &Json) -> Result<Shown> {
 }
 
 /// The script of these bytes.
-fn read_in_script(alloc: Global, bytes: &[u8], json: Option<&Json>) -> Result<Known> {
+fn read_in_script(alloc: Global, bytes: &[u8], json: Option<&Json>) -> Result<ReadInput> {
     match read_script(alloc, bytes) {
         Ok(script) => {
             let people = match json {
                 Some(json) => people_in(alloc, json)?,
                 None => People::new(alloc),
             };
-            Ok(Known::Shown(shown_script(alloc, script, people)?))
+            Ok(ReadInput::Shown(shown_script(alloc, script, people)?))
         }
         Err(ReadingFault::NoMemory) => Err(AllocError.into()),
-        Err(fault) => Ok(Known::Refused(fault)),
+        Err(fault) => Ok(ReadInput::Refused(fault)),
     }
 }
 
@@ -76,7 +79,7 @@ fn shown_script(alloc: Global, script: Script, people: People) -> Result<Shown> 
     people.verdict = String::from_str(alloc, "a run of this script")?;
     let (plan, room, functions, steps) = script.into_parts();
     if !plan.has_place(room) {
-        return Err(anyhow!("plan: room"));
+        return Err(Unreadable::Room.into());
     }
     let words = words_of(alloc, &plan, room, &functions, &steps)?;
     Ok(Shown {
@@ -90,7 +93,7 @@ fn shown_script(alloc: Global, script: Script, people: People) -> Result<Shown> 
 /// The text that shows it.
 pub(crate) fn text_of(alloc: Global, shown: &Shown, shape: Shape) -> Result<String> {
     if !shown.plan.has_place(shown.room) {
-        return Err(anyhow!("plan: room"));
+        return Err(Unreadable::Room.into());
     }
     let people = &shown.people;
     let scene = scene_of(alloc, &shown.plan, shown.room, &shown.words, people)?;

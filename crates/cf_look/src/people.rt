@@ -1,15 +1,13 @@
 //! What an account or a script says for people alone.
+use crate::fault::Unreadable;
 use crate::history::Account;
-use anyhow::{Result, anyhow};
+use anyhow::Result;
 use cf_explain::stage_name;
 use cf_history::{Caller, Record};
 use cf_model::Reply;
 use cf_page::People;
 use serde_json::Value as Json;
 use std::alloc::Global;
-
-/// Why what is said is no name.
-const NO_NAME: &str = "has to be a text of at most 64 characters";
 
 /// What an account says for people.
 pub(crate) fn people_of(alloc: Global, json: &Json, account: &Account) -> Result<People> {
@@ -42,9 +40,7 @@ fn title_of(alloc: Global, json: &Json, none: &str) -> Result<String> {
     match json.get("name") {
         None => Ok(String::from_str(alloc, none)?),
         Some(said) => {
-            let text = said
-                .as_str()
-                .ok_or_else(|| anyhow!("name: has to be a text"))?;
+            let text = said.as_str().ok_or(Unreadable::Name)?;
             Ok(String::from_str(alloc, text)?)
         }
     }
@@ -55,7 +51,7 @@ fn names_in(alloc: Global, stages: Option<&Json>) -> Result<Vec<String>> {
     let mut names = Vec::new(alloc);
     for (k, stage) in items(stages).iter().enumerate() {
         let name = name_of(stage.get("name"));
-        let name = name.ok_or_else(|| anyhow!("stages[{k}].name: {NO_NAME}"))?;
+        let name = name.ok_or(Unreadable::StageName(k))?;
         names.push(String::from_str(alloc, name)?)?;
     }
     Ok(names)
@@ -66,17 +62,10 @@ fn put_listed(alloc: Global, names: &mut Vec<String>, listed: Option<&Json>) -> 
     let Some(said) = listed else {
         return Ok(());
     };
-    let list = said
-        .as_array()
-        .ok_or_else(|| anyhow!("names: has to be an array"))?;
+    let list = said.as_array().ok_or(Unreadable::List("names"))?;
     for (k, said) in list.iter().enumerate() {
-        let name = name_of(Some(said));
-        put(
-            alloc,
-            names,
-            k,
-            name.ok_or_else(|| anyhow!("names[{k}]: {NO_NAME}"))?,
-        )?;
+        let name = name_of(Some(said)).ok_or(Unreadable::ListedName(k))?;
+        put(alloc, names, k, name)?;
     }
     Ok(())
 }
@@ -118,7 +107,7 @@ fn add_attached(alloc: Global, names: &mut Vec<String>, json: &Json) -> Result<(
     for (k, step) in items(json.get("steps")).iter().enumerate() {
         if step.get(0usize).and_then(Json::as_str) == Some("attach") {
             let name = name_of(step.get(1usize).and_then(|stage| stage.get("name")));
-            let name = name.ok_or_else(|| anyhow!("steps[{k}][1].name: {NO_NAME}"))?;
+            let name = name.ok_or(Unreadable::AttachedName(k))?;
             names.push(String::from_str(alloc, name)?)?;
         }
     }
@@ -126,18 +115,14 @@ fn add_attached(alloc: Global, names: &mut Vec<String>, json: &Json) -> Result<(
 }
 
 /// A list of texts.
-fn texts_of(alloc: Global, said: Option<&Json>, member: &str) -> Result<Vec<String>> {
+fn texts_of(alloc: Global, said: Option<&Json>, member: &'static str) -> Result<Vec<String>> {
     let mut texts = Vec::new(alloc);
     let Some(said) = said else {
         return Ok(texts);
     };
-    let list = said
-        .as_array()
-        .ok_or_else(|| anyhow!("{member}: has to be an array"))?;
+    let list = said.as_array().ok_or(Unreadable::List(member))?;
     for (k, said) in list.iter().enumerate() {
-        let text = said
-            .as_str()
-            .ok_or_else(|| anyhow!("{member}[{k}]: has to be a text"))?;
+        let text = said.as_str().ok_or(Unreadable::Text(member, k))?;
         texts.push(String::from_str(alloc, text)?)?;
     }
     Ok(texts)
@@ -149,12 +134,10 @@ fn times_of(alloc: Global, said: Option<&Json>) -> Result<Vec<u64>> {
     let Some(said) = said else {
         return Ok(times);
     };
-    let list = said
-        .as_array()
-        .ok_or_else(|| anyhow!("times: has to be an array"))?;
+    let list = said.as_array().ok_or(Unreadable::List("times"))?;
     for (k, said) in list.iter().enumerate() {
         let time = crate::history::word(said);
-        times.push(time.ok_or_else(|| anyhow!("times[{k}]: has to be a whole number"))?)?;
+        times.push(time.ok_or(Unreadable::Time(k))?)?;
     }
     Ok(times)
 }
@@ -165,12 +148,10 @@ fn relays_of(alloc: Global, said: Option<&Json>) -> Result<Vec<(u16, u16)>> {
     let Some(said) = said else {
         return Ok(relays);
     };
-    let list = said
-        .as_array()
-        .ok_or_else(|| anyhow!("relays: has to be an array"))?;
+    let list = said.as_array().ok_or(Unreadable::List("relays"))?;
     for (k, said) in list.iter().enumerate() {
         let pair = pair(said);
-        relays.push(pair.ok_or_else(|| anyhow!("relays[{k}]: has to be two stages"))?)?;
+        relays.push(pair.ok_or(Unreadable::Relay(k))?)?;
     }
     Ok(relays)
 }

@@ -8,7 +8,7 @@ use std::alloc::{AllocError, Global};
 
 /// What a fact may name.
 #[derive(Drop)]
-pub(crate) struct Known<'a> {
+pub(crate) struct Scope<'a> {
     pub(crate) plan: &'a Plan,
     /// How many stages there may ever be.
     pub(crate) stages: usize,
@@ -18,7 +18,7 @@ pub(crate) struct Known<'a> {
 
 /// What must hold, with the text of each.
 #[derive(Drop)]
-pub(crate) struct Asked {
+pub(crate) struct Conditions {
     pub(crate) conditions: Vec<Condition>,
     pub(crate) texts: Vec<String>,
 }
@@ -27,15 +27,15 @@ pub(crate) struct Asked {
 pub(crate) fn read_asked(
     alloc: Global,
     json: &Json,
-    known: &Known<'_>,
-) -> Result<Asked, QuestionFault> {
-    let mut asked = Asked {
+    scope: &Scope<'_>,
+) -> Result<Conditions, QuestionFault> {
+    let mut asked = Conditions {
         conditions: Vec::new(alloc),
         texts: Vec::new(alloc),
     };
-    read_all(alloc, json, known, (How::Never, "never"), &mut asked)?;
-    read_all(alloc, json, known, (How::Always, "always"), &mut asked)?;
-    read_all(alloc, json, known, (How::Possible, "possible"), &mut asked)?;
+    read_all(alloc, json, scope, (How::Never, "never"), &mut asked)?;
+    read_all(alloc, json, scope, (How::Always, "always"), &mut asked)?;
+    read_all(alloc, json, scope, (How::Possible, "possible"), &mut asked)?;
     Ok(asked)
 }
 
@@ -43,9 +43,9 @@ pub(crate) fn read_asked(
 fn read_all(
     alloc: Global,
     json: &Json,
-    known: &Known<'_>,
+    scope: &Scope<'_>,
     how: (How, &'static str),
-    asked: &mut Asked,
+    asked: &mut Conditions,
 ) -> Result<(), QuestionFault> {
     let Some(said) = json.get(how.1) else {
         return Ok(());
@@ -54,7 +54,7 @@ fn read_all(
         return Err(QuestionFault::At(Spot::Conditions(how.1)));
     };
     for (k, said) in list.iter().enumerate() {
-        let condition = read_one(alloc, said, known, how, k)?;
+        let condition = read_one(alloc, said, scope, how, k)?;
         asked.texts.push(text_of(alloc, how.1, said)?)?;
         asked.conditions.push(condition)?;
     }
@@ -71,7 +71,7 @@ fn text_of(alloc: Global, how: &str, said: &Json) -> Result<String, AllocError> 
 fn read_one(
     alloc: Global,
     said: &Json,
-    known: &Known<'_>,
+    scope: &Scope<'_>,
     how: (How, &'static str),
     k: usize,
 ) -> Result<Condition, QuestionFault> {
@@ -81,9 +81,9 @@ fn read_one(
     let mut when = When::End;
     let mut facts = Vec::new(alloc);
     for (n, said) in list.iter().enumerate() {
-        match part_of(known, said) {
-            Some(Part::Time(time)) if n == 0 => when = time,
-            Some(Part::Fact(fact)) => facts.push(fact)?,
+        match part_of(scope, said) {
+            Some(ConditionPart::Time(time)) if n == 0 => when = time,
+            Some(ConditionPart::Fact(fact)) => facts.push(fact)?,
             _ => return Err(QuestionFault::At(Spot::Fact(how.1, k, n))),
         }
     }
@@ -96,51 +96,51 @@ fn read_one(
 
 /// A part of a condition.
 #[derive(Drop)]
-enum Part {
+enum ConditionPart {
     Time(When),
     Fact(Fact),
 }
 
 /// `["at",c,k]`, `["stage",i,what]`, `["called",i]`, `["notcalled",i]`, `["calls",i,n]` or `["callsatleast",i,n]`.
-fn part_of(known: &Known<'_>, said: &Json) -> Option<Part> {
+fn part_of(scope: &Scope<'_>, said: &Json) -> Option<ConditionPart> {
     let word = said.get(0usize)?.as_str()?;
     let first = said.get(1usize)?.as_i64()?;
     match said.as_array()?.len() {
-        2 => short_part(word, stage(known, first)?),
-        3 => long_part(known, word, first, said.get(2usize)?),
+        2 => short_part(word, stage(scope, first)?),
+        3 => long_part(scope, word, first, said.get(2usize)?),
         _ => None,
     }
 }
 
 /// The part of a word and a stage.
-fn short_part(word: &str, i: u16) -> Option<Part> {
+fn short_part(word: &str, i: u16) -> Option<ConditionPart> {
     match word {
-        "called" => Some(Part::Fact(Fact::Called(i))),
-        "notcalled" => Some(Part::Fact(Fact::NotCalled(i))),
+        "called" => Some(ConditionPart::Fact(Fact::Called(i))),
+        "notcalled" => Some(ConditionPart::Fact(Fact::NotCalled(i))),
         _ => None,
     }
 }
 
 /// The part of a word, a number and what stands behind it.
-fn long_part(known: &Known<'_>, word: &str, first: i64, last: &Json) -> Option<Part> {
+fn long_part(scope: &Scope<'_>, word: &str, first: i64, last: &Json) -> Option<ConditionPart> {
     match word {
-        "at" => Some(Part::Time(time_of(known, first, last)?)),
-        "stage" => Some(Part::Fact(is_of(known, first, last)?)),
-        "calls" => Some(Part::Fact(calls(true, known, first, last)?)),
-        "callsatleast" => Some(Part::Fact(calls(false, known, first, last)?)),
+        "at" => Some(ConditionPart::Time(time_of(scope, first, last)?)),
+        "stage" => Some(ConditionPart::Fact(is_of(scope, first, last)?)),
+        "calls" => Some(ConditionPart::Fact(calls(true, scope, first, last)?)),
+        "callsatleast" => Some(ConditionPart::Fact(calls(false, scope, first, last)?)),
         _ => None,
     }
 }
 
 /// What a stage is to be.
-fn is_of(known: &Known<'_>, i: i64, said: &Json) -> Option<Fact> {
+fn is_of(scope: &Scope<'_>, i: i64, said: &Json) -> Option<Fact> {
     let what = what_of(said.as_str()?)?;
-    Some(Fact::Stage(stage(known, i)?, what))
+    Some(Fact::Stage(stage(scope, i)?, what))
 }
 
 /// How often a stage's function is to be called.
-fn calls(exactly: bool, known: &Known<'_>, i: i64, said: &Json) -> Option<Fact> {
-    let number = function(known, i)?;
+fn calls(exactly: bool, scope: &Scope<'_>, i: i64, said: &Json) -> Option<Fact> {
+    let number = function(scope, i)?;
     let times = small(said)?;
     if exactly {
         Some(Fact::Exactly(number, times))
@@ -150,10 +150,10 @@ fn calls(exactly: bool, known: &Known<'_>, i: i64, said: &Json) -> Option<Fact> 
 }
 
 /// When this step of this caller is its next one.
-fn time_of(known: &Known<'_>, c: i64, said: &Json) -> Option<When> {
+fn time_of(scope: &Scope<'_>, c: i64, said: &Json) -> Option<When> {
     let c = usize::try_from(c).ok()?;
     let k = small(said)?;
-    if usize::from(k) < *known.steps.get(c)? {
+    if usize::from(k) < *scope.steps.get(c)? {
         Some(When::Before(u8::try_from(c).ok()?, k))
     } else {
         None
@@ -161,9 +161,9 @@ fn time_of(known: &Known<'_>, c: i64, said: &Json) -> Option<When> {
 }
 
 /// A stage that may be there.
-fn stage(known: &Known<'_>, i: i64) -> Option<u16> {
+fn stage(scope: &Scope<'_>, i: i64) -> Option<u16> {
     let i = u16::try_from(i).ok()?;
-    if usize::from(i) < known.stages {
+    if usize::from(i) < scope.stages {
         Some(i)
     } else {
         None
@@ -171,10 +171,10 @@ fn stage(known: &Known<'_>, i: i64) -> Option<u16> {
 }
 
 /// The number of the function of a stage of the plan.
-fn function(known: &Known<'_>, i: i64) -> Option<u16> {
+fn function(scope: &Scope<'_>, i: i64) -> Option<u16> {
     let i = u16::try_from(i).ok()?;
-    if i < known.plan.stages() {
-        known.plan.function(i)
+    if i < scope.plan.stages() {
+        scope.plan.function(i)
     } else {
         None
     }

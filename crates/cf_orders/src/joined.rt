@@ -5,7 +5,7 @@ use std::alloc::{AllocError, Global};
 
 /// The text of a question, as far as a script has it.
 #[derive(Drop)]
-pub(crate) struct Joined {
+pub(crate) struct QuestionText {
     /// The members of the script but its steps, without the braces.
     pub(crate) head: String,
     /// The steps of each caller, as a script has them.
@@ -17,7 +17,7 @@ pub(crate) struct Joined {
 /// A caller has at most so many steps, as a script.
 const MAX_STEPS: usize = 20_000;
 
-impl Joined {
+impl QuestionText {
     /// The script with all these steps.
     pub(crate) fn script(&self, alloc: Global) -> Result<String, AllocError> {
         let mut text = String::new(alloc);
@@ -50,8 +50,8 @@ impl Joined {
 }
 
 /// The question's text, as far as a script has it.
-pub(crate) fn joined_of(alloc: Global, json: &Json) -> Result<Joined, QuestionFault> {
-    let mut made = Joined {
+pub(crate) fn joined_of(alloc: Global, json: &Json) -> Result<QuestionText, QuestionFault> {
+    let mut made = QuestionText {
         head: head_of(alloc, json)?,
         callers: Vec::new(alloc),
         joins: Vec::new(alloc),
@@ -68,7 +68,7 @@ pub(crate) fn joined_of(alloc: Global, json: &Json) -> Result<Joined, QuestionFa
 /// Adds a caller's steps.
 fn add_caller(
     alloc: Global,
-    made: &mut Joined,
+    made: &mut QuestionText,
     c: usize,
     said: &Json,
 ) -> Result<(), QuestionFault> {

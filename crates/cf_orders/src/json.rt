@@ -2,7 +2,7 @@
 use crate::ends::Grouped;
 use crate::question::Question;
 use crate::telling::{Standing, standing_of};
-use crate::witness::{Shape, witness_of};
+use crate::witness::{OrderShape, witness_of};
 use cf_explore::{Found, Witness};
 use cf_outcome::Outcome;
 use cf_script::write_settled;
@@ -129,8 +129,8 @@ fn write_order(
     found: &Found,
     witness: Witness,
 ) -> Result<(), AllocError> {
-    let account = witness_of(alloc, question, found, witness, Shape::Account)?;
-    let script = witness_of(alloc, question, found, witness, Shape::Script)?;
+    let account = witness_of(alloc, question, found, witness, OrderShape::Account)?;
+    let script = witness_of(alloc, question, found, witness, OrderShape::Script)?;
     write!(out, ",\"moves\":{},\n\"account\":{account}", witness.moves)?;
     write!(out, ",\n\"script\":{script}")
 }

@@ -24,4 +24,4 @@ pub use json::json_of;
 pub use question::Question;
 pub use reading::read_question;
 pub use telling::{Standing, standing_of, text_of};
-pub use witness::{Shape, witness_of, witnesses};
+pub use witness::{OrderShape, witness_of, witnesses};

@@ -2,9 +2,9 @@
 ghost use Rattle.std.specs.Prelude.{◌≡◌, true};
 ghost use Rattle.cf_plan.specs.Plans.{has_place};
 
-use crate::facts::{Asked, Known, read_asked};
+use crate::facts::{Conditions, Scope, read_asked};
 use crate::fault::{QuestionFault, Spot};
-use crate::joined::{Joined, joined_of, shared_of};
+use crate::joined::{QuestionText, joined_of, shared_of};
 use crate::planning::with_shared;
 use crate::question::Question;
 use cf_explore::{Caller, Program, Step};
@@ -31,13 +31,13 @@ pub fn read_question(alloc: Global, json: &Json) -> Result<Question, QuestionFau
 #[derive(Drop)]
 struct Rest {
     parts: Parts,
-    asked: Asked,
+    asked: Conditions,
     program: Program,
     callers: u8,
     hands: Hands,
 }
 
-fn rest_of(alloc: Global, json: &Json, joined: &Joined) -> Result<Rest, QuestionFault> {
+fn rest_of(alloc: Global, json: &Json, joined: &QuestionText) -> Result<Rest, QuestionFault> {
     let script = script_in(alloc, joined)?;
     let hands = hands_of(json, joined.callers.len())?;
     let parts = parts_of(alloc, json, script)?;
@@ -101,22 +101,22 @@ fn parts_of(alloc: Global, json: &Json, script: Script) -> Result<Parts, Questio
 fn asked_of(
     alloc: Global,
     json: &Json,
-    joined: &Joined,
+    joined: &QuestionText,
     parts: &Parts,
-) -> Result<Asked, QuestionFault> {
+) -> Result<Conditions, QuestionFault> {
     let counts = counts_of(alloc, joined)?;
-    let known = Known {
+    let scope = Scope {
         plan: &parts.plan,
         stages: parts.plan.stages() as usize + usize::from(parts.room),
         steps: counts.as_slice(),
     };
-    read_asked(alloc, json, &known)
+    read_asked(alloc, json, &scope)
 }
 
 /// The program of the script's callers, and how many they are.
 fn acted_by(
     alloc: Global,
-    joined: &Joined,
+    joined: &QuestionText,
     parts: &Parts,
     hands: Hands,
 ) -> Result<(Program, u8), QuestionFault> {
@@ -127,7 +127,7 @@ fn acted_by(
     Ok((program, count))
 }
 
-fn put_together(joined: Joined, rest: Rest) -> Question {
+fn put_together(joined: QuestionText, rest: Rest) -> Question {
     let Rest {
         parts,
         asked,
@@ -135,8 +135,8 @@ fn put_together(joined: Joined, rest: Rest) -> Question {
         callers,
         hands,
     } = rest;
-    let Asked { conditions, texts } = asked;
-    let Joined {
+    let Conditions { conditions, texts } = asked;
+    let QuestionText {
         head,
         callers: steps,
         joins: _,
@@ -176,7 +176,7 @@ fn program_of(
 }
 
 /// The script of all callers' steps.
-fn script_in(alloc: Global, joined: &Joined) -> Result<Script, QuestionFault> {
+fn script_in(alloc: Global, joined: &QuestionText) -> Result<Script, QuestionFault> {
     let text = joined.script(alloc)?;
     let json = json_in(alloc, &text)?;
     match script_of(alloc, &json) {
@@ -218,7 +218,7 @@ fn clock_of(json: &Json) -> Option<bool> {
     }
 }
 
-fn counts_of(alloc: Global, joined: &Joined) -> Result<Vec<usize>, AllocError> {
+fn counts_of(alloc: Global, joined: &QuestionText) -> Result<Vec<usize>, AllocError> {
     let mut counts = Vec::new(alloc);
     for own in joined.callers.iter() {
         counts.push(own.len())?;
@@ -229,7 +229,7 @@ fn counts_of(alloc: Global, joined: &Joined) -> Result<Vec<usize>, AllocError> {
 /// Each caller with its part of the steps.
 fn callers_of(
     alloc: Global,
-    joined: &Joined,
+    joined: &QuestionText,
     steps: &[Said],
 ) -> Result<Vec<Caller>, QuestionFault> {
     let mut callers = Vec::new(alloc);

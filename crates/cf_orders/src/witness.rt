@@ -12,7 +12,7 @@ use std::alloc::{AllocError, Global};
 
 /// As what an order is told.
 #[derive(Clone, Copy)]
-pub enum Shape {
+pub enum OrderShape {
     /// What `cf_look check`, `page` and `trace` take.
     Account,
     /// What `cf run` does again.
@@ -53,7 +53,7 @@ pub fn witness_of(
     question: &Question,
     found: &Found,
     witness: Witness,
-    shape: Shape,
+    shape: OrderShape,
 ) -> Result<String, AllocError> {
     let order = found.order(alloc, witness)?;
     let mut told = begin(alloc, question)?;
@@ -93,12 +93,12 @@ impl Retold {
         alloc: Global,
         question: &Question,
         order: &[Move],
-        shape: Shape,
+        shape: OrderShape,
     ) -> Result<String, AllocError> {
         self.go_through(alloc, question, order)?;
         match shape {
-            Shape::Account => self.account(alloc, question),
-            Shape::Script => self.script(alloc, question),
+            OrderShape::Account => self.account(alloc, question),
+            OrderShape::Script => self.script(alloc, question),
         }
     }
 

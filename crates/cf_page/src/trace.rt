@@ -197,7 +197,7 @@ fn write_arrows(out: &mut Text, scene: &Scene, people: &People, rows: &Rows, k: 
         if let (true, Some(number)) = (is_first, run_of(scene, *j)) {
             if let Some(source) = scene.notes.runs.get(number) {
                 let from = starts_at(scene, people, *source, rows.of(number));
-                let to = End {
+                let to = ArrowEnd {
                     row: rows.of(k),
                     at: moment_of(scene, people, run.claimed),
                 };
@@ -220,23 +220,23 @@ fn run_of(scene: &Scene, stage: u16) -> Option<usize> {
 
 /// An end of an arrow: its row, and its moment in nanoseconds.
 #[derive(Clone, Copy)]
-struct End {
+struct ArrowEnd {
     row: u32,
     at: u64,
 }
 
 /// Where an arrow from a call starts: within its bar, just before that ends, since tools bind it to the bar round it.
-fn starts_at(scene: &Scene, people: &People, source: Run, row: u32) -> End {
+fn starts_at(scene: &Scene, people: &People, source: Run, row: u32) -> ArrowEnd {
     let begin = moment_of(scene, people, source.claimed);
     let end = moment_of(scene, people, end_of(scene, source));
-    End {
+    ArrowEnd {
         row,
         at: end.saturating_sub(1).max(begin),
     }
 }
 
 /// Adds an arrow between the bars of two stages; none back in time.
-fn write_arrow(out: &mut Text, stages: (u16, u16), from: End, to: End) {
+fn write_arrow(out: &mut Text, stages: (u16, u16), from: ArrowEnd, to: ArrowEnd) {
     if from.at > to.at {
         return;
     }
@@ -251,7 +251,7 @@ fn write_arrow(out: &mut Text, stages: (u16, u16), from: End, to: End) {
 }
 
 /// Adds an end of an arrow.
-fn write_arrow_end(out: &mut Text, id: u32, end: End) {
+fn write_arrow_end(out: &mut Text, id: u32, end: ArrowEnd) {
     out.add_with(",\"cat\":\"source\",\"name\":\"source\",\"id\":", id);
     out.add_with(",\"pid\":1,\"tid\":", end.row);
     out.add(",\"ts\":");

@@ -12,20 +12,20 @@ use Rattle.cf_model.specs.declared.stage.Stage.{Stage}
 use Rattle.cf_model.specs.declared.stage.Stage.TheVariants as stages
 use Rattle.cf_model.specs.States.{State, stage_at}
 use Rattle.cf_picture.specs.declared.notes.Note.{Note}
-use Rattle.cf_picture.specs.declared.standing.Standing.{Standing}
-use Rattle.cf_picture.specs.declared.standing.Standing.TheVariants.{Pending, Ready, Claimed, Linked, Settled}
+use Rattle.cf_picture.specs.declared.fate.Fate.{Fate}
+use Rattle.cf_picture.specs.declared.fate.Fate.TheVariants.{Pending, Ready, Claimed, Linked, Settled}
 
 -- what has become of a stage that was claimed: a caller has its function while the claim that a step made is open
-abbrev pub claimed_or_linked : Bool → Standing
+abbrev pub claimed_or_linked : Bool → Fate
 claimed_or_linked is_open = if is_open then Claimed else Linked
 
 -- what has become of a stage, of whose claim it was noted whether it is open
-abbrev pub standing_in : Stage → Bool → Standing
-standing_in stages.Pending is_open = Pending
-standing_in (stages.Ready args) is_open = Ready
-standing_in stages.Claimed is_open = claimed_or_linked is_open
-standing_in (stages.Linked j) is_open = claimed_or_linked is_open
-standing_in (stages.Settled o) is_open = Settled o
+abbrev pub fate_in : Stage → Bool → Fate
+fate_in stages.Pending is_open = Pending
+fate_in (stages.Ready args) is_open = Ready
+fate_in stages.Claimed is_open = claimed_or_linked is_open
+fate_in (stages.Linked j) is_open = claimed_or_linked is_open
+fate_in (stages.Settled o) is_open = Settled o
 
 -- no other stage than i has changed
 abbrev pub IsElsewhereAs : ℕ → State → State → Type 0

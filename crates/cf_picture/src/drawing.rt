@@ -4,7 +4,7 @@ ghost use Rattle.cf_picture.specs.Pictures.{Draws};
 
 use crate::limits::write_limits;
 use crate::run::{RunScript, run_of};
-use crate::stages::{Known, write_attached, write_opening};
+use crate::stages::{Context, write_attached, write_opening};
 use cf_reading::{Script, read_script};
 use cf_script::ScriptFault;
 use std::alloc::{AllocError, Global};
@@ -43,13 +43,13 @@ fn write_picture(
         steps,
     } = run;
     write_head(text)?;
-    let known = Known {
+    let context = Context {
         functions,
         notes,
         names,
     };
-    write_opening(text, graph, known, plan)?;
-    write_attached(text, graph, known, plan.stages(), steps)?;
+    write_opening(text, graph, context, plan)?;
+    write_attached(text, graph, context, plan.stages(), steps)?;
     write_limits(text, plan.limits())?;
     writeln!(text, "}}")
 }

@@ -3,7 +3,7 @@
 //!
 //! A script is read as `cf run` reads it, and refused for the same fault, which is proved. Its steps are done over a
 //! `Graph`, as the report does them, which is proved too (`run.rt`). Then each stage is a node: its shape says what kind
-//! of form it has (`kinds.rt`), its line and colour what became of it (`standing.rt`), so that it reads without colours too.
+//! of form it has (`kinds.rt`), its line and colour what became of it (`fate.rt`), so that it reads without colours too.
 //! Edges go from sources to those that name them (`edges.rt`), and limits stand beside their stages (`limits.rt`).
 //!
 //! All words in a picture are of fixed tables, and the rest are numbers, but the names of stages, in which each character that
@@ -12,6 +12,7 @@
 
 mod drawing;
 mod edges;
+mod fate;
 mod functions;
 mod kinds;
 mod limits;
@@ -19,6 +20,5 @@ mod names;
 mod notes;
 mod run;
 mod stages;
-mod standing;
 
 pub use drawing::draw_script;

@@ -1,6 +1,6 @@
 //! What the steps did to claims, stage by stage.
 ghost use Rattle.std.specs.Prelude.{◌≡◌, IfOk, replicate, slice_set};
-ghost use Rattle.cf_picture.specs.Standings.{linked_by, no_note, note_at, noted};
+ghost use Rattle.cf_picture.specs.Fates.{linked_by, no_note, note_at, noted};
 
 use cf_model::{Claimed, Event, Finished, Reply};
 use cf_plan::Answer;

@@ -2,20 +2,20 @@
 ghost use Rattle.std.specs.Prelude.{◌<◌, length};
 
 use crate::edges::{write_links, write_sources};
+use crate::fate::{Fate, fate_of, look_of, write_fate};
 use crate::functions::write_function;
 use crate::kinds::shape_of;
 use crate::names::write_name;
 use crate::notes::Notes;
-use crate::standing::{Standing, look_of, standing_of, write_standing};
 use cf_core::Graph;
 use cf_model::Event;
 use cf_plan::{Form, Of, Plan};
 use cf_reading::{Func, Step};
 use std::alloc::AllocError;
 
-/// What is known of all stages, beside the graph.
+/// What is context of all stages, beside the graph.
 #[derive(Clone, Copy)]
-pub(crate) struct Known<'a> {
+pub(crate) struct Context<'a> {
     pub(crate) functions: &'a [Func],
     pub(crate) notes: &'a Notes,
     pub(crate) names: &'a [String],
@@ -34,18 +34,18 @@ struct Said<'a> {
 pub(crate) fn write_opening(
     text: &mut String,
     graph: &mut Graph,
-    known: Known<'_>,
+    context: Context<'_>,
     plan: &Plan,
 ) -> Result<(), AllocError> {
     for i in 0..plan.stages() {
         if graph.has(i) {
             let said = Said {
                 number: i,
-                name: name_of(known.names, i),
+                name: name_of(context.names, i),
                 form: plan.form(i),
-                function: function_of(known.functions, plan.function(i)),
+                function: function_of(context.functions, plan.function(i)),
             };
-            write_stage(text, graph, known.notes, said, plan.sources(i))?;
+            write_stage(text, graph, context.notes, said, plan.sources(i))?;
         }
     }
     Ok(())
@@ -55,7 +55,7 @@ pub(crate) fn write_opening(
 pub(crate) fn write_attached(
     text: &mut String,
     graph: &mut Graph,
-    known: Known<'_>,
+    context: Context<'_>,
     first: u16,
     steps: &[Step],
 ) -> Result<(), AllocError> {
@@ -73,11 +73,11 @@ pub(crate) fn write_attached(
             if number < graph.stages() {
                 let said = Said {
                     number,
-                    name: name_of(known.names, number),
+                    name: name_of(context.names, number),
                     form,
-                    function: function_of(known.functions, function),
+                    function: function_of(context.functions, function),
                 };
-                write_stage_of(text, graph, known.notes, said, of)?;
+                write_stage_of(text, graph, context.notes, said, of)?;
                 number += 1;
             }
         }
@@ -126,14 +126,14 @@ fn write_stage(
     requires { said.number < length graph.old.state.plan.stages }
 {
     let note = notes.of(said.number);
-    let standing = standing_of(graph, note, said.number);
-    write_node(text, said, standing)?;
+    let fate = fate_of(graph, note, said.number);
+    write_node(text, said, fate)?;
     write_sources(text, said.form, sources, said.number)?;
     write_links(text, said.form, note.link, said.function, said.number)
 }
 
 /// Adds the node of a stage.
-fn write_node(text: &mut String, said: Said<'_>, standing: Standing) -> Result<(), AllocError> {
+fn write_node(text: &mut String, said: Said<'_>, fate: Fate) -> Result<(), AllocError> {
     write!(text, "  s{} [label=\"{} ", said.number, said.number)?;
     write_name(text, said.name)?;
     write!(text, "{}", said.form.name())?;
@@ -141,11 +141,11 @@ fn write_node(text: &mut String, said: Said<'_>, standing: Standing) -> Result<(
         write_function(text, function)?;
     }
     write!(text, "\\n")?;
-    write_standing(text, standing)?;
+    write_fate(text, fate)?;
     writeln!(
         text,
         "\", shape={}, {}];",
         shape_of(said.form),
-        look_of(standing)
+        look_of(fate)
     )
 }

@@ -35,24 +35,24 @@ const TWO_SUPPLIES: &str =
 
 /// A script that is run, or raced with two workers.
 #[derive(Clone, Copy)]
-struct Told {
+struct Scripted {
     name: &'static str,
     text: &'static str,
     is_race: bool,
 }
 
-const SCRIPTS: [Told; 3] = [
-    Told {
+const SCRIPTS: [Scripted; 3] = [
+    Scripted {
         name: "run",
         text: SOURCE_AND_APPLY,
         is_race: false,
     },
-    Told {
+    Scripted {
         name: "race",
         text: SOURCE_AND_APPLY,
         is_race: true,
     },
-    Told {
+    Scripted {
         name: "race of two",
         text: TWO_SUPPLIES,
         is_race: true,
@@ -167,7 +167,7 @@ fn show_script<R: Print + Threads + Wait + Sync, W: Write>(
     rt: &R,
     alloc: Global,
     w: &mut W,
-    script: &Told,
+    script: &Scripted,
 ) -> io::Result<()> {
     println!(rt; "{}:", script.name)?;
     match carried_out(rt, alloc, w, script) {
@@ -180,7 +180,7 @@ fn show_script_again<R: Print + Threads + Wait + Sync, W: Write>(
     rt: &R,
     alloc: Global,
     w: &mut W,
-    script: &Told,
+    script: &Scripted,
 ) -> io::Result<()> {
     println!(rt; "{} again:", script.name)?;
     let _ = carried_out(rt, alloc, w, script);
@@ -192,7 +192,7 @@ fn carried_out<R: Threads + Wait + Sync, W: Write>(
     rt: &R,
     alloc: Global,
     w: &mut W,
-    script: &Told,
+    script: &Scripted,
 ) -> Result<(), ScriptFault> {
     let mut input = script.text.as_bytes();
     if script.is_race {

@@ -153,7 +153,7 @@ impl Caller {
 
     /// One step of a caller's loop, in one call: finishes the stage that it holds with this answer, looks, and claims the lowest stage that is
     /// ready then. How the finish went is told, where there was one, and what was claimed, if something is ready. `LOST` where another caller
-    /// was first: ask again. `PASS_FULL` and `LOG_FULL`: without a word of the finish the stage is held as it was. `NO_STAGE` and `NOT_HELD`,
+    /// claimed or settled it first: ask again. `PASS_FULL` and `LOG_FULL`: without a word of the finish the stage is held as it was. `NO_STAGE` and `NOT_HELD`,
     /// where this caller has no open claim of the stage: nothing is changed then.
     pub fn step(&mut self, held: Option<(u16, Answer)>) -> (Option<Finished>, Result<Option<Taken>, Refused>) {
         let mut task = task_in(held);

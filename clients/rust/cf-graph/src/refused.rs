@@ -40,7 +40,7 @@ const WORDS: [&str; 32] = [
     "the desk is held all the same",
     "the caller hasn't claimed the stage",
     "there is no room for the stage",
-    "another caller was first to claim the stage",
+    "another caller claimed or settled the stage first",
     "the sweep hasn't all stages behind it",
 ];
 
