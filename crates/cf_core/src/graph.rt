@@ -39,6 +39,12 @@ impl From<AllocError> for GraphFault {
     }
 }
 
+impl From<GraphFault> for AllocError {
+    fn from(_fault: GraphFault) -> AllocError {
+        AllocError
+    }
+}
+
 /// A graph of stages, of which each is pending, ready, claimed, linked or settled.
 ///
 /// A contract sees it as its state, in which all consequences have come to pass, whether they were worked out yet or not,
@@ -89,6 +95,19 @@ impl Graph {
         ensures turns { IfOk result (λ graph. graph.turns ≡ 0) }
     {
         Ok(graph_of(alloc, plan, room)?)
+    }
+
+    /// The graph of a plan that stays, at its start, with room for so many stages that are attached later. It fails only where
+    /// there is no memory.
+    pub fn growing_of(alloc: Global, plan: &Plan, room: u16) -> Result<Graph, AllocError>
+        requires place { has_place plan.now.stages room ≡ true }
+        ensures start { IfOk result (λ graph. graph.state ≡ start (with_room plan.now room)) }
+        ensures turns { IfOk result (λ graph. graph.turns ≡ 0) }
+    {
+        match plan.copy() {
+            Ok(own) => graph_of(alloc, own, room),
+            Err(_) => Err(AllocError),
+        }
     }
 
     /// The plan that it was opened with.

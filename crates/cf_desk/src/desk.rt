@@ -197,28 +197,6 @@ fn count_fault(callers: u8, log: u16, calls: u16) -> Option<OpenFault>
     None
 }
 
-/// The graph of a plan with so much room, at its start.
-fn graph_of(alloc: Global, plan: Plan, room: u16) -> Result<Graph, AllocError>
-    requires { has_place plan.stages room ≡ true }
-    ensures { IfOk result (λ g. g.state ≡ start (with_room plan room)) }
-{
-    match Graph::new_growing(alloc, plan, room) {
-        Ok(graph) => Ok(graph),
-        Err(_) => Err(AllocError),
-    }
-}
-
-/// The graph of a plan that stays, with so much room, at its start.
-fn copy_of(alloc: Global, plan: &Plan, room: u16) -> Result<Graph, AllocError>
-    requires { has_place plan.now.stages room ≡ true }
-    ensures { IfOk result (λ g. g.state ≡ start (with_room plan.now room)) }
-{
-    match plan.copy() {
-        Ok(plan) => graph_of(alloc, plan, room),
-        Err(_) => Err(AllocError),
-    }
-}
-
 /// A plan with so much room, as the row is told of it.
 fn growing(alloc: Global, plan: &Plan, room: u16) -> Result<GrowingPlan, AllocError>
     requires { has_place plan.now.stages room ≡ true }
@@ -285,7 +263,7 @@ fn open_with(
     let mut passes = Vec::with_capacity(alloc, callers as usize)?;
     for caller in 0..callers {
         let records = no_records(alloc, calls)?;
-        let replica = copy_of(alloc, plan, room)?;
+        let replica = Graph::growing_of(alloc, plan, room)?;
         let mine = table.shared.split_seat::<GivesFirst>(&mut seat);
         let pass = Pass {
             seat: mine,

@@ -9,7 +9,7 @@ pub mod rounds;
 pub mod stepping;
 pub mod sweeping;
 
-use crate::code::{Code, plan_code};
+use crate::code::Code;
 use crate::handle::object::Object;
 use cf_core::Graph;
 use cf_plan::Plan;
@@ -38,11 +38,7 @@ pub fn graph_of(alloc: Global, held: &Object, room: u16) -> Result<Object, Code>
     if !plan.has_place(room) {
         return Err(Code::Room);
     }
-    let copy = match plan.copy() {
-        Ok(copy) => copy,
-        Err(fault) => return Err(plan_code(fault)),
-    };
-    match Graph::new_growing(alloc, copy, room) {
+    match Graph::growing_of(alloc, plan, room) {
         Ok(graph) => Ok(Object::Graph(graph)),
         Err(_) => Err(Code::NoMemory),
     }

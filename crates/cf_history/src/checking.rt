@@ -44,7 +44,7 @@ fn verdict(alloc: Global, plan: &Plan, room: u16, history: &History) -> Result<V
     ensures { IfOk result (λ verdict. IsVerdict (with_room plan.now room) history.now verdict) }
 {
     let events = read_events(alloc, &history.words)?;
-    let mut graph = graph_of(alloc, plan, room)?;
+    let mut graph = Graph::growing_of(alloc, plan, room)?;
     judge_events(alloc, plan, room, &mut graph, &events, history)
 }
 
@@ -103,20 +103,6 @@ fn judge_words(
     }
 }
 
-/// A graph of the plan, at its start.
-pub(crate) fn graph_of(alloc: Global, plan: &Plan, room: u16) -> Result<Graph, AllocError>
-    requires place { has_place plan.now.stages room ≡ true }
-    ensures { IfOk result (λ graph. graph.state ≡ start (with_room plan.now room)) }
-{
-    let Ok(own) = plan.copy() else {
-        return Err(AllocError);
-    };
-    match Graph::new_growing(alloc, own, room) {
-        Ok(graph) => Ok(graph),
-        Err(_) => Err(AllocError),
-    }
-}
-
 /// The verdict on the first caller whose records don't fit these events, if there is one.
 fn judge_callers(
     alloc: Global,
@@ -159,7 +145,7 @@ fn judge_one(
     requires fits { EventsFit (start (with_room plan.now room)) events.now }
     ensures { IfOk result (IsJudged caller (start (with_room plan.now room)) events.now records.now) }
 {
-    let mut graph = graph_of(alloc, plan, room)?;
+    let mut graph = Graph::growing_of(alloc, plan, room)?;
     Ok(judge_caller(&mut graph, events, caller, records))
 }
 

@@ -10,7 +10,7 @@ ghost use Rattle.cf_history.specs.Histories.{FitsOneGraph};
 ghost use Rattle.cf_history.specs.Shared.{Fills, FitsWithSomeReplies, HasGraphsReplies, IsSharedVerdict, all_filled, entries_of, filled, records_of, replies_at};
 ghost use Rattle.cf_history.specs.declared.verdict.Verdict.TheVariants.{Fits};
 
-use crate::checking::{check, graph_of};
+use crate::checking::check;
 use crate::events::{find_unfit, read_events};
 use crate::history::{Caller, History};
 use crate::merging::merge_all;
@@ -95,7 +95,7 @@ fn known_replies(
     ensures { IfOk result (λ replies. AreEventsOf callers functions (start (with_room plan.now room)) (decoded words.now) → replies.items ≡ replies_at (start (with_room plan.now room)) (decoded words.now)) }
 {
     let events = read_events(alloc, words)?;
-    let mut graph = graph_of(alloc, plan, room)?;
+    let mut graph = Graph::growing_of(alloc, plan, room)?;
     match find_unfit(&mut graph, &events, callers, functions) {
         Some((_k, _why)) => Ok(Vec::new(alloc)),
         None => replies_anew(alloc, plan, room, &events),
@@ -113,7 +113,7 @@ fn replies_anew(
     requires fits { EventsFit (start (with_room plan.now room)) events.now }
     ensures { IfOk result (λ replies. replies.items ≡ replies_at (start (with_room plan.now room)) events.now) }
 {
-    let mut graph = graph_of(alloc, plan, room)?;
+    let mut graph = Graph::growing_of(alloc, plan, room)?;
     replies_of(alloc, &mut graph, events)
 }
 

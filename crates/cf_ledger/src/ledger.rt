@@ -352,10 +352,7 @@ fn graph_of(alloc: Global, plan: &Plan, room: u16) -> Result<Graph, LedgerFault>
     ensures worked_out { IfOk result (λ graph. graph.left ≡ None) }
     ensures refused { IfErr result (λ fault. fault ≡ LedgerFault.NoMemory) }
 {
-    let Ok(own) = plan.copy() else {
-        return Err(LedgerFault::NoMemory);
-    };
-    match Graph::new_growing(alloc, own, room) {
+    match Graph::growing_of(alloc, plan, room) {
         Ok(graph) => Ok(worked_out(graph)),
         Err(_) => Err(LedgerFault::NoMemory),
     }

@@ -8,9 +8,9 @@ use cf_history::{
     fill_in,
 };
 use cf_model::{Ask, Event, Told};
-use cf_outcome::{Outcome, Value};
+use cf_outcome::Outcome;
 use cf_plan::Plan;
-use cf_reading::script_of;
+use cf_reading::{large, script_of, small, value};
 use serde_json::Value as Json;
 use std::alloc::Global;
 
@@ -68,7 +68,7 @@ fn shared_of(alloc: Global, json: &Json) -> Result<(Plan, u16, SharedHistory)> {
     let (plan, room, count) = plan_of(alloc, json)?;
     let functions = match json.get("functions") {
         None => count,
-        Some(said) => number(said).ok_or(Unreadable::Functions)?,
+        Some(said) => large(said).ok_or(Unreadable::Functions)?,
     };
     let shared = SharedHistory {
         functions,
@@ -224,19 +224,4 @@ fn outcomes_of(alloc: Global, json: &Json) -> Result<Option<Vec<Option<Outcome>>
         outcomes.push(outcome.ok_or(Unreadable::Outcome(i))?)?;
     }
     Ok(Some(outcomes))
-}
-
-fn number(json: &Json) -> Option<u32> {
-    u32::try_from(json.as_i64()?).ok()
-}
-
-pub(crate) fn small(json: &Json) -> Option<u16> {
-    u16::try_from(json.as_i64()?).ok()
-}
-
-fn value(json: &Json) -> Option<Value> {
-    if json.is_null() {
-        return Some(Value::Nil);
-    }
-    Some(Value::Int(i32::try_from(json.as_i64()?).ok()?))
 }

@@ -3,6 +3,7 @@ use crate::people::people_in;
 use anyhow::Result;
 use cf_explain::{Area, Place};
 use cf_reading::Part;
+use cf_script::is_shown;
 use serde_json::Value as Json;
 use std::alloc::{AllocError, Global};
 
@@ -105,15 +106,12 @@ fn write_quoted(line: &mut String, name: &str) -> Result<(), AllocError> {
     write!(line, " \"")?;
     for c in name.chars() {
         let number = u32::from(c);
-        let is_control = number < 32 || (127 <= number && number < 160);
         if c == '"' || c == '\\' {
             write!(line, "\\{c}")?;
-        } else if is_control
-            || matches!(number, 0x200e | 0x200f | 0x2028..=0x202e | 0x2066..=0x2069)
-        {
-            write!(line, "\\u{{{number:x}}}")?;
-        } else {
+        } else if is_shown(number) {
             line.push(c)?;
+        } else {
+            write!(line, "\\u{{{number:x}}}")?;
         }
     }
     write!(line, "\"")

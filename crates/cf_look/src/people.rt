@@ -6,6 +6,7 @@ use cf_explain::stage_name;
 use cf_history::{Caller, Record};
 use cf_model::Reply;
 use cf_page::People;
+use cf_reading::small;
 use serde_json::Value as Json;
 use std::alloc::Global;
 
@@ -157,8 +158,8 @@ fn relays_of(alloc: Global, said: Option<&Json>) -> Result<Vec<(u16, u16)>> {
 }
 
 fn pair(json: &Json) -> Option<(u16, u16)> {
-    let stage = crate::history::small(json.get(0usize)?)?;
-    let to = crate::history::small(json.get(1usize)?)?;
+    let stage = small(json.get(0usize)?)?;
+    let to = small(json.get(1usize)?)?;
     Some((stage, to))
 }
 

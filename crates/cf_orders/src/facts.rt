@@ -3,6 +3,7 @@ use crate::fault::{QuestionFault, Spot};
 use cf_explore::{Condition, Fact, How, Is, When};
 use cf_outcome::{Cause, Value};
 use cf_plan::Plan;
+use cf_reading::small;
 use serde_json::Value as Json;
 use std::alloc::{AllocError, Global};
 
@@ -178,10 +179,6 @@ fn function(scope: &Scope<'_>, i: i64) -> Option<u16> {
     } else {
         None
     }
-}
-
-fn small(said: &Json) -> Option<u16> {
-    u16::try_from(said.as_i64()?).ok()
 }
 
 /// What a stage is to be, by its text.

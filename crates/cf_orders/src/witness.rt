@@ -67,23 +67,12 @@ fn begin(alloc: Global, question: &Question) -> Result<Retold, AllocError> {
         records.push(String::new(alloc))?;
     }
     Ok(Retold {
-        graph: graph_of(alloc, question)?,
+        graph: Graph::growing_of(alloc, &question.plan, question.room)?,
         place: 0,
         words: String::new(alloc),
         records,
         steps: String::new(alloc),
     })
-}
-
-/// The graph of a question's plan, to which nothing was done.
-fn graph_of(alloc: Global, question: &Question) -> Result<Graph, AllocError> {
-    let Ok(plan) = question.plan.copy() else {
-        return Err(AllocError);
-    };
-    match Graph::new_growing(alloc, plan, question.room) {
-        Ok(graph) => Ok(graph),
-        Err(_) => Err(AllocError),
-    }
 }
 
 impl Retold {

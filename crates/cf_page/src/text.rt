@@ -1,6 +1,6 @@
 //! The text of a page, a trace or spans, and texts of others within its JSON strings.
 use cf_model::Reply;
-use cf_script::write_reply;
+use cf_script::{is_shown, write_reply};
 use std::alloc::{AllocError, Global};
 use std::fmt::Display;
 
@@ -115,14 +115,9 @@ impl Text {
 fn push_char(text: &mut String, c: char) -> Result<(), AllocError> {
     let number = u32::from(c);
     let is_named = matches!(c, '"' | '\\' | '<' | '>' | '&' | '\'' | '`');
-    if is_named || number < 32 || (127 <= number && number < 160) || is_turn(number) {
+    if is_named || !is_shown(number) {
         write!(text, "\\u{number:04x}")
     } else {
         text.push(c)
     }
-}
-
-/// Whether a character breaks a line, or turns the direction of what stands behind it.
-fn is_turn(number: u32) -> bool {
-    matches!(number, 0x200e | 0x200f | 0x2028..=0x202e | 0x2066..=0x2069)
 }

@@ -1,4 +1,5 @@
 //! Names of stages, which are the only texts of others in a picture.
+use cf_script::is_shown;
 use std::alloc::AllocError;
 
 /// Adds a name within a label, and a colon behind it; nothing, if it is empty.
@@ -24,10 +25,4 @@ fn write_char(text: &mut String, c: char) -> Result<(), AllocError> {
         _ if is_shown(u32::from(c)) => Ok(text.push(c)?),
         _ => Ok(text.push('\u{fffd}')?),
     }
-}
-
-/// Whether a character of this number can stand in a line of a label.
-fn is_shown(number: u32) -> bool {
-    let is_control = number < 32 || (127 <= number && number < 160);
-    !is_control && !matches!(number, 0x200e | 0x200f | 0x2028..=0x202e | 0x2066..=0x2069)
 }

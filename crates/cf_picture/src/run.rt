@@ -32,10 +32,7 @@ pub(crate) fn run_of(alloc: Global, script: Script) -> Result<RunScript, AllocEr
         return Err(AllocError);
     };
     let mut notes = Notes::new(alloc, plan.stages() as usize + room as usize)?;
-    let mut graph = match Graph::new_growing(alloc, opening, room) {
-        Ok(graph) => graph,
-        Err(_) => return Err(AllocError),
-    };
+    let mut graph = Graph::new_growing(alloc, opening, room)?;
     do_steps(&mut graph, &functions, &mut notes, &steps);
     Ok(RunScript {
         plan,

@@ -36,6 +36,7 @@ pub use fault::{Part, ReadingFault};
 pub use func::Func;
 pub use input::{MAX_BYTES, read_input};
 pub use laws::races_are_read_as_runs;
+pub use parts::{large, small, value};
 pub use reading::{read_race, read_script, script_of};
 pub use script::{Script, Step};
 pub use steps::MAX_STEPS;

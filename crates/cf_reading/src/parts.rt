@@ -19,7 +19,7 @@ pub(crate) fn caller(json: &Json) -> Option<u8>
 }
 
 /// A whole number of 16 bits.
-pub(crate) fn small(json: &Json) -> Option<u16>
+pub fn small(json: &Json) -> Option<u16>
     ensures { result ≡ up_to 65535 (view json.now) }
 {
     let n = json.as_i64()?;
@@ -31,7 +31,7 @@ pub(crate) fn small(json: &Json) -> Option<u16>
 }
 
 /// A whole number of 32 bits.
-pub(crate) fn large(json: &Json) -> Option<u32>
+pub fn large(json: &Json) -> Option<u32>
     ensures { result ≡ up_to 4294967295 (view json.now) }
 {
     let n = json.as_i64()?;
@@ -55,7 +55,7 @@ pub(crate) fn int(json: &Json) -> Option<i32>
 }
 
 /// `null`, or a whole number.
-pub(crate) fn value(json: &Json) -> Option<Value>
+pub fn value(json: &Json) -> Option<Value>
     ensures { result ≡ value_of (view json.now) }
 {
     if json.is_null() {

@@ -1,4 +1,5 @@
 pub mod Texts
+pub mod Names
 pub mod Faults
 pub mod Working
 pub mod Reports

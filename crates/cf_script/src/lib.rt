@@ -16,6 +16,7 @@
 
 mod fault;
 pub mod laws;
+mod names;
 mod printing;
 mod race;
 mod report;
@@ -27,6 +28,7 @@ pub use cf_plan::PlanFault;
 pub use cf_pool::{Gate, NoGate};
 pub use cf_reading::{Func, Part, ReadingFault, Script, Step, read_race, read_script};
 pub use fault::ScriptFault;
+pub use names::is_shown;
 pub use race::race_script;
 pub use run::run_script;
 pub use steps::{StepAnswer, WORKER, do_step};

@@ -74,10 +74,7 @@ pub(crate) fn report_of(alloc: Global, script: Script) -> Result<String, AllocEr
     ensures { IfOk result (λ text. string_bytes text ≡ report script) }
 {
     let (plan, room, functions, steps) = script.into_parts();
-    let mut graph = match Graph::new_growing(alloc, plan, room) {
-        Ok(graph) => graph,
-        Err(_) => return Err(AllocError),
-    };
+    let mut graph = Graph::new_growing(alloc, plan, room)?;
     let mut text = String::new(alloc);
     write_steps(&mut text, &mut graph, &functions, &steps)?;
     write_stages(&mut text, &mut graph)?;

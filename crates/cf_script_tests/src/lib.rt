@@ -14,6 +14,8 @@ mod faults;
 #[cfg(test)]
 mod gates;
 #[cfg(test)]
+mod names;
+#[cfg(test)]
 mod races;
 #[cfg(test)]
 mod reports;

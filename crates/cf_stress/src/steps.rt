@@ -1,8 +1,8 @@
 //! The steps that callers do.
 use cf_desk::Call;
 use cf_model::Ask;
-use cf_outcome::Value;
 use cf_plan::{Answer, Form, Of};
+use cf_reading::{large, small, value};
 use serde_json::Value as Json;
 use std::alloc::Global;
 use std::io::{Error, Result};
@@ -126,19 +126,4 @@ fn answer(json: &Json) -> Option<Answer> {
         return Some(Answer::Throw(large(code)?));
     }
     Some(Answer::Link(small(json.get("link")?)?))
-}
-
-fn value(json: &Json) -> Option<Value> {
-    if json.is_null() {
-        return Some(Value::Nil);
-    }
-    Some(Value::Int(i32::try_from(json.as_i64()?).ok()?))
-}
-
-fn small(json: &Json) -> Option<u16> {
-    u16::try_from(json.as_i64()?).ok()
-}
-
-fn large(json: &Json) -> Option<u32> {
-    u32::try_from(json.as_i64()?).ok()
 }

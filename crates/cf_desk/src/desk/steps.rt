@@ -1,6 +1,8 @@
 //! The calls that make single steps on the row.
 ghost use Rattle.std.specs.Prelude.{◌≡◌, ◌<◌, ◌≤◌, length, MatchBool, MatchOption, take};
 ghost use Rattle.cf_model.specs.Calls.{event_by};
+ghost use Rattle.cf_model.specs.Events.{answered};
+ghost use Rattle.cf_model.specs.Ranges.{EventFits};
 ghost use Rattle.cf_desk.specs.Log.{AreLogged, IsDeskEvent, state_from};
 ghost use Rattle.cf_desk.specs.Rule.{looked};
 ghost use Rattle.cf_desk.specs.Views.{AddedByOther, AddedOwn, IsOne, Levelled, known_of, state_of};
@@ -12,8 +14,18 @@ use crate::row::{Adds, Finds, KeepsFirst, Levels, Looks, SeatView, Sits, StandsF
 use atomic_table::Seat;
 use cf_core::Graph;
 use cf_event::{apply, decode, encode};
-use cf_model::{Call, Reply, event_by};
+use cf_model::{Call, Event, Reply, event_by};
 use std::mem;
+
+/// Does another caller's event to a replica. It is a call of its own: with the graph's answer to an event of any kind in it
+/// `act` would be too large to stand in its callers' code.
+#[inline(never)]
+fn redo(replica: &mut Graph, event: &Event)
+    requires { EventFits (length replica.old.state.plan.stages) event.now }
+    ensures { replica.new.state ≡ (answered replica.old.state event.now).1 }
+{
+    apply(replica, event);
+}
 
 impl Desk {
     /// One exchange of the next word for that of the pass's call. It gives the reply where it was won.
@@ -45,7 +57,7 @@ impl Desk {
                 Some(reply)
             }
             Some(theirs) => {
-                apply(&mut p.replica, &theirs);
+                redo(&mut p.replica, &theirs);
                 None
             }
         }
@@ -63,7 +75,7 @@ impl Desk {
             None => false,
             Some(next) => {
                 p.count += 1;
-                apply(&mut p.replica, &next);
+                redo(&mut p.replica, &next);
                 true
             }
         }

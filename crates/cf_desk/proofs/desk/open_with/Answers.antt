@@ -26,7 +26,7 @@ invariant_of-pass c =
     let me = mine (goal.at.invariant_of-pass c).After-split_seat-mine in
     let none = c.in_ok-records.ensures.items in record {
       one = one_known _ (blank (setting (goal.at.invariant_of-pass c).After-split_seat-mine) c.loop-caller.caller) (ap (λ m. m.0) me) (ap (λ m. m.1) me);
-      agrees = agrees_new _ _ _ _ _ _ c.loop-caller-test.true c.requires.counts.1 refl me c.in_ok-replica.ensures none;
+      agrees = agrees_new _ _ _ _ _ _ c.loop-caller-test.true c.requires.counts.1 refl me c.in_ok-replica.ensures.start none;
       room = (let r = c.in_ok-records.ensures.capacity in omega arith);
       within = (let e = ap length none in omega arith);
       short = omega arith;

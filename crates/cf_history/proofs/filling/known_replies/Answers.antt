@@ -18,7 +18,7 @@ replies_anew-requires-clause-fits c =
     let items = c.in_ok-events.events.items in
     subst (EventsFit first) (sym c.deref-in-None.ensures.value)
     (events_fit c.args.callers c.args.functions first items
-    (subst (λ (s : State). AreEventsOf c.args.callers c.args.functions s items) c.in_ok-graph.ensures
+    (subst (λ (s : State). AreEventsOf c.args.callers c.args.functions s items) c.in_ok-graph.ensures.start
     (subst (AreEventsOf c.args.callers c.args.functions c.in_ok-graph.graph.state) c.deref.ensures.value c.in-None.ensures.found)))
 
 pub returns-in-Some : goal.returns-in-Some
@@ -27,4 +27,4 @@ returns-in-Some c =
     λ are.
     absurd (not_events c.args.callers c.args.functions s c.in-Some._k c.deref.result.now c.in-Some._why c.in-Some.ensures.found
     (subst (AreEventsOf c.args.callers c.args.functions s) (sym (c.deref.ensures.value ∙ c.in_ok-events.ensures))
-    (subst (λ (x : State). AreEventsOf c.args.callers c.args.functions x (decoded c.args.words.now)) (sym c.in_ok-graph.ensures) are)))
+    (subst (λ (x : State). AreEventsOf c.args.callers c.args.functions x (decoded c.args.words.now)) (sym c.in_ok-graph.ensures.start) are)))

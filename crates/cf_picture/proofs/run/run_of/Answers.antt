@@ -5,5 +5,5 @@ use Rattle.cf_picture.proofs.run.run_of.Goals as goal
 pub do_steps-requires : goal.do_steps-requires
 do_steps-requires c =
     let parts = c.into_parts-opening.ensures in
-    opening_fits c.into_parts-opening.result.0 c.args.script.plan c.into_parts-opening.result.1 c.args.script.room c.deref-2.result.now c.args.script.steps c.in-Ok-new_growing.graph.state
-    parts.plan parts.room (c.deref-2.ensures.value ∙ parts.steps) c.in-Ok-new_growing.ensures.start parts.said.steps_fit
+    opening_fits c.into_parts-opening.result.0 c.args.script.plan c.into_parts-opening.result.1 c.args.script.room c.deref-2.result.now c.args.script.steps c.in_ok-graph.graph.state
+    parts.plan parts.room (c.deref-2.ensures.value ∙ parts.steps) c.in_ok-graph.ensures.start parts.said.steps_fit

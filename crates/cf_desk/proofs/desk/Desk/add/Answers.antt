@@ -71,9 +71,9 @@ pub apply-reply-requires : goal.apply-reply-requires
 apply-reply-requires c =
     on_plan (known_of c.p.inside.seat.me.0) _ _ c.p.invariant.agrees.state (of_desk (goal.at.apply-reply-requires c).After-event_by-event)
 
-pub apply-requires : goal.apply-requires
-apply-requires c =
-    let t = (told (goal.at.apply-requires c).After-compare_exchange-found).lost c.in-Some.theirs (sym c.in-Some.ensures.value) in
+pub redo-requires : goal.redo-requires
+redo-requires c =
+    let t = (told (goal.at.redo-requires c).After-compare_exchange-found).lost c.in-Some.theirs (sym c.in-Some.ensures.value) in
     on_plan (known_of c.p.inside.seat.me.0) _ _ c.p.invariant.agrees.state t.1
 
 -- a won exchange makes the pass's event the next that it has seen
@@ -119,7 +119,7 @@ invariant_of-p-in-Some c =
     let i = c.p.invariant in
     let t = (told at).lost c.in-Some.theirs (sym c.in-Some.ensures.value) in record {
       one = one_known _ _ t.0 (none_held at);
-      agrees = agrees_other _ _ _ _ _ _ _ _ c.in-Some.theirs (ap known_of t.0) t.1 t.2 (ap (λ (x : Reply × State). x.1) c.apply.ensures.told) i.agrees;
+      agrees = agrees_other _ _ _ _ _ _ _ _ c.in-Some.theirs (ap known_of t.0) t.1 t.2 c.redo.ensures i.agrees;
       room = i.room;
       within = i.within;
       short = short_more _ _ _ c.compare_exchange-found.ensures.0 (left_over at);

@@ -1,8 +1,6 @@
 use Rattle.std.proofs.Common.{◌≡◌, ◌<◌, [], length, sym, ap, ◌∙◌, arith}
 use Rattle.atomic_table.specs.Seated.{TableId}
 use Rattle.cf_desk.specs.Rule.{LooksNext}
-use Rattle.cf_model.specs.declared.events.Reply.{Reply}
-use Rattle.cf_model.specs.States.{State}
 use Rattle.cf_desk.specs.Views.{Pass, Desk, known_of}
 use Rattle.cf_desk.proofs.Passes.{looks_at, one_known, short_same, short_more, agrees_looked, agrees_other, on_plan}
 use Rattle.cf_desk.proofs.desk.Desk.look.Goals as goal
@@ -55,9 +53,9 @@ overflow_add-p c =
     let words = ap (λ (h : Desk). h.words) c.self.view_is in
     omega arith
 
-pub apply-requires : goal.apply-requires
-apply-requires c =
-    let t = (told (goal.at.apply-requires c).After-load-word).taken c.in-Some.next (sym c.in-Some.ensures.value) in
+pub redo-requires : goal.redo-requires
+redo-requires c =
+    let t = (told (goal.at.redo-requires c).After-load-word).taken c.in-Some.next (sym c.in-Some.ensures.value) in
     on_plan (known_of c.p.inside.seat.me.0) _ _ c.p.invariant.agrees.state t.1
 
 pub invariant_of-p-in-Some : goal.invariant_of-p-in-Some
@@ -66,7 +64,7 @@ invariant_of-p-in-Some c =
     let i = c.p.invariant in
     let t = (told at).taken c.in-Some.next (sym c.in-Some.ensures.value) in record {
       one = one_known _ _ t.0 (none_held at);
-      agrees = agrees_other _ _ _ _ _ _ _ _ c.in-Some.next (ap known_of t.0) t.1 t.2 (ap (λ (x : Reply × State). x.1) c.apply.ensures.told) i.agrees;
+      agrees = agrees_other _ _ _ _ _ _ _ _ c.in-Some.next (ap known_of t.0) t.1 t.2 c.redo.ensures i.agrees;
       room = i.room;
       within = i.within;
       short = short_more _ _ _ c.load-word.ensures.0 (left_over at);

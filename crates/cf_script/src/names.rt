@@ -1,0 +1,28 @@
+//! Names, which are texts of others: which of their characters are printed as they are.
+ghost use Rattle.std.specs.Prelude.{◌≡◌};
+ghost use Rattle.cf_script.specs.Names.{is_control, is_shown, is_turn};
+
+/// Whether the character of this number can stand in a line for people: no control character, and none that breaks a line or
+/// turns its direction, as Unicode's line separators, marks, embeddings and isolates do.
+pub fn is_shown(number: u32) -> bool
+    ensures { result ≡ is_shown number }
+{
+    !(is_control(number) || is_turn(number))
+}
+
+/// Whether it is a control character.
+fn is_control(number: u32) -> bool
+    ensures { result ≡ is_control number }
+{
+    number < 32 || (126 < number && number < 160)
+}
+
+/// Whether it breaks a line, or turns the direction of what stands behind it.
+fn is_turn(number: u32) -> bool
+    ensures { result ≡ is_turn number }
+{
+    number == 0x200e
+        || number == 0x200f
+        || (0x2027 < number && number < 0x202f)
+        || (0x2065 < number && number < 0x206a)
+}
