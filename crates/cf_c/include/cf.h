@@ -16,9 +16,9 @@
  * A null pointer is answered CF_NULL, unless a count or a room follows it that is 0; cf_free of one does nothing.
  *
  * Each call answers a cf_code: 0 where it did what it was asked. What it tells goes through its last pointer then; after any other
- * code that is left as it was, and so is what stands behind the handle, but as cf_build, cf_next, cf_round, cf_sweep_next, cf_desk_next,
- * cf_desk_complete_many, cf_ledger_of, cf_ledger_step and cf_ledger_apply_all say, and a desk's caller may have looked. Every call on an
- * empty handle answers CF_EMPTY, and one on a handle of another kind CF_WRONG_KIND; neither changes anything.
+ * code that is left as it was, and so is what stands behind the handle, but as cf_build, cf_next, cf_round, cf_work, cf_sweep_next,
+ * cf_desk_next, cf_desk_complete_many, cf_ledger_of, cf_ledger_step, cf_ledger_apply_all and cf_run_script say, and a desk's caller may
+ * have looked. Every call on an empty handle answers CF_EMPTY, and one on a handle of another kind CF_WRONG_KIND; neither changes anything.
  *
  * A function in this header stands for the call before it, which takes by pointer what the function takes by value.
  *

@@ -13,7 +13,7 @@ use cf_plan::{Form, Of, Plan};
 use cf_reading::{Func, Step};
 use std::alloc::AllocError;
 
-/// What is context of all stages, beside the graph.
+/// What is known of all stages, beside the graph.
 #[derive(Clone, Copy)]
 pub(crate) struct Context<'a> {
     pub(crate) functions: &'a [Func],

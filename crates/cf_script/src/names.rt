@@ -2,8 +2,8 @@
 ghost use Rattle.std.specs.Prelude.{◌≡◌};
 ghost use Rattle.cf_script.specs.Names.{is_control, is_shown, is_turn};
 
-/// Whether the character of this number can stand in a line for people: no control character, and none that breaks a line or
-/// turns its direction, as Unicode's line separators, marks, embeddings and isolates do.
+/// Whether the character of this number can stand in a line for people: no control character, none of Unicode's line separators,
+/// embeddings, overrides and isolates, and neither U+200E nor U+200F, which turn a line's direction, too.
 pub fn is_shown(number: u32) -> bool
     ensures { result ≡ is_shown number }
 {
@@ -17,7 +17,7 @@ fn is_control(number: u32) -> bool
     number < 32 || (126 < number && number < 160)
 }
 
-/// Whether it breaks a line, or turns the direction of what stands behind it.
+/// Whether it is one of these others.
 fn is_turn(number: u32) -> bool
     ensures { result ≡ is_turn number }
 {
