@@ -72,7 +72,12 @@ fn idle_of(
 }
 
 /// Remarks step k, if it is known never to do anything.
-fn remark_step(seen: &RunSoFar, step: Step, k: u32, remarks: &mut Vec<Remark>) -> Result<(), AllocError>
+fn remark_step(
+    seen: &RunSoFar,
+    step: Step,
+    k: u32,
+    remarks: &mut Vec<Remark>,
+) -> Result<(), AllocError>
     ensures { OnOk result (remarks.new.items ≡ remarks.old.items ++ idle_remarks k (idle_by (sight_of seen.now) step)) }
 {
     if let Some(why) = seen.idle(step) {

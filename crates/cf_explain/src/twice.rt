@@ -27,7 +27,12 @@ pub(crate) fn remark_twice(
             return Ok(());
         };
         let name = given_again(alloc, token, &mut open)?;
-        position = remark_again(alloc, position.on_to(text.as_bytes(), offset), name, remarks)?;
+        position = remark_again(
+            alloc,
+            position.on_to(text.as_bytes(), offset),
+            name,
+            remarks,
+        )?;
     }
     Ok(())
 }
