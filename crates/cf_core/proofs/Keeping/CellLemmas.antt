@@ -3,15 +3,20 @@ use Rattle.std.proofs.Common.{◌≡◌, ◌<◌, ◌∙◌, ℕ, ℤ, Bool, Opt
 use Rattle.std.specs.Prelude.{IfNone, option_and_then, slice_get}
 use Rattle.std.specs.Option.{option_map}
 use Rattle.std.proofs.lemmas.List.{length-map, map-set}
+use Rattle.cf_outcome.specs.declared.outcome.Outcome.{Outcome}
+use Rattle.cf_plan.specs.declared.forms.Form.{Form}
+use Rattle.cf_plan.specs.Forms.{due_of_first, due_one}
 use Rattle.cf_model.specs.declared.stage.Stage.TheVariants.{Pending}
+use Rattle.cf_core.specs.declared.kept.KeptStage.{KeptStage}
 use Rattle.cf_core.specs.declared.cell.Cell.{Cell}
 use Rattle.cf_core.specs.declared.cell.Kind.{Kind}
 use Rattle.cf_core.specs.declared.cell.Kind.TheVariants as kinds
 use Rattle.cf_core.specs.declared.cell.Detail.{Detail}
 use Rattle.cf_model.specs.States.{outcome_of}
 use Rattle.cf_core.specs.Keeping.Cells.{blank, kept_of, outcome_in, stage_in}
-use Rattle.cf_core.specs.Keeping.Treatment.{dated_in, dated_of}
+use Rattle.cf_core.specs.Keeping.Treatment.{dated_in, dated_of, due_kept, outcome_part, step_part}
 use Rattle.cf_core.specs.Keeping.Sound.{kept_at}
+use Rattle.cf_core.proofs.Keeping.Places.{same_put}
 
 pub map_written : (cells : List Cell) (i : ℕ) (c : Cell) → map kept_of (set cells i c) ≡ set (map kept_of cells) i (kept_of c)
 map_written cells i c = map-set kept_of cells i c
@@ -66,3 +71,25 @@ undated_there cells i c l e not =
 pub none_then : {X : Type 0} {P Q : Type 0} (x : Option X) → (P → Q) → IfNone x P → IfNone x Q
 none_then None f p = f p
 none_then (Some y) f p = tt
+
+-- ---- a pending stage m, which takes what its one source j has
+
+module _ (form : Form) (cells : List Cell) (j m : ℕ) (from : Cell) (source : j < length (map kept_of cells)) (stage : m < length (map kept_of cells)) (there : from ≡ get_or cells j from) where
+  abbrev taken : Option (Outcome × ℕ) → KeptStage
+  taken x = due_kept (due_of_first form (outcome_part x)) (step_part x) (kept_at (map kept_of cells) m).step
+
+  -- what is written where the source is settled
+  pub takes_one : (at new : Cell) → from.kind ≡ kinds.Settled → at ≡ get_or cells m at → kept_of new ≡ due_kept (due_one form (outcome_in from.detail from.flag from.number from.payload)) from.step at.step →
+      map kept_of (set cells m new) ≡ set (map kept_of cells) m (taken (dated_in (map kept_of cells) j))
+  takes_one at new settled here is =
+      map_written cells m new
+      ∙ ap (set (map kept_of cells) m) (is
+      ∙ sym (ap taken (dated_there cells j from source there settled)
+      ∙ ap (λ (k : KeptStage). due_kept (due_one form (outcome_in from.detail from.flag from.number from.payload)) from.step k.step) (kept_there cells m at stage here)))
+
+  -- and where it isn't, nothing changes
+  pub takes_none : (from.kind ≡ kinds.Settled → ⊥) → (kept_at (map kept_of cells) m).stage ≡ Pending → map kept_of cells ≡ set (map kept_of cells) m (taken (dated_in (map kept_of cells) j))
+  takes_none not pending =
+      let step = (kept_at (map kept_of cells) m).step in
+      sym (ap (λ x. set (map kept_of cells) m (taken x)) (undated_there cells j from source there not)
+      ∙ same_put (map kept_of cells) m (record { stage = Pending; step = step }) stage (ap (λ stage. record { stage = stage; step = step }) pending))

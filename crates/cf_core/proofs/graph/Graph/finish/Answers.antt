@@ -1,4 +1,4 @@
-use Rattle.std.proofs.Common.{◌≡◌, ◌+◌, ◌∙◌, ◌==◌, None, Some, ap, false, length-set, refl, sym, true}
+use Rattle.std.proofs.Common.{◌≡◌, ◌+◌, ◌∙◌, ◌==◌, None, ap, false, length-set, refl, sym, true}
 use Rattle.std.specs.Prelude.{slice_get, unwrap_or}
 use Rattle.std.specs.Option.{option_map_or}
 use Rattle.cf_model.specs.States.{outcome_in}
@@ -6,12 +6,19 @@ use Rattle.cf_core.specs.Keeping.SoundStages.{settled_view_of}
 use Rattle.cf_core.proofs.Keeping.GraphLemmas.{AreClaimed-closed, AreClaimed-stay, claim_there, finishes_late, finishes_now, open_claimed, room_stays, told_outcome}
 use Rattle.cf_core.proofs.Keeping.Sweeping.{treated_swept}
 use Rattle.cf_core.proofs.graph.Graph.finish.Goals as goal
+use Rattle.cf_core.proofs.graph.Graph.finish.Goals.{After-outcome}
+
+-- the caller's claim is open
+has : (c : After-outcome) → option_map_or (λ w. w == c.args.who) (unwrap_or (slice_get c.self.inside.claims.items c.args.i) None) false ≡ true
+has c = ap (λ xs. option_map_or (λ w. w == c.args.who) (unwrap_or (slice_get xs c.args.i) None) false) (sym c.deref.ensures.value) ∙ sym c.has_claim.ensures ∙ c.if-not-has_claim.false
+
+told : (c : After-outcome) → outcome_in (settled_view_of c.self.inside.plan.stages c.treat_up_to.new.self) c.args.i ≡ c.outcome.result
+told c = told_outcome c.self.inside.plan.stages c.treat_up_to.new.self c.args.i c.treat_up_to.ensures.sound (rw (← c.self.view_is) at c.requires) c.treat_up_to.ensures.treated ∙ sym c.outcome.ensures
 
 pub invariant_of-self-in-Some : goal.invariant_of-self-in-Some
 invariant_of-self-in-Some c =
     let s = c.self.inside.stages in
     let t = c.treat_up_to.new.self in
-    let plan = c.self.inside.plan.stages in
     let claims = c.self.inside.claims.items in
     let h = c.self.invariant in
     record {
@@ -30,20 +37,14 @@ landing_of-at-requires-clause-treated c =
 
 pub land-requires-clause-claimed : goal.land-requires-clause-claimed
 land-requires-clause-claimed c =
-    let s = c.self.inside.stages in
-    let t = c.treat_up_to.new.self in
-    let plan = c.self.inside.plan.stages in
-    let claims = c.self.inside.claims.items in
-    let h = c.self.invariant in
-    let has : option_map_or (λ w. w == c.args.who) (unwrap_or (slice_get claims c.args.i) None) false ≡ true =
-    ap (λ xs. option_map_or (λ w. w == c.args.who) (unwrap_or (slice_get xs c.args.i) None) false) (sym c.deref.ensures.value) ∙ sym c.has_claim.ensures ∙ c.if-not-has_claim.false in
-    open_claimed _ (c.treat_up_to.ensures.taken c.args.i (h.claimed c.args.i c.args.who (claim_there claims c.args.i c.args.who has))) (sym c.outcome.ensures ∙ c.in-None.is)
+    let at = (goal.at.land-requires-clause-claimed c).After-outcome in
+    let there = claim_there c.self.inside.claims.items c.args.i c.args.who (has at) in
+    open_claimed _ (c.treat_up_to.ensures.taken c.args.i (c.self.invariant.claimed c.args.i c.args.who there)) (sym c.outcome.ensures ∙ c.in-None.is)
 
 pub invariant_of-self-in-None : goal.invariant_of-self-in-None
 invariant_of-self-in-None c =
     let s = c.self.inside.stages in
     let t = c.treat_up_to.new.self in
-    let plan = c.self.inside.plan.stages in
     let claims = c.self.inside.claims.items in
     let h = c.self.invariant in
     record {
@@ -58,27 +59,13 @@ invariant_of-self-in-None c =
 
 pub returns-in-Some-clause-told : goal.returns-in-Some-clause-told
 returns-in-Some-clause-told c =
-    let s = c.self.inside.stages in
-    let t = c.treat_up_to.new.self in
-    let plan = c.self.inside.plan.stages in
-    let claims = c.self.inside.claims.items in
-    let h = c.self.invariant in
-    let has : option_map_or (λ w. w == c.args.who) (unwrap_or (slice_get claims c.args.i) None) false ≡ true =
-    ap (λ xs. option_map_or (λ w. w == c.args.who) (unwrap_or (slice_get xs c.args.i) None) false) (sym c.deref.ensures.value) ∙ sym c.has_claim.ensures ∙ c.if-not-has_claim.false in
-    let told = told_outcome plan t c.args.i c.treat_up_to.ensures.sound (rw (← c.self.view_is) at c.requires) c.treat_up_to.ensures.treated in
-    let is : outcome_in (settled_view_of plan t) c.args.i ≡ Some c.in-Some.field-0 = told ∙ sym c.outcome.ensures ∙ c.in-Some.is in
-    rw (← c.self.view_is) (finishes_late _ c.args.who c.args.i c.args.answer c.in-Some.field-0 (settled_view_of plan t) c.treat_up_to.ensures.same has is)
+    let at = (goal.at.returns-in-Some-clause-told c).After-outcome in
+    let seen = settled_view_of c.self.inside.plan.stages c.treat_up_to.new.self in
+    rw (← c.self.view_is) (finishes_late _ c.args.who c.args.i c.args.answer c.in-Some.field-0 seen c.treat_up_to.ensures.same (has at) (told at ∙ c.in-Some.is))
 
 pub returns-in-None-clause-told : goal.returns-in-None-clause-told
 returns-in-None-clause-told c =
-    let s = c.self.inside.stages in
-    let t = c.treat_up_to.new.self in
+    let at = (goal.at.returns-in-None-clause-told c).After-outcome in
     let plan = c.self.inside.plan.stages in
-    let claims = c.self.inside.claims.items in
-    let h = c.self.invariant in
-    let has : option_map_or (λ w. w == c.args.who) (unwrap_or (slice_get claims c.args.i) None) false ≡ true =
-    ap (λ xs. option_map_or (λ w. w == c.args.who) (unwrap_or (slice_get xs c.args.i) None) false) (sym c.deref.ensures.value) ∙ sym c.has_claim.ensures ∙ c.if-not-has_claim.false in
-    let told = told_outcome plan t c.args.i c.treat_up_to.ensures.sound (rw (← c.self.view_is) at c.requires) c.treat_up_to.ensures.treated in
-    let is : outcome_in (settled_view_of plan t) c.args.i ≡ None = told ∙ sym c.outcome.ensures ∙ c.in-None.is in
-    rw (← c.self.view_is) (finishes_now _ c.args.who c.args.i c.args.answer _ c.landing_of-at.result (settled_view_of plan t) (settled_view_of plan c.land.new.self)
-    c.treat_up_to.ensures.same has is refl c.landing_of-at.ensures c.land.ensures.landed)
+    rw (← c.self.view_is) (finishes_now _ c.args.who c.args.i c.args.answer _ c.landing_of-at.result (settled_view_of plan c.treat_up_to.new.self) (settled_view_of plan c.land.new.self)
+    c.treat_up_to.ensures.same (has at) (told at ∙ c.in-None.is) refl c.landing_of-at.ensures c.land.ensures.landed)

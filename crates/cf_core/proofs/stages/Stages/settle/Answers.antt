@@ -1,4 +1,4 @@
-use Rattle.std.proofs.Common.{◌<◌, ◌+◌, ◌∙◌, [], All, ap, arith, length, refl, set, subst, sym}
+use Rattle.std.proofs.Common.{◌≡◌, ◌<◌, ◌+◌, ◌∙◌, [], All, ap, arith, length, refl, set, subst, sym}
 use Rattle.cf_model.specs.declared.stage.Stage.TheVariants.{Settled}
 use Rattle.cf_core.specs.declared.kept.KeptStage.{KeptStage}
 use Rattle.cf_core.specs.Keeping.Cells.{KeptStages}
@@ -10,6 +10,7 @@ use Rattle.cf_model.specs.Graphs.{MovesAlone}
 use Rattle.cf_core.specs.Keeping.Treatment.{stages_of}
 use Rattle.cf_core.proofs.Keeping.Changes.{alone_put, open_rank}
 use Rattle.cf_core.proofs.stages.Stages.settle.Goals as goal
+use Rattle.cf_core.proofs.stages.Stages.settle.Goals.{After-mark_after}
 
 pub mark_after-requires-clause-linked : goal.mark_after-requires-clause-linked
 mark_after-requires-clause-linked c =
@@ -17,40 +18,42 @@ mark_after-requires-clause-linked c =
     subst (λ links. All (λ i. i < length c.args.plan.now.stages) (list_at links c.args.d)) (sym c.unready.ensures.links)
     (links_within c.args.plan.now.stages s.kept.items s.marks s.ready s.links s.steps s.turns c.requires.sound c.args.d)
 
+-- what is written of the stage
+abbrev new : After-mark_after → KeptStage
+new c = record { stage = Settled c.args.o; step = c.args.self.now.steps + 1 }
+
+kept : (c : After-mark_after) → c.settle.new.self.items ≡ set c.args.self.now.kept.items c.args.d (new c)
+kept c =
+    ap (λ (k : KeptStages). k.items) c.settle.ensures
+    ∙ ap (λ (k : KeptStages). set k.items c.args.d (record { stage = Settled c.args.o; step = c.unready.new.self.steps + 1 })) c.unready.ensures.kept
+    ∙ ap (λ n. set c.args.self.now.kept.items c.args.d (record { stage = Settled c.args.o; step = n + 1 })) c.unready.ensures.steps
+
+items : (c : After-mark_after) → c.mark_after.new.self.kept.items ≡ set c.args.self.now.kept.items c.args.d (new c)
+items c = ap (λ (k : KeptStages). k.items) c.mark_after.ensures.kept ∙ kept c
+
 pub returns-clause-after : goal.returns-clause-after
 returns-clause-after c =
     let s = c.args.self.now in
     let plan = c.args.plan.now.stages in
-    let h = c.requires.sound in
-    let u = c.unready.ensures in
-    let steady = is_steady plan s.kept.items s.marks s.ready s.links s.steps s.turns h (c.args.d + 1) c.requires.treated in
-    ap (λ (k : KeptStages). settled_view plan k.items) (c.mark_after.ensures.kept ∙ c.settle.ensures)
-    ∙ ap (λ (k : KeptStages). settled_view plan (set k.items c.args.d (record { stage = Settled c.args.o; step = c.unready.new.self.steps + 1 }))) u.kept
-    ∙ ap (λ n. settled_view plan (set s.kept.items c.args.d (record { stage = Settled c.args.o; step = n + 1 }))) u.steps
-    ∙ settle_same plan s.kept.items s.marks s.ready s.links s.steps s.turns h c.args.d (c.args.d + 1) c.args.o c.requires.stage steady (omega arith) c.requires.unsettled
+    let steady = is_steady plan s.kept.items s.marks s.ready s.links s.steps s.turns c.requires.sound (c.args.d + 1) c.requires.treated in
+    ap (settled_view plan) (items (goal.at.returns-clause-after c).After-mark_after)
+    ∙ settle_same plan s.kept.items s.marks s.ready s.links s.steps s.turns c.requires.sound c.args.d (c.args.d + 1) c.args.o c.requires.stage steady (omega arith) c.requires.unsettled
 
 pub returns-clause-taken : goal.returns-clause-taken
 returns-clause-taken c =
+    let at = (goal.at.returns-clause-taken c).After-mark_after in
     let s = c.args.self.now in
-    let u = c.unready.ensures in
-    let new : KeptStage = record { stage = Settled c.args.o; step = s.steps + 1 } in
-    let items = ap (λ (k : KeptStages). k.items) (c.mark_after.ensures.kept ∙ c.settle.ensures)
-    ∙ ap (λ (k : KeptStages). set k.items c.args.d (record { stage = Settled c.args.o; step = c.unready.new.self.steps + 1 })) u.kept
-    ∙ ap (λ n. set s.kept.items c.args.d (record { stage = Settled c.args.o; step = n + 1 })) u.steps in
-    subst (StayTaken s.kept.items) (sym items) (StayTaken-set s.kept.items c.args.d new (omega (arith, c.requires.stage, c.requires.sound.all_kept)) (λ _. refl))
+    subst (StayTaken s.kept.items) (sym (items at)) (StayTaken-set s.kept.items c.args.d (new at) (omega (arith, c.requires.stage, c.requires.sound.all_kept)) (λ _. refl))
 
 pub returns-clause-sound : goal.returns-clause-sound
 returns-clause-sound c =
+    let at = (goal.at.returns-clause-sound c).After-mark_after in
     let s = c.args.self.now in
     let t = c.mark_after.new.self in
     let u = c.unready.ensures in
     let plan = c.args.plan.now.stages in
-    let kept = ap (λ (k : KeptStages). k.items) c.settle.ensures
-    ∙ ap (λ (k : KeptStages). set k.items c.args.d (record { stage = Settled c.args.o; step = c.unready.new.self.steps + 1 })) u.kept
-    ∙ ap (λ n. set s.kept.items c.args.d (record { stage = Settled c.args.o; step = n + 1 })) u.steps in
-    IsSound-same plan t.kept.items _ t.marks _ t.ready _ t.links _ t.steps _ t.turns _
-    (ap (λ (k : KeptStages). k.items) c.mark_after.ensures.kept ∙ kept)
-    (c.mark_after.ensures.marks ∙ rw (kept, u.links, u.marks) refl)
+    IsSound-same plan t.kept.items _ t.marks _ t.ready _ t.links _ t.steps _ t.turns _ (items at)
+    (c.mark_after.ensures.marks ∙ rw (kept at, u.links, u.marks) refl)
     (c.mark_after.ensures.ready ∙ u.ready)
     (c.mark_after.ensures.links ∙ ap (λ links. set links c.args.d []) u.links)
     (c.mark_after.ensures.steps ∙ ap (λ n. n + 1) u.steps)
@@ -59,12 +62,7 @@ returns-clause-sound c =
 
 pub returns-clause-alone : goal.returns-clause-alone
 returns-clause-alone c =
+    let at = (goal.at.returns-clause-alone c).After-mark_after in
     let s = c.args.self.now in
-    let u = c.unready.ensures in
-    let new : KeptStage = record { stage = Settled c.args.o; step = s.steps + 1 } in
-    let items = ap (λ (k : KeptStages). k.items) (c.mark_after.ensures.kept ∙ c.settle.ensures)
-    ∙ ap (λ (k : KeptStages). set k.items c.args.d (record { stage = Settled c.args.o; step = c.unready.new.self.steps + 1 })) u.kept
-    ∙ ap (λ n. set s.kept.items c.args.d (record { stage = Settled c.args.o; step = n + 1 })) u.steps in
-    let below = open_rank ((kept_at s.kept.items c.args.d).stage) c.requires.unsettled in
-    subst (λ kept. MovesAlone c.args.d (stages_of s.kept.items) (stages_of kept)) (sym items)
-    (alone_put s.kept.items c.args.d new (omega (arith, c.requires.stage, c.requires.sound.all_kept)) below)
+    subst (λ kept. MovesAlone c.args.d (stages_of s.kept.items) (stages_of kept)) (sym (items at))
+    (alone_put s.kept.items c.args.d (new at) (omega (arith, c.requires.stage, c.requires.sound.all_kept)) (open_rank ((kept_at s.kept.items c.args.d).stage) c.requires.unsettled))
