@@ -1,4 +1,4 @@
--- There is one verdict on a history.
+-- There is one verdict on a history. A line with variables is for the cases that fit no line above it.
 use Rattle.std.proofs.Common.{◌≡◌, ℕ, zero, suc, ◌+◌, ◌-◌, ◌<◌, List, [], ◌∷◌, length, take, drop, refl, ap, sym, ◌∙◌, arith, subst}
 use Rattle.std.specs.Prelude.{Option, Some, None, slice_get}
 use Rattle.cf_plan.specs.Plans.{Planned}
@@ -30,16 +30,12 @@ use Rattle.cf_history.proofs.Whole.{not_of_callers, only_fits, right_here}
 -- one reason of an event
 unfit_one : (callers functions : ℕ) (s : State) (e : Event) (a b : Unfit) → IsUnfit callers functions s e a → IsUnfit callers functions s e b → a ≡ b
 unfit_one callers functions s e NoEvent b p q = absurd p
-unfit_one callers functions s e NoCaller NoEvent p q = absurd q
+unfit_one callers functions s e a NoEvent p q = absurd q
 unfit_one callers functions s e NoCaller NoCaller p q = refl
-unfit_one callers functions s e NoCaller NoStage p q = absurd (let l = q.0 in omega arith)
-unfit_one callers functions s e NoCaller NoFunction p q = absurd (let l = q.0 in omega arith)
-unfit_one callers functions s e NoStage NoEvent p q = absurd q
-unfit_one callers functions s e NoStage NoCaller p q = absurd (let l = p.0 in omega arith)
+unfit_one callers functions s e NoCaller b p q = absurd (let l = q.0 in omega arith)
+unfit_one callers functions s e a NoCaller p q = absurd (let l = p.0 in omega arith)
 unfit_one callers functions s e NoStage NoStage p q = refl
 unfit_one callers functions s e NoStage NoFunction p q = absurd (p.1 q.1)
-unfit_one callers functions s e NoFunction NoEvent p q = absurd q
-unfit_one callers functions s e NoFunction NoCaller p q = absurd (let l = p.0 in omega arith)
 unfit_one callers functions s e NoFunction NoStage p q = absurd (q.1 p.1)
 unfit_one callers functions s e NoFunction NoFunction p q = refl
 
@@ -55,21 +51,9 @@ first_unfit_one callers functions s (suc k) (suc j) (e ∷ events) a b p q =
 unfit_word_one : (callers functions : ℕ) (s : State) (words : List ℕ) (k j : ℕ) (a b : Unfit) → IsUnfitWord callers functions s words k a →
     IsUnfitWord callers functions s words j b → (k ≡ j) × (a ≡ b)
 unfit_word_one callers functions s words k j NoEvent NoEvent p q = (p.0 ∙ sym q.0, refl)
-unfit_word_one callers functions s words k j NoEvent NoCaller p q = absurd (not_events callers functions s j (decoded words) NoCaller q p.2)
-unfit_word_one callers functions s words k j NoEvent NoStage p q = absurd (not_events callers functions s j (decoded words) NoStage q p.2)
-unfit_word_one callers functions s words k j NoEvent NoFunction p q = absurd (not_events callers functions s j (decoded words) NoFunction q p.2)
-unfit_word_one callers functions s words k j NoCaller NoEvent p q = absurd (not_events callers functions s k (decoded words) NoCaller p q.2)
-unfit_word_one callers functions s words k j NoCaller NoCaller p q = first_unfit_one callers functions s k j (decoded words) NoCaller NoCaller p q
-unfit_word_one callers functions s words k j NoCaller NoStage p q = first_unfit_one callers functions s k j (decoded words) NoCaller NoStage p q
-unfit_word_one callers functions s words k j NoCaller NoFunction p q = first_unfit_one callers functions s k j (decoded words) NoCaller NoFunction p q
-unfit_word_one callers functions s words k j NoStage NoEvent p q = absurd (not_events callers functions s k (decoded words) NoStage p q.2)
-unfit_word_one callers functions s words k j NoStage NoCaller p q = first_unfit_one callers functions s k j (decoded words) NoStage NoCaller p q
-unfit_word_one callers functions s words k j NoStage NoStage p q = first_unfit_one callers functions s k j (decoded words) NoStage NoStage p q
-unfit_word_one callers functions s words k j NoStage NoFunction p q = first_unfit_one callers functions s k j (decoded words) NoStage NoFunction p q
-unfit_word_one callers functions s words k j NoFunction NoEvent p q = absurd (not_events callers functions s k (decoded words) NoFunction p q.2)
-unfit_word_one callers functions s words k j NoFunction NoCaller p q = first_unfit_one callers functions s k j (decoded words) NoFunction NoCaller p q
-unfit_word_one callers functions s words k j NoFunction NoStage p q = first_unfit_one callers functions s k j (decoded words) NoFunction NoStage p q
-unfit_word_one callers functions s words k j NoFunction NoFunction p q = first_unfit_one callers functions s k j (decoded words) NoFunction NoFunction p q
+unfit_word_one callers functions s words k j NoEvent b p q = absurd (not_events callers functions s j (decoded words) b q p.2)
+unfit_word_one callers functions s words k j a NoEvent p q = absurd (not_events callers functions s k (decoded words) a p q.2)
+unfit_word_one callers functions s words k j a b p q = first_unfit_one callers functions s k j (decoded words) a b p q
 
 words_one : (callers functions : ℕ) (s : State) (words : List ℕ) (place there : ℕ) (a b : Unfit) → IsOfWords callers functions s words (AtEvent place a) →
     IsOfWords callers functions s words (AtEvent there b) → AtEvent place a ≡ AtEvent there b
@@ -92,80 +76,37 @@ skip_one c at most p q rest a b =
 
 -- one reason of a record
 misfit_one : (c : ℕ) (s : State) (rest : List Event) (at : ℕ) (r : Record) (a b : Misfit) → IsMisfit c s rest at r a → IsMisfit c s rest at r b → a ≡ b
-misfit_one c s rest at (Did place e reply) Before Before m n = refl
-misfit_one c s rest at (Did place e reply) Before Behind m n = absurd (omega arith)
-misfit_one c s rest at (Did place e reply) Before (Skips y) m n = absurd (let l = n.1.below in omega arith)
-misfit_one c s rest at (Did place e reply) Before Other m n = absurd (let l = n.0.0 in omega arith)
-misfit_one c s rest at (Did place e reply) Before (Replies y) m n = absurd (let l = n.0.0 in omega arith)
-misfit_one c s rest at (Did place e reply) Before AsksNone m n = absurd n
-misfit_one c s rest at (Did place e reply) Before (Tells y) m n = absurd n
-misfit_one c s rest at (Did place e reply) Behind Before m n = absurd (omega arith)
-misfit_one c s rest at (Did place e reply) Behind Behind m n = refl
-misfit_one c s rest at (Did place e reply) Behind (Skips y) m n = absurd (let l = n.0 in omega arith)
-misfit_one c s rest at (Did place e reply) Behind Other m n = absurd (let l = n.0.1 in omega arith)
-misfit_one c s rest at (Did place e reply) Behind (Replies y) m n = absurd (let l = n.0.1 in omega arith)
-misfit_one c s rest at (Did place e reply) Behind AsksNone m n = absurd n
-misfit_one c s rest at (Did place e reply) Behind (Tells y) m n = absurd n
-misfit_one c s rest at (Did place e reply) (Skips x) Before m n = absurd (let l = m.1.below in omega arith)
-misfit_one c s rest at (Did place e reply) (Skips x) Behind m n = absurd (let l = m.0 in omega arith)
-misfit_one c s rest at (Did place e reply) (Skips x) (Skips y) m n = ap Skips (skip_one c at (place - at - 1) x y rest m.1 n.1)
-misfit_one c s rest at (Did place e reply) (Skips x) Other m n = absurd (not_skipped c at (place - at - 1) x rest m.1 n.0.2)
-misfit_one c s rest at (Did place e reply) (Skips x) (Replies y) m n = absurd (not_skipped c at (place - at - 1) x rest m.1 n.0.2)
-misfit_one c s rest at (Did place e reply) (Skips x) AsksNone m n = absurd n
-misfit_one c s rest at (Did place e reply) (Skips x) (Tells y) m n = absurd n
-misfit_one c s rest at (Did place e reply) Other Before m n = absurd (let l = m.0.0 in omega arith)
-misfit_one c s rest at (Did place e reply) Other Behind m n = absurd (let l = m.0.1 in omega arith)
-misfit_one c s rest at (Did place e reply) Other (Skips y) m n = absurd (not_skipped c at (place - at - 1) y rest n.1 m.0.2)
-misfit_one c s rest at (Did place e reply) Other Other m n = refl
-misfit_one c s rest at (Did place e reply) Other (Replies y) m n = absurd (m.1 n.1)
-misfit_one c s rest at (Did place e reply) Other AsksNone m n = absurd n
-misfit_one c s rest at (Did place e reply) Other (Tells y) m n = absurd n
-misfit_one c s rest at (Did place e reply) (Replies x) Before m n = absurd (let l = m.0.0 in omega arith)
-misfit_one c s rest at (Did place e reply) (Replies x) Behind m n = absurd (let l = m.0.1 in omega arith)
-misfit_one c s rest at (Did place e reply) (Replies x) (Skips y) m n = absurd (not_skipped c at (place - at - 1) y rest n.1 m.0.2)
-misfit_one c s rest at (Did place e reply) (Replies x) Other m n = absurd (n.1 m.1)
-misfit_one c s rest at (Did place e reply) (Replies x) (Replies y) m n = ap Replies (m.2 ∙ sym n.2)
-misfit_one c s rest at (Did place e reply) (Replies x) AsksNone m n = absurd n
-misfit_one c s rest at (Did place e reply) (Replies x) (Tells y) m n = absurd n
 misfit_one c s rest at (Did place e reply) AsksNone b m n = absurd m
 misfit_one c s rest at (Did place e reply) (Tells x) b m n = absurd m
-misfit_one c s rest at (Saw place ask answer) Before Before m n = refl
-misfit_one c s rest at (Saw place ask answer) Before Behind m n = absurd (omega arith)
-misfit_one c s rest at (Saw place ask answer) Before (Skips y) m n = absurd (let l = n.1.below in omega arith)
-misfit_one c s rest at (Saw place ask answer) Before AsksNone m n = absurd (let l = n.0.0 in omega arith)
-misfit_one c s rest at (Saw place ask answer) Before (Tells y) m n = absurd (let l = n.0.0 in omega arith)
-misfit_one c s rest at (Saw place ask answer) Before Other m n = absurd n
-misfit_one c s rest at (Saw place ask answer) Before (Replies y) m n = absurd n
-misfit_one c s rest at (Saw place ask answer) Behind Before m n = absurd (omega arith)
-misfit_one c s rest at (Saw place ask answer) Behind Behind m n = refl
-misfit_one c s rest at (Saw place ask answer) Behind (Skips y) m n = absurd (let l = n.0 in omega arith)
-misfit_one c s rest at (Saw place ask answer) Behind AsksNone m n = absurd (let l = n.0.1 in omega arith)
-misfit_one c s rest at (Saw place ask answer) Behind (Tells y) m n = absurd (let l = n.0.1 in omega arith)
-misfit_one c s rest at (Saw place ask answer) Behind Other m n = absurd n
-misfit_one c s rest at (Saw place ask answer) Behind (Replies y) m n = absurd n
-misfit_one c s rest at (Saw place ask answer) (Skips x) Before m n = absurd (let l = m.1.below in omega arith)
-misfit_one c s rest at (Saw place ask answer) (Skips x) Behind m n = absurd (let l = m.0 in omega arith)
-misfit_one c s rest at (Saw place ask answer) (Skips x) (Skips y) m n = ap Skips (skip_one c at (place - at) x y rest m.1 n.1)
-misfit_one c s rest at (Saw place ask answer) (Skips x) AsksNone m n = absurd (not_skipped c at (place - at) x rest m.1 n.0.2)
-misfit_one c s rest at (Saw place ask answer) (Skips x) (Tells y) m n = absurd (not_skipped c at (place - at) x rest m.1 n.0.2)
-misfit_one c s rest at (Saw place ask answer) (Skips x) Other m n = absurd n
-misfit_one c s rest at (Saw place ask answer) (Skips x) (Replies y) m n = absurd n
-misfit_one c s rest at (Saw place ask answer) AsksNone Before m n = absurd (let l = m.0.0 in omega arith)
-misfit_one c s rest at (Saw place ask answer) AsksNone Behind m n = absurd (let l = m.0.1 in omega arith)
-misfit_one c s rest at (Saw place ask answer) AsksNone (Skips y) m n = absurd (not_skipped c at (place - at) y rest n.1 m.0.2)
-misfit_one c s rest at (Saw place ask answer) AsksNone AsksNone m n = refl
-misfit_one c s rest at (Saw place ask answer) AsksNone (Tells y) m n = absurd (m.1 n.1)
-misfit_one c s rest at (Saw place ask answer) AsksNone Other m n = absurd n
-misfit_one c s rest at (Saw place ask answer) AsksNone (Replies y) m n = absurd n
-misfit_one c s rest at (Saw place ask answer) (Tells x) Before m n = absurd (let l = m.0.0 in omega arith)
-misfit_one c s rest at (Saw place ask answer) (Tells x) Behind m n = absurd (let l = m.0.1 in omega arith)
-misfit_one c s rest at (Saw place ask answer) (Tells x) (Skips y) m n = absurd (not_skipped c at (place - at) y rest n.1 m.0.2)
-misfit_one c s rest at (Saw place ask answer) (Tells x) AsksNone m n = absurd (n.1 m.1)
-misfit_one c s rest at (Saw place ask answer) (Tells x) (Tells y) m n = ap Tells (m.2 ∙ sym n.2)
-misfit_one c s rest at (Saw place ask answer) (Tells x) Other m n = absurd n
-misfit_one c s rest at (Saw place ask answer) (Tells x) (Replies y) m n = absurd n
+misfit_one c s rest at (Did place e reply) a AsksNone m n = absurd n
+misfit_one c s rest at (Did place e reply) a (Tells y) m n = absurd n
 misfit_one c s rest at (Saw place ask answer) Other b m n = absurd m
 misfit_one c s rest at (Saw place ask answer) (Replies x) b m n = absurd m
+misfit_one c s rest at (Saw place ask answer) a Other m n = absurd n
+misfit_one c s rest at (Saw place ask answer) a (Replies y) m n = absurd n
+misfit_one c s rest at r Before Before m n = refl
+misfit_one c s rest at r Before Behind m n = absurd (omega arith)
+misfit_one c s rest at r Before (Skips y) m n = absurd (let l = n.1.below in omega arith)
+misfit_one c s rest at r Before b m n = absurd (let l = n.0.0 in omega arith)
+misfit_one c s rest at r Behind Before m n = absurd (omega arith)
+misfit_one c s rest at r (Skips x) Before m n = absurd (let l = m.1.below in omega arith)
+misfit_one c s rest at r a Before m n = absurd (let l = m.0.0 in omega arith)
+misfit_one c s rest at r Behind Behind m n = refl
+misfit_one c s rest at r Behind (Skips y) m n = absurd (let l = n.0 in omega arith)
+misfit_one c s rest at r Behind b m n = absurd (let l = n.0.1 in omega arith)
+misfit_one c s rest at r (Skips x) Behind m n = absurd (let l = m.0 in omega arith)
+misfit_one c s rest at r a Behind m n = absurd (let l = m.0.1 in omega arith)
+misfit_one c s rest at r (Skips x) (Skips y) m n = ap Skips (skip_one c at _ x y rest m.1 n.1)
+misfit_one c s rest at r (Skips x) b m n = absurd (not_skipped c at _ x rest m.1 n.0.2)
+misfit_one c s rest at r a (Skips y) m n = absurd (not_skipped c at _ y rest n.1 m.0.2)
+misfit_one c s rest at r Other Other m n = refl
+misfit_one c s rest at r Other (Replies y) m n = absurd (m.1 n.1)
+misfit_one c s rest at r (Replies x) Other m n = absurd (n.1 m.1)
+misfit_one c s rest at r (Replies x) (Replies y) m n = ap Replies (m.2 ∙ sym n.2)
+misfit_one c s rest at r AsksNone AsksNone m n = refl
+misfit_one c s rest at r AsksNone (Tells y) m n = absurd (m.1 n.1)
+misfit_one c s rest at r (Tells x) AsksNone m n = absurd (n.1 m.1)
+misfit_one c s rest at r (Tells x) (Tells y) m n = ap Tells (m.2 ∙ sym n.2)
 
 first_misfit_one : (c : ℕ) (s : State) (rest : List Event) (at k j : ℕ) (records : List Record) (a b : Misfit) → IsFirstMisfit c s rest at k records a →
     IsFirstMisfit c s rest at j records b → (k ≡ j) × (a ≡ b)
@@ -244,18 +185,9 @@ callers_one s events callers (Missing c p) (AtRecord d j b) t u =
 callers_one s events callers (Missing c p) (Missing d q) t u =
     let e : c ≡ d = comes_one s events callers c d t.0 u.0 t.1 u.1 (wrong_missing s events callers c p t) (wrong_missing s events callers d q u) in
     missing_one s events callers c p q t (subst (λ (i : ℕ). IsOfCallers s events callers (Missing i q)) (sym e) u) ∙ ap (λ (i : ℕ). Missing i q) e
-callers_one s events callers Fits w t u = absurd t
-callers_one s events callers (AtEvent place why) w t u = absurd t
-callers_one s events callers (AtOutcome stage outcome) w t u = absurd t
-callers_one s events callers (Stages count) w t u = absurd t
-callers_one s events callers (AtRecord caller k why) Fits t u = absurd u
-callers_one s events callers (AtRecord caller k why) (AtEvent there reason) t u = absurd u
-callers_one s events callers (AtRecord caller k why) (AtOutcome at is) t u = absurd u
-callers_one s events callers (AtRecord caller k why) (Stages size) t u = absurd u
-callers_one s events callers (Missing caller place) Fits t u = absurd u
-callers_one s events callers (Missing caller place) (AtEvent there reason) t u = absurd u
-callers_one s events callers (Missing caller place) (AtOutcome at is) t u = absurd u
-callers_one s events callers (Missing caller place) (Stages size) t u = absurd u
+callers_one s events callers (AtRecord c k a) w t u = absurd u
+callers_one s events callers (Missing c p) w t u = absurd u
+callers_one s events callers v w t u = absurd t
 
 -- one outcome that is the first that isn't so
 other_first : (s : State) (outcomes : List (Option Outcome)) (i j : ℕ) (x y : Option Outcome) → IsFirstOther s outcomes i x → IsFirstOther s outcomes j y → i < j → ⊥
@@ -275,18 +207,9 @@ outcomes_one s (Some outcomes) (AtOutcome i x) (AtOutcome j y) t u = other_one s
 outcomes_one s (Some outcomes) (AtOutcome i x) (Stages count) t u = absurd (u.1 (t.all ∙ sym u.0))
 outcomes_one s (Some outcomes) (Stages count) (AtOutcome j y) t u = absurd (t.1 (u.all ∙ sym t.0))
 outcomes_one s (Some outcomes) (Stages count) (Stages size) t u = ap Stages (t.0 ∙ sym u.0)
-outcomes_one s (Some outcomes) Fits w t u = absurd t
-outcomes_one s (Some outcomes) (AtEvent place why) w t u = absurd t
-outcomes_one s (Some outcomes) (AtRecord caller k why) w t u = absurd t
-outcomes_one s (Some outcomes) (Missing caller place) w t u = absurd t
-outcomes_one s (Some outcomes) (AtOutcome stage outcome) Fits t u = absurd u
-outcomes_one s (Some outcomes) (AtOutcome stage outcome) (AtEvent there reason) t u = absurd u
-outcomes_one s (Some outcomes) (AtOutcome stage outcome) (AtRecord other j reason) t u = absurd u
-outcomes_one s (Some outcomes) (AtOutcome stage outcome) (Missing other there) t u = absurd u
-outcomes_one s (Some outcomes) (Stages count) Fits t u = absurd u
-outcomes_one s (Some outcomes) (Stages count) (AtEvent there reason) t u = absurd u
-outcomes_one s (Some outcomes) (Stages count) (AtRecord other j reason) t u = absurd u
-outcomes_one s (Some outcomes) (Stages count) (Missing other there) t u = absurd u
+outcomes_one s (Some outcomes) (AtOutcome i x) w t u = absurd u
+outcomes_one s (Some outcomes) (Stages count) w t u = absurd u
+outcomes_one s (Some outcomes) v w t u = absurd t
 
 -- the same of what is told of a history
 tells_callers_one : (plan : Planned) (h : History) (v w : Verdict) → TellsOfCallers plan h v → TellsOfCallers plan h w → v ≡ w
@@ -310,33 +233,16 @@ word_or_words plan h place why events t are = not_words (length h.callers.items)
 
 pub one_verdict : OneVerdict
 one_verdict plan h Fits w t u = sym (only_fits plan h w u t)
-one_verdict plan h (AtEvent place why) Fits t u = only_fits plan h (AtEvent place why) t u
+one_verdict plan h v Fits t u = only_fits plan h v t u
 one_verdict plan h (AtEvent place why) (AtEvent there reason) t u = words_one (length h.callers.items) h.functions (start plan) h.words.items place there why reason t u
-one_verdict plan h (AtEvent place why) (AtRecord other j reason) t u = absurd (word_or_words plan h place why u.0 t u.1)
-one_verdict plan h (AtEvent place why) (Missing other there) t u = absurd (word_or_words plan h place why u.0 t u.1)
-one_verdict plan h (AtEvent place why) (AtOutcome at is) t u = absurd (word_or_words plan h place why u.0 t u.1)
-one_verdict plan h (AtEvent place why) (Stages size) t u = absurd (word_or_words plan h place why u.0 t u.1)
-one_verdict plan h (AtRecord caller k why) Fits t u = only_fits plan h (AtRecord caller k why) t u
-one_verdict plan h (AtRecord caller k why) (AtEvent there reason) t u = absurd (word_or_words plan h there reason t.0 u t.1)
-one_verdict plan h (AtRecord caller k why) (AtRecord other j reason) t u = tells_callers_one plan h (AtRecord caller k why) (AtRecord other j reason) t u
-one_verdict plan h (AtRecord caller k why) (Missing other there) t u = tells_callers_one plan h (AtRecord caller k why) (Missing other there) t u
-one_verdict plan h (AtRecord caller k why) (AtOutcome at is) t u = absurd (callers_or_outcomes plan h (AtRecord caller k why) (AtOutcome at is) t u)
-one_verdict plan h (AtRecord caller k why) (Stages size) t u = absurd (callers_or_outcomes plan h (AtRecord caller k why) (Stages size) t u)
-one_verdict plan h (Missing caller place) Fits t u = only_fits plan h (Missing caller place) t u
-one_verdict plan h (Missing caller place) (AtEvent there reason) t u = absurd (word_or_words plan h there reason t.0 u t.1)
-one_verdict plan h (Missing caller place) (AtRecord other j reason) t u = tells_callers_one plan h (Missing caller place) (AtRecord other j reason) t u
-one_verdict plan h (Missing caller place) (Missing other there) t u = tells_callers_one plan h (Missing caller place) (Missing other there) t u
-one_verdict plan h (Missing caller place) (AtOutcome at is) t u = absurd (callers_or_outcomes plan h (Missing caller place) (AtOutcome at is) t u)
-one_verdict plan h (Missing caller place) (Stages size) t u = absurd (callers_or_outcomes plan h (Missing caller place) (Stages size) t u)
-one_verdict plan h (AtOutcome stage outcome) Fits t u = only_fits plan h (AtOutcome stage outcome) t u
-one_verdict plan h (AtOutcome stage outcome) (AtEvent there reason) t u = absurd (word_or_words plan h there reason t.0 u t.1)
-one_verdict plan h (AtOutcome stage outcome) (AtRecord other j reason) t u = absurd (callers_or_outcomes plan h (AtRecord other j reason) (AtOutcome stage outcome) u t)
-one_verdict plan h (AtOutcome stage outcome) (Missing other there) t u = absurd (callers_or_outcomes plan h (Missing other there) (AtOutcome stage outcome) u t)
-one_verdict plan h (AtOutcome stage outcome) (AtOutcome at is) t u = tells_outcomes_one plan h (AtOutcome stage outcome) (AtOutcome at is) t u
-one_verdict plan h (AtOutcome stage outcome) (Stages size) t u = tells_outcomes_one plan h (AtOutcome stage outcome) (Stages size) t u
-one_verdict plan h (Stages count) Fits t u = only_fits plan h (Stages count) t u
-one_verdict plan h (Stages count) (AtEvent there reason) t u = absurd (word_or_words plan h there reason t.0 u t.1)
-one_verdict plan h (Stages count) (AtRecord other j reason) t u = absurd (callers_or_outcomes plan h (AtRecord other j reason) (Stages count) u t)
-one_verdict plan h (Stages count) (Missing other there) t u = absurd (callers_or_outcomes plan h (Missing other there) (Stages count) u t)
-one_verdict plan h (Stages count) (AtOutcome at is) t u = tells_outcomes_one plan h (Stages count) (AtOutcome at is) t u
-one_verdict plan h (Stages count) (Stages size) t u = tells_outcomes_one plan h (Stages count) (Stages size) t u
+one_verdict plan h (AtEvent place why) w t u = absurd (word_or_words plan h place why u.0 t u.1)
+one_verdict plan h v (AtEvent there reason) t u = absurd (word_or_words plan h there reason t.0 u t.1)
+one_verdict plan h (AtRecord caller k why) (AtRecord other j reason) t u = tells_callers_one plan h _ _ t u
+one_verdict plan h (AtRecord caller k why) (Missing other there) t u = tells_callers_one plan h _ _ t u
+one_verdict plan h (AtRecord caller k why) w t u = absurd (callers_or_outcomes plan h (AtRecord caller k why) w t u)
+one_verdict plan h (Missing caller place) (AtRecord other j reason) t u = tells_callers_one plan h _ _ t u
+one_verdict plan h (Missing caller place) (Missing other there) t u = tells_callers_one plan h _ _ t u
+one_verdict plan h (Missing caller place) w t u = absurd (callers_or_outcomes plan h (Missing caller place) w t u)
+one_verdict plan h v (AtRecord other j reason) t u = absurd (callers_or_outcomes plan h (AtRecord other j reason) v u t)
+one_verdict plan h v (Missing other there) t u = absurd (callers_or_outcomes plan h (Missing other there) v u t)
+one_verdict plan h v w t u = tells_outcomes_one plan h v w t u
