@@ -6,6 +6,7 @@ pub mod Meets
 pub mod Recs
 pub mod Closing
 pub mod Passes
+pub mod Steps
 pub mod Results
 pub mod Looks
 pub mod Gathers

@@ -1,5 +1,4 @@
-use Rattle.std.proofs.Common.{◌≡◌, ℕ, ◌<◌, ◌+◌, ◌++◌, ◌∷◌, [], length, length-append, sym, ap, ◌∙◌, subst, arith}
-use Rattle.atomic_table.specs.Seated.{TableId}
+use Rattle.std.proofs.Common.{◌≡◌, ℕ, ◌+◌, ◌++◌, ◌∷◌, [], length, length-append, sym, ap, ◌∙◌, subst, arith}
 use Rattle.cf_model.specs.declared.events.Event.{Event}
 use Rattle.cf_model.specs.declared.events.Reply.{Reply}
 use Rattle.cf_model.specs.States.{State}
@@ -7,13 +6,14 @@ use Rattle.cf_model.specs.Events.{answered}
 use Rattle.cf_model.specs.Calls.{event_by, who_of}
 use Rattle.cf_desk.specs.declared.row.CallerView.{CallerView}
 use Rattle.cf_desk.specs.Log.{IsDeskEvent}
-use Rattle.cf_desk.specs.Rule.{saw, AddsNext}
+use Rattle.cf_desk.specs.Rule.{saw, AddsNext, SeesOther}
 use Rattle.cf_desk.specs.declared.calls.Rec.TheVariants.{Did}
-use Rattle.cf_desk.specs.Views.{Pass, Desk, known_of, state_of}
+use Rattle.cf_desk.specs.Views.{Pass, known_of, state_of}
 use Rattle.cf_desk.proofs.Recs.{own_call}
-use Rattle.cf_desk.proofs.Passes.{adds_at, one_known, short_more, agrees_own, agrees_other, on_plan}
+use Rattle.cf_desk.proofs.Passes.{adds_at, one_known, short_more, agrees_own, on_plan}
+use Rattle.cf_desk.proofs.Steps.{HasNext, has_next, kept_other, added_by_other}
 use Rattle.cf_desk.proofs.desk.Desk.add.Goals as goal
-use Rattle.cf_desk.proofs.desk.Desk.add.Goals.{After-event_by-event, After-compare_exchange-found, After-push_reserved}
+use Rattle.cf_desk.proofs.desk.Desk.add.Goals.{After-event_by-event, After-compare_exchange-found, After-push_reserved, In-Some}
 
 -- the event is that of the pass's caller
 event_is : (c : After-event_by-event) → c.event_by-event.result ≡ event_by (known_of c.p.inside.seat.me.0).caller c.args.call
@@ -33,36 +33,24 @@ encode-word-requires c = (of_desk (goal.at.encode-word-requires c).After-event_b
 pub compare_exchange-found-requires : goal.compare_exchange-found-requires
 compare_exchange-found-requires c =
     let at = (goal.at.compare_exchange-found-requires c).After-event_by-event in
-    let p = c.p.inside in
-    let k = known_of p.seat.me.0 in
-    let a = c.p.invariant.agrees in
-    let seen = ap (λ (h : Pass). length h.known.seen) c.p.view_is in
-    let words = ap (λ (h : Desk). h.words) c.self.view_is in
-    let room : p.count < c.self.inside.table.shared.key.words = rw c.self.invariant.key (omega arith) in (
-      ap (λ (h : Pass). h.table) c.p.view_is ∙ c.requires.table ∙ sym (ap (λ (h : Desk). h.table) c.self.view_is),
-      (omega arith),
-      adds_at _ _ _ _ k p.count c.encode-word.result c.event_by-event.result c.p.invariant.one a.count room c.encode-word.ensures.word (of_desk at) (ap who_of (event_is at) ∙ own_call k.caller c.args.call),
+    let n = has_next _ _ _ _ c.p.invariant c.self.invariant c.p.view_is c.self.view_is c.requires.table c.requires.room in
+    let k = known_of c.p.inside.seat.me.0 in (
+      n.table,
+      n.place,
+      adds_at _ _ _ _ k c.p.inside.count c.encode-word.result c.event_by-event.result c.p.invariant.one c.p.invariant.agrees.count n.key c.encode-word.ensures.word (of_desk at) (ap who_of (event_is at) ∙ own_call k.caller c.args.call),
     )
 
 told : (c : After-compare_exchange-found) → AddsNext (known_of c.p.inside.seat.me.0) c.encode-word.result c.compare_exchange-found.result c.compare_exchange-found.new.seat.me.0
 told c = c.compare_exchange-found.ensures.2.1 (known_of c.p.inside.seat.me.0) (ap (λ m. m.0) c.p.invariant.one)
 
-left_over : (c : After-compare_exchange-found) → c.p.inside.count < c.p.inside.seat.table_id.words
-left_over c =
-    let seen = ap (λ (h : Pass). length h.known.seen) c.p.view_is in
-    let words = ap (λ (h : Desk). h.words) c.self.view_is in
-    let a = c.p.invariant.agrees in
-    let same : c.p.inside.seat.table_id.words ≡ c.self.inside.table.shared.table_id.words = ap (λ (z : TableId). z.words) (ap (λ (h : Pass). h.table) c.p.view_is ∙ c.requires.table ∙ sym (ap (λ (h : Desk). h.table) c.self.view_is)) in
-    omega arith
+next : (c : After-compare_exchange-found) → HasNext c.p.inside c.self.inside
+next c = has_next _ _ _ _ c.p.invariant c.self.invariant c.p.view_is c.self.view_is c.requires.table c.requires.room
 
-none_held : (c : After-compare_exchange-found) → c.compare_exchange-found.new.seat.me.1 ≡ []
-none_held c = c.compare_exchange-found.ensures.2.0 ∙ ap (λ m. m.1) c.p.invariant.one
+lost : (c : In-Some) → SeesOther (known_of c.p.inside.seat.me.0) c.in-Some.theirs c.compare_exchange-found.new.seat.me.0
+lost c = (told (goal.at.In-Some c).After-compare_exchange-found).lost c.in-Some.theirs (sym c.in-Some.ensures.value)
 
 pub overflow_add-p : goal.overflow_add-p
-overflow_add-p c =
-    let seen = ap (λ (h : Pass). length h.known.seen) c.p.view_is in
-    let words = ap (λ (h : Desk). h.words) c.self.view_is in
-    omega arith
+overflow_add-p c = omega (arith, (next (goal.at.overflow_add-p c).After-compare_exchange-found).few)
 
 more : (c : After-push_reserved) → c.push_reserved.new.self.items ≡ c.p.inside.records.items ++ Did (c.p.inside.count + 1) c.args.call c.apply-reply.result ∷ []
 more c = c.push_reserved.ensures.items
@@ -72,9 +60,7 @@ apply-reply-requires c =
     on_plan (known_of c.p.inside.seat.me.0) _ _ c.p.invariant.agrees.state (of_desk (goal.at.apply-reply-requires c).After-event_by-event)
 
 pub redo-requires : goal.redo-requires
-redo-requires c =
-    let t = (told (goal.at.redo-requires c).After-compare_exchange-found).lost c.in-Some.theirs (sym c.in-Some.ensures.value) in
-    on_plan (known_of c.p.inside.seat.me.0) _ _ c.p.invariant.agrees.state t.1
+redo-requires c = on_plan (known_of c.p.inside.seat.me.0) _ _ c.p.invariant.agrees.state (lost (goal.at.redo-requires c).In-Some).1
 
 -- a won exchange makes the pass's event the next that it has seen
 won : (c : After-push_reserved) → c.compare_exchange-found.new.seat.me.0 ≡ saw (known_of c.p.inside.seat.me.0) (event_by (known_of c.p.inside.seat.me.0).caller c.args.call) ∷ []
@@ -94,11 +80,11 @@ invariant_of-p c =
     let calls = ap (λ (h : Pass). h.calls) c.p.view_is in
     let did = ap (λ (h : Pass). length h.records) c.p.view_is in
     let longer = ap length (more won_at) in record {
-      one = one_known _ _ is (none_held at);
+      one = one_known _ _ is (c.compare_exchange-found.ensures.2.0 ∙ ap (λ m. m.1) i.one);
       agrees = agrees_own _ _ _ _ _ _ _ _ _ c.args.call c.apply-reply.result (ap known_of is) (of_pass (goal.at.invariant_of-p c).After-event_by-event) (now won_at) (more won_at) i.agrees;
       room = (let r = i.room in omega (arith, c.push_reserved.ensures.capacity));
       within = omega (arith, length-append c.p.inside.records.items (Did (c.p.inside.count + 1) c.args.call c.apply-reply.result ∷ []));
-      short = short_more _ _ _ c.compare_exchange-found.ensures.0 (left_over at);
+      short = short_more _ _ _ c.compare_exchange-found.ensures.0 (next at).left;
     }
 
 pub returns-in-None : goal.returns-in-None
@@ -115,23 +101,8 @@ returns-in-None c =
 
 pub invariant_of-p-in-Some : goal.invariant_of-p-in-Some
 invariant_of-p-in-Some c =
-    let at = (goal.at.invariant_of-p-in-Some c).After-compare_exchange-found in
-    let i = c.p.invariant in
-    let t = (told at).lost c.in-Some.theirs (sym c.in-Some.ensures.value) in record {
-      one = one_known _ _ t.0 (none_held at);
-      agrees = agrees_other _ _ _ _ _ _ _ _ c.in-Some.theirs (ap known_of t.0) t.1 t.2 c.redo.ensures i.agrees;
-      room = i.room;
-      within = i.within;
-      short = short_more _ _ _ c.compare_exchange-found.ensures.0 (left_over at);
-    }
+    let at = goal.at.invariant_of-p-in-Some c in
+    kept_other _ _ _ c.in-Some.theirs c.p.invariant (next at.After-compare_exchange-found).left c.compare_exchange-found.ensures.0 c.compare_exchange-found.ensures.2.0 (lost at.In-Some) c.redo.ensures
 
 pub returns-in-Some : goal.returns-in-Some
-returns-in-Some c =
-    let at = (goal.at.returns-in-Some c).After-compare_exchange-found in
-    let t = (told at).lost c.in-Some.theirs (sym c.in-Some.ensures.value) in
-    rw (← c.p.view_is) (record {
-      found = c.in-Some.theirs;
-      is = λ i. record { table = c.compare_exchange-found.ensures.0 i; known = known_of (t.0 i); records = c.p.inside.records.items; calls = c.p.inside.calls };
-      event = t.1;
-      other = t.2;
-    })
+returns-in-Some c = rw (← c.p.view_is) (added_by_other c.p.inside c.compare_exchange-found.new.seat c.in-Some.theirs c.compare_exchange-found.ensures.0 (lost (goal.at.returns-in-Some c).In-Some))
