@@ -17,7 +17,7 @@ use Rattle.cf_model.specs.declared.events.Event.{Event}
 use Rattle.cf_desk.specs.declared.row.DeskConfig.{DeskConfig}
 use Rattle.cf_desk.specs.declared.row.LogConfig.{LogConfig}
 use Rattle.cf_desk.specs.declared.row.CallerView.{CallerView}
-use Rattle.cf_model.specs.States.{State as Copy, start}
+use Rattle.cf_model.specs.States.{State, start}
 use Rattle.cf_model.specs.Calls.{who_of}
 use Rattle.cf_event.specs.Words.{IsEvent, word_of}
 use Rattle.cf_event.specs.Decoding.{decoded, decoded_with, event_of}
@@ -89,7 +89,7 @@ none_of callers now rest (k ∷ ks) h c one = dite (ℕ_discrete k.caller c)
     (λ (same : k.caller ≡ c). subst (λ x. own x rest ≡ []) same (subst (λ l. own k.caller l ≡ []) (same_rest now h.0.rest rest (sym h.0.split)) h.0.none))
     (λ (ne : k.caller ≢ c). none_of callers now rest ks h.1 c (let w : weight (eqb k.caller c) ≡ 0 = ap weight (ne_eqb k.caller c ne) in omega arith))
 
-nobodys : (callers : DeskConfig) (s : Copy) (rest : List Event) → AreEventsOf callers.callers callers.functions s rest → ((c : ℕ) → c < callers.callers → own c rest ≡ []) → rest ≡ []
+nobodys : (callers : DeskConfig) (s : State) (rest : List Event) → AreEventsOf callers.callers callers.functions s rest → ((c : ℕ) → c < callers.callers → own c rest ≡ []) → rest ≡ []
 nobodys callers s [] events none = refl
 nobodys callers s (w ∷ ws) events none =
     let e = events.0 in
@@ -203,7 +203,7 @@ no_rest : (seen rest : List Event) → length (seen ++ rest) ≤ length seen →
 no_rest seen [] le = refl
 no_rest seen (x ∷ xs) le = absurd (omega (arith, length-append seen (x ∷ xs)))
 
-latest_whole : (t : DeskConfig) (log : List Event) (most : ℕ) (s : Copy) (v : List CallerView) → AllStand t log v → AllCatch (longest v) v → IsLatest most s v → s ≡ state_from t.plan (longest v)
+latest_whole : (t : DeskConfig) (log : List Event) (most : ℕ) (s : State) (v : List CallerView) → AllStand t log v → AllCatch (longest v) v → IsLatest most s v → s ≡ state_from t.plan (longest v)
 latest_whole t log most s v stand catch l =
     let b = one_begins t log (longest v) l.plan l.seen v stand catch l.one in
     let none : b.1.0 ≡ [] = no_rest l.seen b.1.0 (let e = ap length b.1.1 in let m = longest_short most v l.short in let n = l.count in omega arith) in
@@ -211,7 +211,7 @@ latest_whole t log most s v stand catch l =
     l.state ∙ (λ i. state_from (b.0 i) (is i))
 
 -- what the last seat shows
-pub record Shown (d : Desk) (ps : List Pass) (most : ℕ) (replica : Copy) (history : List Event) : Type 0 where
+pub record Shown (d : Desk) (ps : List Pass) (most : ℕ) (replica : State) (history : List Event) : Type 0 where
   pub closes : Closes d ps history
   pub fit : AllFit d.setting.plan history (map pass_did ps)
   pub latest : replica ≡ state_from d.setting.plan history
@@ -223,7 +223,7 @@ row_room t log words r = let l = r.room in let w = ap length r.words_are in omeg
 abbrev pub desk_of : TableId → LogConfig → Desk
 desk_of z t = record { table = z; setting = t.setting; words = t.words }
 
-pub shows : {S : Type 0} (z : TableId) (t : LogConfig) (words : List ℕ) (slots : List S) (id : ℕ) (ps : List Pass) (most : ℕ) (replica : Copy) → length ps ≡ t.setting.callers → All IsFit ps → IsLatest most replica (knowns ps)
+pub shows : {S : Type 0} (z : TableId) (t : LogConfig) (words : List ℕ) (slots : List S) (id : ℕ) (ps : List Pass) (most : ℕ) (replica : State) → length ps ≡ t.setting.callers → All IsFit ps → IsLatest most replica (knowns ps)
     → Final (Seen (holds {S = S} t) id (knowns ps)) words slots → Shown (desk_of z t) ps most replica (decoded words)
 shows z t words slots id ps most replica all fit latest f =
     let s = f.0 in
@@ -241,7 +241,7 @@ shows z t words slots id ps most replica all fit latest f =
       latest = latest_whole t.setting h.log most replica v stand w.1 latest;
     })
 
-pub shown_as : (z : TableId) (t : LogConfig) (words : List ℕ) (slots : List ℕ) (id : ℕ) (v : List CallerView) (ps : List Pass) (d : Desk) (most : ℕ) (replica : Copy) (history : List Event) → desk_of z t ≡ d → v ≡ knowns ps → length ps ≡ d.setting.callers → All IsFit ps
+pub shown_as : (z : TableId) (t : LogConfig) (words : List ℕ) (slots : List ℕ) (id : ℕ) (v : List CallerView) (ps : List Pass) (d : Desk) (most : ℕ) (replica : State) (history : List Event) → desk_of z t ≡ d → v ≡ knowns ps → length ps ≡ d.setting.callers → All IsFit ps
     → IsLatest most replica (knowns ps) → history ≡ decoded words → Final (Seen (holds {S = ℕ} t) id v) words slots → Shown d ps most replica history
 shown_as z t words slots id v ps d most replica history desk is all fit latest read f =
     subst (Shown d ps most replica) (sym read) (subst (λ (x : Desk). Shown x ps most replica (decoded words)) desk
@@ -252,7 +252,7 @@ shown_as z t words slots id v ps d most replica history desk is all fit latest r
 pub new_one : (n : DeskConfig) (c : ℕ) (seat mine : Me ℕ (List CallerView)) → c < n.callers → seat ≡ (fresh n c (n.callers - c), []) → mine ≡ (head_of seat.0, []) → mine ≡ (blank n c ∷ [], [])
 new_one n c seat mine lt s m = m ∙ (λ i. (head_of (s i).0, [])) ∙ (λ i. ((fresh_head n c (n.callers - c) (n.callers - (c + 1)) (omega arith)).0 i, []))
 
-pub agrees_new : (n : DeskConfig) (c most : ℕ) (mine : Me ℕ (List CallerView)) (replica : Copy) (records : List Rec) → c < n.callers → n.callers ≤ 64 → most ≡ n.functions → mine ≡ (blank n c ∷ [], []) → replica ≡ start n.plan → records ≡ [] → Agrees (known_of mine.0) c most 0 replica records
+pub agrees_new : (n : DeskConfig) (c most : ℕ) (mine : Me ℕ (List CallerView)) (replica : State) (records : List Rec) → c < n.callers → n.callers ≤ 64 → most ≡ n.functions → mine ≡ (blank n c ∷ [], []) → replica ≡ start n.plan → records ≡ [] → Agrees (known_of mine.0) c most 0 replica records
 agrees_new n c most mine replica records lt few functions me opening none = subst (λ (m : Me ℕ (List CallerView)). Agrees (known_of m.0) c most 0 replica records) (sym me) (record { caller = refl; one_of = lt; few = few; functions = functions; count = refl; state = opening; events = tt; fits = subst (Fits n.plan c []) (sym none) (fits_new n.plan c) })
 
 -- one pass more is split off
