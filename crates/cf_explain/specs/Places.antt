@@ -8,7 +8,7 @@ use Rattle.cf_reading.specs.declared.fault.ReadingFault.TheVariants as faults
 use Rattle.cf_explain.specs.declared.place.Area.{Area}
 use Rattle.cf_explain.specs.declared.place.Area.TheVariants as areas
 use Rattle.cf_explain.specs.declared.place.Place.{Place}
-use Rattle.cf_explain.specs.declared.refusing.Wrong.{Wrong}
+use Rattle.cf_explain.specs.declared.refusing.Finding.{Finding}
 
 -- the part that the builder of plans refuses at position k: a limit, or a stage
 abbrev pub plan_area : PlanFault → ℕ → Area
@@ -26,7 +26,7 @@ area_of fault = areas.Part Top
 
 -- a part itself, and not something in it
 abbrev pub place_of : Area → Place
-place_of area = record { area = area; hops = None ∷ None ∷ None ∷ None ∷ [] }
+place_of area = record { area = area; path = None ∷ None ∷ None ∷ None ∷ [] }
 
 -- a position, or the greatest that there is a number for
 abbrev pub position_of : ℕ → ℕ
@@ -37,5 +37,5 @@ abbrev pub limit_place : ℕ → Place
 limit_place k = place_of (areas.Part (Limit (position_of k)))
 
 -- what was found, if something was, is in this part
-abbrev pub IsIn : Area → Option Wrong → Type 0
+abbrev pub IsIn : Area → Option Finding → Type 0
 IsIn area found = IfSome found (λ w. w.place.area ≡ area)

@@ -8,12 +8,12 @@ ghost use Rattle.cf_explain.specs.Verdicts.{ExplainTells, refused_for};
 use crate::behind::remark_behind;
 use crate::idle::idle_steps;
 use crate::place::{Place, area_of};
-use crate::refusing::{Wrong, found};
+use crate::reason::Reason;
+use crate::refusing::{Finding, found};
 use crate::remark::Remark;
 use crate::twice::remark_twice;
 use crate::unread::remark_unread;
 use crate::verdict::{Explanation, Refusal};
-use crate::why::Why;
 use cf_reading::{MAX_BYTES, ReadingFault, Script, script_of};
 use serde_json::Value as Json;
 use std::alloc::{AllocError, Global};
@@ -29,17 +29,17 @@ pub fn explain(alloc: Global, bytes: &[u8]) -> Result<Explanation, AllocError>
     ensures remarks { IfOk result (λ e. AreRemarks (reading bytes.now) (json_of bytes.now) e.remarks.items) }
 {
     if bytes.len() > MAX_BYTES {
-        return Ok(unread(alloc, ReadingFault::TooLong, Why::TooLong));
+        return Ok(unread(alloc, ReadingFault::TooLong, Reason::TooLong));
     }
     match Json::from_slice(alloc, bytes) {
         Ok(json) => explain_json(alloc, bytes, &json),
         Err(error) if error.is_memory() => Err(AllocError),
-        Err(error) => Ok(unread(alloc, ReadingFault::NotJson, Why::NotJson(error))),
+        Err(error) => Ok(unread(alloc, ReadingFault::NotJson, Reason::NotJson(error))),
     }
 }
 
 /// That bytes are refused whole, before anything in them is looked at.
-fn unread(alloc: Global, fault: ReadingFault, why: Why) -> Explanation
+fn unread(alloc: Global, fault: ReadingFault, why: Reason) -> Explanation
     ensures refused { ExplainTells result.refusal (refused_for fault) }
     ensures remarks { result.remarks.items ≡ [] }
 {
@@ -65,8 +65,8 @@ fn explain_json(alloc: Global, bytes: &[u8], json: &Json) -> Result<Explanation,
         Err(fault) => {
             let place = Place::of(area_of(fault));
             let (place, why) = match found(alloc, fault, place, json)? {
-                Some(Wrong { place, why }) => (place, why),
-                None => (place, Why::Unsaid),
+                Some(Finding { place, why }) => (place, why),
+                None => (place, Reason::Unsaid),
             };
             let mut remarks = Vec::new(alloc);
             remark_written(alloc, bytes, json, &mut remarks)?;

@@ -3,38 +3,38 @@ ghost use Rattle.std.specs.Prelude.{IfOk};
 ghost use Rattle.cf_explain.specs.Places.{IsIn};
 
 use crate::place::Place;
-use crate::refusing::{Wrong, wrong_at};
+use crate::reason::Reason;
+use crate::refusing::{Finding, wrong_at};
 use crate::vocabulary::Words;
 use crate::wanted::Wanted;
-use crate::why::Why;
 use serde_json::Value as Json;
 use std::alloc::{AllocError, Global};
 
 /// What is wrong with a value that has to be there.
-pub(crate) fn needed(place: Place, said: Option<&Json>, wanted: Wanted) -> Option<Wrong>
+pub(crate) fn needed(place: Place, said: Option<&Json>, wanted: Wanted) -> Option<Finding>
     ensures { IsIn place.area result }
 {
     match said {
-        None => wrong_at(place, Why::Missing(wanted)),
+        None => wrong_at(place, Reason::Missing(wanted)),
         Some(json) => taken(place, json, wanted),
     }
 }
 
 /// What is wrong with a value that may be missing.
-pub(crate) fn optional(place: Place, said: Option<&Json>, wanted: Wanted) -> Option<Wrong>
+pub(crate) fn optional(place: Place, said: Option<&Json>, wanted: Wanted) -> Option<Finding>
     ensures { IsIn place.area result }
 {
     taken(place, said?, wanted)
 }
 
 /// What is wrong with a value.
-pub(crate) fn taken(place: Place, json: &Json, wanted: Wanted) -> Option<Wrong>
+pub(crate) fn taken(place: Place, json: &Json, wanted: Wanted) -> Option<Finding>
     ensures { IsIn place.area result }
 {
     if wanted.takes(json) {
         None
     } else {
-        wrong_at(place, Why::Wants(wanted))
+        wrong_at(place, Reason::Wants(wanted))
     }
 }
 
@@ -44,7 +44,7 @@ pub(crate) fn word_wrong(
     place: Place,
     said: Option<&Json>,
     words: Words,
-) -> Result<Option<Wrong>, AllocError>
+) -> Result<Option<Finding>, AllocError>
     ensures { IfOk result (IsIn place.area) }
 {
     if let Some(found) = needed(place, said, Wanted::One(words)) {
@@ -62,7 +62,7 @@ pub(crate) fn unknown(
     place: Place,
     word: &str,
     words: Words,
-) -> Result<Option<Wrong>, AllocError>
+) -> Result<Option<Finding>, AllocError>
     ensures { IfOk result (IsIn place.area) }
 {
     if words.known(word).is_some() {
@@ -72,7 +72,7 @@ pub(crate) fn unknown(
     let word = String::from_str(alloc, word)?;
     Ok(wrong_at(
         place,
-        Why::Unknown {
+        Reason::Unknown {
             word,
             words,
             nearest,
@@ -86,17 +86,17 @@ pub(crate) fn lone_wrong(
     place: Place,
     json: &Json,
     words: Words,
-) -> Result<Option<Wrong>, AllocError>
+) -> Result<Option<Finding>, AllocError>
     ensures { IfOk result (IsIn place.area) }
 {
     let Some(members) = json.as_object() else {
-        return Ok(wrong_at(place, Why::Wants(Wanted::Lone(words))));
+        return Ok(wrong_at(place, Reason::Wants(Wanted::Lone(words))));
     };
     match members.first_key_value() {
         Some((name, content)) if members.len() == 1 => match words.held(name.as_str()) {
             Some((name, wanted)) => Ok(taken(place.member(name), content, wanted)),
             None => unknown(alloc, place, name.as_str(), words),
         },
-        _ => Ok(wrong_at(place, Why::Members(members.len(), words))),
+        _ => Ok(wrong_at(place, Reason::Members(members.len(), words))),
     }
 }

@@ -4,10 +4,10 @@ ghost use Rattle.cf_explain.specs.Places.{IsIn};
 
 use crate::fitting::{lone_wrong, unknown};
 use crate::place::Place;
-use crate::refusing::{Wrong, wrong_at};
+use crate::reason::Reason;
+use crate::refusing::{Finding, wrong_at};
 use crate::vocabulary::Words;
 use crate::wanted::Wanted;
-use crate::why::Why;
 use serde_json::Value as Json;
 use std::alloc::{AllocError, Global};
 
@@ -16,7 +16,7 @@ pub(crate) fn function_wrong(
     alloc: Global,
     place: Place,
     said: Option<&Json>,
-) -> Result<Option<Wrong>, AllocError>
+) -> Result<Option<Finding>, AllocError>
     ensures { IfOk result (IsIn place.area) }
 {
     let Some(json) = said else {
@@ -24,10 +24,10 @@ pub(crate) fn function_wrong(
     };
     match json.as_str() {
         Some(word) if Words::Functions.known(word).is_some() => {
-            Ok(wrong_at(place, Why::Wants(Wanted::Lone(Words::Functions))))
+            Ok(wrong_at(place, Reason::Wants(Wanted::Lone(Words::Functions))))
         }
         Some(word) => unknown(alloc, place, word, Words::PlainFunctions),
         None if json.is_object() => lone_wrong(alloc, place, json, Words::Functions),
-        None => Ok(wrong_at(place, Why::Wants(Wanted::Function))),
+        None => Ok(wrong_at(place, Reason::Wants(Wanted::Function))),
     }
 }

@@ -15,20 +15,20 @@ pub enum Area {
     Step(u32),
 }
 
-/// One hop of a path through a JSON value.
+/// One step of a path through a JSON value.
 #[derive(Clone, Copy, Debug, PartialEq, Eq)]
-pub enum Hop {
+pub enum PathStep {
     /// To the member of this name.
     Member(&'static str),
     /// To the element at this position, from 0 on.
     Item(u32),
 }
 
-/// A part of a script, and the hops that lead into it. Nothing that is read lies deeper than four.
+/// A part of a script, and the path that leads into it. Nothing that is read lies deeper than four.
 #[derive(Clone, Copy, Debug, PartialEq, Eq)]
 pub struct Place {
     pub area: Area,
-    pub hops: [Option<Hop>; 4],
+    pub path: [Option<PathStep>; 4],
 }
 
 /// A position, of which none in a script is greater than a `u32`.
@@ -45,7 +45,7 @@ impl Place {
     {
         Place {
             area,
-            hops: [None; 4],
+            path: [None; 4],
         }
     }
 
@@ -81,29 +81,29 @@ impl Place {
     pub(crate) fn member(self, name: &'static str) -> Place
         ensures { result.area ≡ self.area }
     {
-        self.with(Hop::Member(name))
+        self.with(PathStep::Member(name))
     }
 
     /// The element at this position in it.
     pub(crate) fn item(self, k: usize) -> Place
         ensures { result.area ≡ self.area }
     {
-        self.with(Hop::Item(position(k)))
+        self.with(PathStep::Item(position(k)))
     }
 
-    fn with(self, hop: Hop) -> Place
+    fn with(self, step: PathStep) -> Place
         ensures { result.area ≡ self.area }
     {
-        let mut hops = self.hops;
-        for slot in hops.iter_mut() {
+        let mut path = self.path;
+        for slot in path.iter_mut() {
             if slot.is_none() {
-                *slot = Some(hop);
+                *slot = Some(step);
                 break;
             }
         }
         Place {
             area: self.area,
-            hops,
+            path,
         }
     }
 }
@@ -142,8 +142,8 @@ impl fmt::Display for Area {
 /// As in `stages[3].of[1]`, and of a member of the whole as in `names[3]`.
 impl fmt::Display for Place {
     fn fmt<W: fmt::Write>(&self, f: &mut fmt::Formatter<W>) -> fmt::Result {
-        let first = match (self.area, self.hops[0]) {
-            (Area::Part(Part::Top), Some(Hop::Member(name))) => {
+        let first = match (self.area, self.path[0]) {
+            (Area::Part(Part::Top), Some(PathStep::Member(name))) => {
                 write!(f, "{name}")?;
                 1
             }
@@ -152,10 +152,10 @@ impl fmt::Display for Place {
                 0
             }
         };
-        for hop in self.hops.iter().skip(first) {
-            match hop {
-                Some(Hop::Member(name)) => write!(f, ".{name}")?,
-                Some(Hop::Item(i)) => write!(f, "[{i}]")?,
+        for step in self.path.iter().skip(first) {
+            match step {
+                Some(PathStep::Member(name)) => write!(f, ".{name}")?,
+                Some(PathStep::Item(i)) => write!(f, "[{i}]")?,
                 None => return Ok(()),
             }
         }

@@ -5,18 +5,18 @@ ghost use Rattle.cf_explain.specs.Places.{IsIn};
 use crate::functions::function_wrong;
 use crate::place::Place;
 use crate::planned::plan_wrong;
+use crate::reason::Reason;
 use crate::shapes::shape_wrong;
 use crate::steps::step_wrong;
-use crate::why::Why;
 use cf_reading::ReadingFault;
 use serde_json::Value as Json;
 use std::alloc::{AllocError, Global};
 
 /// A place, and what is wrong there.
 #[derive(Drop)]
-pub(crate) struct Wrong {
+pub(crate) struct Finding {
     pub(crate) place: Place,
-    pub(crate) why: Why,
+    pub(crate) why: Reason,
 }
 
 /// The place in this part of a script that is JSON by which the fault came, and what is wrong there.
@@ -25,7 +25,7 @@ pub(crate) fn found(
     fault: ReadingFault,
     place: Place,
     json: &Json,
-) -> Result<Option<Wrong>, AllocError>
+) -> Result<Option<Finding>, AllocError>
     ensures { IfOk result (IsIn place.area) }
 {
     match fault {
@@ -45,8 +45,8 @@ pub(crate) fn found(
 }
 
 /// This is wrong at this place.
-pub(crate) fn wrong_at(place: Place, why: Why) -> Option<Wrong>
+pub(crate) fn wrong_at(place: Place, why: Reason) -> Option<Finding>
     ensures { IsIn place.area result }
 {
-    Some(Wrong { place, why })
+    Some(Finding { place, why })
 }

@@ -4,11 +4,11 @@ ghost use Rattle.cf_explain.specs.Places.{IsIn};
 
 use crate::fitting::{needed, optional, taken, word_wrong};
 use crate::place::Place;
-use crate::refusing::{Wrong, wrong_at};
+use crate::reason::Reason;
+use crate::refusing::{Finding, wrong_at};
 use crate::stages::stage_wrong;
 use crate::vocabulary::Words;
 use crate::wanted::Wanted;
-use crate::why::Why;
 use cf_reading::Part;
 use serde_json::Value as Json;
 use std::alloc::{AllocError, Global};
@@ -19,7 +19,7 @@ pub(crate) fn shape_wrong(
     place: Place,
     part: Part,
     json: &Json,
-) -> Result<Option<Wrong>, AllocError>
+) -> Result<Option<Finding>, AllocError>
     ensures { IfOk result (IsIn place.area) }
 {
     match part {
@@ -28,7 +28,7 @@ pub(crate) fn shape_wrong(
         Part::Room => Ok(
             match optional(place, json.get("room"), Wanted::UpTo(4_096)) {
                 Some(found) => Some(found),
-                None => wrong_at(place, Why::NoPlace),
+                None => wrong_at(place, Reason::NoPlace),
             },
         ),
         Part::Stages => Ok(needed(place, json.get("stages"), Wanted::Array)),
@@ -59,7 +59,7 @@ pub(crate) fn version_of(json: &Json) -> i64 {
 }
 
 /// What is wrong with a limit.
-fn limit_wrong(alloc: Global, place: Place, json: &Json) -> Result<Option<Wrong>, AllocError>
+fn limit_wrong(alloc: Global, place: Place, json: &Json) -> Result<Option<Finding>, AllocError>
     ensures { IfOk result (IsIn place.area) }
 {
     if let Some(found) = number_wrong(place, json) {
@@ -73,7 +73,7 @@ fn limit_wrong(alloc: Global, place: Place, json: &Json) -> Result<Option<Wrong>
 }
 
 /// What is wrong with a limit as an object, with its stage or with its moment.
-fn number_wrong(place: Place, json: &Json) -> Option<Wrong>
+fn number_wrong(place: Place, json: &Json) -> Option<Finding>
     ensures { IsIn place.area result }
 {
     if let Some(found) = taken(place, json, Wanted::Object) {

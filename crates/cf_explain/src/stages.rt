@@ -4,10 +4,10 @@ ghost use Rattle.cf_explain.specs.Places.{IsIn};
 
 use crate::fitting::{taken, word_wrong};
 use crate::place::Place;
-use crate::refusing::{Wrong, wrong_at};
+use crate::reason::Reason;
+use crate::refusing::{Finding, wrong_at};
 use crate::vocabulary::Words;
 use crate::wanted::Wanted;
-use crate::why::Why;
 use cf_plan::{Form, fits_form};
 use serde_json::Value as Json;
 use std::alloc::{AllocError, Global};
@@ -22,7 +22,7 @@ pub(crate) fn stage_wrong(
     json: &Json,
     version: i64,
     source: Wanted,
-) -> Result<Option<Wrong>, AllocError>
+) -> Result<Option<Finding>, AllocError>
     ensures { IfOk result (IsIn place.area) }
 {
     if let Some(found) = taken(place, json, Wanted::Object) {
@@ -33,29 +33,29 @@ pub(crate) fn stage_wrong(
         return Ok(Some(found));
     }
     if version == 1 && form.and_then(Json::as_str) == Some(LATER) {
-        return Ok(wrong_at(place.member("form"), Why::NotInVersionOne));
+        return Ok(wrong_at(place.member("form"), Reason::NotInVersionOne));
     }
     Ok(sources_wrong(place.member("of"), json.get("of"), source))
 }
 
 /// What is wrong with the sources of a stage.
-fn sources_wrong(place: Place, said: Option<&Json>, source: Wanted) -> Option<Wrong>
+fn sources_wrong(place: Place, said: Option<&Json>, source: Wanted) -> Option<Finding>
     ensures { IsIn place.area result }
 {
     let json = said?;
     let Some(list) = json.as_array() else {
-        return wrong_at(place, Why::Wants(Wanted::Array));
+        return wrong_at(place, Reason::Wants(Wanted::Array));
     };
     for (j, item) in list.iter().enumerate() {
         if !source.takes(item) {
-            return wrong_at(place.item(j), Why::Wants(source));
+            return wrong_at(place.item(j), Reason::Wants(source));
         }
     }
     None
 }
 
 /// What is wrong with a stage's number of sources, or with its having a function or none.
-pub(crate) fn misfit(place: Place, json: &Json) -> Option<Wrong>
+pub(crate) fn misfit(place: Place, json: &Json) -> Option<Finding>
     ensures { IsIn place.area result }
 {
     let form = form_of(json)?;
@@ -66,14 +66,14 @@ pub(crate) fn misfit(place: Place, json: &Json) -> Option<Wrong>
         None
     } else if fits_form(form, count, !called) {
         let why = if called {
-            Why::FunctionUnwanted
+            Reason::FunctionUnwanted
         } else {
-            Why::FunctionMissing
+            Reason::FunctionMissing
         };
         wrong_at(place.member("fn"), why)
     } else {
         let wanted = sources_taken(form)?;
-        wrong_at(place.member("of"), Why::Sources { wanted, found })
+        wrong_at(place.member("of"), Reason::Sources { wanted, found })
     }
 }
 

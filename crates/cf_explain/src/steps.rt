@@ -6,11 +6,11 @@ use crate::counts::{Counts, counts_before};
 use crate::fitting::{lone_wrong, taken, word_wrong};
 use crate::functions::function_wrong;
 use crate::place::Place;
-use crate::refusing::{Wrong, wrong_at};
+use crate::reason::Reason;
+use crate::refusing::{Finding, wrong_at};
 use crate::stages::{misfit, source_count, stage_wrong};
 use crate::vocabulary::Words;
 use crate::wanted::Wanted;
-use crate::why::Why;
 use cf_reading::MAX_STEPS;
 use serde_json::Value as Json;
 use std::alloc::{AllocError, Global};
@@ -116,11 +116,11 @@ pub(crate) fn step_wrong(
     place: Place,
     k: usize,
     json: &Json,
-) -> Result<Option<Wrong>, AllocError>
+) -> Result<Option<Finding>, AllocError>
     ensures { IfOk result (IsIn place.area) }
 {
     if k >= MAX_STEPS {
-        return Ok(wrong_at(place, Why::TooMany(MAX_STEPS as u32, "steps")));
+        return Ok(wrong_at(place, Reason::TooMany(MAX_STEPS as u32, "steps")));
     }
     let Some(step) = json.get("steps").and_then(|list| list.get(k)) else {
         return Ok(None);
@@ -134,7 +134,10 @@ pub(crate) fn step_wrong(
     }
     let counts = counts_before(json, k);
     match word.and_then(Json::as_str) {
-        Some("attach") if counts.version == 1 => Ok(wrong_at(place.item(0), Why::NotInVersionOne)),
+        Some("attach") if counts.version == 1 => Ok(wrong_at(
+            place.item(0),
+            Reason::NotInVersionOne,
+        )),
         Some(word) => written_wrong(alloc, place, word, step, counts),
         None => Ok(None),
     }
@@ -147,7 +150,7 @@ fn written_wrong(
     word: &str,
     step: &Json,
     counts: Counts,
-) -> Result<Option<Wrong>, AllocError>
+) -> Result<Option<Finding>, AllocError>
     ensures { IfOk result (IsIn place.area) }
 {
     for shape in &STEPS {
@@ -165,7 +168,7 @@ fn elements_wrong(
     shape: &StepShape,
     step: &Json,
     counts: Counts,
-) -> Result<Option<Wrong>, AllocError>
+) -> Result<Option<Finding>, AllocError>
     ensures { IfOk result (IsIn place.area) }
 {
     let Some(list) = step.as_array() else {
@@ -173,7 +176,7 @@ fn elements_wrong(
     };
     let behind = list.len().saturating_sub(1);
     if behind < shape.least || behind > shape.elements.len() {
-        return Ok(wrong_at(place, Why::Written(shape.written)));
+        return Ok(wrong_at(place, Reason::Written(shape.written)));
     }
     for (i, (element, json)) in shape.elements.iter().zip(list.iter().skip(1)).enumerate() {
         let place = place.item(i.saturating_add(1));
@@ -191,7 +194,7 @@ fn element_wrong(
     element: Element,
     json: &Json,
     counts: Counts,
-) -> Result<Option<Wrong>, AllocError>
+) -> Result<Option<Finding>, AllocError>
     ensures { IfOk result (IsIn place.area) }
 {
     match element {
@@ -210,7 +213,7 @@ fn attached_wrong(
     place: Place,
     json: &Json,
     counts: Counts,
-) -> Result<Option<Wrong>, AllocError>
+) -> Result<Option<Finding>, AllocError>
     ensures { IfOk result (IsIn place.area) }
 {
     let source = Wanted::Stage(counts.stages);
@@ -225,10 +228,10 @@ fn attached_wrong(
         return Ok(Some(found));
     }
     if source_count(json) > 2 {
-        return Ok(wrong_at(place.member("of"), Why::TooManySources));
+        return Ok(wrong_at(place.member("of"), Reason::TooManySources));
     }
     if function.is_some() && counts.functions > 4_095 {
-        return Ok(wrong_at(place.member("fn"), Why::TooMany(4_096, "functions")));
+        return Ok(wrong_at(place.member("fn"), Reason::TooMany(4_096, "functions")));
     }
     Ok(None)
 }

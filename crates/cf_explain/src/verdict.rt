@@ -3,8 +3,8 @@ ghost use Rattle.std.specs.Prelude.{◌≡◌};
 ghost use Rattle.cf_explain.specs.Verdicts.{verdict_of};
 
 use crate::place::Place;
+use crate::reason::Reason;
 use crate::remark::Remark;
-use crate::why::Why;
 use cf_reading::ReadingFault;
 use std::fmt;
 
@@ -16,7 +16,7 @@ pub struct Refusal {
     /// The place in the script by which it came.
     pub place: Place,
     /// What is wrong there.
-    pub why: Why,
+    pub why: Reason,
 }
 
 /// What is wrong with a script, and what is odd about it.

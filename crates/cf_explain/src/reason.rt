@@ -5,7 +5,7 @@ use std::fmt;
 
 /// Why a part of a script is refused, which its place names.
 #[derive(Drop)]
-pub enum Why {
+pub enum Reason {
     /// There are too many bytes.
     TooLong,
     /// They are no JSON, for what this says with its line and column.
@@ -52,15 +52,17 @@ pub enum Why {
     Unsaid,
 }
 
-impl Why {
+impl Reason {
     /// How it is written where that is the same text each time.
     fn text(&self) -> Option<&'static str> {
         match self {
-            Why::TooLong => Some("has more than 1048576 bytes"),
-            Why::NotInVersionOne => Some("is read with \"cf\": 2 alone"),
-            Why::FunctionUnwanted => Some("may not be there: the form calls no function"),
-            Why::TooManySources => Some("names too many: an attached stage has at most 2 sources"),
-            Why::NoPlace => Some(
+            Reason::TooLong => Some("has more than 1048576 bytes"),
+            Reason::NotInVersionOne => Some("is read with \"cf\": 2 alone"),
+            Reason::FunctionUnwanted => Some("may not be there: the form calls no function"),
+            Reason::TooManySources => Some(
+                "names too many: an attached stage has at most 2 sources",
+            ),
+            Reason::NoPlace => Some(
                 "is too much: stages and room are at most 4096, edges and twice the room at most 16384",
             ),
             _ => None,
@@ -68,7 +70,7 @@ impl Why {
     }
 }
 
-impl fmt::Display for Why {
+impl fmt::Display for Reason {
     fn fmt<W: fmt::Write>(&self, f: &mut fmt::Formatter<W>) -> fmt::Result {
         match self.text() {
             Some(text) => f.write_str(text),
@@ -78,36 +80,39 @@ impl fmt::Display for Why {
 }
 
 /// Writes what is refused for a word or for JSON.
-fn in_words<W: fmt::Write>(f: &mut fmt::Formatter<W>, why: &Why) -> fmt::Result {
+fn in_words<W: fmt::Write>(f: &mut fmt::Formatter<W>, why: &Reason) -> fmt::Result {
     match why {
-        Why::NotJson(error) => write!(f, "{error}"),
-        Why::Missing(wanted) => write!(f, "is missing; it has to be {wanted}"),
-        Why::Wants(wanted) => write!(f, "has to be {wanted}"),
-        Why::Unknown {
+        Reason::NotJson(error) => write!(f, "{error}"),
+        Reason::Missing(wanted) => write!(f, "is missing; it has to be {wanted}"),
+        Reason::Wants(wanted) => write!(f, "has to be {wanted}"),
+        Reason::Unknown {
             word,
             words,
             nearest,
         } => unknown(f, word.as_str(), *words, *nearest),
-        Why::FunctionMissing => write!(f, "is missing; it has to be {}", Wanted::Function),
+        Reason::FunctionMissing => write!(f, "is missing; it has to be {}", Wanted::Function),
         _ => in_numbers(f, why),
     }
 }
 
 /// Writes what is refused for a number, and else that it is refused.
-fn in_numbers<W: fmt::Write>(f: &mut fmt::Formatter<W>, why: &Why) -> fmt::Result {
+fn in_numbers<W: fmt::Write>(f: &mut fmt::Formatter<W>, why: &Reason) -> fmt::Result {
     match why {
-        Why::Members(count, words) => {
+        Reason::Members(count, words) => {
             write!(
                 f,
                 "has {count} members; it has to have exactly one, {words}"
             )
         }
-        Why::Written(form) => write!(f, "has another number of elements; it is written {form}"),
-        Why::Sources { wanted, found } => {
+        Reason::Written(form) => write!(f, "has another number of elements; it is written {form}"),
+        Reason::Sources { wanted, found } => {
             write!(f, "names {found} stages; the form takes {wanted}")
         }
-        Why::NotLower(k) => not_lower(f, *k),
-        Why::TooMany(most, what) => write!(f, "is one too many: there are at most {most} {what}"),
+        Reason::NotLower(k) => not_lower(f, *k),
+        Reason::TooMany(most, what) => write!(
+            f,
+            "is one too many: there are at most {most} {what}"
+        ),
         _ => write!(f, "isn't as it has to be"),
     }
 }
