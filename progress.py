@@ -23,9 +23,7 @@ PROOFS = {
     "cf_command": 53, "cf_model": 48, "cf_outcome": 47, "cf_event": 43, "cf_bits": 21, "cf_expr": 18, "cf_covers": 12,
 }  # fmt: skip
 TESTS = {
-    "cf_pool_tests": 242, "cf_desk_tests": 240, "cf_core_tests": 156, "cf_script_tests": 123, "cf_plan_tests": 122, "cf_plain_tests": 90,
-    "cf_reading_tests": 88, "cf_ledger_tests": 72, "cf": 71, "cf_event_tests": 66, "cf_explore_tests": 60, "cf_outcome_tests": 49,
-    "cf_bits": 33,
+    "cf_graph_tests": 393, "cf_shared_tests": 282, "cf_pool_tests": 225, "cf_script_tests": 181, "cf": 71, "cf_bits": 33,
 }  # fmt: skip
 OF_TESTS = 5  # to prove a crate that holds tests alone
 CALLERS = 420  # seconds, for the library for C and its callers, where they don't run beside rt ci

@@ -1,23 +1,12 @@
-//! Tests of scripts by the public calls alone, as far as a program can't show it: devices that fail or move one byte a call,
-//! want of memory, the line of each fault, and what a gate sees of a race. What scripts print stands in `tests` at the top.
-//! They stand in a crate of their own, since a crate that has tests is proved twice, with them and without.
+//! Tests of scripts by public calls alone: how they are read, and of what is printed as much as a program can't show, which is
+//! devices that fail or move one byte a call, want of memory, the line of each fault, and what a gate sees of a race. What scripts
+//! print stands in `tests` at the top. They stand in a crate of their own, since a crate that has tests is proved twice, with them
+//! and without.
 #![tactic(auto)]
 
 #[cfg(test)]
-mod bytes;
-#[cfg(test)]
 mod checks;
 #[cfg(test)]
-mod devices;
+mod reading;
 #[cfg(test)]
-mod faults;
-#[cfg(test)]
-mod gates;
-#[cfg(test)]
-mod names;
-#[cfg(test)]
-mod races;
-#[cfg(test)]
-mod reports;
-#[cfg(test)]
-mod scripts;
+mod script;

@@ -1,0 +1,4 @@
+//! Tests of events and their words, by the public calls of `cf_event` alone.
+
+mod attaching;
+mod words;

@@ -1,0 +1,224 @@
+//! What small programs can come to.
+use crate::explore::programs::{Rows, functions_of, program};
+use cf_explore::{Condition, Fact, Found, How, Program, Step, When};
+use cf_model::{Ask, Call};
+use cf_outcome::Value;
+use cf_plan::{Answer, Form, Limit, LimitKind};
+use std::alloc::Global;
+use std::process::Abort;
+use std::test::Fail;
+
+const NONE: Rows = Rows {
+    stages: &[(Form::Source, &[], None)],
+    limits: &[],
+    room: 0,
+    callers: &[],
+    workers: 0,
+    functions: &[],
+    free: false,
+};
+
+const COMPLETE: Step = Step::Do(Call::Complete(0, Value::Int(3)));
+
+const OTHER: Step = Step::Do(Call::Complete(1, Value::Int(4)));
+
+const CANCEL: Step = Step::Do(Call::Cancel(0));
+
+const LOOK: Step = Step::Look(Ask::Outcome(0));
+
+/// Two stages that pay, with one function.
+const PAYS: Rows = Rows {
+    stages: &[
+        (Form::Supply, &[], Some(0)),
+        (Form::Supply, &[], Some(0)),
+        (Form::AnyOf, &[0, 1], None),
+    ],
+    workers: 2,
+    functions: &[Answer::Give(Value::Int(1))],
+    ..NONE
+};
+
+/// The repair: the second pays only where the first has failed.
+const PAYS_ONCE: Rows = Rows {
+    stages: &[
+        (Form::Supply, &[], Some(0)),
+        (Form::Exceptionally, &[0], Some(0)),
+    ],
+    ..PAYS
+};
+
+/// What a program comes to: how many ends, the orders that lead to the first one, how many situations, whether they are all, and
+/// how many moves lead to an end at which function 0 was called twice, 0 where none does.
+#[derive(Clone, Copy)]
+struct Row {
+    name: &'static str,
+    rows: Rows,
+    bound: u32,
+    ends: usize,
+    orders: u128,
+    situations: usize,
+    whole: bool,
+    twice: usize,
+}
+
+const ROWS: [Row; 7] = [
+    Row {
+        name: "complete against cancel",
+        rows: Rows {
+            callers: &[&[COMPLETE], &[CANCEL]],
+            ..NONE
+        },
+        bound: 1000,
+        ends: 2,
+        orders: 1,
+        situations: 5,
+        whole: true,
+        twice: 0,
+    },
+    Row {
+        name: "a timeout that loses, or wins",
+        rows: Rows {
+            limits: &[Limit {
+                stage: 0,
+                at: 10,
+                kind: LimitKind::Timeout,
+            }],
+            callers: &[&[COMPLETE]],
+            free: true,
+            ..NONE
+        },
+        bound: 1000,
+        ends: 2,
+        orders: 2,
+        situations: 5,
+        whole: true,
+        twice: 0,
+    },
+    Row {
+        name: "the first of two replicas",
+        rows: Rows {
+            stages: &[
+                (Form::Source, &[], None),
+                (Form::Source, &[], None),
+                (Form::AnyOf, &[0, 1], None),
+            ],
+            callers: &[&[COMPLETE], &[OTHER]],
+            ..NONE
+        },
+        bound: 1000,
+        ends: 2,
+        orders: 1,
+        situations: 5,
+        whole: true,
+        twice: 0,
+    },
+    Row {
+        name: "pays twice",
+        rows: PAYS,
+        bound: 1000,
+        ends: 1,
+        orders: 44,
+        situations: 28,
+        whole: true,
+        twice: 6,
+    },
+    Row {
+        name: "pays once",
+        rows: PAYS_ONCE,
+        bound: 1000,
+        ends: 1,
+        orders: 2,
+        situations: 6,
+        whole: true,
+        twice: 0,
+    },
+    Row {
+        name: "a full bound",
+        rows: PAYS,
+        bound: 5,
+        ends: 0,
+        orders: 0,
+        situations: 5,
+        whole: false,
+        twice: 0,
+    },
+    Row {
+        name: "more orders than are counted",
+        rows: Rows {
+            callers: &[&[LOOK; 70], &[LOOK; 70]],
+            ..NONE
+        },
+        bound: 10000,
+        ends: 1,
+        orders: 340282366920938463463374607431768211455,
+        situations: 5041,
+        whole: true,
+        twice: 0,
+    },
+];
+
+/// That function 0 is never called twice.
+fn never_twice(alloc: Global) -> Result<Vec<Condition>, Fail> {
+    let facts = vec![in alloc; Fact::Exactly(0, 2)]?;
+    let mut conditions = Vec::new(alloc);
+    conditions.push(Condition {
+        how: How::Never,
+        when: When::End,
+        facts,
+    })?;
+    Ok(conditions)
+}
+
+/// How many moves lead to what decides the first condition, 0 where nothing does.
+fn moves_to(alloc: Global, found: &Found) -> Result<usize, Fail> {
+    match found.decisions.first() {
+        Some(Some(witness)) => Ok(found.order(alloc, *witness)?.len()),
+        _ => Ok(0),
+    }
+}
+
+/// The orders that lead to the first end.
+fn orders_to(found: &Found) -> u128 {
+    match found.ends.first() {
+        None => 0,
+        Some(end) => end.orders,
+    }
+}
+
+/// What a program comes to.
+fn explore(alloc: Global, row: &Row, program: &Program) -> Result<Found, Fail> {
+    let functions = functions_of(alloc, &row.rows)?;
+    let conditions = never_twice(alloc)?;
+    Ok(program.explore(alloc, &functions, &conditions, row.bound)?)
+}
+
+/// Whether a program comes to what its row says.
+fn check(rt: &impl Abort, alloc: Global, row: &Row) -> Result<(), Fail> {
+    let made = program(alloc, &row.rows)?;
+    assert!(rt; made.is_some(), "{}", row.name);
+    if let Some(program) = made {
+        let found = explore(alloc, row, &program)?;
+        let twice = moves_to(alloc, &found)?;
+        assert_eq!(rt;
+            (found.ends.len(), orders_to(&found)),
+            (row.ends, row.orders),
+            "{}",
+            row.name
+        );
+        assert_eq!(rt;
+            (found.trail.len(), found.whole, twice),
+            (row.situations, row.whole, row.twice),
+            "{}",
+            row.name
+        );
+    }
+    Ok(())
+}
+
+#[test]
+fn programs_come_to_their_ends(rt: HostRuntime) -> Result<(), Fail> {
+    for row in ROWS {
+        check(&rt, rt.alloc(), &row)?;
+    }
+    Ok(())
+}

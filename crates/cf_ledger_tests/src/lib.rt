@@ -1,7 +1,0 @@
-//! Tests of the ledger, by its public calls alone. A test is a plan and a table of steps, which one loop takes.
-#![tactic(auto)]
-
-#[cfg(test)]
-mod ledgers;
-#[cfg(test)]
-mod steps;

@@ -1,0 +1,10 @@
+//! Tests of what several callers share, by public calls alone: the desk, with the example of one, and the ledger. They stand in a
+//! crate of their own, since a crate that has tests is proved twice, with them and without.
+#![tactic(auto)]
+
+#[cfg(test)]
+mod checks;
+#[cfg(test)]
+mod desk;
+#[cfg(test)]
+mod ledger;
