@@ -8,7 +8,7 @@ use cf_desk::{Call, Kept, Rec};
 use cf_model::{Claimed, Reply};
 use cf_outcome::Value;
 use cf_plan::{Answer, Args, Form, Functions};
-use cf_pool::{Left, PoolFault, Worker, race, run};
+use cf_pool::{Left, Worker, race, run};
 use std::alloc::Global;
 use std::process::Abort;
 use std::sync::Wait;
@@ -132,14 +132,6 @@ fn agree(left: &Left<Recorder>) -> bool {
     all == 8
 }
 
-/// Whether that is so of a run, which no fault ended.
-fn run_agrees(told: Result<Left<Recorder>, PoolFault<Recorder>>) -> bool {
-    match told {
-        Ok(left) => agree(&left),
-        Err(_) => false,
-    }
-}
-
 /// Each worker of a run of so many, and its caller, notes what its pass was granted.
 fn check_run<R: Threads + Wait + Sync + Abort>(rt: &R, alloc: Global, workers: u8)
     requires { (0 < workers) × (workers ≤ 32) }
@@ -153,11 +145,10 @@ fn check_run<R: Threads + Wait + Sync + Abort>(rt: &R, alloc: Global, workers: u
     };
     let (desk, passes) = open(rt, alloc, opening);
     let hands = recorders(rt, alloc, workers + 1);
-    holds(
-        rt,
-        run_agrees(run(rt, desk, passes, hands)),
-        ("run", workers),
-    );
+    let Some(left) = run(rt, desk, passes, hands).ok() else {
+        panic!(rt; "a fault ended a run of {workers}");
+    };
+    holds(rt, agree(&left), ("run", workers));
 }
 
 /// The same of a race.
