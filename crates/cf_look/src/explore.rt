@@ -1,7 +1,7 @@
 //! The search of all orders in which callers' steps can come.
 use crate::args::Exploring;
 use anyhow::{Result, anyhow};
-use cf_explore::Search;
+use cf_explore::{Found, Search, Witness};
 use cf_orders::{
     Grouped, OrderShape, Question, QuestionFault, Standing, grouped_by, json_of, read_question,
     standing_of, text_of, witness_of, witnesses,
@@ -66,53 +66,45 @@ fn searched<R: Print + Eprint + AllocGlobal + Clock + Files>(
     question: &Question,
     asked: &Exploring,
 ) -> Result<u8> {
-    let alloc = rt.alloc();
-    let search = search_of(rt, question, asked)?;
-    let groups = grouped_by(
-        alloc,
-        &search.found,
-        asked.of.as_ref().map(|of| of.as_slice()),
-    )?;
-    let text = told(alloc, question, &search, groups.as_slice(), asked)?;
-    print!(rt; "{text}")?;
-    Ok(status_of(question, &search))
+    let mut search = question.program.begin(rt.alloc(), &question.conditions)?;
+    go_on(rt, question, asked, &mut search)?;
+    write_found(rt, question, asked, &search.found)?;
+    Ok(status_of(question, &search.found))
 }
 
 /// Searches layer by layer, until all orders are seen, the bound is reached or the file that is to be there is gone. Each
 /// second it says how far it is.
-fn search_of<R: Eprint + AllocGlobal + Clock + Files>(
+fn go_on<R: Eprint + AllocGlobal + Clock + Files>(
     rt: &R,
     question: &Question,
     asked: &Exploring,
-) -> Result<Search> {
-    let alloc = rt.alloc();
-    let mut search = question.program.begin(alloc, &question.conditions)?;
+    search: &mut Search,
+) -> Result<()> {
     let mut told = Instant::now(rt)?;
     for _ in 0..u32::MAX {
         if !search.is_on {
             break;
         }
         question.program.go_on(
-            alloc,
+            rt.alloc(),
             &question.functions,
             &question.conditions,
             asked.states,
-            &mut search,
+            search,
         )?;
         if told.elapsed(rt)?.as_millis() >= 1_000 {
             told = Instant::now(rt)?;
-            write_progress(rt, &search)?;
+            write_progress(rt, &search.found)?;
             if asked.is_over(rt) {
                 break;
             }
         }
     }
-    Ok(search)
+    Ok(())
 }
 
 /// Says how far a search is.
-fn write_progress<R: Eprint>(rt: &R, search: &Search) -> Result<()> {
-    let found = &search.found;
+fn write_progress<R: Eprint>(rt: &R, found: &Found) -> Result<()> {
     eprintln!(rt;
         "{} situations, orders of {} moves, {} ends",
         found.trail.len(),
@@ -122,32 +114,51 @@ fn write_progress<R: Eprint>(rt: &R, search: &Search) -> Result<()> {
     Ok(())
 }
 
-/// What is told: all of it, or one order.
-fn told(
-    alloc: Global,
+/// Writes what was found: all of it, or one order.
+fn write_found<R: Print + AllocGlobal>(
+    rt: &R,
     question: &Question,
-    search: &Search,
-    groups: &[Grouped],
     asked: &Exploring,
-) -> Result<String> {
-    let found = &search.found;
+    found: &Found,
+) -> Result<()> {
+    let stages = asked.of.as_ref().map(|of| of.as_slice());
+    let groups = grouped_by(rt.alloc(), found, stages)?;
     match asked.order {
+        None => write_all(rt, question, asked.json, found, groups.as_slice()),
         Some((number, shape)) => {
-            let all = witnesses(alloc, found, groups)?;
-            let witness = all.get(number).copied();
-            let witness = witness.ok_or_else(|| anyhow!("there is no order {number}"))?;
-            let mut text = witness_of(alloc, question, found, witness, shape)?;
-            text.push('\n')?;
-            Ok(text)
+            let witness = witness_at(rt.alloc(), found, groups.as_slice(), number)?;
+            let text = witness_of(rt.alloc(), question, found, witness, shape)?;
+            Ok(println!(rt; "{text}")?)
         }
-        None if asked.json => Ok(json_of(alloc, question, found, groups)?),
-        None => Ok(text_of(alloc, question, found, groups)?),
+    }
+}
+
+fn write_all<R: Print + AllocGlobal>(
+    rt: &R,
+    question: &Question,
+    as_json: bool,
+    found: &Found,
+    groups: &[Grouped],
+) -> Result<()> {
+    let text = if as_json {
+        json_of(rt.alloc(), question, found, groups)?
+    } else {
+        text_of(rt.alloc(), question, found, groups)?
+    };
+    Ok(print!(rt; "{text}")?)
+}
+
+/// The witness of this number.
+fn witness_at(alloc: Global, found: &Found, groups: &[Grouped], number: usize) -> Result<Witness> {
+    let all = witnesses(alloc, found, groups)?;
+    match all.get(number) {
+        Some(witness) => Ok(*witness),
+        None => Err(anyhow!("there is no order {number}")),
     }
 }
 
 /// The status that tells whether all holds.
-fn status_of(question: &Question, search: &Search) -> u8 {
-    let found = &search.found;
+fn status_of(question: &Question, found: &Found) -> u8 {
     let mut worst = if found.whole { HOLDS } else { NOT_ALL };
     for (k, condition) in question.conditions.iter().enumerate() {
         let is_decided = found.decisions.get(k).copied().flatten().is_some();

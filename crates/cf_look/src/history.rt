@@ -7,12 +7,12 @@ use cf_history::{
     Entry, History, Record, Session, SharedCaller, SharedHistory, Verdict, check, check_shared,
     fill_in,
 };
-use cf_model::{Ask, Event, Told};
+use cf_model::{Ask, Told};
 use cf_outcome::Outcome;
 use cf_plan::Plan;
 use cf_reading::{large, script_of, small, value};
 use serde_json::Value as Json;
-use std::alloc::Global;
+use std::alloc::{AllocError, Global};
 
 /// A history that was read, with the plan that it begins with and for how many stages more there is room. Replies that it
 /// doesn't say are the graph's.
@@ -66,17 +66,22 @@ fn json_of(alloc: Global, bytes: &[u8]) -> Result<Json> {
 /// What sessions say, with the plan and the room for it.
 fn shared_of(alloc: Global, json: &Json) -> Result<(Plan, u16, SharedHistory)> {
     let (plan, room, count) = plan_of(alloc, json)?;
+    let shared = sessions_of(alloc, json, count)?;
+    Ok((plan, room, shared))
+}
+
+/// What sessions say, of a plan that brings so many functions.
+fn sessions_of(alloc: Global, json: &Json, count: u32) -> Result<SharedHistory> {
     let functions = match json.get("functions") {
         None => count,
         Some(said) => large(said).ok_or(Unreadable::Functions)?,
     };
-    let shared = SharedHistory {
+    Ok(SharedHistory {
         functions,
         words: words_of(alloc, json)?,
         callers: callers_of(alloc, json)?,
         outcomes: outcomes_of(alloc, json)?,
-    };
-    Ok((plan, room, shared))
+    })
 }
 
 /// The plan, for how many stages it has room, and how many functions it brings.
@@ -167,7 +172,7 @@ fn no_record(c: usize, n: Option<usize>, k: usize) -> Unreadable {
 
 /// `["did",place,word,reply]`, where the reply may be `unknown`, `["now",place,stage,absent,told]` or
 /// `["outcome",place,stage,told]`.
-fn entry(alloc: Global, json: &Json) -> Result<Option<Entry>> {
+fn entry(alloc: Global, json: &Json) -> Result<Option<Entry>, AllocError> {
     let Some(list) = json.as_array() else {
         return Ok(None);
     };
@@ -182,25 +187,17 @@ fn entry(alloc: Global, json: &Json) -> Result<Option<Entry>> {
 fn entry_with(json: &Json, count: usize, words: &[&str]) -> Option<Entry> {
     let kind = json.get(0usize)?.as_str()?;
     let place = usize::try_from(json.get(1usize)?.as_u64()?).ok()?;
-    let third = json.get(2usize)?;
     match kind {
-        "did" if count == 4 => did(place, decode(word(third)?)?, words),
-        "now" if count == 5 => Some(Entry::Known(Record::Saw {
-            place,
-            ask: Ask::Now(small(third)?, value(json.get(3usize)?)?),
-            told: Told::Now(now(words)?),
-        })),
-        "outcome" if count == 4 => Some(Entry::Known(Record::Saw {
-            place,
-            ask: Ask::Outcome(small(third)?),
-            told: Told::Outcome(settled(words)?),
-        })),
+        "did" if count == 4 => did(place, json.get(2usize)?, words),
+        "now" if count == 5 => saw_now(place, json, words),
+        "outcome" if count == 4 => saw_outcome(place, json.get(2usize)?, words),
         _ => None,
     }
 }
 
 /// An event's entry with the reply of these words.
-fn did(place: usize, event: Event, words: &[&str]) -> Option<Entry> {
+fn did(place: usize, said: &Json, words: &[&str]) -> Option<Entry> {
+    let event = decode(word(said)?)?;
     if is_unknown(words) {
         return Some(Entry::Unanswered { place, event });
     }
@@ -211,6 +208,22 @@ fn did(place: usize, event: Event, words: &[&str]) -> Option<Entry> {
     }))
 }
 
+/// The entry of a look at a stage's present state, for which these words are told.
+fn saw_now(place: usize, json: &Json, words: &[&str]) -> Option<Entry> {
+    let stage = small(json.get(2usize)?)?;
+    let absent = value(json.get(3usize)?)?;
+    let told = Told::Now(now(words)?);
+    let ask = Ask::Now(stage, absent);
+    Some(Entry::Known(Record::Saw { place, ask, told }))
+}
+
+/// The entry of a look at a stage's outcome, for which these words are told.
+fn saw_outcome(place: usize, stage: &Json, words: &[&str]) -> Option<Entry> {
+    let ask = Ask::Outcome(small(stage)?);
+    let told = Told::Outcome(settled(words)?);
+    Some(Entry::Known(Record::Saw { place, ask, told }))
+}
+
 fn outcomes_of(alloc: Global, json: &Json) -> Result<Option<Vec<Option<Outcome>>>> {
     let Some(said) = json.get("outcomes") else {
         return Ok(None);
@@ -218,10 +231,17 @@ fn outcomes_of(alloc: Global, json: &Json) -> Result<Option<Vec<Option<Outcome>>
     let list = said.as_array().ok_or(Unreadable::Outcomes)?;
     let mut outcomes = Vec::new(alloc);
     for (i, said) in list.iter().enumerate() {
-        let text = said.as_str().ok_or(Unreadable::Outcome(i))?;
-        let words: Vec<&str> = text.split_whitespace().collect(alloc)?;
-        let outcome = settled(words.as_slice());
-        outcomes.push(outcome.ok_or(Unreadable::Outcome(i))?)?;
+        let told = told_of(alloc, said)?;
+        outcomes.push(told.ok_or(Unreadable::Outcome(i))?)?;
     }
     Ok(Some(outcomes))
+}
+
+/// What a text says that a stage's outcome is, if it says one.
+fn told_of(alloc: Global, said: &Json) -> Result<Option<Option<Outcome>>, AllocError> {
+    let Some(text) = said.as_str() else {
+        return Ok(None);
+    };
+    let words: Vec<&str> = text.split_whitespace().collect(alloc)?;
+    Ok(settled(words.as_slice()))
 }

@@ -76,19 +76,17 @@ impl Named {
         match step.get(0usize)?.as_str()? {
             "complete" | "fail" | "cancel" | "now" | "outcome" => number(step.get(1usize)),
             "claim" | "finish" => number(step.get(2usize)),
-            "attach" => {
-                let before = steps.as_array()?.iter().take(k);
-                let attached = before.filter(|step| is_attach(step)).count();
-                Some(
-                    self.json
-                        .get("stages")?
-                        .as_array()?
-                        .len()
-                        .saturating_add(attached),
-                )
-            }
+            "attach" => self.stages_before(k),
             _ => None,
         }
+    }
+
+    /// How many stages there are before a step, if all steps before it do what they say.
+    fn stages_before(&self, k: usize) -> Option<usize> {
+        let own = self.json.get("stages")?.as_array()?.len();
+        let before = self.json.get("steps")?.as_array()?.iter().take(k);
+        let attached = before.filter(|step| is_attach(step)).count();
+        Some(own.saturating_add(attached))
     }
 }
 

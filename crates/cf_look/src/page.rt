@@ -1,15 +1,15 @@
 //! Pages, traces and spans of an account or a script.
 use crate::args::Shape;
 use crate::fault::Unreadable;
-use crate::history::{account_of, verdict_on};
-use crate::people::{people_in, people_of};
-use crate::show::line_of;
+use crate::history::{Account, account_of, verdict_on};
+use crate::people::{fill_people, people_in};
+use crate::show::write_verdict;
 use anyhow::Result;
 use cf_explain::explain;
 use cf_history::Verdict;
 use cf_page::{People, page_of, scene_of, spans_of, trace_of, words_of};
 use cf_plan::Plan;
-use cf_reading::{ReadingFault, Script, read_script};
+use cf_reading::{Func, ReadingFault, Script, Step, read_script};
 use cf_script::ScriptFault;
 use serde_json::Value as Json;
 use std::alloc::{AllocError, Global};
@@ -46,16 +46,23 @@ pub(crate) fn read_in(alloc: Global, bytes: &[u8]) -> Result<ReadInput> {
 /// An account with its verdict.
 fn shown_account(alloc: Global, json: &Json) -> Result<Shown> {
     let account = account_of(alloc, json)?;
-    let mut people = people_of(alloc, json, &account)?;
-    let verdict = verdict_on(alloc, &account)?;
-    people.fits = verdict == Verdict::Fits;
-    people.verdict = line_of(alloc, verdict)?;
+    let people = people_of(alloc, json, &account)?;
     Ok(Shown {
         plan: account.plan,
         room: account.room,
         words: account.history.words,
         people,
     })
+}
+
+/// What an account says for people, with the verdict on it.
+fn people_of(alloc: Global, json: &Json, account: &Account) -> Result<People> {
+    let mut people = People::new(alloc);
+    fill_people(alloc, json, account, &mut people)?;
+    let verdict = verdict_on(alloc, account)?;
+    people.fits = verdict == Verdict::Fits;
+    write_verdict(&mut people.verdict, verdict)?;
+    Ok(people)
 }
 
 /// The script of these bytes.
@@ -76,18 +83,34 @@ fn read_in_script(alloc: Global, bytes: &[u8], json: Option<&Json>) -> Result<Re
 /// A script with the events that its run makes.
 fn shown_script(alloc: Global, script: Script, people: People) -> Result<Shown> {
     let mut people = people;
-    people.verdict = String::from_str(alloc, "a run of this script")?;
-    let (plan, room, functions, steps) = script.into_parts();
-    if !plan.has_place(room) {
-        return Err(Unreadable::Room.into());
-    }
-    let words = words_of(alloc, &plan, room, &functions, &steps)?;
+    people.verdict.push_str("a run of this script")?;
+    let (plan, room, words) = run(alloc, script)?;
     Ok(Shown {
         plan,
         room,
         words,
         people,
     })
+}
+
+/// The events that the run of a script makes, with its plan and the room for it.
+fn run(alloc: Global, script: Script) -> Result<(Plan, u16, Vec<u64>)> {
+    let (plan, room, functions, steps) = script.into_parts();
+    let words = words_in(alloc, &plan, room, &functions, &steps)?;
+    Ok((plan, room, words))
+}
+
+fn words_in(
+    alloc: Global,
+    plan: &Plan,
+    room: u16,
+    functions: &[Func],
+    steps: &[Step],
+) -> Result<Vec<u64>> {
+    if !plan.has_place(room) {
+        return Err(Unreadable::Room.into());
+    }
+    Ok(words_of(alloc, plan, room, functions, steps)?)
 }
 
 /// The text that shows it.

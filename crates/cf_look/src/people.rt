@@ -1,6 +1,6 @@
 //! What an account or a script says for people alone.
 use crate::fault::Unreadable;
-use crate::history::Account;
+use crate::history::{Account, word};
 use anyhow::Result;
 use cf_explain::stage_name;
 use cf_history::{Caller, Record};
@@ -8,63 +8,68 @@ use cf_model::Reply;
 use cf_page::People;
 use cf_reading::small;
 use serde_json::Value as Json;
-use std::alloc::Global;
+use std::alloc::{AllocError, Global};
 
-/// What an account says for people.
-pub(crate) fn people_of(alloc: Global, json: &Json, account: &Account) -> Result<People> {
-    let mut people = People::new(alloc);
+/// Takes what an account says for people.
+pub(crate) fn fill_people(
+    alloc: Global,
+    json: &Json,
+    account: &Account,
+    people: &mut People,
+) -> Result<()> {
+    add_title(&mut people.name, json, "a history")?;
     let plan = json.get("plan").and_then(|plan| plan.get("stages"));
-    people.name = title_of(alloc, json, "a history")?;
-    people.names = names_in(alloc, plan)?;
+    add_names(alloc, &mut people.names, plan)?;
     put_listed(alloc, &mut people.names, json.get("names"))?;
-    people.times = times_of(alloc, json.get("times"))?;
-    people.lanes = texts_of(alloc, json.get("lanes"), "lanes")?;
-    people.values = texts_of(alloc, json.get("values"), "values")?;
-    people.errors = texts_of(alloc, json.get("errors"), "errors")?;
-    people.relays = relays_of(alloc, json.get("relays"))?;
-    people.replies = replies_of(alloc, account)?;
-    Ok(people)
+    fill_lists(alloc, json, people)?;
+    Ok(add_replies(&mut people.replies, account)?)
 }
 
 /// What a script says for people: names of its stages, in them or in a list.
 pub(crate) fn people_in(alloc: Global, json: &Json) -> Result<People> {
     let mut people = People::new(alloc);
-    people.name = title_of(alloc, json, "a script")?;
-    people.names = names_in(alloc, json.get("stages"))?;
-    add_attached(alloc, &mut people.names, json)?;
-    put_listed(alloc, &mut people.names, json.get("names"))?;
+    fill_named(alloc, json, &mut people)?;
     Ok(people)
 }
 
-/// The name of the whole.
-fn title_of(alloc: Global, json: &Json, none: &str) -> Result<String> {
-    match json.get("name") {
-        None => Ok(String::from_str(alloc, none)?),
-        Some(said) => {
-            let text = said.as_str().ok_or(Unreadable::Name)?;
-            Ok(String::from_str(alloc, text)?)
-        }
-    }
+fn fill_named(alloc: Global, json: &Json, people: &mut People) -> Result<()> {
+    add_title(&mut people.name, json, "a script")?;
+    add_names(alloc, &mut people.names, json.get("stages"))?;
+    add_attached(alloc, &mut people.names, json)?;
+    put_listed(alloc, &mut people.names, json.get("names"))
 }
 
-/// The names that stages of a plan have in them.
-fn names_in(alloc: Global, stages: Option<&Json>) -> Result<Vec<String>> {
-    let mut names = Vec::new(alloc);
+/// Takes the lists of an account that aren't of stages.
+fn fill_lists(alloc: Global, json: &Json, people: &mut People) -> Result<()> {
+    add_times(&mut people.times, json.get("times"))?;
+    add_texts(alloc, &mut people.lanes, json.get("lanes"), "lanes")?;
+    add_texts(alloc, &mut people.values, json.get("values"), "values")?;
+    add_texts(alloc, &mut people.errors, json.get("errors"), "errors")?;
+    add_relays(&mut people.relays, json.get("relays"))
+}
+
+/// Adds the name of the whole, or this one where it has none.
+fn add_title(title: &mut String, json: &Json, none: &str) -> Result<()> {
+    let text = match json.get("name") {
+        None => none,
+        Some(said) => said.as_str().ok_or(Unreadable::Name)?,
+    };
+    Ok(title.push_str(text)?)
+}
+
+/// Adds the names that stages of a plan have in them.
+fn add_names(alloc: Global, names: &mut Vec<String>, stages: Option<&Json>) -> Result<()> {
     for (k, stage) in items(stages).iter().enumerate() {
         let name = name_of(stage.get("name"));
         let name = name.ok_or(Unreadable::StageName(k))?;
         names.push(String::from_str(alloc, name)?)?;
     }
-    Ok(names)
+    Ok(())
 }
 
 /// Puts the names of a list in their places, and behind the others: an empty one leaves the stage its own.
-fn put_listed(alloc: Global, names: &mut Vec<String>, listed: Option<&Json>) -> Result<()> {
-    let Some(said) = listed else {
-        return Ok(());
-    };
-    let list = said.as_array().ok_or(Unreadable::List("names"))?;
-    for (k, said) in list.iter().enumerate() {
+fn put_listed(alloc: Global, names: &mut Vec<String>, said: Option<&Json>) -> Result<()> {
+    for (k, said) in listed(said, "names")?.iter().enumerate() {
         let name = name_of(Some(said)).ok_or(Unreadable::ListedName(k))?;
         put(alloc, names, k, name)?;
     }
@@ -115,46 +120,45 @@ fn add_attached(alloc: Global, names: &mut Vec<String>, json: &Json) -> Result<(
     Ok(())
 }
 
-/// A list of texts.
-fn texts_of(alloc: Global, said: Option<&Json>, member: &'static str) -> Result<Vec<String>> {
-    let mut texts = Vec::new(alloc);
-    let Some(said) = said else {
-        return Ok(texts);
-    };
-    let list = said.as_array().ok_or(Unreadable::List(member))?;
-    for (k, said) in list.iter().enumerate() {
+/// Adds a list of texts.
+fn add_texts(
+    alloc: Global,
+    texts: &mut Vec<String>,
+    said: Option<&Json>,
+    member: &'static str,
+) -> Result<()> {
+    for (k, said) in listed(said, member)?.iter().enumerate() {
         let text = said.as_str().ok_or(Unreadable::Text(member, k))?;
         texts.push(String::from_str(alloc, text)?)?;
     }
-    Ok(texts)
+    Ok(())
 }
 
-/// The times of events, in nanoseconds.
-fn times_of(alloc: Global, said: Option<&Json>) -> Result<Vec<u64>> {
-    let mut times = Vec::new(alloc);
-    let Some(said) = said else {
-        return Ok(times);
-    };
-    let list = said.as_array().ok_or(Unreadable::List("times"))?;
-    for (k, said) in list.iter().enumerate() {
-        let time = crate::history::word(said);
-        times.push(time.ok_or(Unreadable::Time(k))?)?;
+/// Adds the times of events, in nanoseconds.
+fn add_times(times: &mut Vec<u64>, said: Option<&Json>) -> Result<()> {
+    for (k, said) in listed(said, "times")?.iter().enumerate() {
+        times.push(word(said).ok_or(Unreadable::Time(k))?)?;
     }
-    Ok(times)
+    Ok(())
 }
 
-/// Pairs of a stage and the higher one for which it stands in.
-fn relays_of(alloc: Global, said: Option<&Json>) -> Result<Vec<(u16, u16)>> {
-    let mut relays = Vec::new(alloc);
-    let Some(said) = said else {
-        return Ok(relays);
-    };
-    let list = said.as_array().ok_or(Unreadable::List("relays"))?;
-    for (k, said) in list.iter().enumerate() {
-        let pair = pair(said);
-        relays.push(pair.ok_or(Unreadable::Relay(k))?)?;
+/// Adds pairs of a stage and the higher one for which it stands in.
+fn add_relays(relays: &mut Vec<(u16, u16)>, said: Option<&Json>) -> Result<()> {
+    for (k, said) in listed(said, "relays")?.iter().enumerate() {
+        relays.push(pair(said).ok_or(Unreadable::Relay(k))?)?;
     }
-    Ok(relays)
+    Ok(())
+}
+
+/// The elements of an array, none where none is said.
+fn listed<'a>(said: Option<&'a Json>, member: &'static str) -> Result<&'a [Json], Unreadable> {
+    let Some(said) = said else {
+        return Ok(&[]);
+    };
+    match said.as_array() {
+        Some(list) => Ok(list.as_slice()),
+        None => Err(Unreadable::List(member)),
+    }
 }
 
 fn pair(json: &Json) -> Option<(u16, u16)> {
@@ -163,19 +167,18 @@ fn pair(json: &Json) -> Option<(u16, u16)> {
     Some((stage, to))
 }
 
-/// What the records say that each event was answered.
-fn replies_of(alloc: Global, account: &Account) -> Result<Vec<Option<Reply>>> {
-    let mut replies = Vec::new(alloc);
+/// Adds what the records say that each event was answered.
+fn add_replies(replies: &mut Vec<Option<Reply>>, account: &Account) -> Result<(), AllocError> {
     for _ in account.history.words.iter() {
         replies.push(None)?;
     }
     for caller in account.history.callers.iter() {
-        add_replies(&mut replies, caller);
+        add_told(replies, caller);
     }
-    Ok(replies)
+    Ok(())
 }
 
-fn add_replies(replies: &mut Vec<Option<Reply>>, caller: &Caller) {
+fn add_told(replies: &mut Vec<Option<Reply>>, caller: &Caller) {
     for record in caller.records.iter() {
         if let Record::Did { place, reply, .. } = *record {
             if let Some(held) = replies.get_mut(place.wrapping_sub(1)) {

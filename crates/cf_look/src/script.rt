@@ -2,12 +2,13 @@
 use crate::named::Named;
 use crate::people::people_in;
 use anyhow::Result;
-use cf_explain::{Place, Remark, Verdict, explain};
+use cf_explain::{Explanation, Place, Remark, Verdict, explain};
 use cf_picture::draw_script;
 use cf_reading::MAX_BYTES;
 use cf_script::ScriptFault;
 use serde_json::Value as Json;
 use std::alloc::{AllocError, Global};
+use std::fmt::Display;
 use std::io;
 use std::io::Read;
 
@@ -79,24 +80,39 @@ fn names_in(alloc: Global, bytes: &[u8]) -> Result<Vec<String>> {
 pub(crate) fn explain_script<R: Print + AllocGlobal>(rt: &R, bytes: &[u8]) -> Result<Verdict> {
     let said = explain(rt.alloc(), bytes)?;
     let named = Named::of(rt.alloc(), bytes);
+    write_explanation(rt, &named, &said)?;
+    Ok(said.verdict())
+}
+
+fn write_explanation<R: Print + AllocGlobal>(
+    rt: &R,
+    named: &Named,
+    said: &Explanation,
+) -> Result<()> {
     if let Some(refusal) = &said.refusal {
         println!(rt; "{}", ScriptFault::from(refusal.fault))?;
-        let mut said = String::new(rt.alloc());
-        write!(said, "{refusal}")?;
-        let line = named.line(rt.alloc(), Some(refusal.place), &said)?;
-        println!(rt; "{line}")?;
+        write_at(rt, named, Some(refusal.place), refusal)?;
     }
     for remark in &said.remarks {
-        let mut said = String::new(rt.alloc());
-        write!(said, "{remark}")?;
-        let line = named.line(rt.alloc(), place_of(remark), &said)?;
-        println!(rt; "{line}")?;
+        write_at(rt, named, place_of(remark), remark)?;
     }
-    let verdict = said.verdict();
-    if verdict == Verdict::Right {
+    if said.verdict() == Verdict::Right {
         println!(rt; "nothing is wrong")?;
     }
-    Ok(verdict)
+    Ok(())
+}
+
+/// Writes the line of what is said, with the name of the stage that its place is of.
+fn write_at<R: Print + AllocGlobal, D: Display>(
+    rt: &R,
+    named: &Named,
+    place: Option<Place>,
+    said: &D,
+) -> Result<()> {
+    let mut text = String::new(rt.alloc());
+    write!(text, "{said}")?;
+    let line = named.line(rt.alloc(), place, &text)?;
+    Ok(println!(rt; "{line}")?)
 }
 
 /// The place that a remark begins with.

@@ -10,7 +10,8 @@ pub(crate) fn line_of(alloc: Global, verdict: Verdict) -> Result<String, AllocEr
     Ok(text)
 }
 
-fn write_verdict(text: &mut String, verdict: Verdict) -> Result<(), AllocError> {
+/// Writes a verdict.
+pub(crate) fn write_verdict(text: &mut String, verdict: Verdict) -> Result<(), AllocError> {
     match verdict {
         Verdict::Fits => write!(text, "fits"),
         Verdict::Event { place, why } => write!(text, "event {place}: {}", unfit(why)),
