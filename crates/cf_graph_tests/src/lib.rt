@@ -7,11 +7,11 @@
 #[cfg(test)]
 mod checks;
 #[cfg(test)]
-mod core;
-#[cfg(test)]
 mod event;
 #[cfg(test)]
 mod explore;
+#[cfg(test)]
+mod graph;
 #[cfg(test)]
 mod outcome;
 #[cfg(test)]

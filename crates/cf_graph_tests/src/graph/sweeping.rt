@@ -1,7 +1,7 @@
 //! A sweep that stops at each function: where it stops, and what the graph is then.
 use crate::checks::holds;
-use crate::core::plans::{Row, SOURCE};
-use crate::core::steps::{Step, fault, gives, graph_of, take};
+use crate::graph::plans::{Row, SOURCE};
+use crate::graph::steps::{Step, fault, gives, graph_of, take};
 use cf_core::{Stop, Sweep};
 use cf_outcome::{Cause, Value};
 use cf_plan::{Answer, Args, Form};

@@ -2,8 +2,8 @@
 ghost use Rattle.std.specs.Prelude.{⊤};
 
 use crate::checks::{holds, must, same};
-use crate::core::plans::{Row, SOURCE};
-use crate::core::steps::{Step, gives, granted, graph_of, take};
+use crate::graph::plans::{Row, SOURCE};
+use crate::graph::steps::{Step, gives, granted, graph_of, take};
 use cf_core::Graph;
 use cf_outcome::Value;
 use cf_plan::{Answer, Args, Closure, Form, Functions};

@@ -1,7 +1,7 @@
 //! Stages that are attached: what they take at once, and what they wait for.
 use crate::checks::same;
-use crate::core::plans::{Row, SOURCE, plan_of};
-use crate::core::steps::{Step, fault, gives, granted, play_growing, play_in, with_room};
+use crate::graph::plans::{Row, SOURCE, plan_of};
+use crate::graph::steps::{Step, fault, gives, granted, play_growing, play_in, with_room};
 use cf_core::{Graph, GraphFault};
 use cf_model::{Attached, Claimed, Finished};
 use cf_outcome::{Cause, Outcome, Value};

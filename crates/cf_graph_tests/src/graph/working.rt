@@ -4,8 +4,8 @@ ghost use Rattle.cf_plan.specs.declared.forms.Answer.TheVariants.{Give};
 ghost use Rattle.cf_outcome.specs.declared.outcome.Value.TheVariants.{Int};
 
 use crate::checks::same;
-use crate::core::plans::{Row, SOURCE, longest_chain};
-use crate::core::steps::{Step, fault, give, gives, granted, graph_in, graph_of, take};
+use crate::graph::plans::{Row, SOURCE, longest_chain};
+use crate::graph::steps::{Step, fault, give, gives, granted, graph_in, graph_of, take};
 use cf_core::Graph;
 use cf_model::{Claimed, Finished};
 use cf_outcome::{Cause, Outcome, Value};

@@ -1,7 +1,7 @@
 //! What is done to a graph and asked of it, as rows: a call, and what it is answered.
 
 use crate::checks::{holds, must};
-use crate::core::plans::{Row, plan_of};
+use crate::graph::plans::{Row, plan_of};
 use cf_core::Graph;
 use cf_model::{Attached, Claimed, Event, Finished, Reply, Ticked};
 use cf_outcome::{Cause, Now, Outcome, Value};

@@ -1,6 +1,6 @@
 //! Graphs that start again, beside new ones.
-use crate::core::plans::{SOURCE, limited, supplies};
-use crate::core::steps::{Step, fault, gives, granted, graph_in, play, take, with_room};
+use crate::graph::plans::{SOURCE, limited, supplies};
+use crate::graph::steps::{Step, fault, gives, granted, graph_in, play, take, with_room};
 use cf_core::Graph;
 use cf_model::{Attached, Claimed, Finished, Ticked};
 use cf_outcome::Cause;

@@ -1,7 +1,7 @@
 //! Worked examples, each call once, graphs of each size, and a graph whose memory is refused.
 use crate::checks::{must, same};
-use crate::core::plans::{Row, SOURCE, limited, longest_chain, plan_of, plan_or_fault, supplies};
-use crate::core::steps::{
+use crate::graph::plans::{Row, SOURCE, limited, longest_chain, plan_of, plan_or_fault, supplies};
+use crate::graph::steps::{
     Step, fault, give, gives, granted, graph_in, play, play_in, play_on, take,
 };
 use cf_core::{Graph, GraphFault};
