@@ -19,7 +19,7 @@ OTHER = 100
 PROOFS = {
     "cf_look": 545, "cf_explain": 307, "cf_orders": 282, "cf_bench": 273, "cf_handles": 259, "cf_core": 243, "cf_stress": 230,
     "cf_page": 222, "cf_refused": 205, "cf_explore": 200, "cf_reading": 187, "cf_pool": 155, "cf_plan": 154, "cf_desk": 130,
-    "cf_plain": 124, "cf_history": 119, "cf_c": 115, "cf_script": 106, "cf_ledger": 102, "cf_picture": 85, "cf": 78, "cf_example": 75,
+    "cf_plain": 124, "cf_history": 119, "cf_c": 115, "cf_script": 90, "cf_text": 65, "cf_ledger": 102, "cf_picture": 85, "cf": 78, "cf_example": 75,
     "cf_command": 53, "cf_model": 48, "cf_outcome": 47, "cf_event": 43, "cf_bits": 21, "cf_expr": 18, "cf_covers": 12,
 }  # fmt: skip
 TESTS = {

@@ -2,7 +2,7 @@
 use Rattle.std.specs.Prelude.{◌≡◌, ℕ, List, Option, Result, Ok, Err}
 use Rattle.cf_command.specs.declared.command.Command.{Command}
 use Rattle.cf_command.specs.declared.command.Command.TheVariants.{Run, Race}
-use Rattle.cf_script.specs.declared.fault.ScriptFault.{ScriptFault}
+use Rattle.cf_text.specs.declared.fault.ScriptFault.{ScriptFault}
 use Rattle.cf_script.specs.Printing.{Given, Prints}
 use Rattle.cf_script.specs.Races.{RaceGives}
 use Rattle.cf_script.specs.Runs.{RunGives}

@@ -1,6 +1,6 @@
 //! Texts for C: of scripts, outcomes and codes.
 ghost use Rattle.std.specs.Prelude.{◌≡◌, Some};
-ghost use Rattle.cf_script.specs.Texts.{settled_text};
+ghost use Rattle.cf_text.specs.Texts.{settled_text};
 ghost use Rattle.cf_handles.specs.Codes.{number_of};
 ghost use Rattle.cf_handles.specs.Scripts.{RunsScript};
 ghost use Rattle.cf_handles.specs.Texts.{TellsText, code_text, name_of};

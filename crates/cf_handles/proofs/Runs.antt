@@ -3,12 +3,12 @@ use Rattle.std.proofs.Common.{◌≡◌, ◌∙◌, ap, [], ℕ, List, Option, S
 use Rattle.cf_reading.specs.declared.fault.ReadingFault.{ReadingFault}
 use Rattle.cf_reading.specs.Reading.{reading}
 use Rattle.cf_reading.specs.Scripts.{Script}
-use Rattle.cf_script.specs.Faults.{fault_line, fault_of_reading}
+use Rattle.cf_text.specs.Faults.{fault_line, fault_of_reading}
 use Rattle.cf_script.specs.Printing.{MayGive, Prints}
 use Rattle.cf_script.specs.Reports.{report}
 use Rattle.cf_script.specs.Runs.{IsReport, IsTooLargeToRun, RunGives}
-use Rattle.cf_script.specs.declared.fault.ScriptFault.{ScriptFault}
-use Rattle.cf_script.specs.declared.fault.ScriptFault.TheVariants as faults
+use Rattle.cf_text.specs.declared.fault.ScriptFault.{ScriptFault}
+use Rattle.cf_text.specs.declared.fault.ScriptFault.TheVariants as faults
 use Rattle.cf_handles.specs.Codes.{number_of}
 use Rattle.cf_handles.specs.Scripts.{IsRun, code_of_run, code_printed, printed}
 use Rattle.cf_handles.specs.declared.code.Code.TheVariants.{BadScript}

@@ -1,6 +1,6 @@
 //! Texts for C: of scripts, outcomes and codes.
 ghost use Rattle.std.specs.Prelude.{◌≡◌, [], IfSome, Some};
-ghost use Rattle.cf_script.specs.Texts.{settled_text};
+ghost use Rattle.cf_text.specs.Texts.{settled_text};
 ghost use Rattle.cf_handles.specs.Scripts.{IsRun, code_of_run};
 ghost use Rattle.cf_handles.specs.Texts.{GivesText};
 ghost use Rattle.cf_handles.specs.declared.code.Code.{Code};

@@ -3,7 +3,7 @@ use crate::people::people_in;
 use anyhow::Result;
 use cf_explain::{Area, Place};
 use cf_reading::Part;
-use cf_script::is_shown;
+use cf_text::is_shown;
 use serde_json::Value as Json;
 use std::alloc::{AllocError, Global};
 

@@ -5,7 +5,7 @@ use anyhow::Result;
 use cf_explain::{Explanation, Place, Remark, Verdict, explain};
 use cf_picture::draw_script;
 use cf_reading::MAX_BYTES;
-use cf_script::ScriptFault;
+use cf_text::ScriptFault;
 use serde_json::Value as Json;
 use std::alloc::{AllocError, Global};
 use std::fmt::Display;

@@ -1,6 +1,6 @@
 //! The line of a verdict.
 use cf_history::{Misfit, Unfit, Verdict};
-use cf_script::{write_reply, write_settled, write_told};
+use cf_text::{write_reply, write_settled, write_told};
 use std::alloc::{AllocError, Global};
 
 /// The line of a verdict, without its end.

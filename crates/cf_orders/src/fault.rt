@@ -1,7 +1,7 @@
 //! Why a text is no question.
 use cf_plan::PlanFault;
 use cf_reading::ReadingFault;
-use cf_script::ScriptFault;
+use cf_text::ScriptFault;
 use std::alloc::{AllocError, AllocFailed};
 use std::fmt;
 

@@ -5,7 +5,7 @@ use crate::telling::{Standing, standing_of};
 use crate::witness::{OrderShape, witness_of};
 use cf_explore::{Found, Witness};
 use cf_outcome::Outcome;
-use cf_script::write_settled;
+use cf_text::write_settled;
 use std::alloc::{AllocError, Global};
 
 /// What was found as one JSON object, each order with its account and its script.

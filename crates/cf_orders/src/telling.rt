@@ -2,7 +2,7 @@
 use crate::ends::Grouped;
 use crate::question::Question;
 use cf_explore::{Found, How, Witness};
-use cf_script::write_settled;
+use cf_text::write_settled;
 use std::alloc::{AllocError, Global};
 
 /// How something that must hold stands.

@@ -7,7 +7,7 @@ use cf_explore::{Found, Move, Situation, Step, Witness};
 use cf_model::{Ask, Event, Reply, Told};
 use cf_outcome::{Outcome, Value};
 use cf_plan::Answer;
-use cf_script::{write_reply, write_settled, write_told};
+use cf_text::{write_reply, write_settled, write_told};
 use std::alloc::{AllocError, Global};
 
 /// As what an order is told.

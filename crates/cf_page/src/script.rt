@@ -6,8 +6,7 @@ use cf_event::{encode, is_event};
 use cf_ledger::{Ledger, LedgerFault};
 use cf_model::{Claimed, Event, Reply};
 use cf_plan::{Plan, StageFn};
-use cf_reading::{Func, Step};
-use cf_script::WORKER;
+use cf_reading::{Func, Step, WORKER};
 use std::alloc::{AllocError, Global};
 
 /// A plan has at most so many stages, of which each is claimed once.

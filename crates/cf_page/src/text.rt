@@ -1,6 +1,6 @@
 //! The text of a page, a trace or spans, and texts of others within its JSON strings.
 use cf_model::Reply;
-use cf_script::{is_shown, write_reply};
+use cf_text::{is_shown, write_reply};
 use std::alloc::{AllocError, Global};
 use std::fmt::Display;
 

@@ -3,9 +3,9 @@ use Rattle.std.specs.Prelude.{◌≡◌, Result, Ok, Err, IsOk}
 use Rattle.cf_reading.specs.declared.fault.ReadingFault.{ReadingFault}
 use Rattle.cf_reading.specs.Scripts.{Script, opening}
 use Rattle.cf_model.specs.States.{State, start}
-use Rattle.cf_script.specs.declared.fault.ScriptFault.{ScriptFault}
-use Rattle.cf_script.specs.declared.fault.ScriptFault.TheVariants as faults
-use Rattle.cf_script.specs.Faults.{fault_of_reading}
+use Rattle.cf_text.specs.declared.fault.ScriptFault.{ScriptFault}
+use Rattle.cf_text.specs.declared.fault.ScriptFault.TheVariants as faults
+use Rattle.cf_text.specs.Faults.{fault_of_reading}
 use Rattle.cf_script.specs.Reports.{after_steps}
 
 -- the state in which a script's steps leave the graph of its plan, whose outcomes are those of the report

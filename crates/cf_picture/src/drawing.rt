@@ -6,7 +6,7 @@ use crate::limits::write_limits;
 use crate::run::{RunScript, run_of};
 use crate::stages::{Context, write_attached, write_opening};
 use cf_reading::{Script, read_script};
-use cf_script::ScriptFault;
+use cf_text::ScriptFault;
 use std::alloc::{AllocError, Global};
 
 /// The picture of the script that the bytes say, as a text in the language of Graphviz, or the fault with which `run_script`

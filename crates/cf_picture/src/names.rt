@@ -1,5 +1,5 @@
 //! Names of stages, which are the only texts of others in a picture.
-use cf_script::is_shown;
+use cf_text::is_shown;
 use std::alloc::AllocError;
 
 /// Adds a name within a label, and a colon behind it; nothing, if it is empty.

@@ -38,5 +38,5 @@ pub use input::{MAX_BYTES, read_input};
 pub use laws::races_are_read_as_runs;
 pub use parts::{large, small, value};
 pub use reading::{read_race, read_script, script_of};
-pub use script::{Script, Step};
+pub use script::{Script, Step, WORKER};
 pub use steps::MAX_STEPS;

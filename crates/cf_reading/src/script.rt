@@ -4,6 +4,9 @@ use cf_model::{Ask, Event};
 use cf_plan::Plan;
 use std::marker::Model;
 
+/// The caller that does a script's work.
+pub const WORKER: u8 = 63;
+
 /// One step of a script.
 #[derive(Clone, Copy, Debug, PartialEq, Eq)]
 pub enum Step {

@@ -13,9 +13,9 @@ use Rattle.cf_reading.specs.Input.{IsOfInput}
 use Rattle.cf_reading.specs.Reading.{race_reading, reading}
 use Rattle.cf_reading.specs.Scripts.{Script}
 use Rattle.cf_reading.proofs.Texts.{race_too_long, reading_too_long}
-use Rattle.cf_script.specs.declared.fault.ScriptFault.{ScriptFault}
-use Rattle.cf_script.specs.declared.fault.ScriptFault.TheVariants as faults
-use Rattle.cf_script.specs.Faults.{fault_line, fault_of_reading}
+use Rattle.cf_text.specs.declared.fault.ScriptFault.{ScriptFault}
+use Rattle.cf_text.specs.declared.fault.ScriptFault.TheVariants as faults
+use Rattle.cf_text.specs.Faults.{fault_line, fault_of_reading}
 use Rattle.cf_script.specs.Printing.{Given, IsInput, MayGive, Prints, given_by}
 
 -- ---- an input that can't be read

@@ -19,7 +19,7 @@ use Rattle.cf_reading.specs.Scripts.{Extent, Script, StepCalls, StepsFit, extent
 use Rattle.cf_pool.specs.Races.{AreSteps, IsRaced, IsStep, RacedIsExpression, log_words}
 use Rattle.cf_script.specs.Reports.{stage_lines, stage_text}
 use Rattle.cf_script.specs.Races.{IsRaceEnd, IsTooLargeToRace, PlainRacesGiveExpressions, events_of, grown_by}
-use Rattle.cf_script.specs.Texts.{line}
+use Rattle.cf_text.specs.Texts.{line}
 use Rattle.cf_script.proofs.ReportLemmas.{after_step-extent}
 
 -- each step of a race is an event

@@ -11,7 +11,7 @@ use Rattle.cf_reading.specs.declared.func.Func.{Func}
 use Rattle.cf_reading.specs.declared.script.Step.{Step}
 use Rattle.cf_reading.specs.declared.script.Step.TheVariants.{Does, Asks, Work, Nudge}
 use Rattle.cf_reading.specs.Scripts.{Extent, StepFits, StepsFit, extent_after, extent_of, attached_by as extent_with}
-use Rattle.cf_script.specs.Texts.{line}
+use Rattle.cf_text.specs.Texts.{line}
 use Rattle.cf_script.specs.Reports.{after_step, after_steps, step_text, steps_lines, stage_text, stage_lines}
 use Rattle.cf_script.proofs.WorkLemmas.{worked-shape}
 

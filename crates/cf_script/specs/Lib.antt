@@ -1,6 +1,3 @@
-pub mod Texts
-pub mod Names
-pub mod Faults
 pub mod Working
 pub mod Reports
 pub mod Printing

@@ -5,9 +5,9 @@ use Rattle.std.specs.declared.alloc.Global.{Global}
 use Rattle.cf_outcome.specs.Output.{AppendsFront}
 use Rattle.cf_reading.specs.declared.fault.ReadingFault.{ReadingFault}
 use Rattle.cf_reading.specs.Scripts.{Script}
-use Rattle.cf_script.specs.declared.fault.ScriptFault.{ScriptFault}
-use Rattle.cf_script.specs.declared.fault.ScriptFault.TheVariants as faults
-use Rattle.cf_script.specs.Faults.{fault_line, fault_of_reading}
+use Rattle.cf_text.specs.declared.fault.ScriptFault.{ScriptFault}
+use Rattle.cf_text.specs.declared.fault.ScriptFault.TheVariants as faults
+use Rattle.cf_text.specs.Faults.{fault_line, fault_of_reading}
 
 -- the input is what the reader still had, where it tells that
 abbrev pub IsInput : Option (List ℕ) → List ℕ → Type 0

@@ -12,8 +12,8 @@ use Rattle.cf_reading.specs.Functions.{func_answer}
 use Rattle.cf_reading.specs.Reading.{race_reading}
 use Rattle.cf_reading.specs.Scripts.{Script, opening}
 use Rattle.cf_pool.specs.Races.{IsRaced, log_words, plan_after}
-use Rattle.cf_script.specs.declared.fault.ScriptFault.{ScriptFault}
-use Rattle.cf_script.specs.declared.fault.ScriptFault.TheVariants as faults
+use Rattle.cf_text.specs.declared.fault.ScriptFault.{ScriptFault}
+use Rattle.cf_text.specs.declared.fault.ScriptFault.TheVariants as faults
 use Rattle.cf_script.specs.Printing.{Given, MayGive}
 use Rattle.cf_script.specs.Reports.{stage_lines, stages_lines}
 

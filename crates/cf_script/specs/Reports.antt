@@ -11,7 +11,7 @@ use Rattle.cf_reading.specs.declared.script.Step.TheVariants.{Does, Asks, Work, 
 use Rattle.cf_reading.specs.Scripts.{Script, opening}
 use Rattle.cf_script.specs.declared.steps.StepAnswer.{StepAnswer}
 use Rattle.cf_script.specs.declared.steps.StepAnswer.TheVariants as answers
-use Rattle.cf_script.specs.Texts.{line, reply_text, settled_text, told_text}
+use Rattle.cf_text.specs.Texts.{line, reply_text, settled_text, told_text}
 use Rattle.cf_script.specs.Working.{worked}
 
 -- what a step is answered

@@ -9,27 +9,19 @@
 //! steps, and `specs/Working.antt` what the step `work` does. `run_script` is proved to write that report, or the line
 //! of the fault that the input has, for any reader and any writer that tell their bytes; `race_script` writes the lines
 //! of the stages as a race may leave them. What both print alike is in `specs/Printing.antt`.
-//!
-//! `read_script` and `read_race` answer a `ReadingFault`, of which a `ScriptFault` is made by `From`. That adds the two
-//! faults that come after reading, and has the line that is printed for each.
 #![tactic(auto)]
 
-mod fault;
 pub mod laws;
-mod names;
 mod printing;
 mod race;
 mod report;
 mod run;
 mod steps;
-mod texts;
 
 pub use cf_plan::PlanFault;
 pub use cf_pool::{Gate, NoGate};
 pub use cf_reading::{Func, Part, ReadingFault, Script, Step, read_race, read_script};
-pub use fault::ScriptFault;
-pub use names::is_shown;
+pub use cf_text::ScriptFault;
 pub use race::race_script;
 pub use run::run_script;
-pub use steps::{StepAnswer, WORKER, do_step};
-pub use texts::{write_reply, write_settled, write_told};
+pub use steps::{StepAnswer, do_step};

@@ -2,8 +2,8 @@
 ghost use Rattle.std.specs.Prelude.{◌≡◌};
 ghost use Rattle.cf_script.specs.Printing.{Prints, given_by};
 
-use crate::fault::{ScriptFault, line_of};
 use cf_outcome::write_text;
+use cf_text::{ScriptFault, line_of};
 use std::io::Write;
 
 /// Writes the text that was given, or the line of the fault that stands in its way. That takes no memory, and every line

@@ -8,13 +8,13 @@ ghost use Rattle.cf_script.specs.Reports.{stages_lines};
 ghost use Rattle.cf_script.specs.Printing.{IsInput, Prints, given_by};
 ghost use Rattle.cf_script.specs.Races.{IsRaceEnd, IsRaceRefused, RaceGives, events_of};
 
-use crate::fault::ScriptFault;
 use crate::printing::print_given;
 use crate::report::write_stages;
 use cf_core::Graph;
 use cf_model::Event;
 use cf_pool::{Gate, RaceFault, race, share};
 use cf_reading::{MAX_BYTES, Script, Step, read_input, read_race};
+use cf_text::ScriptFault;
 use std::alloc::{AllocError, Global};
 use std::io::{Read, Write};
 use std::sync::Wait;

@@ -4,10 +4,10 @@ ghost use Rattle.cf_reading.specs.Input.{TakesAtMost};
 ghost use Rattle.cf_script.specs.Printing.{IsInput, Prints, given_by};
 ghost use Rattle.cf_script.specs.Runs.{RunGives};
 
-use crate::fault::ScriptFault;
 use crate::printing::print_given;
 use crate::report::report_of;
 use cf_reading::{MAX_BYTES, read_input, read_script};
+use cf_text::ScriptFault;
 use std::alloc::Global;
 use std::io::{Read, Write};
 

@@ -4,15 +4,12 @@ ghost use Rattle.cf_reading.specs.Scripts.{StepFits};
 ghost use Rattle.cf_script.specs.Reports.{after_step, answer_text, step_answer};
 ghost use Rattle.cf_script.specs.Working.{worked};
 
-use crate::texts::{write_reply, write_told};
 use cf_core::Graph;
 use cf_model::{Reply, Told};
 use cf_plan::Each;
-use cf_reading::{Func, Step};
+use cf_reading::{Func, Step, WORKER};
+use cf_text::{write_reply, write_told};
 use std::alloc::AllocError;
-
-/// The caller that does a script's work.
-pub const WORKER: u8 = 63;
 
 /// What a step is answered.
 #[derive(Clone, Copy, Debug, PartialEq, Eq)]

@@ -6,7 +6,7 @@ use cf_desk::{Closed, Kept, Rec, event_by};
 use cf_event::{encode, is_event};
 use cf_model::{Ask, Event, Reply, Told};
 use cf_outcome::Value;
-use cf_script::{write_reply, write_told};
+use cf_text::{write_reply, write_told};
 use serde_json::Value as Json;
 use std::alloc::{AllocError, Global};
 use std::io;

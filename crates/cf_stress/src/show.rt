@@ -5,7 +5,7 @@ use cf_core::Graph;
 use cf_desk::{Call, Closed, Kept, Rec};
 use cf_model::{Ask, Event, Reply, Told};
 use cf_plan::{Answer, Form, Of};
-use cf_script::{write_reply, write_told};
+use cf_text::{write_reply, write_told};
 use std::alloc::AllocError;
 
 /// Adds a line for each event, for each pass with one for each of its records and refusals, and for each stage. Each pass

@@ -1,6 +1,6 @@
 //! What a stage holds, in the texts of a script's report.
 use cf_core::Graph;
-use cf_script::write_settled;
+use cf_text::write_settled;
 use std::alloc::AllocError;
 
 /// Adds what a stage holds, if it is there.

@@ -1,6 +1,6 @@
 //! Which characters of names are printed as they are.
 use crate::checks::holds;
-use cf_script::is_shown;
+use cf_text::is_shown;
 
 /// Letters, a blank, and those beside each that isn't shown.
 const SHOWN: [u32; 12] = [

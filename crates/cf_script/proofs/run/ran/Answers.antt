@@ -1,7 +1,7 @@
 use Rattle.std.proofs.Common.{ap, subst, Err}
 use Rattle.cf_reading.specs.Checks.{Fails}
 use Rattle.cf_reading.specs.Reading.{reading}
-use Rattle.cf_script.specs.Faults.{fault_of_reading}
+use Rattle.cf_text.specs.Faults.{fault_of_reading}
 use Rattle.cf_script.specs.Runs.{IsReport, IsTooLargeToRun, RunGives}
 use Rattle.cf_script.proofs.PrintLemmas.{fault_given, misread, too_long_to_run, unread}
 use Rattle.cf_script.proofs.run.ran.Goals as goal

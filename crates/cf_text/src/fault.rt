@@ -2,7 +2,7 @@
 ghost use Rattle.std.specs.Prelude.{◌≡◌, ◌+◌, ◌++◌, ◌<◌, ◌≤◌, length};
 ghost use Rattle.std.specs.Fmt.{decimal};
 ghost use Rattle.cf_reading.specs.Faults.{part_text};
-ghost use Rattle.cf_script.specs.Faults.{fault_line, fault_text, plan_number};
+ghost use Rattle.cf_text.specs.Faults.{fault_line, fault_text, plan_number};
 
 use cf_outcome::ShortText;
 use cf_plan::PlanFault;
@@ -37,7 +37,7 @@ pub enum ScriptFault {
 }
 
 impl From<ReadingFault> for ScriptFault {
-    ghost use Rattle.cf_script.specs.Faults.{fault_of_reading};
+    ghost use Rattle.cf_text.specs.Faults.{fault_of_reading};
 
     ghost from_gives = { λ e fault. fault ≡ fault_of_reading e };
 
@@ -57,7 +57,7 @@ impl From<ReadingFault> for ScriptFault {
 
 /// A growth that was refused.
 impl From<AllocError> for ScriptFault {
-    ghost use Rattle.cf_script.specs.declared.fault.ScriptFault.TheVariants.{NoMemory};
+    ghost use Rattle.cf_text.specs.declared.fault.ScriptFault.TheVariants.{NoMemory};
 
     ghost from_gives = { λ _ fault. fault ≡ NoMemory };
 
@@ -68,7 +68,7 @@ impl From<AllocError> for ScriptFault {
 
 /// The line of a fault, of which the longest, `fault 3 shape stage 4294967295`, has 31 bytes with its line feed. It always
 /// fits, and takes no memory, so that want of memory can be told too.
-pub(crate) fn line_of(fault: ScriptFault) -> ShortText
+pub fn line_of(fault: ScriptFault) -> ShortText
     ensures { result ≡ fault_line fault }
 {
     let mut text = text_of(fault);
@@ -153,7 +153,7 @@ fn number_of(refusal: PlanFault) -> u8
 /// The line of a fault, without its line feed.
 impl fmt::Display for ScriptFault {
     ghost use Rattle.std.specs.Prelude.{Some};
-    ghost use Rattle.cf_script.specs.Faults.{fault_text};
+    ghost use Rattle.cf_text.specs.Faults.{fault_text};
 
     ghost output = { λ e. Some (fault_text e) };
 

@@ -6,9 +6,9 @@ use Rattle.cf_plan.specs.declared.faults.PlanFault.TheVariants as plans
 use Rattle.cf_reading.specs.Faults.{part_text}
 use Rattle.cf_reading.specs.declared.fault.ReadingFault.{ReadingFault}
 use Rattle.cf_reading.specs.declared.fault.ReadingFault.TheVariants as readings
-use Rattle.cf_script.specs.declared.fault.ScriptFault.{ScriptFault}
-use Rattle.cf_script.specs.declared.fault.ScriptFault.TheVariants as faults
-use Rattle.cf_script.specs.Texts.{line}
+use Rattle.cf_text.specs.declared.fault.ScriptFault.{ScriptFault}
+use Rattle.cf_text.specs.declared.fault.ScriptFault.TheVariants as faults
+use Rattle.cf_text.specs.Texts.{line}
 
 -- a fault of reading, as the fault of a script
 abbrev pub fault_of_reading : ReadingFault → ScriptFault

@@ -1,6 +1,6 @@
 //! The texts of what a graph replies and tells, without an end of line.
 ghost use Rattle.std.specs.Prelude.{◌≡◌, ◌++◌, OnOk, string_bytes};
-ghost use Rattle.cf_script.specs.Texts.{attached_text, claimed_text, finished_text, flag_text, reply_text, settled_text, ticked_text, told_text};
+ghost use Rattle.cf_text.specs.Texts.{attached_text, claimed_text, finished_text, flag_text, reply_text, settled_text, ticked_text, told_text};
 
 use cf_model::{Attached, Claimed, Finished, Reply, Ticked, Told};
 use cf_outcome::Outcome;

@@ -1,6 +1,6 @@
 //! Names, which are texts of others: which of their characters are printed as they are.
 ghost use Rattle.std.specs.Prelude.{◌≡◌};
-ghost use Rattle.cf_script.specs.Names.{is_control, is_shown, is_turn};
+ghost use Rattle.cf_text.specs.Names.{is_control, is_shown, is_turn};
 
 /// Whether the character of this number can stand in a line for people: no control character, none of Unicode's line separators,
 /// embeddings, overrides and isolates, and neither U+200E nor U+200F, which turn a line's direction, too.
