@@ -104,10 +104,7 @@ impl Graph {
         ensures start { IfOk result (λ graph. graph.state ≡ start (with_room plan.now room)) }
         ensures turns { IfOk result (λ graph. graph.turns ≡ 0) }
     {
-        match plan.copy() {
-            Ok(own) => graph_of(alloc, own, room),
-            Err(_) => Err(AllocError),
-        }
+        graph_of(alloc, plan.share()?, room)
     }
 
     /// The plan that it was opened with.

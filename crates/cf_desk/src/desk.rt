@@ -87,10 +87,7 @@ impl Desk {
         // A plan that was built is within its bounds.
         let _stages = plan.stages();
         let functions = function_bound(plan);
-        match open_with(alloc, plan, callers, log, calls, 0, functions) {
-            Ok(opened) => Ok(opened),
-            Err(_) => Err(OpenFault::NoMemory),
-        }
+        Ok(open_with(alloc, plan, callers, log, calls, 0, functions)?)
     }
 
     /// The same as `open` with room for so many stages that callers attach later, whose functions have numbers below
@@ -138,10 +135,7 @@ impl Desk {
         if functions < function_bound(plan) {
             return Err(OpenFault::Functions);
         }
-        match open_with(alloc, plan, callers, log, calls, room, functions) {
-            Ok(opened) => Ok(opened),
-            Err(_) => Err(OpenFault::NoMemory),
-        }
+        Ok(open_with(alloc, plan, callers, log, calls, room, functions)?)
     }
 
     /// Whether the plan that it was opened with has such a stage.
@@ -202,10 +196,7 @@ fn growing(alloc: Global, plan: &Plan, room: u16) -> Result<GrowingPlan, AllocEr
     requires { has_place plan.now.stages room ≡ true }
     ensures { IfOk result (λ grown. grown ≡ with_room plan.now room) }
 {
-    match plan.copy() {
-        Ok(plan) => GrowingPlan::new(alloc, plan, room),
-        Err(_) => Err(AllocError),
-    }
+    GrowingPlan::new(alloc, plan.share()?, room)
 }
 
 /// What a place for a record holds before any call.

@@ -1,4 +1,7 @@
 //! Why a call of a desk is refused.
+ghost use Rattle.std.specs.Prelude.{◌≡◌};
+
+use std::alloc::AllocError;
 use thiserror::Error;
 
 /// Why a desk can't be opened. The text of each is its name.
@@ -23,6 +26,16 @@ pub enum OpenFault {
     /// A function of the plan isn't below the number of functions.
     #[error("Functions")]
     Functions,
+}
+
+impl From<AllocError> for OpenFault {
+    ghost use Rattle.cf_desk.specs.declared.faults.OpenFault.TheVariants.{NoMemory};
+
+    ghost from_gives = { λ _ fault. fault ≡ NoMemory };
+
+    fn from(_refused: AllocError) -> OpenFault {
+        OpenFault::NoMemory
+    }
 }
 
 /// Why a call of a pass is refused: the first that holds, in the order NoStage, BadAttach, PassFull, LogFull. The text of

@@ -92,7 +92,7 @@ impl Program {
         ensures { IfOk result (λ s. s ≡ start_of self.now) }
     {
         let _room = &self.room;
-        let plan = copied(&self.plan)?;
+        let plan = self.plan.share()?;
         let called = vec![in alloc; false; plan.stages() as usize]?;
         let graph = Plain::start_growing(alloc, plan, self.room)?;
         let places = vec![in alloc; Place { at: 0, looks: 0 }; self.callers.len()]?;
@@ -114,15 +114,5 @@ impl Program {
             None => None,
             Some(caller) => caller.step(s.place(c).at),
         }
-    }
-}
-
-/// The same plan again.
-fn copied(plan: &Plan) -> Result<Plan, AllocError>
-    ensures { IfOk result (λ copy. copy ≡ plan.now) }
-{
-    match plan.copy() {
-        Ok(copy) => Ok(copy),
-        Err(_) => Err(AllocError),
     }
 }

@@ -5,6 +5,7 @@ ghost use Rattle.cf_handles.specs.Texts.{code_text};
 
 use cf_desk::{DeskFault, OpenFault};
 use cf_plan::PlanFault;
+use std::alloc::AllocError;
 
 /// Why a call doesn't do what it was asked, with the numbers that C sees. 0 is for a call that did it.
 #[derive(Clone, Copy)]
@@ -66,6 +67,16 @@ pub enum Code {
     Lost,
     /// 32: a sweep hasn't all stages behind it yet.
     NotOver,
+}
+
+impl From<AllocError> for Code {
+    ghost use Rattle.cf_handles.specs.declared.code.Code.TheVariants.{NoMemory};
+
+    ghost from_gives = { λ _ fault. fault ≡ NoMemory };
+
+    fn from(_refused: AllocError) -> Code {
+        Code::NoMemory
+    }
 }
 
 impl Code {

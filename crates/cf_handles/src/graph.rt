@@ -22,10 +22,7 @@ pub fn plan_of(held: &Object) -> Result<Object, Code>
     let Object::Graph(graph) = held else {
         return Err(Code::WrongKind);
     };
-    match graph.plan().copy() {
-        Ok(plan) => Ok(Object::Plan(plan)),
-        Err(_) => Err(Code::NoMemory),
-    }
+    Ok(Object::Plan(graph.plan().share()?))
 }
 
 /// The graph of a plan with so much room.
@@ -38,8 +35,5 @@ pub fn graph_of(alloc: Global, held: &Object, room: u16) -> Result<Object, Code>
     if !plan.has_place(room) {
         return Err(Code::Room);
     }
-    match Graph::growing_of(alloc, plan, room) {
-        Ok(graph) => Ok(Object::Graph(graph)),
-        Err(_) => Err(Code::NoMemory),
-    }
+    Ok(Object::Graph(Graph::growing_of(alloc, plan, room)?))
 }

@@ -21,10 +21,7 @@ pub fn ledger_of(alloc: Global, held: &Object, room: u16) -> Result<Object, Code
     if !plan.has_place(room) {
         return Err(Code::Room);
     }
-    match Ledger::new(alloc, plan, room) {
-        Ok(ledger) => Ok(Object::Ledger(ledger)),
-        Err(_) => Err(Code::NoMemory),
-    }
+    Ok(Object::Ledger(Ledger::new(alloc, plan, room)?))
 }
 
 /// The ledger of a plan with so much room, and of these words.

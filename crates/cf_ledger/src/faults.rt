@@ -1,4 +1,7 @@
 //! Why a ledger does nothing.
+ghost use Rattle.std.specs.Prelude.{◌≡◌};
+
+use std::alloc::AllocError;
 
 /// Why a word isn't done. All is as it was then.
 #[derive(Clone, Copy, Debug, PartialEq, Eq)]
@@ -13,12 +16,33 @@ pub enum LedgerFault {
     NoRoom,
 }
 
+impl From<AllocError> for LedgerFault {
+    ghost use Rattle.cf_ledger.specs.declared.faults.LedgerFault.TheVariants.{NoMemory};
+
+    ghost from_gives = { λ _ fault. fault ≡ NoMemory };
+
+    fn from(_refused: AllocError) -> LedgerFault {
+        LedgerFault::NoMemory
+    }
+}
+
 /// The first word that can't be done, and why.
 #[derive(Clone, Copy, Debug, PartialEq, Eq)]
 pub struct Misfit {
     /// Its place, counted from 0.
     pub place: usize,
     pub why: LedgerFault,
+}
+
+impl From<AllocError> for Misfit {
+    ghost from_gives = { λ _ m. m.why ≡ LedgerFault.NoMemory };
+
+    fn from(_refused: AllocError) -> Misfit {
+        Misfit {
+            place: 0,
+            why: LedgerFault::NoMemory,
+        }
+    }
 }
 
 /// Why a step isn't done. All is as it was then.
@@ -32,4 +56,14 @@ pub enum StepFault {
     NoStage,
     /// The caller has no open claim of the stage that is held.
     NotHeld,
+}
+
+impl From<AllocError> for StepFault {
+    ghost use Rattle.cf_ledger.specs.declared.faults.StepFault.TheVariants.{NoMemory};
+
+    ghost from_gives = { λ _ fault. fault ≡ NoMemory };
+
+    fn from(_refused: AllocError) -> StepFault {
+        StepFault::NoMemory
+    }
 }

@@ -20,7 +20,7 @@ use cf_event::decode;
 use cf_model::{Event, Reply, Stage};
 use cf_outcome::Outcome;
 use cf_plan::Plan;
-use std::alloc::Global;
+use std::alloc::{AllocError, Global};
 use std::marker::Model;
 
 /// The greatest caller that a word has room for.
@@ -60,15 +60,12 @@ impl Model for Ledger {
 impl Ledger {
     /// The ledger of a plan with room for so many stages more, in which nothing is written. It fails only where there is no
     /// memory.
-    pub fn new(alloc: Global, plan: &Plan, room: u16) -> Result<Ledger, LedgerFault>
+    pub fn new(alloc: Global, plan: &Plan, room: u16) -> Result<Ledger, AllocError>
         requires place { has_place plan.now.stages room ≡ true }
-        ensures opened { IfOk result (λ ledger. ledger ≡ record { plan = with_room plan.now room; events = [] }) }
-        ensures refused { IfErr result (λ fault. fault ≡ LedgerFault.NoMemory) }
+        ensures { IfOk result (λ ledger. ledger ≡ record { plan = with_room plan.now room; events = [] }) }
     {
         let graph = graph_of(alloc, plan, room)?;
-        let Ok(plan) = plan.copy() else {
-            return Err(LedgerFault::NoMemory);
-        };
+        let plan = plan.share()?;
         let changed = flags_of(alloc, &graph)?;
         Ok(Ledger {
             plan,
@@ -101,12 +98,8 @@ impl Ledger {
         if !has_room_for(&self.graph, &event) {
             return Err(LedgerFault::NoRoom);
         }
-        if make_room(&mut self.words, 1).is_err() {
-            return Err(LedgerFault::NoMemory);
-        }
-        if self.news.reserve(1, self.changed.bound() as usize).is_err() {
-            return Err(LedgerFault::NoMemory);
-        }
+        make_room(&mut self.words, 1)?;
+        self.news.reserve(1, self.changed.bound() as usize)?;
         Ok(write(
             &self.plan,
             self.room,
@@ -140,13 +133,9 @@ impl Ledger {
                 return Err(StepFault::NotHeld);
             }
         }
-        if make_room(&mut self.words, 2).is_err() {
-            return Err(StepFault::NoMemory);
-        }
+        make_room(&mut self.words, 2)?;
         let most = self.changed.bound() as usize;
-        if self.news.reserve(2, 2 * most).is_err() {
-            return Err(StepFault::NoMemory);
-        }
+        self.news.reserve(2, 2 * most)?;
         let finish = match held {
             None => None,
             Some(held) => Some(finish(
@@ -290,20 +279,14 @@ impl Ledger {
         ensures events { IfOk result (λ ledger. ledger.events ≡ decoded words.now) }
         ensures refused { IfErr result (λ m. m.why ≢ LedgerFault.NoMemory → IsFirstRefused (start (with_room plan.now room)) m.place words.now m.why) }
     {
-        match Ledger::new(alloc, plan, room) {
-            Err(why) => Err(Misfit { place: 0, why }),
-            Ok(ledger) => {
-                let mut ledger = ledger;
-                for (place, word) in words.iter().enumerate() {
-                    match ledger.apply(*word) {
-                        Ok(_) => {}
-                        Err(why) => return Err(Misfit { place, why }),
-                    }
-                }
-                let _written = ledger.words();
-                Ok(ledger)
+        let mut ledger = Ledger::new(alloc, plan, room)?;
+        for (place, word) in words.iter().enumerate() {
+            if let Err(why) = ledger.apply(*word) {
+                return Err(Misfit { place, why });
             }
         }
+        let _written = ledger.words();
+        Ok(ledger)
     }
 
     /// Starts again: nothing is written then, and all of its room is free. It takes no memory, and keeps what its rows have.
@@ -346,16 +329,12 @@ impl Ledger {
 }
 
 /// The graph of a plan with room, in which no turn is left.
-fn graph_of(alloc: Global, plan: &Plan, room: u16) -> Result<Graph, LedgerFault>
+fn graph_of(alloc: Global, plan: &Plan, room: u16) -> Result<Graph, AllocError>
     requires place { has_place plan.now.stages room ≡ true }
     ensures graph { IfOk result (λ graph. graph.state ≡ start (with_room plan.now room)) }
     ensures worked_out { IfOk result (λ graph. graph.left ≡ None) }
-    ensures refused { IfErr result (λ fault. fault ≡ LedgerFault.NoMemory) }
 {
-    match Graph::growing_of(alloc, plan, room) {
-        Ok(graph) => Ok(worked_out(graph)),
-        Err(_) => Err(LedgerFault::NoMemory),
-    }
+    Ok(worked_out(Graph::growing_of(alloc, plan, room)?))
 }
 
 /// Has a graph start again, and takes all turns that are left.
@@ -382,15 +361,10 @@ fn worked_out(graph: Graph) -> Graph
 }
 
 /// A flag for each stage that there may ever be.
-fn flags_of(alloc: Global, graph: &Graph) -> Result<BitSet, LedgerFault>
-    ensures unset { IfOk result (λ flags. flags ≡ replicate (length graph.now.state.plan.stages + graph.now.state.plan.room) false) }
-    ensures refused { IfErr result (λ fault. fault ≡ LedgerFault.NoMemory) }
+fn flags_of(alloc: Global, graph: &Graph) -> Result<BitSet, AllocError>
+    ensures { IfOk result (λ flags. flags ≡ replicate (length graph.now.state.plan.stages + graph.now.state.plan.room) false) }
 {
-    let count = graph.stages() + graph.room();
-    match BitSet::new(alloc, count) {
-        Ok(flags) => Ok(flags),
-        Err(_) => Err(LedgerFault::NoMemory),
-    }
+    BitSet::new(alloc, graph.stages() + graph.room())
 }
 
 /// Whether there is room for the stage that an event attaches, if it attaches one.

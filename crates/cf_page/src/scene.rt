@@ -48,9 +48,7 @@ pub fn scene_of(
 
 /// The scene of a plan to which nothing was done.
 fn opening_of(alloc: Global, plan: &Plan) -> Result<Scene, AllocError> {
-    let Ok(plan) = plan.copy() else {
-        return Err(AllocError);
-    };
+    let plan = plan.share()?;
     let notes = Notes::new(alloc, &plan)?;
     Ok(Scene {
         plan,
@@ -77,10 +75,8 @@ impl Scene {
     ) -> Result<(), AllocError>
         requires place { has_place plan.now.stages room ≡ true }
     {
-        match Ledger::new(alloc, plan, room) {
-            Ok(mut ledger) => self.go_through(alloc, &mut ledger, words, people),
-            Err(_) => Err(AllocError),
-        }
+        let mut ledger = Ledger::new(alloc, plan, room)?;
+        self.go_through(alloc, &mut ledger, words, people)
     }
 
     /// Does the events, tells them, and lays the stages out.

@@ -41,10 +41,8 @@ fn add_words(
 ) -> Result<(), AllocError>
     requires place { has_place plan.now.stages room ≡ true }
 {
-    match Ledger::new(alloc, plan, room) {
-        Ok(mut ledger) => do_all(&mut ledger, words, functions, steps),
-        Err(_) => Err(AllocError),
-    }
+    let mut ledger = Ledger::new(alloc, plan, room)?;
+    do_all(&mut ledger, words, functions, steps)
 }
 
 /// Does the steps, and writes the words of their events.

@@ -28,9 +28,7 @@ pub(crate) fn run_of(alloc: Global, script: Script) -> Result<RunScript, AllocEr
     ensures { IfOk result (λ c. c.graph.state ≡ after_script script) }
 {
     let (opening, room, functions, steps) = script.into_parts();
-    let Ok(plan) = opening.copy() else {
-        return Err(AllocError);
-    };
+    let plan = opening.share()?;
     let mut notes = Notes::new(alloc, plan.stages() as usize + room as usize)?;
     let mut graph = Graph::new_growing(alloc, opening, room)?;
     do_steps(&mut graph, &functions, &mut notes, &steps);

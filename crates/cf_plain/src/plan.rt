@@ -118,7 +118,7 @@ impl PlainPlan {
     pub fn copy(&self, alloc: Global) -> Result<PlainPlan, AllocError>
         ensures { IfOk result (λ plan. plan ≡ self.now) }
     {
-        let opening = copied(&self.opening)?;
+        let opening = self.opening.share()?;
         let attached = copied_stages(alloc, &self.attached)?;
         Ok(PlainPlan {
             opening,
@@ -165,16 +165,6 @@ impl PlainPlan {
         self.attached.push(stage)?;
         self.room -= 1;
         Ok(())
-    }
-}
-
-/// The same plan again.
-fn copied(plan: &Plan) -> Result<Plan, AllocError>
-    ensures { IfOk result (λ copy. copy ≡ plan.now) }
-{
-    match plan.copy() {
-        Ok(copy) => Ok(copy),
-        Err(_) => Err(AllocError),
     }
 }
 

@@ -10,7 +10,7 @@ use crate::forms::Form;
 use crate::limits::Limit;
 use crate::rows::Row;
 use crate::starting::starts_of;
-use std::alloc::Global;
+use std::alloc::{AllocError, Global};
 use std::marker::Model;
 use std::sync::Arc;
 
@@ -172,6 +172,13 @@ impl Plan {
     pub fn copy(&self) -> Result<Plan, PlanFault>
         ensures same { IfOk result (λ plan. plan ≡ self.now) }
         ensures refused { IsOkUnless result PlanFault.NoMemory }
+    {
+        Ok(self.share()?)
+    }
+
+    /// What `copy` gives, for who tells want of memory in another way.
+    pub fn share(&self) -> Result<Plan, AllocError>
+        ensures same { IfOk result (λ plan. plan ≡ self.now) }
     {
         let blocks = Arc::try_clone(&self.blocks)?;
         Ok(Plan { blocks })

@@ -17,7 +17,7 @@ use beginning::begin;
 use cf_model::Event;
 use cf_plan::Plan;
 use sizes::sizes;
-use std::alloc::Global;
+use std::alloc::{AllocError, Global};
 use std::sync::Wait;
 use std::thread::Threads;
 
@@ -28,6 +28,16 @@ pub enum RaceFault {
     NoMemory,
     /// The log would have more than 65,535 words.
     Size,
+}
+
+impl From<AllocError> for RaceFault {
+    ghost use Rattle.cf_pool.specs.declared.races.RaceFault.TheVariants.{NoMemory};
+
+    ghost from_gives = { λ _ fault. fault ≡ NoMemory };
+
+    fn from(_refused: AllocError) -> RaceFault {
+        RaceFault::NoMemory
+    }
 }
 
 /// Does these steps as caller 0's, in order, and then lets so many workers, 1 to 32, work on threads of their own until
@@ -58,10 +68,7 @@ pub fn race<R: Threads + Wait + Sync, W: Worker + Send + Drop>(
         Some(sizes) => sizes,
         None => return Err(RaceFault::Size),
     };
-    let (desk, passes) = match begin(alloc, plan, room, workers + 1, steps, log, calls) {
-        Ok(begun) => begun,
-        Err(_) => return Err(RaceFault::NoMemory),
-    };
+    let (desk, passes) = begin(alloc, plan, room, workers + 1, steps, log, calls)?;
     match run(rt, desk, passes, hands) {
         Ok(left) => Ok(left),
         Err(fault) => Err(fault_of(fault)),

@@ -140,13 +140,8 @@ fn seat_all(
     ensures seated { IfOk result (λ done. AreBehind desk passes.items callers.new) }
     ensures refused { IfErr result (λ code. (code ≡ NoMemory) × (callers.new ≡ callers.old)) }
 {
-    match boxed(alloc, desk, passes) {
-        Ok(held) => {
-            put_all(callers, held);
-            Ok(())
-        }
-        Err(_) => Err(Code::NoMemory),
-    }
+    put_all(callers, boxed(alloc, desk, passes)?);
+    Ok(())
 }
 
 /// The callers of a new desk, as they are put behind handles.
