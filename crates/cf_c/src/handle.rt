@@ -37,7 +37,7 @@ macro_rules! ask {
 pub(crate) use ask;
 pub(crate) use tell;
 
-/// HandleGives C what it is told: the code, and where that is 0 the answer.
+/// Gives C what it is told: the code, and where that is 0 the answer.
 #[inline(always)]
 pub(crate) fn give<X: Drop>(told: Result<X, Code>, out: &mut X) -> u32
     ensures { HandleGives told result out.old out.new }

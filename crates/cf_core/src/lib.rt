@@ -53,9 +53,9 @@
 //! that were never treated, and sets and lists are emptied, all of it in place. By `cf_model::laws::grown_plans_reopen_as_they_were`
 //! the graph is then what it was at its opening, with all of its room.
 //!
-//! No call but `Graph::new` and `Graph::new_growing` takes memory: the marks and the ready stages are sets of bits
-//! (`cf_bits`), the stages linked to a stage are a list threaded through arrays (`Links`), so that none is searched for,
-//! and each stage that may be attached has its place reserved.
+//! No call but `Graph::new`, `Graph::new_growing` and `Graph::growing_of` takes memory: the marks and the ready stages are
+//! sets of bits (`cf_bits`), the stages linked to a stage are a list threaded through arrays (`Links`), so that none is
+//! searched for, and each stage that may be attached has its place reserved.
 #![tactic(auto)]
 
 mod attach;

@@ -209,9 +209,8 @@ const NO_RECORD: Rec = Rec::Saw {
 /// How many records a page of memory holds at most.
 const PAGE: u16 = 85;
 
-/// An empty list with room for so many records. Where that is more than a page, each place was written once, since the
-/// first write to each page of new memory goes through the system, and would else be made in the middle of a call, by all
-/// threads at the same time.
+/// An empty list with room for so many records. Where that is more than a page, each page is touched here, so that page
+/// faults come at the opening, and not in the middle of calls, by all threads at the same time.
 fn no_records(alloc: Global, calls: u16) -> Result<Vec<Rec>, AllocError>
     ensures items { IfOk result (λ records. records.items ≡ []) }
     ensures capacity { IfOk result (λ records. calls ≤ vec_capacity records) }

@@ -1,11 +1,11 @@
 //! Whether what callers were told is one history.
 //!
 //! A history is a plan, a list of 64-bit words, and for each caller the records of its calls: what it asked or called, at
-//! which place in the history, and what it was answered. `check` reads the words as events, does them one after another to
-//! one graph that nobody else uses, and along the way reads each caller's records: each is to be answered as that graph
-//! answers at its place, each event of the caller is to be one of its records, and no record's place is before that of the
-//! one before it. So the records fit exactly where one sequential graph, asked in the order of the history, would have
-//! answered all callers as they were answered.
+//! which place in the history, and what it was answered. `check` decodes the words to events, and does them one after
+//! another to a fresh graph. For each caller it does them again, to one more, and reads the records in order: each has to
+//! tell what the graph answers at its place, which isn't before that of the record before it, and each event of the caller
+//! has to be in one of them. So the records fit exactly where one sequential graph, asked in the order of the history,
+//! would have answered all callers as they were answered.
 //!
 //! Whoever made the history isn't trusted: not the words, which may be no event's or that of an event which the graph
 //! doesn't take, not the records, and not the outcomes that the history says its stages had in the end. Where it doesn't

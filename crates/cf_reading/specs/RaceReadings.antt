@@ -44,8 +44,8 @@ pub record IsFirstWrong (bytes : List ℕ) (k : ℕ) : Type 0 where
   pub for_race : All IsForRace before.steps
   pub wrong : (reading bytes ≡ Err (faults.Step k)) ⊎ IsForRunAlone (reading_up_to (k + 1) bytes) before.steps
 
--- To a race bytes say the script that they say to a run, where it takes all its steps; the fault that they say to a run, where
--- it isn't a step's; and else the fault of the first step that is wrong, which comes no later than the one told to a run.
+-- Where a run reads a script and a race takes all its steps, a race reads the same script. Where a run tells a fault that isn't a
+-- step's, a race tells the same. Else a race tells the first wrong step, which is no later than the one that a run tells.
 pub record RacesAreReadAsRuns (bytes : List ℕ) : Type 0 where
   pub scripts : (s : Script) → (race_reading bytes ≡ Ok s) ↔ ((reading bytes ≡ Ok s) × All IsForRace s.steps)
   pub other_faults : (fault : ReadingFault) → IsNotOfStep fault → (race_reading bytes ≡ Err fault) ↔ (reading bytes ≡ Err fault)
