@@ -35,7 +35,9 @@ pub struct Misfit {
 }
 
 impl From<AllocError> for Misfit {
-    ghost from_gives = { λ _ m. m.why ≡ LedgerFault.NoMemory };
+    ghost use Rattle.cf_ledger.specs.declared.faults.LedgerFault.TheVariants.{NoMemory};
+
+    ghost from_gives = { λ _ m. m.why ≡ NoMemory };
 
     fn from(_refused: AllocError) -> Misfit {
         Misfit {

@@ -281,8 +281,9 @@ impl Ledger {
     {
         let mut ledger = Ledger::new(alloc, plan, room)?;
         for (place, word) in words.iter().enumerate() {
-            if let Err(why) = ledger.apply(*word) {
-                return Err(Misfit { place, why });
+            match ledger.apply(*word) {
+                Ok(_) => {}
+                Err(why) => return Err(Misfit { place, why }),
             }
         }
         let _written = ledger.words();

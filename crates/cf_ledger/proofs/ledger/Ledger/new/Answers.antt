@@ -10,8 +10,8 @@ pub invariant_of-result : goal.invariant_of-result
 invariant_of-result c =
     let g = c.in_ok-graph.graph in
     let all = length g.state.plan.stages + g.state.plan.room in
-    let flags = c.in_ok-changed.ensures.unset in
-    let none : IsKept (with_room c.in-Ok.plan c.args.room) [] g c.in_ok-changed.changed [] = record {
+    let flags = c.in_ok-changed.ensures in
+    let none : IsKept (with_room c.in_ok-plan.plan c.args.room) [] g c.in_ok-changed.changed [] = record {
       place = search rules;
       written = refl;
       taken = tt;
@@ -21,5 +21,5 @@ invariant_of-result c =
       flags = ap length flags ∙ length-replicate all false;
       noted = tt;
     } in
-    subst (λ lists. IsKept (with_room c.in-Ok.plan c.args.room) c.new.result.items g c.in_ok-changed.changed lists) (sym c.new-2.ensures)
-    (subst (λ (words : List ℕ). IsKept (with_room c.in-Ok.plan c.args.room) words g c.in_ok-changed.changed []) (sym c.new.ensures.items) none)
+    subst (λ lists. IsKept (with_room c.in_ok-plan.plan c.args.room) c.new.result.items g c.in_ok-changed.changed lists) (sym c.new-2.ensures)
+    (subst (λ (words : List ℕ). IsKept (with_room c.in_ok-plan.plan c.args.room) words g c.in_ok-changed.changed []) (sym c.new.ensures.items) none)
