@@ -1,4 +1,5 @@
 //! The plain graph: how it begins, and what it tells without a change.
+mod answering;
 mod attaching;
 mod changes;
 mod limits;
