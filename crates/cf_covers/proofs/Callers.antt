@@ -1,17 +1,15 @@
 -- A caller's next step, and what is still to be told to a caller.
 use Rattle.std.proofs.Common.{◌≡◌, ℕ, zero, suc, ◌+◌, ◌<◌, ◌≤◌, Bool, true, false, cond, eqb, eq-eqb, Some, None, Option, List, [], ◌∷◌, ◌++◌, inl, inr, length, set, take, ap, arith, refl, sym, ◌∙◌, subst, append-nil}
-use Rattle.std.specs.Prelude.{Contains, ◌⊎◌, ◌==◌, if◌then◌else◌, map, nat_lt, slice_get, option_and_then, not, ◌&&◌}
-use Rattle.std.specs.List.{All, filter}
-use Rattle.std.proofs.lemmas.Bool.{eqb-true, lt-leb, lt-ltb}
+use Rattle.std.specs.Prelude.{Contains, ◌⊎◌, ◌==◌, if◌then◌else◌, map, slice_get, option_and_then, not, ◌&&◌}
+use Rattle.std.specs.List.{filter}
+use Rattle.std.proofs.lemmas.Bool.{eqb-true, lt-leb}
 use Rattle.std.proofs.Math.Nat.{eq-or-lt_of_le}
 use Rattle.std.proofs.Math.Seq.{take-append_seam}
 use Rattle.std.proofs.lemmas.List.{get_or-set_other, get_or-set_same}
-use Rattle.std.proofs.lemmas.List.Elements.{All-head, All-tail, Contains-append_left, Contains-append_right}
+use Rattle.std.proofs.lemmas.List.Elements.{Contains-append_left, Contains-append_right}
 use Rattle.std.proofs.lemmas.Option.{unwrap_or-slice_get}
 use Rattle.cf_plan.specs.Meanings.{Meanings}
-use Rattle.cf_plan.specs.Plans.{Planned, sources_of}
-use Rattle.cf_plan.specs.declared.forms.Of.{Of}
-use Rattle.cf_plan.specs.declared.forms.Of.TheVariants.{None as NoSource, One, Two}
+use Rattle.cf_plan.specs.Plans.{Planned}
 use Rattle.cf_model.specs.declared.events.Event.{Event}
 use Rattle.cf_model.specs.declared.events.Event.TheVariants.{Complete as Completes, Fail as Fails, Cancel as Cancels, Claim as Claims, Finish as Finishes, Tick as Ticks, Attach as Attaches}
 use Rattle.cf_model.specs.declared.events.Reply.{Reply}
@@ -27,7 +25,8 @@ use Rattle.cf_explore.specs.declared.step.Move.TheVariants as moving
 use Rattle.cf_explore.specs.declared.step.Place.{Place}
 use Rattle.cf_explore.specs.declared.step.Step.{Step}
 use Rattle.cf_explore.specs.Programs.{Programmed, Situated, place_at, step_of}
-use Rattle.cf_explore.specs.Moves.{are_there, call_event, caller_moves, calling, carried_out, moved, moves, onward, own_moves, step_moves, stepped, takes, worker_moves}
+use Rattle.cf_explore.specs.Moves.{call_event, caller_moves, calling, carried_out, moved, moves, onward, own_moves, step_moves, stepped, takes, worker_moves}
+use Rattle.cf_explore.proofs.Taking.{takes-decides}
 use Rattle.cf_covers.specs.Tellings.{but_vain, grants, is_vain, step_for}
 use Rattle.cf_covers.proofs.Lists.{contains-first, same-first, slice_get-behind, slice_get-mapped}
 
@@ -100,26 +99,6 @@ call-is (Claims who i) = refl
 call-is (Finishes who i answer) = refl
 call-is (Ticks who now) = refl
 call-is (Attaches who form of function) = refl
-
-is-below : (i n : ℕ) → i < n → nat_lt i n ≡ true
-is-below i n l = lt-ltb i n l
-
-are-there : (n : ℕ) (of : Of) → All (λ j. j < n) (sources_of of) → are_there n of ≡ true
-are-there n NoSource h = refl
-are-there n (One a) h = is-below a n (All-head (λ j. j < n) a [] h)
-are-there n (Two a b) h =
-    let one = is-below a n (All-head (λ j. j < n) a (b ∷ []) h) in
-    let other = is-below b n (All-head (λ j. j < n) b [] (All-tail (λ j. j < n) a (b ∷ []) h)) in
-    rw one other
-
-pub call-taken : (n : ℕ) (e : Event) → EventFits n e → takes n (as_call e) ≡ true
-call-taken n (Completes who i v) h = is-below i n h
-call-taken n (Fails who i code) h = is-below i n h
-call-taken n (Cancels who i) h = is-below i n h
-call-taken n (Claims who i) h = is-below i n h
-call-taken n (Finishes who i answer) h = is-below i n h
-call-taken n (Ticks who now) h = refl
-call-taken n (Attaches who form of function) h = (let there = are-there n of h.1 in rw h.0 there)
 
 -- ---- what is still to be told
 
@@ -233,9 +212,9 @@ no-step p s c so_far steps at =
 -- a call that fits is carried out, and is its event
 pub calling-is : (s : Situated) (e : Event) → EventFits (length s.state.plan.stages) e → calling s (who_of e) (as_call e) ≡ carried_out s e (answered s.state e)
 calling-is s e fits =
-    ap (λ (b : Bool). if b then carried_out s (event_by (who_of e) (as_call e)) (answered s.state (event_by (who_of e) (as_call e))) else s) (call-taken (length s.state.plan.stages) e fits)
-    ∙ ap (λ (x : Event). carried_out s x (answered s.state x)) (call-is e)
+    ap (λ (x : Event). if takes (length s.state.plan.stages) x then carried_out s x (answered s.state x) else s) (call-is e)
+    ∙ ap (λ (b : Bool). if b then carried_out s e (answered s.state e) else s) ((takes-decides (length s.state.plan.stages) e).1 fits)
 
 pub event-is : (n : ℕ) (e : Event) → EventFits n e → call_event (as_call e) n (who_of e) ≡ Some e
 event-is n e fits =
-    ap (λ (b : Bool). if b then Some (event_by (who_of e) (as_call e)) else None) (call-taken n e fits) ∙ ap (λ (x : Event). Some x) (call-is e)
+    ap (λ (x : Event). if takes n x then Some x else None) (call-is e) ∙ ap (λ (b : Bool). if b then Some e else None) ((takes-decides n e).1 fits)

@@ -1,3 +1,4 @@
+pub mod Taking
 pub mod Counting
 pub mod Sums
 pub mod Trails

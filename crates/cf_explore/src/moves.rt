@@ -292,8 +292,9 @@ fn step_event(step: Option<Step>, stages: u16, c: u8) -> Option<Event>
 fn call_event(call: Call, stages: u16, c: u8) -> Option<Event>
     ensures { result ≡ call_event call stages c }
 {
-    if takes(stages, call) {
-        Some(event_by(c, call))
+    let event = event_by(c, call);
+    if takes(stages, &event) {
+        Some(event)
     } else {
         None
     }

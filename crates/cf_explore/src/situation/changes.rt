@@ -1,18 +1,18 @@
 //! The changes of a situation. Each fails only where there is no memory, and the situation isn't to be used any more then.
-ghost use Rattle.std.specs.Prelude.{◌≡◌, ◌+◌, ◌<◌, ◌++◌, [], ◌∷◌, IfOk, false, is_some, length, slice_set, true};
-ghost use Rattle.cf_model.specs.Events.{answered, claiming, finishing, ticking};
+ghost use Rattle.std.specs.Prelude.{◌≡◌, ◌↔◌, ◌+◌, ◌<◌, ◌++◌, [], ◌∷◌, IfOk, IsTrue, false, is_some, slice_set, true};
+ghost use Rattle.cf_model.specs.Events.{claiming, finishing, ticking};
 ghost use Rattle.cf_model.specs.States.{outcome_at};
 ghost use Rattle.cf_explore.specs.declared.step.Step.TheVariants.{Join};
 ghost use Rattle.cf_explore.specs.Programs.{hand_at, place_at};
 ghost use Rattle.cf_model.specs.Calls.{event_by};
-ghost use Rattle.cf_explore.specs.Moves.{are_there, calling, claim_answer, claim_by, finish_by, finished, hand_of, is_settled, marked, next_moment, once_more, onward, stepped, takes, ticked};
+ghost use Rattle.cf_model.specs.Ranges.{EventFits};
+ghost use Rattle.cf_explore.specs.Moves.{calling, claim_answer, claim_by, finish_by, finished, hand_of, is_settled, marked, next_moment, once_more, onward, stepped, takes, ticked};
 
 use crate::situation::Situation;
 use crate::step::{Hand, Place};
-use cf_model::{Attached, Call, Claimed, Reply};
-use cf_outcome::{Cause, Outcome};
+use cf_model::{Attached, Call, Claimed, Event, Reply, event_by};
 use cf_plain::Plain;
-use cf_plan::{Answer, Of, fits_form};
+use cf_plan::Answer;
 use std::alloc::{AllocError, Global};
 
 impl Situation {
@@ -53,8 +53,9 @@ impl Situation {
         ensures situation { IfOk result (λ _. self.new ≡ calling self.old c call) }
         ensures places { IfOk result (λ _. self.new.places ≡ self.old.places) }
     {
-        if takes(self.graph.stages(), call) {
-            let reply = answer(alloc, &mut self.graph, c, call)?;
+        let event = event_by(c, call);
+        if takes(self.graph.stages(), &event) {
+            let reply = self.graph.answer(alloc, &event)?;
             mark(&mut self.called, c, call, reply)?;
         }
         Ok(())
@@ -196,70 +197,12 @@ fn finish(
     }
 }
 
-/// Whether a graph of so many stages takes a call.
-pub(crate) fn takes(stages: u16, call: Call) -> bool
-    ensures { result ≡ takes stages call }
+/// Whether a graph of so many stages takes an event.
+pub(crate) fn takes(stages: u16, event: &Event) -> bool
+    ensures taken { result ≡ takes stages event.now }
+    ensures fits { IsTrue result ↔ EventFits stages event.now }
 {
-    match call {
-        Call::Complete(i, _) => i < stages,
-        Call::Fail(i, _) => i < stages,
-        Call::Cancel(i) => i < stages,
-        Call::Claim(i) => i < stages,
-        Call::Finish(i, _) => i < stages,
-        Call::Tick(_) => true,
-        Call::Attach(form, of, function) => {
-            fits_form(form, of.count(), function.is_some()) && are_there(stages, of)
-        }
-    }
-}
-
-/// Whether these sources are there.
-fn are_there(stages: u16, of: Of) -> bool
-    ensures { result ≡ are_there stages of }
-{
-    match of {
-        Of::None => true,
-        Of::One(a) => a < stages,
-        Of::Two(a, b) => a < stages && b < stages,
-    }
-}
-
-/// The graph answers a call.
-fn answer(alloc: Global, graph: &mut Plain, who: u8, call: Call) -> Result<Reply, AllocError>
-    requires { takes (length graph.old.plan.stages) call ≡ true }
-    ensures { IfOk result (λ reply. (reply, graph.new) ≡ answered graph.old (event_by who call)) }
-{
-    match call {
-        Call::Complete(i, v) => {
-            let done = graph.settle(alloc, i, Outcome::Value(v))?;
-            Ok(Reply::Flag(done))
-        }
-        Call::Fail(i, code) => {
-            let thrown = Outcome::Fault {
-                cause: Cause::Thrown(code),
-                wrapped: false,
-            };
-            let done = graph.settle(alloc, i, thrown)?;
-            Ok(Reply::Flag(done))
-        }
-        Call::Cancel(i) => {
-            let done = graph.cancel(alloc, i)?;
-            Ok(Reply::Flag(done))
-        }
-        Call::Claim(i) => Ok(Reply::Claim(graph.claim(who, i))),
-        Call::Finish(i, given) => {
-            let done = graph.finish(alloc, who, i, given)?;
-            Ok(Reply::Finish(done))
-        }
-        Call::Tick(now) => {
-            let done = graph.tick(alloc, now)?;
-            Ok(Reply::Tick(done))
-        }
-        Call::Attach(form, of, function) => {
-            let done = graph.attach(alloc, form, of, function)?;
-            Ok(Reply::Attach(done))
-        }
-    }
+    event.fits(stages)
 }
 
 /// Says of a stage whose claim was granted that its function was called, and of one that was attached that it wasn't.
