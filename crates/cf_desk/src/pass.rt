@@ -1,11 +1,10 @@
 //! A caller's pass: its seat at the row, and what it has seen.
-ghost use Rattle.std.specs.Prelude.{◌≡◌, ◌<◌, ◌≤◌, ◌+◌, ◌↔◌, IfSome, IsTrue, length, unwrap_or};
+ghost use Rattle.std.specs.Prelude.{◌≡◌, ◌<◌, ◌≤◌, ◌+◌, ◌↔◌, IfSome, IsTrue, length};
 ghost use Rattle.std.specs.Bool.{OnTrue};
 ghost use Rattle.cf_plan.specs.Plans.{function_at};
 ghost use Rattle.cf_model.specs.States.{lowest_ready_of, outcome_at};
 ghost use Rattle.cf_model.specs.Calls.{event_by};
 ghost use Rattle.cf_desk.specs.Faults.{AsksStage, IsFitting, IsOnStage};
-ghost use Rattle.cf_event.specs.Events.{IsFunctionBelow};
 ghost use Rattle.cf_desk.specs.Log.{IsDeskEvent};
 ghost use Rattle.cf_desk.specs.Views.{HoldsClaim, Joins, Reads, state_of};
 
@@ -13,6 +12,7 @@ use crate::calls::{Joined, Rec, joined_as};
 use crate::row::SeatView;
 use atomic_table::Seat;
 use cf_core::Graph;
+use cf_event::is_function;
 use cf_model::{Ask, Call, Told};
 use cf_outcome::Outcome;
 use cf_plan::fits_form;
@@ -131,6 +131,7 @@ impl Pass {
             Call::Attach(form, of, function) => {
                 fits_form(form, of.count(), function.is_some())
                     && is_function(function, self.functions)
+                    && function.unwrap_or(0) <= LAST_FUNCTION
             }
         }
     }
@@ -195,15 +196,5 @@ impl Pass {
         };
         self.records.push_reserved(record);
         told
-    }
-}
-
-/// Whether a function, if there is one, is one of so many, and a word has room for its number.
-fn is_function(function: Option<u16>, functions: u32) -> bool
-    ensures { IsTrue result ↔ (IsFunctionBelow functions function × (unwrap_or function 0 ≤ 4095)) }
-{
-    match function {
-        None => true,
-        Some(number) => u32::from(number) < functions && number <= LAST_FUNCTION,
     }
 }

@@ -2,6 +2,7 @@
 ghost use Rattle.std.specs.Prelude.{◌≡◌, ◌<◌, ◌≤◌, ◌↔◌, IsTrue, is_some, slice_get, true, unwrap_or};
 ghost use Rattle.cf_plan.specs.Plans.{fits_form};
 ghost use Rattle.cf_event.specs.Words.{attach_low, count_of, first_of, second_of};
+ghost use Rattle.cf_event.specs.Events.{IsFunctionBelow};
 ghost use Rattle.cf_event.specs.Decoding.{attach_of, attach_with, of_with};
 
 use cf_model::Event;
@@ -20,6 +21,16 @@ pub(crate) fn is_stage(form: Form, of: Of, function: Option<u16>) -> bool
     ensures { IsTrue result ↔ ((unwrap_or function 0 ≤ 4095) × (fits_form form (count_of of) (is_some function) ≡ true)) }
 {
     function.unwrap_or(0) <= LAST_FUNCTION && fits_form(form, of.count(), function.is_some())
+}
+
+/// Whether a function, if there is one, is one of so many.
+pub fn is_function(function: Option<u16>, functions: u32) -> bool
+    ensures { IsTrue result ↔ IsFunctionBelow functions function }
+{
+    match function {
+        None => true,
+        Some(number) => u32::from(number) < functions,
+    }
 }
 
 /// How many sources they are.

@@ -3,12 +3,12 @@ ghost use Rattle.std.specs.Prelude.{◌≡◌, ◌<◌, ◌↔◌, All, IfNone, 
 ghost use Rattle.cf_model.specs.Events.{state_after};
 ghost use Rattle.cf_event.specs.Decoding.{decoded};
 ghost use Rattle.cf_event.specs.Words.{IsEvent};
-ghost use Rattle.cf_event.specs.Events.{AreEventsOf, IsEventOf, IsFunctionBelow, NamesFunction};
+ghost use Rattle.cf_event.specs.Events.{AreEventsOf, IsEventOf, NamesFunction};
 ghost use Rattle.cf_history.specs.Verdicts.{IsFirstUnfit, IsUnfit};
 
 use crate::verdict::Unfit;
 use cf_core::Graph;
-use cf_event::decode;
+use cf_event::{decode, is_function};
 use cf_model::Event;
 use std::alloc::{AllocError, Global};
 
@@ -71,15 +71,5 @@ fn names_function(event: &Event, functions: u32) -> bool
     match *event {
         Event::Attach { function, .. } => is_function(function, functions),
         _ => true,
-    }
-}
-
-/// Whether a function, if there is one, is one of so many.
-fn is_function(function: Option<u16>, functions: u32) -> bool
-    ensures { IsTrue result ↔ IsFunctionBelow functions function }
-{
-    match function {
-        None => true,
-        Some(number) => u32::from(number) < functions,
     }
 }
