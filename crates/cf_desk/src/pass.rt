@@ -12,14 +12,11 @@ use crate::calls::{Joined, Rec, joined_as};
 use crate::row::SeatView;
 use atomic_table::Seat;
 use cf_core::Graph;
-use cf_event::is_function;
+use cf_event::{LAST_FUNCTION, is_function};
 use cf_model::{Ask, Call, Told};
 use cf_outcome::Outcome;
 use cf_plan::fits_form;
 use std::marker::Model;
-
-/// The greatest number of a function that a word has room for.
-const LAST_FUNCTION: u16 = 4095;
 
 /// A caller's seat and what it has seen. It moves between threads by ownership.
 #[derive(Drop)]

@@ -9,7 +9,7 @@ use cf_model::Event;
 use cf_plan::{Form, Of, fits_form};
 
 /// The greatest function's number that a word has room for.
-const LAST_FUNCTION: u16 = 4095;
+pub const LAST_FUNCTION: u16 = 4095;
 
 /// One in each field of the low half.
 const FORM: u32 = 1 << 24;

@@ -10,7 +10,7 @@ use cf_outcome::Value;
 use cf_plan::Answer;
 
 /// The greatest caller that a word has room for.
-const LAST_CALLER: u8 = 63;
+pub const LAST_CALLER: u8 = 63;
 
 /// The greatest stage that a word has room for.
 const LAST_STAGE: u16 = 4095;

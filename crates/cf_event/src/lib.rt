@@ -15,7 +15,7 @@ pub mod laws;
 mod record;
 
 pub use applying::{apply, replay};
-pub use attaching::is_function;
+pub use attaching::{LAST_FUNCTION, is_function};
 pub use cf_model::{Event, Reply};
-pub use codec::{decode, encode, is_event};
+pub use codec::{LAST_CALLER, decode, encode, is_event};
 pub use record::Record;

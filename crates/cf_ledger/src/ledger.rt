@@ -16,18 +16,12 @@ use crate::step::{Held, Step};
 use crate::writing::{finish, take, write};
 use cf_bits::BitSet;
 use cf_core::Graph;
-use cf_event::decode;
+use cf_event::{LAST_CALLER, decode};
 use cf_model::{Event, Reply, Stage};
 use cf_outcome::Outcome;
-use cf_plan::Plan;
+use cf_plan::{MAX_STAGES, Plan};
 use std::alloc::{AllocError, Global};
 use std::marker::Model;
-
-/// The greatest caller that a word has room for.
-const LAST_CALLER: u8 = 63;
-
-/// No plan has place for more room.
-const MAX_ROOM: u16 = 4096;
 
 /// A graph with the words of all that was done to it, and with the stages that each changed.
 ///
@@ -307,7 +301,7 @@ impl Ledger {
     pub fn has_place(&self, more: u16) -> bool
         ensures { result ≡ has_place self.now.plan.stages (self.now.plan.room + more) }
     {
-        more <= MAX_ROOM && self.plan.has_place(self.room + more)
+        more as usize <= MAX_STAGES && self.plan.has_place(self.room + more)
     }
 
     /// Makes room for so many stages more, by doing all words again. It fails only where there is no memory, and then all is as

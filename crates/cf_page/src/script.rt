@@ -5,12 +5,9 @@ ghost use Rattle.cf_plan.specs.Plans.{has_place};
 use cf_event::{encode, is_event};
 use cf_ledger::{Ledger, LedgerFault};
 use cf_model::{Claimed, Event, Reply};
-use cf_plan::{Plan, StageFn};
+use cf_plan::{MAX_STAGES, Plan, StageFn};
 use cf_reading::{Func, Step, WORKER};
 use std::alloc::{AllocError, Global};
-
-/// A plan has at most so many stages, of which each is claimed once.
-const MOST: u32 = 4_096;
 
 /// The words of the events that a script's steps are: each that changes something, and the claims and finishes of its work.
 /// It fails only where there is no memory.
@@ -90,7 +87,8 @@ fn do_one(
 
 /// Claims, calls and finishes the lowest ready stage, while there is one.
 fn work(ledger: &mut Ledger, words: &mut Vec<u64>, functions: &[Func]) -> Result<(), AllocError> {
-    for _ in 0..MOST {
+    // Each stage is claimed once.
+    for _ in 0..MAX_STAGES {
         let Some(stage) = ledger.next_ready(0) else {
             return Ok(());
         };
