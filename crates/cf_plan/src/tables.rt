@@ -73,8 +73,8 @@ pub fn landing(form: Form, stage: u16, source: Option<Outcome>, answer: Answer) 
                 Landing::Settles(bad)
             }
         }
+        Answer::Give(_) if composes(form) => Landing::Settles(bad),
         Answer::Give(v) => match (form, source) {
-            (Form::Compose | Form::ExceptionallyCompose, _) => Landing::Settles(bad),
             (Form::WhenComplete, Some(o)) => Landing::Settles(o),
             _ => Landing::Settles(Outcome::Value(kept(form, v))),
         },
@@ -99,6 +99,7 @@ pub fn is_decided_by_first(form: Form) -> bool
 }
 
 /// Whether the function of a form answers with a stage, to which its own is then linked.
+#[inline(always)]
 pub fn composes(form: Form) -> bool
     ensures { result ≡ composes form }
 {
