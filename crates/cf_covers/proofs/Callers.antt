@@ -118,10 +118,6 @@ taken-done done rest history k whole so_many =
 pub at-done : (plan : Planned) (done rest history : List Event) (k : ℕ) → done ++ rest ≡ history → length done ≡ k → state_at plan history k ≡ state_after (start plan) done
 at-done plan done rest history k whole so_many = ap (state_after (start plan)) (taken-done done rest history k whole so_many)
 
-pub after-push : (s : State) (xs : List Event) (e : Event) → state_after s (xs ++ e ∷ []) ≡ (answered (state_after s xs) e).1
-after-push s [] e = refl
-after-push s (x ∷ xs) e = after-push ((answered s x).1) xs e
-
 -- an event that is taken up, and one in vain
 but_vain-push : (n : ℕ) (s : State) (xs : List Event) (e : Event) →
     but_vain n s (xs ++ e ∷ []) ≡ but_vain n s xs ++ (if is_vain n e (answered (state_after s xs) e).0 then [] else e ∷ [])

@@ -10,6 +10,7 @@ use Rattle.cf_plan.specs.Meanings.{Meanings}
 use Rattle.cf_plan.specs.Plans.{Planned}
 use Rattle.cf_model.specs.declared.events.Event.{Event}
 use Rattle.cf_model.specs.Calls.{who_of}
+use Rattle.cf_model.proofs.Histories.{state_after-append}
 use Rattle.cf_model.specs.Ranges.{EventFits}
 use Rattle.cf_model.specs.States.{State, lowest_ready_of, outcome_of, start}
 use Rattle.cf_model.specs.Events.{answered, state_after}
@@ -26,7 +27,7 @@ use Rattle.cf_explore.specs.Programs.{Programmed, hand_at, place_at, start_of}
 use Rattle.cf_explore.specs.Orders.{AreMoves, IsOrder, led}
 use Rattle.cf_covers.specs.Tellings.{AreToldSteps, AreWork, IsProgramOf, TellsEach, but_vain, is_vain, step_for}
 use Rattle.cf_covers.specs.Laws.{HasOrder, HistoriesAreOrders, SearchesCoverHistories, SearchesJudgeHistories}
-use Rattle.cf_covers.proofs.Callers.{IsPast, after-push, caller-took, no-step, none-goes_on}
+use Rattle.cf_covers.proofs.Callers.{IsPast, caller-took, no-step, none-goes_on}
 use Rattle.cf_covers.proofs.Ends.{end-told, order-undecided}
 use Rattle.cf_covers.proofs.Numbers.{once}
 use Rattle.cf_covers.proofs.Orders.{moves-front}
@@ -120,7 +121,7 @@ walked w callers functions k done (e ∷ rest) whole all events h =
     let ready = asked w k done (e ∷ rest) whole h.order h.s h.comes h.each h.working n (omega arith) in
     let next = one-more w k done e rest whole (omega (arith, events.0.caller)) events.0.fits ready (cases_lt (who_of e) n) in
     let after_it : AreEventsOf callers functions (state_after (start w.program.plan) (done ++ e ∷ [])) rest =
-    subst (λ (x : State). AreEventsOf callers functions x rest) (sym (after-push (start w.program.plan) done e)) events.1 in
+    subst (λ (x : State). AreEventsOf callers functions x rest) (sym (state_after-append (start w.program.plan) done (e ∷ []))) events.1 in
     walked w callers functions (suc k) (done ++ e ∷ []) rest (append_assoc done (e ∷ []) rest ∙ whole) all after_it next
 
 -- behind the last event nothing is left

@@ -11,6 +11,7 @@ use Rattle.cf_model.specs.declared.asks.Told.{Told}
 use Rattle.cf_model.specs.declared.events.Event.{Event}
 use Rattle.cf_model.specs.declared.events.Reply.{Reply}
 use Rattle.cf_model.specs.Calls.{as_call, who_of}
+use Rattle.cf_model.proofs.Histories.{state_after-append}
 use Rattle.cf_model.specs.Ranges.{EventFits}
 use Rattle.cf_model.specs.States.{State, start}
 use Rattle.cf_model.specs.Events.{answered, state_after, state_at, told}
@@ -31,7 +32,7 @@ use Rattle.cf_covers.specs.Tellings.{AreWork, IsToldBy, IsToldIn, TellsEach, and
 use Rattle.cf_plan.proofs.ListLemmas.{slice_get-push}
 use Rattle.cf_covers.proofs.Lists.{same-rest}
 use Rattle.cf_covers.proofs.Orders.{events-push, led-push, moves-push}
-use Rattle.cf_covers.proofs.Callers.{IsNextDid, IsPast, after-push, at-done, but_vain-took, caller-took, calling-is, event-is, may-step, mine, moved-step, next-did, next-step, onward-other, onward-self, order-later, other-number, same_number, taken-done}
+use Rattle.cf_covers.proofs.Callers.{IsNextDid, IsPast, at-done, but_vain-took, caller-took, calling-is, event-is, may-step, mine, moved-step, next-did, next-step, onward-other, onward-self, order-later, other-number, same_number, taken-done}
 
 -- what is walked over
 pub record Walk : Type 0 where
@@ -353,7 +354,7 @@ event-told w k done e rest whole l fits h reply more stands =
       comes = comes-more w k (suc k) done (done ++ e ∷ []) h.order s t (moving.Step c) (Some e) h.comes (may-step p s c (steps.Do (as_call e)) step l) is event
           (but_vain-took (length p.callers) (start p.plan) done e (caller-took (length p.callers) e _ l))
           (let so = h.comes.so_many in omega (arith, length-append done (e ∷ [])))
-          (ap (λ (x : State). (answered x e).1) now ∙ sym (after-push (start p.plan) done e))
+          (ap (λ (x : State). (answered x e).1) now ∙ sym (state_after-append (start p.plan) done (e ∷ [])))
           (length-set s.places c _) refl;
       each = λ d less. event-each w k done e rest h more own d less (same_number d c);
       working = λ v less. work-later w k e rest v (hand_at s v) (λ same. absurd (omega (arith, same))) (h.working v less);

@@ -20,6 +20,7 @@ use Rattle.cf_model.specs.declared.replies.Claimed.TheVariants as claimed
 use Rattle.cf_model.specs.declared.stage.Stage.{Stage}
 use Rattle.cf_model.specs.declared.stage.Stage.TheVariants.{Pending, Ready, Claimed as IsClaimed, Linked, Settled}
 use Rattle.cf_model.specs.Calls.{who_of}
+use Rattle.cf_model.proofs.Histories.{state_after-append}
 use Rattle.cf_model.specs.Ranges.{EventFits}
 use Rattle.cf_model.specs.States.{State, is_ready, lowest_ready_of, stage_at, start}
 use Rattle.cf_model.proofs.LowestReady.{lowest_ready-none}
@@ -36,7 +37,7 @@ use Rattle.cf_explore.specs.Programs.{Programmed, Situated, hand_at, place_at}
 use Rattle.cf_explore.specs.Moves.{call_by, caller_moves, claim_answer, claim_by, claim_moves, claims_by, event_of, finish_by, finish_by_hand, hand_of, moved, moves, moves_by_hand, own_moves, worker_moves}
 use Rattle.cf_covers.specs.Tellings.{AreWork, IsWork, but_vain, grants, held_after, is_vain}
 use Rattle.cf_covers.proofs.Lists.{contains-first, same-first, same-rest}
-use Rattle.cf_covers.proofs.Callers.{after-push, but_vain-left, but_vain-took, mine, same_number}
+use Rattle.cf_covers.proofs.Callers.{but_vain-left, but_vain-took, mine, same_number}
 use Rattle.cf_covers.proofs.Walks.{Asked, Comes, Stands, Walk, WorkStand, comes-more, mine-first, other-later, says-now, stands-still, state-now, work-later}
 
 -- ---- what a worker has in hand
@@ -194,7 +195,7 @@ vain w k done rest v i answer whole h idle own is held none =
       leads = h.comes.leads;
       events = h.comes.events ∙ sym (but_vain-left n (start w.program.plan) done e behind);
       so_many = (let so = h.comes.so_many in omega (arith, length-append done (e ∷ [])));
-      state = sym (ap (λ (x : Reply × State). x.1) there) ∙ sym (after-push (start w.program.plan) done e);
+      state = sym (ap (λ (x : Reply × State). x.1) there) ∙ sym (state_after-append (start w.program.plan) done (e ∷ []));
       places = h.comes.places;
       hands = h.comes.hands;
     }) (λ d left stands. stands) idle (λ u other. refl)
@@ -227,7 +228,7 @@ granted w k done rest v i args l whole h there idle own ready =
     (may-work p s v hands.Idle by l idle (claims s.state v i args ready (length s.state.plan.stages) there))
     (moved-claim w.meanings p s v i l there) (event-claim p s v i l) (but_vain-took n (start p.plan) done e took)
     (let so = h.comes.so_many in omega (arith, length-append done (e ∷ [])))
-    (ap (λ (y : State). (answered y e).1) now ∙ sym (after-push (start p.plan) done e)) refl (length-set s.hands v x))
+    (ap (λ (y : State). (answered y e).1) now ∙ sym (state_after-append (start p.plan) done (e ∷ []))) refl (length-set s.hands v x))
     (λ d left stands. stands-still w (suc k) 0 rest h.order by d (place_at s d) (place_at t d) left refl stands)
     (hand-self s.hands v x within ∙ held) (λ u other. hand-other s.hands v u x other)
     (own.more, own.changes, subst (λ (y : Hand). AreWork w.meanings p.plan w.history y own.more) (ap (held_after e) reply) own.work, own.answers)
@@ -280,7 +281,7 @@ finish-event w k done rest v i args answer l whole fits h held own gives =
     (may-work p t v (hands.Called i answer) (moving.Finish v) l has (contains-first (moving.Finish v) []))
     (moved-finish w.meanings p t v i answer l there has) (event-finish p t v i answer l has) (but_vain-took n (start p.plan) done e refl)
     (let so = h.comes.so_many in omega (arith, length-append done (e ∷ [])))
-    (ap (λ (y : State). (answered y e).1) now ∙ sym (after-push (start p.plan) done e)) refl (length-set t.hands v hands.Idle) in
+    (ap (λ (y : State). (answered y e).1) now ∙ sym (state_after-append (start p.plan) done (e ∷ []))) refl (length-set t.hands v hands.Idle) in
     work-done w k done e rest v refl h ((h.order ++ moving.Call v ∷ []) ++ moving.Finish v ∷ []) u hands.Idle ends
     (λ d left stands.
     stands-still w (suc k) 0 rest (h.order ++ moving.Call v ∷ []) (moving.Finish v) d (place_at t d) (place_at u d) left refl

@@ -25,6 +25,7 @@ use Rattle.cf_desk.specs.declared.calls.Rec.TheVariants.{Did, Saw}
 use Rattle.cf_model.specs.States.{State, lowest_ready_of, outcome_at, start}
 use Rattle.cf_model.specs.Events.{answered, told}
 use Rattle.cf_model.specs.Ranges.{AskFits, EventFits}
+use Rattle.cf_model.proofs.Histories.{state_after-append}
 use Rattle.cf_model.proofs.LowestReady.{lowest_ready-within}
 use Rattle.cf_model.specs.Calls.{event_by, who_of}
 use Rattle.cf_event.specs.Words.{word_of}
@@ -41,7 +42,7 @@ use Rattle.cf_desk.specs.Views.{known_of, Pass, IsSamePass, state_of, AddedByOth
 use Rattle.cf_desk.specs.Desks.{Agrees}
 use Rattle.cf_desk.specs.Results.{CaughtUp}
 use Rattle.cf_desk.specs.Views.{Desk}
-use Rattle.cf_desk.proofs.Recs.{own_call, state_snoc, fits_more, fits_did, fits_saw}
+use Rattle.cf_desk.proofs.Recs.{own_call, fits_more, fits_did, fits_saw}
 use Rattle.cf_desk.proofs.Keeps.{looks, adds, same_some}
 use Rattle.cf_desk.proofs.Meets.{found_there}
 
@@ -73,7 +74,7 @@ agrees_other k k' caller most count replica replica' records found is event othe
   few = a.few;
   functions = a.functions;
   count = (let c = a.count in omega (arith, length-append k.seen (found ∷ [])));
-  state = now ∙ ap (λ s. (answered s found).1) a.state ∙ sym (state_snoc (start k.setting.plan) k.seen found);
+  state = now ∙ ap (λ s. (answered s found).1) a.state ∙ sym (state_after-append (start k.setting.plan) k.seen (found ∷ []));
   events = events_push k.setting.callers k.setting.functions (start k.setting.plan) k.seen found a.events event;
   fits = fits_more k.setting.plan k.caller k.seen (k.seen ++ found ∷ []) records (record { others = found ∷ []; joined = refl; none = other }) a.fits;
 })
@@ -88,7 +89,7 @@ agrees_own k k' caller most count replica replica' records records' call reply i
       few = a.few;
       functions = a.functions;
       count = (let c = a.count in omega (arith, length-append k.seen (e ∷ [])));
-      state = ap (λ (x : Reply × State). x.1) now ∙ ap (λ s. (answered s e).1) a.state ∙ sym (state_snoc (start k.setting.plan) k.seen e);
+      state = ap (λ (x : Reply × State). x.1) now ∙ ap (λ s. (answered s e).1) a.state ∙ sym (state_after-append (start k.setting.plan) k.seen (e ∷ []));
       events = events_push k.setting.callers k.setting.functions (start k.setting.plan) k.seen e a.events event;
       fits = subst (Fits k.setting.plan k.caller (k.seen ++ e ∷ [])) (ap (λ (n : ℕ). records ++ Did (n + 1) call reply ∷ []) (sym a.count) ∙ sym more)
           (fits_did k.setting.plan k.caller k.seen records call reply (own_call k.caller call) (ap (λ (x : Reply × State). x.0) now ∙ ap (λ s. (answered s e).0) a.state) a.fits);
@@ -278,7 +279,7 @@ short_more z z' n e h = subst (λ (x : TableId). n + 1 ≤ x.words) (sym e) (let
 
 pub state_more : (plan : Planned) (seen : List Event) (i : ℕ) (state : State) (e : Event) (state' : State) → state' ≡ (answered state e).1 → state ≡ state_from plan (take i seen) → slice_get seen i ≡ Some e → state' ≡ state_from plan (take (i + 1) seen)
 state_more plan seen i state e state' now was is =
-    now ∙ ap (λ s. (answered s e).1) was ∙ sym (state_snoc (start plan) (take i seen) e) ∙ ap (state_from plan) (take_next seen i e is ∙ ap (λ (n : ℕ). take n seen) (let p : suc i ≡ i + 1 = omega arith in p))
+    now ∙ ap (λ s. (answered s e).1) was ∙ sym (state_after-append (start plan) (take i seen) (e ∷ [])) ∙ ap (state_from plan) (take_next seen i e is ∙ ap (λ (n : ℕ). take n seen) (let p : suc i ≡ i + 1 = omega arith in p))
   where
     take_next : (xs : List Event) (n : ℕ) (x : Event) → slice_get xs n ≡ Some x → take n xs ++ x ∷ [] ≡ take (suc n) xs
     take_next [] n x h = absurd (none-some x h)

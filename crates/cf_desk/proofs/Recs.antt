@@ -6,9 +6,8 @@ use Rattle.cf_model.specs.declared.asks.Ask.{Ask}
 use Rattle.cf_model.specs.declared.asks.Told.{Told}
 use Rattle.cf_model.specs.declared.events.Event.{Event}
 use Rattle.cf_model.specs.declared.events.Reply.{Reply}
-use Rattle.cf_model.specs.Events.{answered, state_after, told}
+use Rattle.cf_model.specs.Events.{answered, told}
 use Rattle.cf_model.specs.Ranges.{AskFits}
-use Rattle.cf_model.specs.States.{State}
 use Rattle.cf_event.specs.declared.record.Record.{Record}
 use Rattle.cf_event.specs.Histories.{AreRecordsOf}
 use Rattle.cf_model.specs.Calls.{event_by, who_of}
@@ -19,11 +18,6 @@ use Rattle.cf_desk.specs.declared.calls.Rec.{Rec}
 use Rattle.cf_desk.specs.declared.calls.Rec.TheVariants.{Did, Saw}
 use Rattle.cf_desk.specs.Log.{Catches, state_from}
 use Rattle.cf_desk.specs.Records.{Fits, record_by, records_by}
-
--- the fact on the graph that the desk needs: one more event
-pub state_snoc : (s : State) (es : List Event) (e : Event) → state_after s (es ++ e ∷ []) ≡ (answered (state_after s es) e).1
-state_snoc s [] e = refl
-state_snoc s (x ∷ xs) e = state_snoc ((answered s x).1) xs e
 
 pub fits_more : (plan : Planned) (c : ℕ) (seen now : List Event) (rs : List Rec) → Catches c seen now → Fits plan c seen rs → Fits plan c now rs
 fits_more plan c seen now rs h f = subst (λ (l : List Event). Fits plan c l rs) (sym h.joined) (records_more plan c seen h.others (records_by c rs) h.none f)

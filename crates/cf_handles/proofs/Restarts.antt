@@ -7,14 +7,11 @@ use Rattle.cf_plan.specs.Plans.{PlannedStage}
 use Rattle.cf_model.specs.declared.events.Event.{Event}
 use Rattle.cf_model.specs.Events.{answered, settling, state_after}
 use Rattle.cf_model.specs.States.{State}
+use Rattle.cf_model.proofs.Histories.{state_after-append}
 use Rattle.cf_model.proofs.Shape.{answered-grows}
 use Rattle.cf_handles.specs.Restarts.{completing}
 use Rattle.cf_handles.specs.Values.{value_of}
 use Rattle.cf_handles.specs.declared.values.CfGiven.{CfGiven}
-
-state_push : (s : State) (es : List Event) (e : Event) → state_after s (es ++ e ∷ []) ≡ (answered (state_after s es) e).1
-state_push s [] e = refl
-state_push s (d ∷ es) e = state_push ((answered s d).1) es e
 
 map_push : (xs : List CfGiven) (x : CfGiven) → map completing (xs ++ x ∷ []) ≡ map completing xs ++ completing x ∷ []
 map_push [] x = refl
@@ -29,7 +26,7 @@ pub given_more : (s : State) (xs : List CfGiven) (k : ℕ) (d : CfGiven) (was no
 given_more s xs k d was now flag v l left is told =
     left_by was now flag v (get_or xs k d) is told
     ∙ ap (λ (y : State). (answered y (completing (get_or xs k d))).1) left
-    ∙ sym (state_push s (map completing (take k xs)) (completing (get_or xs k d)))
+    ∙ sym (state_after-append s (map completing (take k xs)) (completing (get_or xs k d) ∷ []))
     ∙ ap (state_after s) (sym (map_push (take k xs) (get_or xs k d)))
     ∙ ap (λ (ys : List CfGiven). state_after s (map completing ys)) (sym (take_more xs k d l))
 

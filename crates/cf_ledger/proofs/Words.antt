@@ -3,6 +3,7 @@ use Rattle.std.proofs.Common.{◌≡◌, ℕ, zero, suc, ◌+◌, ◌<◌, ◌�
 use Rattle.std.specs.Prelude.{Option, Some, None, position, slice_get}
 use Rattle.cf_plan.specs.Plans.{Planned, PlannedStage}
 use Rattle.cf_model.specs.Graphs.{AreChanges, Graph}
+use Rattle.cf_model.proofs.Histories.{state_after-append}
 use Rattle.cf_model.proofs.Shape.{answered-grows}
 use Rattle.cf_ledger.specs.News.{AreNews, AreNoted, EndsIn}
 use Rattle.cf_ledger.proofs.Flags.{flagged_news}
@@ -26,10 +27,6 @@ push_with (Some d) x es more ws e all next = ap (λ (rest : List Event). d ∷ r
 pub decoded_push : (ws : List ℕ) (w : ℕ) (e : Event) → ws ≡ map word_of (decoded ws) → event_of w ≡ Some e → decoded (ws ++ w ∷ []) ≡ decoded ws ++ e ∷ []
 decoded_push [] w e all is = ap (λ (o : Option Event). decoded_with o []) is
 decoded_push (x ∷ ws) w e all is = push_with (event_of x) x (decoded ws) (decoded (ws ++ w ∷ [])) ws e all (λ rest. decoded_push ws w e rest is)
-
-pub state_push : (s : State) (es : List Event) (e : Event) → state_after s (es ++ e ∷ []) ≡ (answered (state_after s es) e).1
-state_push s [] e = refl
-state_push s (d ∷ es) e = state_push ((answered s d).1) es e
 
 pub taken_push : (s : State) (es : List Event) (e : Event) → AreTaken s es → IsTaken (state_after s es) e → AreTaken s (es ++ e ∷ [])
 taken_push s [] e h is = (is, tt)
@@ -84,7 +81,7 @@ kept_push plan ws g h w e reply flags down set lists more kept all_before all_af
       place = kept.place;
       written = ap (λ (xs : List ℕ). xs ++ w ∷ []) kept.written ∙ ap (λ (x : ℕ). map word_of (decoded ws) ++ x ∷ []) (sym word) ∙ sym (map_push (decoded ws) e) ∙ ap (map word_of) (sym pushed);
       taken = subst (AreTaken (start plan)) (sym pushed) (taken_push (start plan) (decoded ws) e kept.taken (subst (λ (x : State). IsTaken x e) kept.left taken));
-      left = next ∙ ap (λ (x : State). (answered x e).1) kept.left ∙ sym (state_push (start plan) (decoded ws) e) ∙ ap (state_after (start plan)) (sym pushed);
+      left = next ∙ ap (λ (x : State). (answered x e).1) kept.left ∙ sym (state_after-append (start plan) (decoded ws) (e ∷ [])) ∙ ap (state_after (start plan)) (sym pushed);
       worked_out = none;
       unset = unset;
       flags = omega (arith, same, was, total);
@@ -100,7 +97,7 @@ pub does_push : (plan : Planned) (ws : List ℕ) (s t : State) (w : ℕ) (e : Ev
 does_push plan ws s t w e reply written left_was is word taken told =
     let more = decoded_push ws w e written is in
     let left : t ≡ state_after (start plan) (decoded (ws ++ w ∷ [])) =
-    ap (λ p. p.1) told ∙ ap (λ (x : State). (answered x e).1) left_was ∙ sym (state_push (start plan) (decoded ws) e) ∙ ap (state_after (start plan)) (sym more) in
+    ap (λ p. p.1) told ∙ ap (λ (x : State). (answered x e).1) left_was ∙ sym (state_after-append (start plan) (decoded ws) (e ∷ [])) ∙ ap (state_after (start plan)) (sym more) in
     record {
       event = e;
       read = is;
@@ -156,10 +153,6 @@ done_all s words i now l h = sym (append_none (map word_of now.events)) ∙ ap (
 
 -- ---- words behind others
 
-state_more : (s : State) (xs ys : List Event) → state_after s (xs ++ ys) ≡ state_after (state_after s xs) ys
-state_more s [] ys = refl
-state_more s (x ∷ xs) ys = state_more ((answered s x).1) xs ys
-
 events_assoc : (xs ys zs : List Event) → (xs ++ ys) ++ zs ≡ xs ++ (ys ++ zs)
 events_assoc [] ys zs = refl
 events_assoc (x ∷ xs) ys zs = ap (λ (es : List Event). x ∷ es) (events_assoc xs ys zs)
@@ -180,7 +173,7 @@ all_more old now next ws w reply h d =
     let pushed = decoded_push ws w d.event (sym h.named) d.read in
     let events : now.events ≡ old.events ++ decoded ws = ap (λ (l : Ledger). l.events) h.written in
     let plan : now.plan ≡ old.plan = ap (λ (l : Ledger). l.plan) h.written in
-    let state : state_of now ≡ state_after (state_of old) (decoded ws) = ap state_of h.written ∙ state_more (start old.plan) old.events (decoded ws) in
+    let state : state_of now ≡ state_after (state_of old) (decoded ws) = ap state_of h.written ∙ state_after-append (start old.plan) old.events (decoded ws) in
     record {
       named = ap (map word_of) pushed ∙ map_push (decoded ws) d.event ∙ ap (λ (w : ℕ). map word_of (decoded ws) ++ w ∷ []) d.named ∙ ap (λ (xs : List ℕ). xs ++ w ∷ []) h.named;
       taken = subst (AreTaken (state_of old)) (sym pushed) (taken_push (state_of old) (decoded ws) d.event h.taken (subst (λ (x : State). IsTaken x d.event) state d.taken));

@@ -6,6 +6,7 @@ use Rattle.std.proofs.lemmas.List.Elements.{All-head, All-tail}
 use Rattle.cf_plan.specs.Plans.{Planned}
 use Rattle.cf_model.specs.declared.events.Event.{Event}
 use Rattle.cf_model.specs.declared.events.Reply.{Reply}
+use Rattle.cf_model.proofs.Histories.{state_after-append}
 use Rattle.cf_model.specs.States.{State, start}
 use Rattle.cf_model.specs.Events.{answered, state_after, state_at}
 use Rattle.cf_model.specs.Calls.{as_call, event_by, who_of}
@@ -18,7 +19,6 @@ use Rattle.cf_event.specs.Events.{placed}
 use Rattle.cf_desk.specs.Log.{state_from}
 use Rattle.cf_event.specs.Histories.{IsAnswered}
 use Rattle.cf_desk.specs.Records.{dids, Fits, record_by, records_by}
-use Rattle.cf_desk.proofs.Recs.{state_snoc}
 use Rattle.std.specs.Prelude.{Some, None}
 use Rattle.cf_pool.specs.Works.{Owed, AreWork, owed_by}
 use Rattle.cf_pool.specs.Records.{recorded}
@@ -75,7 +75,7 @@ told_events plan c xs (w ∷ ws) =
     (told_here plan xs ws w)
     ((λ i. map (told_of plan (sym (append_assoc xs (w ∷ []) ws) i)) (filter (mine c) (placed (longer xs w i) ws)))
     ∙ told_events plan c (xs ++ w ∷ []) ws
-    ∙ (λ i. recorded c (sym (longer xs w) i) (state_snoc (start plan) xs w i) ws))
+    ∙ (λ i. recorded c (sym (longer xs w) i) (state_after-append (start plan) xs (w ∷ []) i) ws))
 
 pub fits_recorded : (plan : Planned) (c : ℕ) (history : List Event) (rs : List Rec) → Fits plan c history rs → only_dids rs ≡ recorded c 0 (start plan) history
 fits_recorded plan c history rs f = told_dids plan history c rs f.answers ∙ ap (map (told_of plan history)) f.did ∙ told_events plan c [] history
