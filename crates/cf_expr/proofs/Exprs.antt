@@ -13,8 +13,9 @@ use Rattle.cf_plan.specs.Forms.{follows, landing}
 use Rattle.cf_plan.specs.Plans.{PlannedStage, HasLowerSources}
 use Rattle.cf_plan.proofs.PlanLemmas.{lower_at}
 use Rattle.cf_plan.specs.Meanings.{Meanings}
+use Rattle.cf_model.proofs.Stable.{landing-lower}
 use Rattle.cf_expr.specs.Expressions.{is_source, stage_expr, due_expr, landing_expr, expr_in, exprs_from}
-use Rattle.cf_expr.proofs.Forms.{first_same, links_lower}
+use Rattle.cf_expr.proofs.Forms.{first_same}
 
 exprs_from-at : (meanings : Meanings) (named : ℕ → Option Outcome) (n : ℕ) (below : List (Option Outcome)) (plan : List PlannedStage) (i : ℕ) (p : PlannedStage) → slice_get plan i ≡ Some p →
     expr_in (exprs_from meanings named n below plan) i ≡ stage_expr meanings named (expr_in (below ++ take i (exprs_from meanings named n below plan))) (n + i) p
@@ -58,7 +59,7 @@ due-take meanings xs i p (Needs args) e =
     let at = landing p.form i (option_and_then (expr_in xs) (slice_get p.sources 0)) answer in
     ap (λ source. landing_expr (expr_in (take i xs)) (landing p.form i source answer)) first
     ∙ landing-same (expr_in (take i xs)) (expr_in xs) i at
-    (λ j l. expr_in-take xs i j (links_lower p.form i (option_and_then (expr_in xs) (slice_get p.sources 0)) answer j l))
+    (λ j l. expr_in-take xs i j (landing-lower p.form i (option_and_then (expr_in xs) (slice_get p.sources 0)) answer j l))
 
 stage-take : (meanings : Meanings) (named : ℕ → Option Outcome) (xs : List (Option Outcome)) (i : ℕ) (p : PlannedStage) → All (λ j. j < i) p.sources →
     stage_expr meanings named (expr_in (take i xs)) i p ≡ stage_expr meanings named (expr_in xs) i p

@@ -1,19 +1,15 @@
 -- What plain forms do.
 use Rattle.std.proofs.Common.{◌≡◌, ◌≢◌, ℕ, ◌<◌, ◌==◌, ◌∷◌, [], List, Bool, true, false, cond, Option, Some, None, All, length, arith, refl, map, is_some}
-use Rattle.std.specs.Prelude.{slice_get, option_and_then, nat_lt, ◌&&◌}
+use Rattle.std.specs.Prelude.{slice_get, option_and_then, ◌&&◌}
 use Rattle.std.specs.List.{list_all}
 use Rattle.std.proofs.lemmas.Bool.Decides.{nat_tests}
 use Rattle.std.proofs.lemmas.List.Elements.{All-head, All-tail}
 use Rattle.cf_outcome.specs.declared.outcome.Outcome.{Outcome}
-use Rattle.cf_outcome.specs.declared.outcome.Outcome.TheVariants.{Value as Gives, Fault}
 use Rattle.cf_plan.specs.declared.forms.Form.{Form}
 use Rattle.cf_plan.specs.declared.forms.Form.TheVariants.{Source, Supply, RunAsync, Apply, Accept, ThenRun, Combine, AcceptBoth, RunBoth, ApplyEither, AcceptEither, RunEither, Compose, Handle, WhenComplete, Exceptionally, AllOf, AnyOf, ExceptionallyCompose}
-use Rattle.cf_plan.specs.declared.forms.Answer.{Answer}
-use Rattle.cf_plan.specs.declared.forms.Answer.TheVariants.{Give, Throw, Link}
 use Rattle.cf_plan.specs.declared.forms.Due.{Due}
 use Rattle.cf_plan.specs.declared.forms.Due.TheVariants.{Waits, Settles}
-use Rattle.cf_plan.specs.declared.forms.Landing.TheVariants.{Settles as Lands, Links}
-use Rattle.cf_plan.specs.Forms.{follows, due_of_first, due_of_both, first_there, first_fault, landing, bad_answer, composes, kept_value}
+use Rattle.cf_plan.specs.Forms.{follows, due_of_first, due_of_both, first_there, first_fault}
 use Rattle.cf_plan.specs.Plans.{fits_count}
 use Rattle.cf_expr.specs.Expressions.{is_source}
 use Rattle.cf_expr.specs.Histories.{is_plain_form}
@@ -91,23 +87,3 @@ first_same f g (j ∷ sources) e = cc
 pub no_source : (form : Form) (q : List (Option Outcome)) → follows form q ≢ Waits → is_source form ≡ false
 no_source Source q h = absurd (h refl)
 no_source form q h = refl
-
--- only a lower stage is linked to
-lower_of : (b c : Bool) (i j k : ℕ) → nat_lt k i ≡ c → cond (b && c) (Links k) bad_answer ≡ Links j → j < i
-lower_of true true i j k t e =
-    let same : k ≡ j = cc in
-    grind (arith, nat_tests)
-lower_of true false i j k t e = cc
-lower_of false c i j k t e = cc
-
--- and none by a function that gives a value
-gives_no_link : (b : Bool) (o : Outcome) (j : ℕ) → cond b bad_answer (Lands o) ≢ Links j
-gives_no_link true o j e = cc
-gives_no_link false o j e = cc
-
-pub links_lower : (form : Form) (i : ℕ) (source : Option Outcome) (answer : Answer) (j : ℕ) → landing form i source answer ≡ Links j → j < i
-links_lower WhenComplete i (Some (Fault cause wrapped)) answer j e = cc
-links_lower form i source (Throw code) j e = cc
-links_lower form i source (Link k) j e = lower_of (composes form) (nat_lt k i) i j k refl e
-links_lower WhenComplete i (Some (Gives v)) (Give w) j e = cc
-links_lower form i source (Give v) j e = absurd (gives_no_link (composes form) (Gives (kept_value form v)) j e)

@@ -29,11 +29,12 @@ use Rattle.cf_model.specs.declared.events.Event.TheVariants.{Complete as Complet
 use Rattle.cf_model.specs.declared.events.Reply.TheVariants.{Claim as ToldClaim}
 use Rattle.cf_model.specs.Events.{answered, state_after, settled_by, claimed_by, finished_by, firing, due_limits, source_outcome}
 use Rattle.cf_model.proofs.Shape.{answered-grows, length-new_states}
+use Rattle.cf_model.proofs.Stable.{landing-lower}
 use Rattle.cf_plan.specs.Plans.{IsBuilt}
 use Rattle.cf_expr.specs.Expressions.{named_for, first_named, landing_expr, due_expr, is_source, expr}
 use Rattle.cf_expr.specs.Histories.{Grants, is_plain_form, IsPlainPlan, granted_with, IsPlainEvent, IsPlain, nothing_granted, is_at_rest, IsQuiet}
 use Rattle.cf_expr.specs.Laws.{QuietIsExpression}
-use Rattle.cf_expr.proofs.Forms.{first_same, links_lower}
+use Rattle.cf_expr.proofs.Forms.{first_same}
 use Rattle.cf_expr.proofs.Exprs.{expr_by_stage}
 use Rattle.cf_expr.proofs.Settles.{IsSet, Owes, Waiting, sound_settled, below_there, all_sound, expr_due, more_same, sources_lower}
 use Rattle.cf_expr.proofs.Writes.{Stands, settled_by_stands, closed_stands, landed_stands, claim_stands, claim_closed}
@@ -152,7 +153,7 @@ module _ (meanings : Meanings) (named exprs : ℕ → Option Outcome) (last : Li
   finished_by_stands granted None s who i answer e h held meant =
       landed_stands meanings named exprs granted (landing (form_at s.plan.stages i) i (source_outcome s i) answer) (record s { claims = set s.claims i None }) i
       (closed_stands meanings named exprs granted s i h) e (claim_closed s.claims i)
-      (λ j l. links_lower (form_at s.plan.stages i) i (source_outcome s i) answer j l)
+      (λ j l. landing-lower (form_at s.plan.stages i) i (source_outcome s i) answer j l)
       (lands_meant granted s who i answer h e held (meant refl))
 
   finishing_stands : (granted : Grants) (b : Bool) (s : State) (who i : ℕ) (answer : Answer) → option_map_or (λ w. w == who) (claim_at s i) false ≡ b → Stands meanings named exprs granted s →

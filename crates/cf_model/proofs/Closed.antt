@@ -212,9 +212,9 @@ due_waits Waits e = refl
 due_waits (Settles o) e = cc
 due_waits (Needs args) e = cc
 
-none_first : (form : Form) (x : Option Outcome) → due_of_first form x ≡ Waits → x ≡ None
-none_first form None e = refl
-none_first form (Some o) e = absurd (due_one-decides form o e)
+pub first_waits : (form : Form) (x : Option Outcome) → due_of_first form x ≡ Waits → x ≡ None
+first_waits form None e = refl
+first_waits form (Some o) e = absurd (due_one-decides form o e)
 
 waits_none : (form : Form) (q : List (Option Outcome)) → is_decided_by_first form ≡ true → follows form q ≡ Waits → first_there q ≡ None
 waits_none Source q t e = cc
@@ -224,7 +224,7 @@ waits_none Combine q t e = cc
 waits_none AcceptBoth q t e = cc
 waits_none RunBoth q t e = cc
 waits_none AllOf q t e = cc
-waits_none form q t e = none_first form (first_there q) e
+waits_none form q t e = first_waits form (first_there q) e
 
 first_is_none : (x : Option Outcome) (q : List (Option Outcome)) → first_there (x ∷ q) ≡ None → (x ≡ None) × (first_there q ≡ None)
 first_is_none None q e = (refl, e)

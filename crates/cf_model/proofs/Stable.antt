@@ -78,7 +78,7 @@ gives_no_link : (b : Bool) (o : Outcome) (k : ℕ) → cond b bad_answer (Lands 
 gives_no_link true o k e = cc
 gives_no_link false o k e = cc
 
-landing-lower : (form : Form) (i : ℕ) (source : Option Outcome) (answer : Answer) (k : ℕ) → landing form i source answer ≡ Links k → k < i
+pub landing-lower : (form : Form) (i : ℕ) (source : Option Outcome) (answer : Answer) (k : ℕ) → landing form i source answer ≡ Links k → k < i
 landing-lower WhenComplete i (Some (Fault cause wrapped)) answer k e = cc
 landing-lower WhenComplete i (Some (Gives v)) (Throw code) k e = cc
 landing-lower WhenComplete i (Some (Gives v)) (Link j) k e = cc

@@ -15,7 +15,7 @@ use Rattle.cf_core.specs.declared.kept.KeptStage.{KeptStage}
 use Rattle.cf_core.specs.Keeping.Treatment.{all_treated, dated_in, due_kept, earliest, late_due, linked_kept, outcome_part, stages_of, step_part, latest, treated, treated_by}
 use Rattle.cf_core.specs.Keeping.Sound.{settled_view}
 use Rattle.cf_core.specs.Keeping.Attaching.{AttachingIsAfter, attached_kept, due_now}
-use Rattle.cf_model.proofs.StateLemmas.{due_one-decides}
+use Rattle.cf_model.proofs.Closed.{first_waits}
 use Rattle.cf_core.proofs.Keeping.Dues.{earlier_some}
 use Rattle.cf_core.proofs.Keeping.Settling.{outcome_in-stages_of, sources_part, longer}
 
@@ -51,10 +51,6 @@ follows_first WhenComplete r e = refl
 follows_first Exceptionally r e = refl
 follows_first ExceptionallyCompose r e = refl
 follows_first AnyOf r e = refl
-
-first_waits : (form : Form) (x : Option Outcome) → due_of_first form x ≡ Waits → x ≡ None
-first_waits form None e = refl
-first_waits form (Some o) e = absurd (due_one-decides form o e)
 
 no_part : (x : Option (Outcome × ℕ)) → outcome_part x ≡ None → x ≡ None
 no_part None e = refl
