@@ -184,7 +184,7 @@ owned_all : (t : DeskConfig) (ps : List Pass) → ((c : ℕ) → c < t.callers �
 owned_all t ps each ws h = events_each (λ w. Contains (map (λ (k : ℕ × List Rec). k.0) (map pass_did ps)) (who_of w)) t.callers t.functions (λ s w is. there (who_of w) ps (each (who_of w) is.caller)) (start t.plan) ws h
 
 -- the longest list of those that begin the history, which is one of them, is the history
-longest_short : (n : ℕ) (v : List CallerView) → AllShort n v → length (longest v) ≤ n
+pub longest_short : (n : ℕ) (v : List CallerView) → AllShort n v → length (longest v) ≤ n
 longest_short n [] h = omega arith
 longest_short n (k ∷ ks) h = longer_le (leb (length k.seen) (length (longest ks))) (longest_short n ks h.1)
   where

@@ -1,5 +1,5 @@
 -- What the passes of a run come to.
-use Rattle.std.proofs.Common.{◌≡◌, ℕ, zero, suc, ◌+◌, ◌<◌, ◌≤◌, leb, ⊎_elim, Bool, true, false, Option, Some, None, IfErr, IfOk, List, [], ◌∷◌, ◌++◌, length, map, All, sym, refl, ap, ◌∙◌, subst, append-nil, append_assoc, length-append, take, drop, arith}
+use Rattle.std.proofs.Common.{◌≡◌, ℕ, zero, suc, ◌+◌, ◌<◌, ◌≤◌, ⊎_elim, Bool, true, false, Option, Some, None, IfErr, IfOk, List, [], ◌∷◌, ◌++◌, length, map, All, sym, refl, ap, ◌∙◌, subst, append-nil, append_assoc, length-append, take, drop, arith}
 use Rattle.std.specs.Prelude.{slice_index_or}
 use Rattle.std.proofs.lemmas.Simd.{map-map}
 use Rattle.std.specs.List.{AllZip, Contains, insert}
@@ -12,13 +12,13 @@ use Rattle.cf_desk.specs.declared.calls.Closed.{Closed}
 use Rattle.cf_desk.specs.declared.calls.Kept.{Kept}
 use Rattle.cf_desk.specs.declared.faults.DeskFault.{DeskFault}
 use Rattle.cf_desk.specs.declared.faults.DeskFault.TheVariants.{BadAttach, LogFull, NoStage, PassFull}
-use Rattle.cf_desk.specs.declared.row.CallerView.{CallerView}
 use Rattle.cf_desk.specs.Faults.{AttachFits, IsDue, IsOnStage}
 use Rattle.cf_desk.specs.Keepings.{AllFit, AreKept, IsKeptFit, pass_did, pass_kept}
 use Rattle.cf_desk.specs.Log.{Catches, state_from}
-use Rattle.cf_desk.specs.Rule.{AllShort, longer_if, longest}
+use Rattle.cf_desk.specs.Rule.{AllShort, longest}
 use Rattle.cf_desk.specs.Views.{Closes, Follows, IsOf, Pass, Desk, knowns, state_of}
 use Rattle.cf_event.proofs.Events.{events_each}
+use Rattle.cf_desk.proofs.Closing.{longest_short}
 use Rattle.cf_desk.proofs.Gathers.{all_at}
 use Rattle.cf_desk.proofs.Lists.{all_front}
 use Rattle.cf_desk.proofs.Meets.{short_more}
@@ -284,14 +284,6 @@ zip_length R (x ∷ xs) [] f = absurd f
 zip_length R (x ∷ xs) (y ∷ ys) f = let e = zip_length R xs ys f.1 in omega arith
 
 -- ---- the closed desk
-
-longer_short : (b : Bool) (n : ℕ) (xs ys : List Event) → length xs ≤ n → length ys ≤ n → length (longer_if b xs ys) ≤ n
-longer_short true n xs ys f g = g
-longer_short false n xs ys f g = f
-
-longest_short : (n : ℕ) (ks : List CallerView) → AllShort n ks → length (longest ks) ≤ n
-longest_short n [] h = omega arith
-longest_short n (k ∷ ks) h = longer_short (leb (length k.seen) (length (longest ks))) n k.seen (longest ks) h.0 (longest_short n ks h.1)
 
 no_more : (xs ys zs : List Event) → zs ≡ xs ++ ys → length zs ≤ length xs → zs ≡ xs
 no_more xs [] zs e l = e ∙ append-nil xs
