@@ -1,8 +1,8 @@
 -- That the events and the calls of a closed desk have words.
-use Rattle.std.proofs.Common.{◌≡◌, ℕ, zero, suc, Bool, true, false, eqb, List, [], ◌∷◌, ◌++◌, map, sym, subst}
+use Rattle.std.proofs.Common.{◌≡◌, ℕ, zero, suc, Bool, true, false, eqb, List, [], ◌∷◌, map, sym, subst}
 use Rattle.std.specs.Prelude.{Option, Some, cond, slice_get}
 use Rattle.std.specs.List.{All}
-use Rattle.std.proofs.lemmas.List.Elements.{All-append, All-nil, All-cons, All-head, All-tail, All-filter}
+use Rattle.std.proofs.lemmas.List.Elements.{All-nil, All-cons, All-head, All-tail, All-filter}
 use Rattle.cf_plan.specs.Plans.{Planned}
 use Rattle.cf_model.specs.declared.events.Event.{Event}
 use Rattle.cf_model.specs.States.{start}
@@ -66,7 +66,3 @@ passes_have plan history [] h fit = All-nil CallsHaveWords
 passes_have plan history (k ∷ passes) h fit = All-cons CallsHaveWords k passes
     (record { calls = subst (All DidHasWord) (sym (All-head (IsKeptFit plan history) (pass_kept k) (map pass_kept passes) fit).did) (All-filter (λ e. eqb (who_of e.1) k.caller) DidHasWord (placed 0 history) (placed_has 0 history h)) })
     (passes_have plan history passes h (All-tail (IsKeptFit plan history) (pass_kept k) (map pass_kept passes) fit))
-
--- one more
-pub all_more : {X : Type 0} (P : X → Type 0) (xs now : List X) (x : X) → All P xs → P x → now ≡ xs ++ x ∷ [] → All P now
-all_more P xs now x all one is = subst (All P) (sym is) (All-append P xs (x ∷ []) all (All-cons P x [] one (All-nil P)))

@@ -142,9 +142,6 @@ pub parts_step : {H X : Type 0} (f : H → X) (hs now : List H) (h : H) (p : X) 
 parts_step f hs now h p rest all parts same items =
     parts ∙ ap (λ x. map f hs ++ x ∷ rest) (sym same) ∙ sym (append_assoc (map f hs) (f h ∷ []) rest) ∙ ap (λ x. x ++ rest) (sym (ap (map f) items ∙ map-append f hs (h ∷ [])))
 
-pub all_step : {H : Type 0} (P : H → Type 0) (hs now : List H) (h : H) → now ≡ hs ++ h ∷ [] → All P hs → P h → All P now
-all_step P hs now h items all one = subst (All P) (sym items) (All-push P hs h all one)
-
 -- what a worker has come to, whose thread was joined, or which worked on the caller's
 pub work_ended : {H M : Type 0} (tells : TellsOf M) (calls : CallsOf M) (meanings : M → Meanings) (was : H → Pass × M) (on : H → Desk) (d : Desk) (one : Pass × M) (started : Result H (Worked M)) (w : Worked M)
     → MatchResult started (λ h. (was h ≡ one) × (on h ≡ d)) (λ x. IsWorkedBy tells calls meanings d 1000 one x × (x.alone ≡ true))
