@@ -5,31 +5,31 @@ use Rattle.cf_pool.specs.Races.{log_words}
 use Rattle.cf_pool.proofs.Racing.Raced.{IsSized, growing-with_room, only_for_room, raced}
 use Rattle.cf_pool.proofs.races.race.Given.{Over}
 use Rattle.cf_pool.proofs.races.race.Goals as goal
-use Rattle.cf_pool.proofs.races.race.Goals.{In-Ok}
+use Rattle.cf_pool.proofs.races.race.Goals.{In_ok-desk}
 
-sized : (g : Over) (c : In-Ok g) → IsSized c.in-Ok.begun.0 (with_room c.args.plan c.args.room) c.args.steps.now c.args.workers c.in-Some.sizes.1
+sized : (g : Over) (c : In_ok-desk g) → IsSized c.in_ok-desk.field-0.0 (with_room c.args.plan c.args.room) c.args.steps.now c.args.workers c.in-Some.sizes.1
 sized g c =
-    let d = c.in-Ok.ensures.desk in
+    let d = c.in_ok-desk.ensures.desk in
     let s = c.in-Some.ensures in
     let n = ap (λ (k : ℕ). k + c.args.room) c.stages.ensures.count in
     record { setting_is = d.0; words_are = d.1 ∙ s.0 ∙ ap (λ (k : ℕ). log_words (length c.args.steps.now) k c.args.workers) n; calls_are = s.1 ∙ ap (λ (k : ℕ). length c.args.steps.now + 2 * k + 1) n; are = c.requires.steps }
 
-pub returns-in-Ok-run-clause-raced : goal.returns-in-Ok-run-clause-raced
-returns-in-Ok-run-clause-raced g c =
+pub returns-in-Ok-clause-raced : goal.returns-in-Ok-clause-raced
+returns-in-Ok-clause-raced g c =
     let place = place_is c.args.plan.stages c.args.room c.requires.room in
-    raced _ _ (with_room c.args.plan c.args.room) c.args.steps.now _ c.args.workers _ _ _ _ (sized g (goal.at.returns-in-Ok-run-clause-raced g c).In-Ok) c.in-Ok.ensures.begun
-    (growing-with_room c.args.plan c.args.room c.stages.ensures.built c.stages.ensures.whole place.0 place.1) c.in-Ok-run.ensures.ran
+    raced _ _ (with_room c.args.plan c.args.room) c.args.steps.now _ c.args.workers _ _ _ _ (sized g (goal.at.returns-in-Ok-clause-raced g c).In_ok-desk) c.in_ok-desk.ensures.begun
+    (growing-with_room c.args.plan c.args.room c.stages.ensures.built c.stages.ensures.whole place.0 place.1) c.in-Ok.ensures.ran
 
-pub returns-in-Ok-run-clause-called : goal.returns-in-Ok-run-clause-called
-returns-in-Ok-run-clause-called g c = record {
-  desk = c.in-Ok.begun.0;
+pub returns-in-Ok-clause-called : goal.returns-in-Ok-clause-called
+returns-in-Ok-clause-called g c = record {
+  desk = c.in_ok-desk.field-0.0;
   room = c.in-Some.sizes.1;
-  passes = c.in-Ok.begun.1.items;
-  begun = c.in-Ok.ensures.begun;
-  called = c.in-Ok-run.ensures.called;
-  threads = c.in-Ok-run.ensures.threads;
+  passes = c.in_ok-desk.field-0.1.items;
+  begun = c.in_ok-desk.ensures.begun;
+  called = c.in-Ok.ensures.called;
+  threads = c.in-Ok.ensures.threads;
 }
 
 pub fault_of-requires : goal.fault_of-requires
 fault_of-requires g c =
-    only_for_room _ c.in-Ok.begun.0 (with_room c.args.plan c.args.room) c.args.steps.now c.in-Some.sizes.1 c.args.workers c.in-Ok.begun.1.items _ _ _ (sized g (goal.at.fault_of-requires g c).In-Ok) c.in-Ok.ensures.begun c.in-Err-run.fault c.in-Err-run.ensures.refused
+    only_for_room _ c.in_ok-desk.field-0.0 (with_room c.args.plan c.args.room) c.args.steps.now c.in-Some.sizes.1 c.args.workers c.in_ok-desk.field-0.1.items _ _ _ (sized g (goal.at.fault_of-requires g c).In_ok-desk) c.in_ok-desk.ensures.begun c.in-Err.fault c.in-Err.ensures.refused
