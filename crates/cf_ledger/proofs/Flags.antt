@@ -7,10 +7,11 @@ use Rattle.std.proofs.lemmas.List.Elements.{All-head, All-nil, All-push, All-tai
 use Rattle.cf_model.specs.declared.stage.Stage.{Stage}
 use Rattle.cf_model.specs.declared.stage.Stage.TheVariants.{Pending}
 use Rattle.cf_model.specs.Graphs.{AreChanges, stage_in}
+use Rattle.cf_model.proofs.StateLemmas.{slice_get-set_other}
 use Rattle.cf_bits.proofs.Positions.{position_is_none}
 use Rattle.std.proofs.lemmas.List.{get_or-replicate, length-replicate}
 use Rattle.cf_core.proofs.Keeping.Lowest.{none_marked}
-use Rattle.cf_core.proofs.Keeping.Marking.{get-set_same, get-set_other}
+use Rattle.cf_core.proofs.Keeping.Marking.{get-set_same}
 use Rattle.cf_core.proofs.Keeping.Places.{lowest_below, lowest_marked, lowest_within}
 use Rattle.cf_core.proofs.Keeping.Soundness.{All-more}
 use Rattle.cf_ledger.specs.News.{AreFlagged, AreNews, Drains, IsClimbing}
@@ -69,7 +70,7 @@ taken_more flags now old all m lowest h =
     let within = lowest_within now m lowest in
     let left : (i : ℕ) → slice_get (set now m false) i ≡ Some true → (i ≢ m) × (slice_get now i ≡ Some true) = λ i e. elim (eqb_tells i m) [
       | inl s ↦ (let same = s.1 in let is : Some false ≡ Some true = sym (get-set_same now m false within) ∙ ap (slice_get (set now m false)) (sym same) ∙ e in cc)
-      | inr s ↦ (s.1, sym (get-set_other now m i false s.1) ∙ e)
+      | inr s ↦ (s.1, sym (slice_get-set_other now m i false s.1) ∙ e)
     ] in
     record {
       xs = h.xs ++ m ∷ [];
@@ -83,7 +84,7 @@ taken_more flags now old all m lowest h =
         | inl there ↦ inl (Contains-append_left h.xs (m ∷ []) i there)
         | inr is ↦ elim (eqb_tells i m) [
           | inl s ↦ inl (subst (Contains (h.xs ++ m ∷ [])) (sym s.1) (Contains-push h.xs m))
-          | inr s ↦ inr (get-set_other now m i false s.1 ∙ is)
+          | inr s ↦ inr (slice_get-set_other now m i false s.1 ∙ is)
         ]
       ];
       only = λ i e. h.only i (left i e).1;

@@ -10,6 +10,7 @@ use Rattle.cf_model.specs.declared.stage.Stage.{Stage}
 use Rattle.cf_model.specs.declared.stage.Stage.TheVariants.{Pending, Ready, Claimed, Linked, Settled}
 use Rattle.cf_model.specs.States.{is_ready, outcome_of}
 use Rattle.cf_model.specs.Graphs.{AreChanges, MovesAlone, rank, stage_in}
+use Rattle.cf_model.proofs.StateLemmas.{slice_get-set_other}
 use Rattle.cf_core.specs.declared.kept.KeptStage.{KeptStage}
 use Rattle.cf_core.specs.declared.stages.Stages.{Stages}
 use Rattle.cf_core.specs.Keeping.Changes.{HaveMoved}
@@ -17,7 +18,7 @@ use Rattle.cf_core.specs.Keeping.Treatment.{due_kept, late_due, linked_kept, sta
 use Rattle.cf_core.specs.Keeping.Sound.{kept_at}
 use Rattle.cf_core.specs.Keeping.SoundStages.{AreSound, settled_view_of}
 use Rattle.cf_core.specs.Keeping.Turns.{planned_at, turned}
-use Rattle.cf_core.proofs.Keeping.Marking.{get-set_same, get-set_other}
+use Rattle.cf_core.proofs.Keeping.Marking.{get-set_same}
 use Rattle.cf_core.proofs.Keeping.Lowest.{all_steady, none_marked}
 use Rattle.cf_core.proofs.Keeping.Places.{kept_put}
 
@@ -34,7 +35,7 @@ stage_put kept d new l = kept_stage (set kept d new) d ∙ ap (λ (k : KeptStage
 stage_other : (kept : List KeptStage) (d : ℕ) (new : KeptStage) (i : ℕ) → i ≢ d → stage_in (stages_of (set kept d new)) i ≡ stage_in (stages_of kept) i
 stage_other kept d new i ne =
     kept_stage (set kept d new) i
-    ∙ ap (λ x. let k : KeptStage = unwrap_or x (record { stage = Pending; step = 0 }) in k.stage) (get-set_other kept d i new ne)
+    ∙ ap (λ x. let k : KeptStage = unwrap_or x (record { stage = Pending; step = 0 }) in k.stage) (slice_get-set_other kept d i new ne)
     ∙ sym (kept_stage kept i)
 
 -- ---- one stage alone
@@ -164,11 +165,11 @@ pub moved_on : (old mid new : List Stage) (changed : List Bool) (d : ℕ) → d 
 moved_on old mid new changed d l h alone less = record {
   same = λ i e. elim (eqb_tells i d) [
     | inl s ↦ (let same = s.1 in let is : Some true ≡ Some false = sym (ap (slice_get (set changed d true)) same ∙ get-set_same changed d true l) ∙ e in cc)
-    | inr s ↦ alone.others i s.1 ∙ h.same i (sym (get-set_other changed d i true s.1) ∙ e)
+    | inr s ↦ alone.others i s.1 ∙ h.same i (sym (slice_get-set_other changed d i true s.1) ∙ e)
   ];
   further = λ i e. elim (eqb_tells i d) [
     | inl s ↦ subst (λ n. rank (stage_in old n) < rank (stage_in new n)) (sym s.1) (further_here (slice_get changed d) refl)
-    | inr s ↦ subst (λ x. rank (stage_in old i) < rank x) (sym (alone.others i s.1)) (h.further i (sym (get-set_other changed d i true s.1) ∙ e))
+    | inr s ↦ subst (λ x. rank (stage_in old i) < rank x) (sym (alone.others i s.1)) (h.further i (sym (slice_get-set_other changed d i true s.1) ∙ e))
   ];
 }
   where

@@ -24,13 +24,12 @@ use Rattle.cf_model.specs.declared.replies.Attached.TheVariants.{At, StagesFull}
 use Rattle.cf_model.specs.declared.replies.Finished.TheVariants.{Won, Late, NotYours}
 use Rattle.cf_core.specs.declared.kept.KeptStage.{KeptStage}
 use Rattle.cf_core.specs.declared.stages.Stages.{Stages}
-use Rattle.cf_model.proofs.StateLemmas.{after-unsettled}
+use Rattle.cf_model.proofs.StateLemmas.{after-unsettled, slice_get-set_other}
 use Rattle.cf_core.specs.Keeping.Sound.{AreTreated, StayTaken, StayTakenBut, is_taken, kept_at}
 use Rattle.cf_core.specs.Keeping.SoundStages.{AreSound, HasRoom, SameRoom, settled_view_of}
 use Rattle.cf_core.specs.Keeping.Landings.{linked_stages, landed_stages}
 use Rattle.cf_core.specs.Keeping.Graphs.{AreClaimed, IsInStep}
 use Rattle.cf_plan.proofs.GrowingLemmas.{growing-and_stage}
-use Rattle.cf_core.proofs.Keeping.Marking.{get-set_other}
 use Rattle.cf_core.proofs.Keeping.Moves.{is_steady, outcome_there, settled_view_at}
 
 -- ---- treated stages are seen as they are kept
@@ -95,7 +94,7 @@ AreClaimed-stay claims old new h stay i who e = stay i (h i who e)
 pub AreClaimed-set : (claims : List (Option ℕ)) (old new : List KeptStage) (d w : ℕ) → AreClaimed claims old → StayTaken old new → is_taken ((kept_at new d).stage) ≡ true → AreClaimed (set claims d (Some w)) new
 AreClaimed-set claims old new d w h stay here i who e = elim (eqb_tells i d) [
   | inl s ↦ ap (λ n. is_taken ((kept_at new n).stage)) s.1 ∙ here
-  | inr s ↦ stay i (h i who (sym (get-set_other claims d i (Some w) s.1) ∙ e))
+  | inr s ↦ stay i (h i who (sym (slice_get-set_other claims d i (Some w) s.1) ∙ e))
 ]
 
 closed : (claims : List (Option ℕ)) (d who : ℕ) → slice_get (set claims d None) d ≡ Some (Some who) → ⊥
@@ -106,7 +105,7 @@ closed (x ∷ claims) (suc d) who e = closed claims d who e
 pub AreClaimed-closed : (claims : List (Option ℕ)) (old new : List KeptStage) (d : ℕ) → AreClaimed claims old → StayTakenBut d old new → AreClaimed (set claims d None) new
 AreClaimed-closed claims old new d h stay i who e = elim (eqb_tells i d) [
   | inl s ↦ absurd (closed claims d who (ap (slice_get (set claims d None)) (sym s.1) ∙ e))
-  | inr s ↦ stay i s.1 (h i who (sym (get-set_other claims d i None s.1) ∙ e))
+  | inr s ↦ stay i s.1 (h i who (sym (slice_get-set_other claims d i None s.1) ∙ e))
 ]
 
 -- a stage with an open claim that isn't settled is claimed

@@ -3,10 +3,10 @@ use Rattle.std.proofs.Common.{◌≡◌, ◌≢◌, ℕ, ◌<◌, ◌∷◌, ◌
 use Rattle.std.specs.Prelude.{reverse, slice_get, unwrap_or}
 use Rattle.std.proofs.lemmas.List.{reverse-append}
 use Rattle.std.proofs.lemmas.List.Elements.{All-head, All-tail}
+use Rattle.cf_model.proofs.StateLemmas.{slice_get-set_other}
 use Rattle.cf_core.specs.declared.kept.KeptStage.{KeptStage}
 use Rattle.cf_core.specs.Keeping.Links.{list_at}
 use Rattle.cf_core.specs.Keeping.Sound.{is_waiting, kept_at, mark_one, mark_all}
-use Rattle.cf_core.proofs.Keeping.Marking.{get-set_other}
 
 set-twice : {X : Type 0} (xs : List X) (i : ℕ) (a b : X) → set (set xs i a) i b ≡ set xs i b
 set-twice [] i a b = refl
@@ -55,7 +55,7 @@ first_within (x ∷ xs) n i e h = let same : i ≡ x = cc in subst (λ j. j < n)
 -- the list of a stage, when another one is written
 pub other_within : (lists new : List (List ℕ)) (t d n : ℕ) (xs : List ℕ) → new ≡ set lists t xs → d ≢ t → All (λ i. i < n) (list_at lists d) → All (λ i. i < n) (list_at new d)
 other_within lists new t d n xs is ne h =
-    subst (λ ys. All (λ i. i < n) ys) (sym (ap (λ ys. list_at ys d) is ∙ ap (λ x. unwrap_or x []) (get-set_other lists t d xs ne))) h
+    subst (λ ys. All (λ i. i < n) ys) (sym (ap (λ ys. list_at ys d) is ∙ ap (λ x. unwrap_or x []) (slice_get-set_other lists t d xs ne))) h
 
 -- ---- the order in which stages are marked doesn't matter
 

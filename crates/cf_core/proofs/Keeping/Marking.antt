@@ -1,9 +1,10 @@
 -- What marking leaves, and which stages it marks.
-use Rattle.std.proofs.Common.{◌≡◌, ◌≢◌, ℕ, ◌+◌, ◌<◌, ◌≤◌, ◌∷◌, [], List, Bool, true, false, cond, Option, Some, None, Contains, length, suc, zero, arith, ap, ◌∙◌, refl, set, inl, inr, length-set}
+use Rattle.std.proofs.Common.{◌≡◌, ℕ, ◌+◌, ◌<◌, ◌≤◌, ◌∷◌, [], List, Bool, true, false, cond, Option, Some, None, Contains, length, suc, zero, arith, ap, ◌∙◌, refl, set, inl, inr, length-set}
 use Rattle.std.specs.Prelude.{slice_get, count_by, ◌==◌}
 use Rattle.std.proofs.lemmas.Bool.Decides.{eqb_tells, nat_tests}
 use Rattle.std.proofs.lemmas.List.Sums.{sum_by-cons}
 use Rattle.cf_plan.specs.Plans.{mentions}
+use Rattle.cf_model.proofs.StateLemmas.{slice_get-set_other}
 use Rattle.cf_core.specs.declared.kept.KeptStage.{KeptStage}
 use Rattle.cf_core.specs.Keeping.Sound.{is_waiting, kept_at, mark_one, mark_all}
 
@@ -13,13 +14,6 @@ pub get-set_same : {X : Type 0} (xs : List X) (i : ℕ) (y : X) → i < length x
 get-set_same [] i y l = absurd (omega arith)
 get-set_same (x ∷ xs) zero y l = refl
 get-set_same (x ∷ xs) (suc i) y l = get-set_same xs i y (omega arith)
-
-pub get-set_other : {X : Type 0} (xs : List X) (i j : ℕ) (y : X) → j ≢ i → slice_get (set xs i y) j ≡ slice_get xs j
-get-set_other [] i j y ne = refl
-get-set_other (x ∷ xs) zero zero y ne = absurd (ne refl)
-get-set_other (x ∷ xs) zero (suc j) y ne = refl
-get-set_other (x ∷ xs) (suc i) zero y ne = refl
-get-set_other (x ∷ xs) (suc i) (suc j) y ne = get-set_other xs i j y (λ e. ne (ap suc e))
 
 -- ---- numbers that stand in a list
 
@@ -46,7 +40,7 @@ mark_one-stays : (b : Bool) (marks : List Bool) (i j : ℕ) → slice_get marks 
 mark_one-stays false marks i j e = e
 mark_one-stays true marks i j e = elim (eqb_tells j i) [
   | inl h ↦ (let same = h.1 in rw same (get-set_same marks i true (within marks i j same e)))
-  | inr h ↦ get-set_other marks i j true h.1 ∙ e
+  | inr h ↦ slice_get-set_other marks i j true h.1 ∙ e
 ]
   where
     within : (marks : List Bool) (i j : ℕ) → j ≡ i → slice_get marks j ≡ Some true → i < length marks

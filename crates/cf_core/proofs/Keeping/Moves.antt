@@ -10,11 +10,12 @@ use Rattle.cf_plan.specs.Forms.{composes}
 use Rattle.cf_plan.specs.Plans.{PlannedStage, form_at, dependents_of}
 use Rattle.cf_model.specs.declared.stage.Stage.TheVariants.{Ready, Claimed, Linked, Settled}
 use Rattle.cf_model.specs.States.{outcome_of, outcome_in, new_states}
+use Rattle.cf_model.proofs.StateLemmas.{slice_get-set_other}
 use Rattle.cf_core.specs.declared.kept.KeptStage.{KeptStage}
 use Rattle.cf_core.specs.Keeping.Treatment.{IsSteady, all_treated, dated_in, linked_kept, stages_of, treated}
 use Rattle.cf_core.specs.Keeping.Links.{list_at}
 use Rattle.cf_core.specs.Keeping.Sound.{AreBound, IsSound, is_bound, kept_at, mark_all, marks_of, link_marks, settled_view, steps_of}
-use Rattle.cf_core.proofs.Keeping.Marking.{get-set_same, get-set_other}
+use Rattle.cf_core.proofs.Keeping.Marking.{get-set_same}
 use Rattle.cf_core.proofs.Keeping.Sums.{sum_by-set_at, list_in_sum, kept_there, kept_is, list_there, there_within}
 use Rattle.cf_core.proofs.Keeping.Waiting.{steady_below, steady_at, treated-take, sources_below}
 use Rattle.cf_core.proofs.Keeping.Turns.{turns_change_nothing}
@@ -150,7 +151,7 @@ module _ (plan : List PlannedStage) (kept : List KeptStage) (marks ready : List 
             let before : Contains (list_at links j) i = subst (λ n. Contains (list_at links n) i) same c in
             let now : Contains (d ∷ list_at links j) i = (suc before.0, omega (arith, before.1), before.2) in
             subst (λ n. Contains (list_at (set links j (d ∷ list_at links j)) n) i) (sym same) (subst (λ xs. Contains xs i) (sym (list_is links j d within)) now))
-        | inr s ↦ (let same : list_at (set links j (d ∷ list_at links j)) t ≡ list_at links t = ap (λ x. unwrap_or x []) (get-set_other links j t (d ∷ list_at links j) s.1) in
+        | inr s ↦ (let same : list_at (set links j (d ∷ list_at links j)) t ≡ list_at links t = ap (λ x. unwrap_or x []) (slice_get-set_other links j t (d ∷ list_at links j) s.1) in
             subst (λ xs. Contains xs i) (sym same) c)
       ]
 

@@ -10,13 +10,14 @@ use Rattle.cf_plan.specs.Plans.{PlannedStage}
 use Rattle.cf_model.specs.declared.stage.Stage.{Stage}
 use Rattle.cf_model.specs.declared.stage.Stage.TheVariants.{Pending, Ready, Claimed, Linked, Settled}
 use Rattle.cf_model.specs.States.{is_ready, outcome_of}
+use Rattle.cf_model.proofs.StateLemmas.{slice_get-set_other}
 use Rattle.cf_core.specs.declared.kept.KeptStage.{KeptStage}
 use Rattle.cf_core.specs.Keeping.Treatment.{dated_in, dated_of, treated, treated_by}
 use Rattle.cf_core.specs.Keeping.Turns.{planned_at, turned}
 use Rattle.std.proofs.lemmas.List.{length-set, set-get_or}
 use Rattle.cf_bits.proofs.Positions.{position_is}
 use Rattle.cf_core.specs.Keeping.Sound.{AreTreated, IsSound, StayTaken, StayTakenBut, is_taken, is_waiting, kept_at, links_after, marks_after, settled_view}
-use Rattle.cf_core.proofs.Keeping.Marking.{get-set_same, get-set_other}
+use Rattle.cf_core.proofs.Keeping.Marking.{get-set_same}
 use Rattle.cf_core.proofs.Keeping.Sums.{kept_is, kept_there}
 use Rattle.cf_core.proofs.Keeping.Soundness.{idle_sound, turn_sound}
 use Rattle.cf_core.proofs.Keeping.Moves.{is_steady, turn_same}
@@ -75,7 +76,7 @@ StayTaken-set kept d new l h i b = elim (eqb_tells i d) [
   | inl s ↦ (let same = s.1 in
       let is : kept_at (set kept d new) i ≡ new = kept_is (set kept d new) i new (ap (slice_get (set kept d new)) same ∙ get-set_same kept d new l) in
       ap (λ (k : KeptStage). is_taken k.stage) is ∙ h (ap (λ n. is_taken ((kept_at kept n).stage)) (sym same) ∙ b))
-  | inr s ↦ (let is : kept_at (set kept d new) i ≡ kept_at kept i = ap (λ x. unwrap_or x (record { stage = Pending; step = 0 })) (get-set_other kept d i new s.1) in
+  | inr s ↦ (let is : kept_at (set kept d new) i ≡ kept_at kept i = ap (λ x. unwrap_or x (record { stage = Pending; step = 0 })) (slice_get-set_other kept d i new s.1) in
       ap (λ (k : KeptStage). is_taken k.stage) is ∙ b)
 ]
 
@@ -135,7 +136,7 @@ undated kept j l e = ap (option_and_then dated_of) (kept_there kept j l) ∙ ap 
 
 pub StayTakenBut-set : (kept : List KeptStage) (d : ℕ) (new : KeptStage) → StayTakenBut d kept (set kept d new)
 StayTakenBut-set kept d new i ne b =
-    let is : kept_at (set kept d new) i ≡ kept_at kept i = ap (λ x. unwrap_or x (record { stage = Pending; step = 0 })) (get-set_other kept d i new ne) in
+    let is : kept_at (set kept d new) i ≡ kept_at kept i = ap (λ x. unwrap_or x (record { stage = Pending; step = 0 })) (slice_get-set_other kept d i new ne) in
     ap (λ (k : KeptStage). is_taken k.stage) is ∙ b
 
 -- ---- a stage that a turn has made ready
@@ -155,9 +156,9 @@ pub first_put : (ready : List Bool) (m : ℕ) → m < length ready → AreTreate
 first_put ready m l h =
     let same = length-set ready m true in
     position_is (λ b. b) (set ready m true) m false (omega (arith, l, same))
-    (λ j b. read_as (set ready m true) j false (omega (arith, l, same, b)) (get-set_other ready m j true (λ e. absurd (omega (arith, e, b))) ∙ h j b))
+    (λ j b. read_as (set ready m true) j false (omega (arith, l, same, b)) (slice_get-set_other ready m j true (λ e. absurd (omega (arith, e, b))) ∙ h j b))
     (read_as (set ready m true) m true (omega (arith, l, same)) (get-set_same ready m true l))
 
 -- to take one out leaves those below it
 pub treated_out : (marks : List Bool) (m : ℕ) → AreTreated m marks → AreTreated m (set marks m false)
-treated_out marks m h i l = get-set_other marks m i false (λ e. absurd (omega (arith, e, l))) ∙ h i l
+treated_out marks m h i l = slice_get-set_other marks m i false (λ e. absurd (omega (arith, e, l))) ∙ h i l

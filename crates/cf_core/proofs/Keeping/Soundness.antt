@@ -15,12 +15,13 @@ use Rattle.cf_plan.proofs.DependentLemmas.{dependents_converse}
 use Rattle.cf_model.specs.declared.stage.Stage.{Stage}
 use Rattle.cf_model.specs.declared.stage.Stage.TheVariants.{Pending, Ready, Claimed, Linked, Settled}
 use Rattle.cf_model.specs.States.{outcome_of, is_ready}
+use Rattle.cf_model.proofs.StateLemmas.{slice_get-set_other}
 use Rattle.cf_core.specs.declared.kept.KeptStage.{KeptStage}
 use Rattle.cf_core.specs.Keeping.Treatment.{dated_in, dated_of, treated, treated_by, due_kept, late_due, linked_kept}
 use Rattle.cf_core.specs.Keeping.Marks.{WaitsNow}
 use Rattle.cf_core.specs.Keeping.Links.{list_at, IsFree}
 use Rattle.cf_core.specs.Keeping.Sound.{IsSound, IsListed, AreAbove, AreListed, AreBound, is_waiting, is_bound, kept_at, mark_all, marks_after, links_after, marks_of, steps_of, link_marks}
-use Rattle.cf_core.proofs.Keeping.Marking.{mentioned, get-set_same, get-set_other, length-mark_all, count-mark_all, count-set_false}
+use Rattle.cf_core.proofs.Keeping.Marking.{mentioned, get-set_same, length-mark_all, count-mark_all, count-set_false}
 use Rattle.cf_core.proofs.Keeping.Sums.{sum_by-set_at, marks_from-set, kept_there, kept_is, emptied_sum, there_within, StepsUpTo-set, StepsUpTo-le, StepsUpTo-at}
 use Rattle.cf_core.proofs.Keeping.Waiting.{never_linked, links_same, NamesDependents, but_marks, but_closed, but_unsettled, but_settled, stays, treated_again, treated-few, sources_below}
 
@@ -48,7 +49,7 @@ bound_at kept d new l h i b = elim (eqb_tells i d) [
   | inl s ↦ (let same = s.1 in
       let is : kept_at (set kept d new) i ≡ new = kept_is (set kept d new) i new (ap (slice_get (set kept d new)) same ∙ get-set_same kept d new l) in
       ap (λ (k : KeptStage). is_bound k.stage) is ∙ h (ap (λ n. is_bound ((kept_at kept n).stage)) (sym same) ∙ b))
-  | inr s ↦ (let is : kept_at (set kept d new) i ≡ kept_at kept i = ap (λ x. unwrap_or x (record { stage = Pending; step = 0 })) (get-set_other kept d i new s.1) in
+  | inr s ↦ (let is : kept_at (set kept d new) i ≡ kept_at kept i = ap (λ x. unwrap_or x (record { stage = Pending; step = 0 })) (slice_get-set_other kept d i new s.1) in
       ap (λ (k : KeptStage). is_bound k.stage) is ∙ b)
 ]
 
@@ -87,7 +88,7 @@ in_none i c = absurd (omega (arith, c.1))
 pub above_emptied : (links : List (List ℕ)) (d : ℕ) → AreAbove links → AreAbove (set links d [])
 above_emptied links d h j i c = elim (eqb_tells j d) [
   | inl s ↦ (let none = ap (list_at (set links d [])) s.1 ∙ list_emptied links d in absurd (in_none i (subst (λ xs. Contains xs i) none c)))
-  | inr s ↦ h j i (subst (λ xs. Contains xs i) (ap (λ x. unwrap_or x []) (get-set_other links d j [] s.1)) c)
+  | inr s ↦ h j i (subst (λ xs. Contains xs i) (ap (λ x. unwrap_or x []) (slice_get-set_other links d j [] s.1)) c)
 ]
 
 front_or_rest : (xs : List ℕ) (d i : ℕ) (P : ℕ → Type 0) → P d → ((n : ℕ) → Contains xs n → P n) → Contains (d ∷ xs) i → P i
@@ -100,7 +101,7 @@ above_pushed links j d within lower h t i c = elim (eqb_tells t j) [
       let same = s.1 in
       let is : list_at (set links j new) t ≡ new = ap (list_at (set links j new)) same ∙ ap (λ x. unwrap_or x []) (get-set_same links j new within) in
       front_or_rest (list_at links j) d i (λ n. t < n) (omega arith) (λ n b. (let l = h j n b in omega (arith, l))) (subst (λ xs. Contains xs i) is c))
-  | inr s ↦ h t i (subst (λ xs. Contains xs i) (ap (λ x. unwrap_or x []) (get-set_other links j t (d ∷ list_at links j) s.1)) c)
+  | inr s ↦ h t i (subst (λ xs. Contains xs i) (ap (λ x. unwrap_or x []) (slice_get-set_other links j t (d ∷ list_at links j) s.1)) c)
 ]
 
 -- ---- links once a stage is written
@@ -111,7 +112,7 @@ listed_settled kept links d step o l h i j k there linked = elim (eqb_tells i d)
   | inl s ↦ (let same = s.1 in
       let is : slice_get (set kept d (record { stage = Settled o; step = step })) i ≡ Some (record { stage = Settled o; step = step }) = ap (slice_get (set kept d (record { stage = Settled o; step = step }))) same ∙ get-set_same kept d (record { stage = Settled o; step = step }) l in
       absurd (not_linked k (record { stage = Settled o; step = step }) o (sym there ∙ is) refl linked))
-  | inr s ↦ (let b = h i j k (sym (get-set_other kept d i (record { stage = Settled o; step = step }) s.1) ∙ there) linked in
+  | inr s ↦ (let b = h i j k (sym (slice_get-set_other kept d i (record { stage = Settled o; step = step }) s.1) ∙ there) linked in
       record { lower = b.lower; listed = still b })
 ]
   where
@@ -123,8 +124,8 @@ listed_settled kept links d step o l h i j k there linked = elim (eqb_tells i d)
       | inl t ↦ (let same = t.1 in
           let dated : dated_in (set kept d (record { stage = Settled o; step = step })) j ≡ Some (o, step) =
           ap (dated_in (set kept d (record { stage = Settled o; step = step }))) same ∙ ap (option_and_then dated_of) (get-set_same kept d (record { stage = Settled o; step = step }) l) in cc)
-      | inr t ↦ (let before : dated_in kept j ≡ None = ap (option_and_then dated_of) (sym (get-set_other kept d j (record { stage = Settled o; step = step }) t.1)) ∙ none in
-          let same : list_at (set links d []) j ≡ list_at links j = ap (λ x. unwrap_or x []) (get-set_other links d j [] t.1) in
+      | inr t ↦ (let before : dated_in kept j ≡ None = ap (option_and_then dated_of) (sym (slice_get-set_other kept d j (record { stage = Settled o; step = step }) t.1)) ∙ none in
+          let same : list_at (set links d []) j ≡ list_at links j = ap (λ x. unwrap_or x []) (slice_get-set_other links d j [] t.1) in
           subst (λ xs. Contains xs i) (sym same) (b.listed before))
     ]
 
@@ -136,14 +137,14 @@ listed_unsettled kept links more d new old at e f h longer here i j k there link
       let is : Some k ≡ Some new = sym there ∙ ap (slice_get (set kept d new)) same ∙ get-set_same kept d new (there_within kept d old at) in
       let same_k : k ≡ new = cc in
       subst (λ n. IsListed (set kept d new) more n j) (sym same) (here j (ap (λ (x : KeptStage). x.stage) (sym same_k) ∙ linked)))
-  | inr s ↦ (let b = h i j k (sym (get-set_other kept d i new s.1) ∙ there) linked in
+  | inr s ↦ (let b = h i j k (sym (slice_get-set_other kept d i new s.1) ∙ there) linked in
       record { lower = b.lower; listed = λ none. longer i j (b.listed (undated none)) })
 ]
   where
     undated : dated_in (set kept d new) j ≡ None → dated_in kept j ≡ None
     undated none = elim (eqb_tells j d) [
       | inl t ↦ ap (dated_in kept) t.1 ∙ ap (option_and_then dated_of) at ∙ ap (option_map (λ o. (o, old.step))) e
-      | inr t ↦ ap (option_and_then dated_of) (sym (get-set_other kept d j new t.1)) ∙ none
+      | inr t ↦ ap (option_and_then dated_of) (sym (slice_get-set_other kept d j new t.1)) ∙ none
     ]
 
 -- ---- a stage settles
@@ -244,7 +245,7 @@ kept_lists kept links d new old at e f h back =
     undated : (j : ℕ) → dated_in (set kept d new) j ≡ None → dated_in kept j ≡ None
     undated j none = elim (eqb_tells j d) [
       | inl t ↦ ap (dated_in kept) t.1 ∙ ap (option_and_then dated_of) at ∙ ap (option_map (λ o. (o, old.step))) e
-      | inr t ↦ ap (option_and_then dated_of) (sym (get-set_other kept d j new t.1)) ∙ none
+      | inr t ↦ ap (option_and_then dated_of) (sym (slice_get-set_other kept d j new t.1)) ∙ none
     ]
 
 -- what a treated stage can be
@@ -321,7 +322,7 @@ module _ (plan : List PlannedStage) (kept : List KeptStage) (marks ready : List 
     all_marks = length-set marks m false ∙ h.all_marks;
     all_links = h.all_links;
     ready_are = h.ready_are;
-    waits = but_closed plan kept (set marks m false) m (but_marks plan kept marks (set marks m false) m (λ i ne. get-set_other marks m i false ne) h.waits)
+    waits = but_closed plan kept (set marks m false) m (but_marks plan kept marks (set marks m false) m (λ i ne. slice_get-set_other marks m i false ne) h.waits)
         (λ q k eq ek em. (let is = kept_is kept m k ek in stays kept q k.stage k.step (ap (λ (x : KeptStage). is_waiting x.stage) (sym is) ∙ idle)));
     listed = h.listed;
     bound = h.bound;
@@ -367,7 +368,7 @@ module _ (plan : List PlannedStage) (kept : List KeptStage) (marks ready : List 
         let linked = subst S e (λ j l. treated_linked kept p k.stage k.step j l) in
         let bound = subst B e (treated_bound kept p k.stage k.step) in
         unsettled_sound plan kept marks ready links steps turns h m new steps (turns + 1) (set marks m false) links within before none (omega arith) s (omega (arith, fewer_steps))
-        (length-set marks m false) (λ i ne. get-set_other marks m i false ne)
+        (length-set marks m false) (λ i ne. slice_get-set_other marks m i false ne)
         (λ q eq em. (let same : q ≡ p = (let t : Some q ≡ Some p = sym eq ∙ planned in cc) in rw same again))
         refl (kept_lists kept links m new k there before none h.listed linked) (bound_more kept links m new (there_within kept m k there) bound h.bound) h.above
         (omega (arith, fewer_marks, f))
@@ -379,7 +380,7 @@ module _ (plan : List PlannedStage) (kept : List KeptStage) (marks ready : List 
         let s : step ≤ steps = subst (λ (k : KeptStage). k.step ≤ steps) e few in
         let f = fewer in
         settled_sound plan kept marks ready links steps turns (names_dependents plan) h m o step steps (turns + 1) (set marks m false) within (waiting_unsettled ((kept_at kept m).stage) waiting) s (omega arith) (omega arith)
-        (length-set marks m false) (λ i ne. get-set_other marks m i false ne) (omega (arith, f))
+        (length-set marks m false) (λ i ne. slice_get-set_other marks m i false ne) (omega (arith, f))
     by_stage Pending step e = unsettled_turn Pending step e refl
     by_stage (Ready args) step e = unsettled_turn (Ready args) step e refl
     by_stage Claimed step e = unsettled_turn Claimed step e refl

@@ -15,13 +15,13 @@ use Rattle.cf_plan.specs.Forms.{due_of_both, due_of_first, starts}
 use Rattle.cf_plan.specs.Plans.{starts_from, starts_of, PlannedStage, HasLowerSources, dependents_of, edges_of, form_at, sources_at}
 use Rattle.cf_plan.proofs.DependentLemmas.{all_dependents}
 use Rattle.cf_model.specs.States.{is_ready}
-use Rattle.cf_model.proofs.StateLemmas.{form_at-within, sources_at-within}
+use Rattle.cf_model.proofs.StateLemmas.{form_at-within, sources_at-within, slice_get-set_other}
 use Rattle.cf_core.specs.declared.kept.KeptStage.{KeptStage}
 use Rattle.cf_core.specs.Keeping.Treatment.{StepsUpTo, dated_in, due_kept, earliest, late_due, outcome_part, treated}
 use Rattle.cf_core.specs.Keeping.Links.{list_at}
 use Rattle.cf_core.specs.Keeping.Sound.{HasLists, IsSound, is_bound, kept_at, link_marks, marks_from, steps_of}
 use Rattle.cf_core.specs.Keeping.Starts.{mark_starts, mark_those, untreated}
-use Rattle.cf_core.proofs.Keeping.Marking.{count-set_true, get-set_same, get-set_other, length-mark_one}
+use Rattle.cf_core.proofs.Keeping.Marking.{count-set_true, get-set_same, length-mark_one}
 
 -- ---- what isn't marked waits
 
@@ -81,7 +81,7 @@ get-replicate (suc n) (suc i) x y e = get-replicate n i x y e
 -- ---- marks at the start
 
 mark-stays : (b : Bool) (marks : List Bool) (i j : ℕ) → (j ≡ i → ⊥) → slice_get (cond b (set marks i true) marks) j ≡ slice_get marks j
-mark-stays true marks i j ne = get-set_other marks i j true ne
+mark-stays true marks i j ne = slice_get-set_other marks i j true ne
 mark-stays false marks i j ne = refl
 
 starts-below : (i : ℕ) (plan : List PlannedStage) (marks : List Bool) (j : ℕ) → j < i → slice_get (mark_starts i plan marks) j ≡ slice_get marks j

@@ -26,11 +26,12 @@ use Rattle.cf_core.specs.Keeping.Sweeps.{AreServed, AreSwept, IsReadyWith, IsSwe
 use Rattle.cf_core.specs.Keeping.Offers.{args_of}
 use Rattle.cf_core.specs.Keeping.Turns.{planned_at}
 use Rattle.cf_core.proofs.Keeping.Lowest.{all_flags, flag_at, get_is, ready_first, ready_none}
-use Rattle.cf_core.proofs.Keeping.Marking.{get-set_other, get-set_same}
+use Rattle.cf_core.proofs.Keeping.Marking.{get-set_same}
 use Rattle.cf_core.proofs.Keeping.Marks.{dated_in-set}
 use Rattle.cf_core.proofs.Keeping.Moves.{claim_sound, is_steady, link_room, link_sound, outcome_there, settled_view_at, settle_same, settle_sound, turn_same}
 use Rattle.cf_core.proofs.Keeping.Places.{StayTaken-set, kept_put, planned_there, ready_args, same_put, undated}
 use Rattle.cf_model.proofs.Calling.{all_run, run-shape}
+use Rattle.cf_model.proofs.StateLemmas.{slice_get-set_other}
 use Rattle.cf_core.proofs.Keeping.Serving.{runs_once}
 use Rattle.cf_core.proofs.Keeping.Soundness.{bound_free, idle_sound, turn_sound}
 use Rattle.cf_core.proofs.Keeping.Sums.{StepsUpTo-at, kept_there}
@@ -52,10 +53,10 @@ one_more flags m h e i l = elim (eqb_tells i m) [
 
 -- one that is cleared
 cleared_too : (flags : List Bool) (m : ℕ) → m < length flags → AreTreated m flags → AreTreated (m + 1) (set flags m false)
-cleared_too flags m l h = one_more (set flags m false) m (λ i b. get-set_other flags m i false (λ e. absurd (omega (arith, e, b))) ∙ h i b) (get-set_same flags m false l)
+cleared_too flags m l h = one_more (set flags m false) m (λ i b. slice_get-set_other flags m i false (λ e. absurd (omega (arith, e, b))) ∙ h i b) (get-set_same flags m false l)
 
 written_above : (flags : List Bool) (m : ℕ) (b : Bool) → AreTreated m flags → AreTreated m (set flags m b)
-written_above flags m b h i l = get-set_other flags m i b (λ e. absurd (omega (arith, e, l))) ∙ h i l
+written_above flags m b h i l = slice_get-set_other flags m i b (λ e. absurd (omega (arith, e, l))) ∙ h i l
 
 none_set : (flags : List Bool) (n : ℕ) → length flags ≡ n → AreTreated n flags → flags ≡ replicate n false
 none_set [] zero l h = refl
@@ -83,7 +84,7 @@ marked_above kept (j ∷ stages) marks m a h =
     (λ i l. one_kept (is_waiting ((kept_at kept j).stage)) i (let above = All-head (λ j. m < j) j stages a in λ e. absurd (omega (arith, above, e, l))) ∙ h i l)
   where
     one_kept : (b : Bool) (i : ℕ) → i ≢ j → slice_get (cond b (set marks j true) marks) i ≡ slice_get marks i
-    one_kept true i ne = get-set_other marks j i true ne
+    one_kept true i ne = slice_get-set_other marks j i true ne
     one_kept false i ne = refl
 
 all_contained : (xs : List ℕ) (m : ℕ) → ((i : ℕ) → Contains xs i → m < i) → All (λ i. m < i) xs

@@ -14,12 +14,13 @@ use Rattle.cf_plan.proofs.PlanLemmas.{lower_at}
 use Rattle.cf_model.specs.declared.stage.Stage.{Stage}
 use Rattle.cf_model.specs.declared.stage.Stage.TheVariants.{Pending, Ready, Claimed, Linked, Settled}
 use Rattle.cf_model.specs.States.{outcome_of}
+use Rattle.cf_model.proofs.StateLemmas.{slice_get-set_other}
 use Rattle.cf_core.specs.declared.kept.KeptStage.{KeptStage}
 use Rattle.cf_core.specs.Keeping.Treatment.{StepsUpTo, IsSteady, all_treated, treated, treated_by, due_kept, late_due, dated_in, dated_of, linked_kept, earlier, earliest, latest, step_part, outcome_part}
 use Rattle.cf_core.specs.Keeping.Marks.{WaitsNow}
 use Rattle.cf_core.specs.Keeping.Links.{list_at}
 use Rattle.cf_core.specs.Keeping.Sound.{Waits, AreListed, is_waiting, kept_at, mark_all}
-use Rattle.cf_core.proofs.Keeping.Marking.{get-set_other, mentioned, mark_all-marks, mark_all-unmarked, length-mark_all}
+use Rattle.cf_core.proofs.Keeping.Marking.{mentioned, mark_all-marks, mark_all-unmarked, length-mark_all}
 use Rattle.cf_core.proofs.Keeping.Marks.{treated-set, others_wait, steady_by_stage}
 use Rattle.cf_core.proofs.Keeping.Turns.{stage_twice}
 use Rattle.cf_core.proofs.Keeping.Sums.{kept_is, there_within}
@@ -63,7 +64,7 @@ pub but_unsettled : (plan : List PlannedStage) (kept : List KeptStage) (marks : 
     WaitsBut plan kept marks d → WaitsBut plan (set kept d new) marks d
 but_unsettled plan kept marks d old new there e f h i p k ne ep ek em =
     treated-alike kept (set kept d new) p k.stage k.step (Alike-set kept d old new there (unsettled old new e f))
-    ∙ h i p k ne ep (sym (get-set_other kept d i new ne) ∙ ek) em
+    ∙ h i p k ne ep (sym (slice_get-set_other kept d i new ne) ∙ ek) em
 
 -- ---- a write of a stage that is settled then
 
@@ -83,7 +84,7 @@ module _ (plan : List PlannedStage) (kept : List KeptStage) (links : List (List 
   others i p k ne ep ek em true w h =
       let is : kept_at (set kept d new) i ≡ k = kept_is (set kept d new) i k ek in
       let waits : is_waiting ((kept_at (set kept d new) i).stage) ≡ true = ap (λ (x : KeptStage). is_waiting x.stage) is ∙ w in
-      let before : slice_get kept i ≡ Some k = sym (get-set_other kept d i new ne) ∙ ek in
+      let before : slice_get kept i ≡ Some k = sym (slice_get-set_other kept d i new ne) ∙ ek in
       let within : i < length marks = (let l = there_within plan i p ep in omega (arith, count)) in
       let within2 : i < length (mark_all (set kept d new) (dependents_of plan d) marks) = omega (arith, length-mark_all (set kept d new) (dependents_of plan d) marks) in
       let unmarked = mark_all-unmarked (set kept d new) (list_at links d) (mark_all (set kept d new) (dependents_of plan d) marks) i em in
@@ -98,7 +99,7 @@ module _ (plan : List PlannedStage) (kept : List KeptStage) (links : List (List 
   pub but_settled : WaitsBut plan kept marks d → WaitsBut plan (set kept d new) (mark_all (set kept d new) (list_at links d) (mark_all (set kept d new) (dependents_of plan d) marks)) d
   but_settled h i p k ne ep ek em =
       let unmarked = mark_all-unmarked (set kept d new) (dependents_of plan d) marks i (mark_all-unmarked (set kept d new) (list_at links d) (mark_all (set kept d new) (dependents_of plan d) marks) i em) in
-      others i p k ne ep ek em (is_waiting k.stage) refl (h i p k ne ep (sym (get-set_other kept d i new ne) ∙ ek) unmarked)
+      others i p k ne ep ek em (is_waiting k.stage) refl (h i p k ne ep (sym (slice_get-set_other kept d i new ne) ∙ ek) unmarked)
 
 -- ---- a stage that was treated
 
