@@ -301,6 +301,7 @@ impl Ledger {
     pub fn has_place(&self, more: u16) -> bool
         ensures { result ≡ has_place self.now.plan.stages (self.now.plan.room + more) }
     {
+        // No plan has place for more room.
         more as usize <= MAX_STAGES && self.plan.has_place(self.room + more)
     }
 
