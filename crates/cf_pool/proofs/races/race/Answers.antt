@@ -7,7 +7,7 @@ use Rattle.cf_pool.proofs.races.race.Given.{Over}
 use Rattle.cf_pool.proofs.races.race.Goals as goal
 use Rattle.cf_pool.proofs.races.race.Goals.{In_ok-desk}
 
-sized : (g : Over) (c : In_ok-desk g) → IsSized c.in_ok-desk.field-0.0 (with_room c.args.plan c.args.room) c.args.steps.now c.args.workers c.in-Some.sizes.1
+sized : (g : Over) (c : In_ok-desk g) → IsSized c.in_ok-desk.desk (with_room c.args.plan c.args.room) c.args.steps.now c.args.workers c.in-Some.sizes.1
 sized g c =
     let d = c.in_ok-desk.ensures.desk in
     let s = c.in-Some.ensures in
@@ -22,9 +22,9 @@ returns-in-Ok-clause-raced g c =
 
 pub returns-in-Ok-clause-called : goal.returns-in-Ok-clause-called
 returns-in-Ok-clause-called g c = record {
-  desk = c.in_ok-desk.field-0.0;
+  desk = c.in_ok-desk.desk;
   room = c.in-Some.sizes.1;
-  passes = c.in_ok-desk.field-0.1.items;
+  passes = c.in_ok-desk.passes.items;
   begun = c.in_ok-desk.ensures.begun;
   called = c.in-Ok.ensures.called;
   threads = c.in-Ok.ensures.threads;
@@ -32,4 +32,4 @@ returns-in-Ok-clause-called g c = record {
 
 pub fault_of-requires : goal.fault_of-requires
 fault_of-requires g c =
-    only_for_room _ c.in_ok-desk.field-0.0 (with_room c.args.plan c.args.room) c.args.steps.now c.in-Some.sizes.1 c.args.workers c.in_ok-desk.field-0.1.items _ _ _ (sized g (goal.at.fault_of-requires g c).In_ok-desk) c.in_ok-desk.ensures.begun c.in-Err.fault c.in-Err.ensures.refused
+    only_for_room _ c.in_ok-desk.desk (with_room c.args.plan c.args.room) c.args.steps.now c.in-Some.sizes.1 c.args.workers c.in_ok-desk.passes.items _ _ _ (sized g (goal.at.fault_of-requires g c).In_ok-desk) c.in_ok-desk.ensures.begun c.in-Err.fault c.in-Err.ensures.refused
