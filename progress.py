@@ -17,16 +17,16 @@ from crates import TOP, own
 
 OTHER = 100
 PROOFS = {
-    "cf_look": 545, "cf_explain": 307, "cf_orders": 282, "cf_bench": 273, "cf_handles": 259, "cf_core": 243, "cf_stress": 230,
-    "cf_page": 222, "cf_refused": 205, "cf_explore": 200, "cf_reading": 187, "cf_pool": 155, "cf_plan": 154, "cf_desk": 130,
-    "cf_plain": 124, "cf_history": 119, "cf_c": 115, "cf_script": 90, "cf_text": 65, "cf_ledger": 102, "cf_picture": 85, "cf": 78, "cf_example": 75,
-    "cf_command": 53, "cf_model": 48, "cf_outcome": 47, "cf_event": 43, "cf_bits": 21, "cf_expr": 18, "cf_covers": 12,
+    "cf_look": 643, "cf_explain": 373, "cf_orders": 321, "cf_bench": 290, "cf_page": 280, "cf_core": 279, "cf_stress": 279,
+    "cf_handles": 278, "cf_refused": 267, "cf_explore": 234, "cf_reading": 218, "cf_pool": 189, "cf_plan": 174, "cf_desk": 163,
+    "cf_c": 161, "cf_plain": 140, "cf_history": 131, "cf_ledger": 114, "cf": 101, "cf_script": 100, "cf_picture": 93, "cf_example": 78,
+    "cf_command": 59, "cf_model": 55, "cf_event": 52, "cf_outcome": 52, "cf_text": 50, "cf_bits": 21, "cf_expr": 17, "cf_covers": 15,
 }  # fmt: skip
 TESTS = {
-    "cf_graph_tests": 393, "cf_shared_tests": 282, "cf_pool_tests": 225, "cf_script_tests": 181, "cf": 71, "cf_bits": 33,
+    "cf_graph_tests": 461, "cf_shared_tests": 347, "cf_pool_tests": 286, "cf_script_tests": 211, "cf_bits": 36,
 }  # fmt: skip
 OF_TESTS = 5  # to prove a crate that holds tests alone
-CALLERS = 420  # seconds, for the library for C and its callers, where they don't run beside rt ci
+CALLERS = 120  # seconds, for the rows that are left when rt ci ends
 EVERY = 30  # seconds from one line to the next
 TICKS = os.sysconf("SC_CLK_TCK")
 
@@ -83,10 +83,6 @@ class Gate:
         self.passed: Set[str] = set()  # whose tests are proved
         self.begun: Set[str] = set()  # whose edits are tried
         self.kept: Set[str] = set()
-        self.is_alone = True  # no callers run beside it
-
-    def are_proved(self) -> bool:
-        return self.proved.issuperset(self.proofs)
 
     def of_edits(self, name: str, count: int) -> float:
         """One edit is a whole proof. Several are a proof once more, and then a part of it for each and for the crate as it is."""
@@ -120,15 +116,15 @@ class Gate:
         tests = len(self.passed | self.kept & self.tested)
         with_edits = [name for name, count in self.edits.items() if count]
         edits = len({*with_edits} & (self.begun | self.kept))
-        more = max(0.0, whole - spent) * elapsed / max(spent, 1.0) + CALLERS * self.is_alone
+        more = max(0.0, whole - spent) * elapsed / max(spent, 1.0) + CALLERS
         so_far = f"{len(self.proved)} of {len(self.proofs)} crates proved, tests of {tests} of {len(self.tested)}"
         share = min(99, round(100 * spent / whole))
         return f"check: {so_far}, edits of {edits} of {len(with_edits)} begun; {share}% after {elapsed / 60:.0f} min, about {more / 60:.0f} min more"
 
 
-def run_gate(then: Optional[Callable[[], object]]) -> int:
-    """Runs rt ci over the checkout, prints what it prints, and answers its status. It ends with this. Once all crates are proved, so that
-    only tests and edits are left, it calls `then`."""
+def run_gate(tell: Callable[[str], object]) -> int:
+    """Runs rt ci over the checkout, prints what it prints, and answers its status. It ends with this. It tells each crate once it is proved,
+    and built where it is a program."""
     gate, began = Gate(), time.monotonic()
     told = began
     with subprocess.Popen(["rt", "ci"], cwd=str(TOP), stdout=subprocess.PIPE) as running:
@@ -136,10 +132,10 @@ def run_gate(then: Optional[Callable[[], object]]) -> int:
             for line in lines_of(running.stdout):
                 if line is not None:
                     print(line, flush=True)
+                    before = len(gate.proved)
                     gate.take(line)
-                if then and gate.is_alone and gate.are_proved():
-                    gate.is_alone = False
-                    then()
+                    if len(gate.proved) > before:
+                        tell(line.split()[1])
                 now = time.monotonic()
                 if now - told >= EVERY:
                     told = now
