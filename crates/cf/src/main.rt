@@ -20,9 +20,6 @@ use commands::carry_out;
 use std::io;
 use std::process::ExitCode;
 
-#[cfg(test)]
-mod tests;
-
 fn main(rt: HostRuntime) -> ExitCode {
     match args::command(&rt) {
         Ok(command) => carry_out(
