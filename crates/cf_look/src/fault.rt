@@ -3,7 +3,7 @@ use cf_reading::ReadingFault;
 use thiserror::Error;
 
 /// What is wrong with an account, or with what a script says for people. Each names the member that it is about, by its path.
-#[derive(Clone, Copy, Debug, PartialEq, Eq, Error)]
+#[derive(Clone, Copy, Debug, Error)]
 pub(crate) enum Unreadable {
     #[error("no JSON")]
     Json,
