@@ -22,7 +22,7 @@ use Rattle.cf_desk.specs.Results.{DeskAnswers, Refuses}
 use Rattle.cf_desk.specs.Views.{Acts, Desk, Follows, HoldsClaim, IsSamePass, LooksOnce, Pass, state_of}
 use Rattle.cf_desk.proofs.OpenClaims.{claims_stay_open}
 use Rattle.cf_ledger.specs.declared.step.Held.{Held}
-use Rattle.cf_handles.specs.DeskTasks.{AreCompleted, Claims, Ends, Finishes, IsFinished, CompletesMany, IsNotGranted, IsRow, StepsCaller, StepsDesk, Takes, call_of, finish_number}
+use Rattle.cf_handles.specs.DeskTasks.{AreCompleted, Claims, Ends, Finishes, IsFinished, CompletesMany, IsNotGranted, IsRow, StepsCaller, StepsDesk, Takes, call_of, reply_number}
 use Rattle.cf_handles.specs.Desks.{IsSameCaller}
 use Rattle.cf_handles.specs.Tasks.{held_by}
 use Rattle.cf_handles.specs.Codes.{desk_code}
@@ -56,10 +56,10 @@ held_finish d p q i answer reply h a =
     (finish_mine (state_from p.known.setting.plan acts.before) p.known.caller i answer mine)
 
 -- and so is C told
-pub held_finished : (d : Desk) (h : Held) (p q : Pass) (reply : Reply) → HoldsClaim p h.stage → DeskAnswers d p (Finish h.stage h.answer) reply q → IsFinished d h p (finish_number reply) q
+pub held_finished : (d : Desk) (h : Held) (p q : Pass) (reply : Reply) → HoldsClaim p h.stage → DeskAnswers d p (Finish h.stage h.answer) reply q → IsFinished d h p (reply_number reply) q
 held_finished d h p q reply held a =
-    ⊎_elim (λ e. record { held = held; reply = Won; answers = subst (λ (r : Reply). DeskAnswers d p (Finish h.stage h.answer) r q) e a; tells = ap (λ (n : ℕ). let r : Result ℕ Code = Ok n in r) (sym (ap finish_number e)) })
-    (λ e. record { held = held; reply = Late; answers = subst (λ (r : Reply). DeskAnswers d p (Finish h.stage h.answer) r q) e a; tells = ap (λ (n : ℕ). let r : Result ℕ Code = Ok n in r) (sym (ap finish_number e)) })
+    ⊎_elim (λ e. record { held = held; reply = Won; answers = subst (λ (r : Reply). DeskAnswers d p (Finish h.stage h.answer) r q) e a; tells = ap (λ (n : ℕ). let r : Result ℕ Code = Ok n in r) (sym (ap reply_number e)) })
+    (λ e. record { held = held; reply = Late; answers = subst (λ (r : Reply). DeskAnswers d p (Finish h.stage h.answer) r q) e a; tells = ap (λ (n : ℕ). let r : Result ℕ Code = Ok n in r) (sym (ap reply_number e)) })
     (held_finish d p q h.stage h.answer reply held a)
 
 -- one stage more is completed

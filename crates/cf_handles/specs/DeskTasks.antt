@@ -7,7 +7,6 @@ use Rattle.cf_model.specs.declared.events.Reply.{Reply}
 use Rattle.cf_model.specs.declared.events.Reply.TheVariants.{Claim as ToldClaim, Finish as ToldFinish}
 use Rattle.cf_model.specs.declared.replies.Claimed.TheVariants.{Granted}
 use Rattle.cf_model.specs.declared.replies.Finished.{Finished}
-use Rattle.cf_model.specs.declared.replies.Finished.TheVariants.{Late}
 use Rattle.cf_model.specs.States.{claim_at, lowest_ready_of}
 use Rattle.cf_ledger.specs.declared.step.Held.{Held}
 use Rattle.cf_model.specs.declared.calls.Call.{Call}
@@ -17,6 +16,7 @@ use Rattle.cf_desk.specs.Results.{DeskAnswers, Refuses}
 use Rattle.cf_desk.specs.Views.{Desk, Follows, HoldsClaim, LooksOnce, Pass, state_of}
 use Rattle.cf_handles.specs.Codes.{desk_code}
 use Rattle.cf_handles.specs.Desks.{AtCaller}
+use Rattle.cf_handles.specs.Replies.{finish_number}
 use Rattle.cf_handles.specs.Tasks.{finished_as, held_by, number_or_none}
 use Rattle.cf_handles.specs.Values.{as_args, value_of}
 use Rattle.cf_handles.specs.declared.code.Code.{Code}
@@ -36,10 +36,10 @@ pub record IsFinished (d : Desk) (h : Held) (p : Pass) (told : ℕ) (q : Pass) :
   pub answers : DeskAnswers d p (Finish h.stage h.answer) (ToldFinish reply) q
   pub tells : finished_as reply ≡ Ok told
 
--- how the finish of a held stage went: it won (0), or came late (1)
-abbrev pub finish_number : Reply → ℕ
-finish_number (ToldFinish Late) = 1
-finish_number reply = 0
+-- how the finish of a held stage went
+abbrev pub reply_number : Reply → ℕ
+reply_number (ToldFinish finished) = finish_number finished
+reply_number reply = 0
 
 -- a call is refused, and C is told why
 pub record CallerRefuses (d : Desk) (call : Call) (p : Pass) (code : Code) (q : Pass) : Type 0 where

@@ -6,10 +6,11 @@ use Rattle.cf_ledger.specs.declared.step.Finish.{Finish}
 use Rattle.cf_ledger.specs.declared.step.Step.{Step as Step'}
 use Rattle.cf_ledger.specs.declared.step.Taken.{Taken}
 use Rattle.cf_ledger.specs.Ledgers.{Ledger as Ledger', state_of}
-use Rattle.cf_ledger.specs.Steps.{IsNoStep, Steps}
+use Rattle.cf_ledger.specs.Steps.{IsNoStep, Steps, finished_as}
 use Rattle.cf_handles.specs.Ledgers.{HaveNews}
+use Rattle.cf_handles.specs.Replies.{finish_number}
 use Rattle.cf_handles.specs.Tasks.{held_by, number_or_none}
-use Rattle.cf_handles.specs.Values.{as_args, bit}
+use Rattle.cf_handles.specs.Values.{as_args}
 use Rattle.cf_handles.specs.declared.code.Code.{Code}
 use Rattle.cf_handles.specs.declared.code.Code.TheVariants.{NoMemory, NoStage, NoWord, NotHeld, Nothing, WrongKind}
 use Rattle.cf_handles.specs.declared.handle.object.Object.{Object}
@@ -33,10 +34,10 @@ abbrev pub claim_word : Option Taken → ℕ
 claim_word None = 0
 claim_word (Some t) = t.word
 
--- how the finish went: late (1), or won (0), also where nothing was held
-abbrev pub finish_number : Option Finish → ℕ
-finish_number None = 0
-finish_number (Some f) = bit f.late
+-- how the finish went, or 0 where nothing was held
+abbrev pub late_number : Option Finish → ℕ
+late_number None = 0
+late_number (Some f) = finish_number (finished_as f.late)
 
 -- what was taken, or that nothing is ready
 abbrev pub taken_code : Option Taken → Result (Unit {0}) Code
@@ -60,7 +61,7 @@ pub record HasStepped (l : Ledger') (had : CfStep × CfTask × List CfNews × �
   pub steps : Steps had.0.who (held_by had.1) had.0.from l step now
   pub told : r ≡ taken_code step.taken
   pub written : has.0 ≡ record had.0 { place = length l.events; finish = finish_word step.finish; claim = claim_word step.taken }
-  pub task : has.1 ≡ task_with (record had.1 { finished = finish_number step.finish }) step.taken
+  pub task : has.1 ≡ task_with (record had.1 { finished = late_number step.finish }) step.taken
   pub news : FinishNews now (length l.events) step.finish had.2 has.2 has.3
 
 -- what the ledger's step answers

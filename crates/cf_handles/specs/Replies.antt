@@ -5,11 +5,18 @@ use Rattle.cf_plan.specs.declared.forms.Args.TheVariants.{None as NoArgs}
 use Rattle.cf_model.specs.declared.events.Reply.{Reply}
 use Rattle.cf_model.specs.declared.events.Reply.TheVariants.{Flag, Claim, Finish, Tick, Attach}
 use Rattle.cf_model.specs.declared.replies.Claimed.TheVariants.{Granted, Settled, Taken, NotReady}
+use Rattle.cf_model.specs.declared.replies.Finished.{Finished}
 use Rattle.cf_model.specs.declared.replies.Finished.TheVariants.{Won, Late, NotYours}
 use Rattle.cf_model.specs.declared.replies.Ticked.TheVariants.{Fired, Past}
 use Rattle.cf_model.specs.declared.replies.Attached.TheVariants.{At, StagesFull}
 use Rattle.cf_handles.specs.Values.{as_args, bit}
 use Rattle.cf_handles.specs.declared.values.CfReply.{CfReply}
+
+-- how a finish went
+abbrev pub finish_number : Finished → ℕ
+finish_number Won = 0
+finish_number Late = 1
+finish_number NotYours = 2
 
 abbrev pub reply_with : ℕ → ℕ → Args → CfReply
 reply_with answer number args = record { answer = answer; number = number; args = as_args args }
@@ -21,9 +28,7 @@ as_reply (Claim (Granted args)) = reply_with 0 0 args
 as_reply (Claim Settled) = reply_with 1 0 NoArgs
 as_reply (Claim Taken) = reply_with 2 0 NoArgs
 as_reply (Claim NotReady) = reply_with 3 0 NoArgs
-as_reply (Finish Won) = reply_with 0 0 NoArgs
-as_reply (Finish Late) = reply_with 1 0 NoArgs
-as_reply (Finish NotYours) = reply_with 2 0 NoArgs
+as_reply (Finish finished) = reply_with (finish_number finished) 0 NoArgs
 as_reply (Tick (Fired count)) = reply_with 0 count NoArgs
 as_reply (Tick Past) = reply_with 1 0 NoArgs
 as_reply (Attach (At stage)) = reply_with 0 stage NoArgs

@@ -4,12 +4,11 @@ use Rattle.std.specs.Option.{option_map, option_map_or}
 use Rattle.cf_plan.specs.Plans.{function_at}
 use Rattle.cf_model.specs.declared.replies.Claimed.{Claimed}
 use Rattle.cf_model.specs.declared.replies.Claimed.TheVariants.{Granted}
-use Rattle.cf_model.specs.declared.replies.Finished.{Finished}
-use Rattle.cf_model.specs.declared.replies.Finished.TheVariants.{Won, Late, NotYours}
 use Rattle.cf_model.specs.Events.{claiming, finishing}
 use Rattle.cf_model.specs.Graphs.{Graph as Graph'}
 use Rattle.cf_model.specs.States.{State, claim_at, lowest_ready_of}
 use Rattle.cf_ledger.specs.declared.step.Held.{Held}
+use Rattle.cf_handles.specs.Replies.{finish_number}
 use Rattle.cf_handles.specs.Tasks.{held_by, number_or_none}
 use Rattle.cf_handles.specs.Values.{as_args}
 use Rattle.cf_handles.specs.declared.code.Code.{Code}
@@ -43,11 +42,6 @@ pub record IsFirstFault (who : ℕ) (s : State) (tasks : List CfTask) (code : Co
 abbrev pub IsThere : ℕ → Option Held → Type 0
 IsThere n None = Unit {0}
 IsThere n (Some h) = h.stage < n
-
-abbrev pub finish_number : Finished → ℕ
-finish_number Won = 0
-finish_number Late = 1
-finish_number NotYours = 2
 
 -- how the finish went of what is held, if anything is, and the state that it leaves
 abbrev pub finish_told : ℕ → State → Option Held → ℕ

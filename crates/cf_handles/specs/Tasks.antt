@@ -4,13 +4,14 @@ use Rattle.cf_plan.specs.declared.forms.Args.{Args}
 use Rattle.cf_plan.specs.Plans.{function_at}
 use Rattle.cf_model.specs.declared.replies.Claimed.TheVariants.{Granted}
 use Rattle.cf_model.specs.declared.replies.Finished.{Finished}
-use Rattle.cf_model.specs.declared.replies.Finished.TheVariants.{Won, Late, NotYours}
+use Rattle.cf_model.specs.declared.replies.Finished.TheVariants.{NotYours}
 use Rattle.cf_ledger.specs.declared.step.Held.{Held}
 use Rattle.cf_model.specs.Events.{claiming, finishing}
 use Rattle.cf_model.specs.Graphs.{Graph as Graph', NoneLeftFor, RestsUpTo}
 use Rattle.cf_model.specs.States.{State, lowest_ready_of}
 use Rattle.cf_handles.specs.Answers.{Done}
 use Rattle.cf_handles.specs.Codes.{number_of}
+use Rattle.cf_handles.specs.Replies.{finish_number}
 use Rattle.cf_handles.specs.Values.{answer_of, as_args}
 use Rattle.cf_handles.specs.declared.code.Code.{Code}
 use Rattle.cf_handles.specs.declared.code.Code.TheVariants.{Empty, WrongKind, NoStage, NotHeld, Nothing}
@@ -24,9 +25,8 @@ held_by t = if t.held == 0 then None else Some (record { stage = t.stage; answer
 
 -- what a finish is answered, or that the caller hasn't claimed the stage
 abbrev pub finished_as : Finished → Result ℕ Code
-finished_as Won = Ok 0
-finished_as Late = Ok 1
 finished_as NotYours = Err NotHeld
+finished_as finished = Ok (finish_number finished)
 
 -- the number of a function, of which a ready stage has one
 abbrev pub number_or_none : Option ℕ → ℕ

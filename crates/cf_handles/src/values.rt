@@ -1,7 +1,7 @@
 //! Values, outcomes, arguments, answers and replies as C has them. An unknown `kind` is read as the last one.
 ghost use Rattle.std.specs.Prelude.{◌≡◌};
 ghost use Rattle.cf_plan.specs.declared.forms.Args.TheVariants.{None as NoArgs};
-ghost use Rattle.cf_handles.specs.Replies.{as_reply, reply_with};
+ghost use Rattle.cf_handles.specs.Replies.{as_reply, finish_number, reply_with};
 ghost use Rattle.cf_handles.specs.Values.{answer_of, answer_with, args_with, as_answer, as_args, as_fault, as_now, as_outcome, as_value, cause_of, no_fault, outcome_of, value_of};
 
 pub mod attaching;
@@ -268,6 +268,18 @@ fn now_with(kind: u32, outcome: CfOutcome) -> CfNow
     CfNow { kind, outcome }
 }
 
+/// How a finish went, for C.
+#[inline(always)]
+pub(crate) fn finish_number(finished: Finished) -> u32
+    ensures { result ≡ finish_number finished }
+{
+    match finished {
+        Finished::Won => 0,
+        Finished::Late => 1,
+        Finished::NotYours => 2,
+    }
+}
+
 #[inline(always)]
 fn reply_with(answer: u32, number: u16, args: Args) -> CfReply
     ensures { result ≡ reply_with answer number args }
@@ -298,9 +310,7 @@ pub(crate) fn as_reply(reply: Reply) -> CfReply
         Reply::Claim(Claimed::Settled) => reply_with(1, 0, Args::None),
         Reply::Claim(Claimed::Taken) => reply_with(2, 0, Args::None),
         Reply::Claim(Claimed::NotReady) => reply_with(3, 0, Args::None),
-        Reply::Finish(Finished::Won) => reply_with(0, 0, Args::None),
-        Reply::Finish(Finished::Late) => reply_with(1, 0, Args::None),
-        Reply::Finish(Finished::NotYours) => reply_with(2, 0, Args::None),
+        Reply::Finish(finished) => reply_with(finish_number(finished), 0, Args::None),
         Reply::Tick(Ticked::Fired(count)) => reply_with(0, count, Args::None),
         Reply::Tick(Ticked::Past) => reply_with(1, 0, Args::None),
         Reply::Attach(Attached::At(stage)) => reply_with(0, stage, Args::None),

@@ -1,16 +1,16 @@
 //! One step of a caller of a desk: it finishes what it holds, and takes the lowest ready stage.
 ghost use Rattle.std.specs.Prelude.{◌≡◌};
 ghost use Rattle.std.specs.Arc.{arc_value};
-ghost use Rattle.cf_handles.specs.DeskTasks.{Finishes, StepsCaller, StepsDesk, Takes, finish_number};
+ghost use Rattle.cf_handles.specs.DeskTasks.{Finishes, StepsCaller, StepsDesk, Takes, reply_number};
 ghost use Rattle.cf_handles.specs.Desks.{IsSameCaller};
 
 use crate::code::{Code, desk_code};
 use crate::handle::object::{Caller, Object};
-use crate::values::as_args;
 use crate::values::task::{CfTask, held_by, number_or_none};
+use crate::values::{as_args, finish_number};
 use cf_desk::Call;
 use cf_ledger::Held;
-use cf_model::{Claimed, Finished, Reply};
+use cf_model::{Claimed, Reply};
 
 /// Finishes what a task holds, and gives it the lowest ready stage.
 #[inline(always)]
@@ -55,7 +55,7 @@ impl Caller {
             return Err(Code::NotHeld);
         }
         match self.desk.act(&mut self.pass, Call::Finish(stage, answer)) {
-            Ok(reply) => Ok(finish_number(reply)),
+            Ok(reply) => Ok(reply_number(reply)),
             Err(fault) => Err(desk_code(fault)),
         }
     }
@@ -91,13 +91,13 @@ impl Caller {
     }
 }
 
-/// How a finish of a held stage went: it won (0), or came late (1).
+/// How a finish of a held stage went.
 #[inline(always)]
-fn finish_number(reply: Reply) -> u32
-    ensures { result ≡ finish_number reply }
+fn reply_number(reply: Reply) -> u32
+    ensures { result ≡ reply_number reply }
 {
     match reply {
-        Reply::Finish(Finished::Late) => 1,
+        Reply::Finish(finished) => finish_number(finished),
         _ => 0,
     }
 }

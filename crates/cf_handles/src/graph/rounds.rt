@@ -2,15 +2,15 @@
 ghost use Rattle.std.specs.Prelude.{◌≡◌, All, MatchOption, length, slice_get};
 ghost use Rattle.cf_model.specs.States.{lowest_ready_of};
 ghost use Rattle.cf_handles.specs.Tasks.{held_by};
-ghost use Rattle.cf_handles.specs.Rounds.{AreClaimed, AreFinished, IsFirstFault, IsThere, MayFinish, Rounds, claim_left, claimed_task, claimed_times, fault_of, finish_left, finish_number, finish_told, finished_all, finished_task, round_told};
+ghost use Rattle.cf_handles.specs.Rounds.{AreClaimed, AreFinished, IsFirstFault, IsThere, MayFinish, Rounds, claim_left, claimed_task, claimed_times, fault_of, finish_left, finish_told, finished_all, finished_task, round_told};
 
 use crate::code::Code;
 use crate::handle::object::Object;
-use crate::values::as_args;
 use crate::values::task::{CfTask, held_by, number_or_none};
+use crate::values::{as_args, finish_number};
 use cf_core::Graph;
 use cf_ledger::Held;
-use cf_model::{Claimed, Finished};
+use cf_model::Claimed;
 
 /// Finishes what tasks hold, and gives each the stage that is then the lowest ready one, if each may be finished.
 #[tactic(auto, using(crate::proofs::Rounds::round_done, crate::proofs::Rounds::round_refused))]
@@ -81,11 +81,7 @@ fn finish(graph: &mut Graph, who: u8, task: &mut CfTask)
         task.finished = 0;
         return;
     };
-    task.finished = match graph.finish(who, stage, answer) {
-        Finished::Won => 0,
-        Finished::Late => 1,
-        Finished::NotYours => 2,
-    };
+    task.finished = finish_number(graph.finish(who, stage, answer));
 }
 
 /// Gives each task the lowest ready stage in turn, or nothing.

@@ -1,14 +1,15 @@
 //! One step of a caller of a ledger: it finishes what it holds, and takes the next ready stage.
 ghost use Rattle.std.specs.Prelude.{◌≡◌, ◌<◌, IfSome, length};
-ghost use Rattle.cf_handles.specs.LedgerSteps.{FinishNews, StepsLedger, claim_word, finish_number, finish_word, step_code, taken_code, task_with};
+ghost use Rattle.cf_handles.specs.LedgerSteps.{FinishNews, StepsLedger, claim_word, finish_word, late_number, step_code, taken_code, task_with};
 
 use crate::code::Code;
 use crate::handle::object::Object;
 use crate::ledger::telling::give_news;
-use crate::values::as_args;
 use crate::values::stage::CfNews;
 use crate::values::task::{CfStep, CfTask, held_by, number_or_none};
+use crate::values::{as_args, finish_number};
 use cf_ledger::{Finish, Ledger, StepFault, Taken};
+use cf_model::Finished;
 
 /// Finishes what a task holds, and gives it the next ready stage. The words go into the step, and the stages that the finish
 /// changed go out as far as the buffer reaches, and how many they are.
@@ -33,7 +34,7 @@ pub fn step(
             step.place = place;
             step.finish = finish_word(done.finish);
             step.claim = claim_word(done.taken);
-            task.finished = finish_number(done.finish);
+            task.finished = late_number(done.finish);
             take(task, done.taken)
         }
     }
@@ -86,12 +87,14 @@ fn claim_word(taken: Option<Taken>) -> u64
     }
 }
 
-fn finish_number(finish: Option<Finish>) -> u32
-    ensures { result ≡ finish_number finish }
+/// How a finish went, or 0 where nothing was held.
+fn late_number(finish: Option<Finish>) -> u32
+    ensures { result ≡ late_number finish }
 {
     match finish {
         None => 0,
-        Some(finish) => u32::from(finish.late),
+        Some(finish) if finish.late => finish_number(Finished::Late),
+        Some(_) => finish_number(Finished::Won),
     }
 }
 

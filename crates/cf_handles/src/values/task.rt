@@ -3,7 +3,7 @@ ghost use Rattle.std.specs.Prelude.{◌≡◌};
 ghost use Rattle.cf_handles.specs.Tasks.{finished_as, held_by, number_or_none};
 
 use crate::code::Code;
-use crate::values::{CfAnswer, CfArgs, answer_of};
+use crate::values::{CfAnswer, CfArgs, answer_of, finish_number};
 use cf_ledger::Held;
 use cf_model::Finished;
 
@@ -52,8 +52,7 @@ pub(crate) fn finished_as(finished: Finished) -> Result<u32, Code>
     ensures { result ≡ finished_as finished }
 {
     match finished {
-        Finished::Won => Ok(0),
-        Finished::Late => Ok(1),
+        Finished::Won | Finished::Late => Ok(finish_number(finished)),
         Finished::NotYours => Err(Code::NotHeld),
     }
 }
