@@ -17,8 +17,8 @@ use Rattle.cf_desk.specs.Views.{Desk, Follows, HoldsClaim, LooksOnce, Pass, stat
 use Rattle.cf_handles.specs.Codes.{desk_code}
 use Rattle.cf_handles.specs.Desks.{AtCaller}
 use Rattle.cf_handles.specs.Replies.{finish_number}
-use Rattle.cf_handles.specs.Tasks.{finished_as, held_by, number_or_none}
-use Rattle.cf_handles.specs.Values.{as_args, value_of}
+use Rattle.cf_handles.specs.Tasks.{finished_as, held_by, holding}
+use Rattle.cf_handles.specs.Values.{value_of}
 use Rattle.cf_handles.specs.declared.code.Code.{Code}
 use Rattle.cf_handles.specs.declared.code.Code.TheVariants.{Lost, NoStage, NotHeld, Nothing, WrongKind}
 use Rattle.cf_handles.specs.declared.handle.object.Caller.{Caller as Caller'}
@@ -60,11 +60,11 @@ Finishes d None p r q = (r ≡ Ok 0) × (q ≡ p)
 Finishes d (Some h) p (Ok told) q = IsFinished d h p told q
 Finishes d (Some h) p (Err code) q = IsNotFinished d h p code q
 
--- the claim is granted, and the task holds the stage, with its function's number and arguments
+-- the claim is granted, and the task holds the stage
 pub record IsGranted (d : Desk) (i : ℕ) (p : Pass) (had has : CfTask) (q : Pass) : Type 0 where
   pub args : Args
   pub answers : DeskAnswers d p (Claim i) (ToldClaim (Granted args)) q
-  pub is : has ≡ record had { held = 1; stage = i; function = number_or_none (function_at (state_of p.known).plan.stages i); args = as_args args }
+  pub is : has ≡ holding had i (function_at (state_of p.known).plan.stages i) args
 
 -- it is answered otherwise: another caller was first
 pub record IsLost (d : Desk) (i : ℕ) (p : Pass) (q : Pass) : Type 0 where

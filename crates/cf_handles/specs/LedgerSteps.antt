@@ -9,8 +9,7 @@ use Rattle.cf_ledger.specs.Ledgers.{Ledger as Ledger', state_of}
 use Rattle.cf_ledger.specs.Steps.{IsNoStep, Steps, finished_as}
 use Rattle.cf_handles.specs.Ledgers.{HaveNews}
 use Rattle.cf_handles.specs.Replies.{finish_number}
-use Rattle.cf_handles.specs.Tasks.{held_by, number_or_none}
-use Rattle.cf_handles.specs.Values.{as_args}
+use Rattle.cf_handles.specs.Tasks.{held_by, holding}
 use Rattle.cf_handles.specs.declared.code.Code.{Code}
 use Rattle.cf_handles.specs.declared.code.Code.TheVariants.{NoMemory, NoStage, NoWord, NotHeld, Nothing, WrongKind}
 use Rattle.cf_handles.specs.declared.handle.object.Object.{Object}
@@ -44,10 +43,10 @@ abbrev pub taken_code : Option Taken → Result (Unit {0}) Code
 taken_code None = Err Nothing
 taken_code (Some t) = Ok tt
 
--- the task holds what was taken, with its function's number and arguments, or nothing
+-- the task holds what was taken, or nothing
 abbrev pub task_with : CfTask → Option Taken → CfTask
 task_with had None = record had { held = 0 }
-task_with had (Some t) = record had { held = 1; stage = t.stage; function = number_or_none t.function; args = as_args t.args }
+task_with had (Some t) = holding had t.stage t.function t.args
 
 -- the stages that the finish at a place changed are written, each as it is now
 abbrev pub FinishNews : Ledger' → ℕ → Option Finish → List CfNews → List CfNews → ℕ → Type 0

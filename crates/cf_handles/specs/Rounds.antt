@@ -9,8 +9,7 @@ use Rattle.cf_model.specs.Graphs.{Graph as Graph'}
 use Rattle.cf_model.specs.States.{State, claim_at, lowest_ready_of}
 use Rattle.cf_ledger.specs.declared.step.Held.{Held}
 use Rattle.cf_handles.specs.Replies.{finish_number}
-use Rattle.cf_handles.specs.Tasks.{held_by, number_or_none}
-use Rattle.cf_handles.specs.Values.{as_args}
+use Rattle.cf_handles.specs.Tasks.{held_by, holding}
 use Rattle.cf_handles.specs.declared.code.Code.{Code}
 use Rattle.cf_handles.specs.declared.code.Code.TheVariants.{NoStage, NotHeld, Nothing, WrongKind}
 use Rattle.cf_handles.specs.declared.handle.object.Object.{Object}
@@ -78,9 +77,9 @@ abbrev pub claimed_times : ℕ → State → ℕ → State
 claimed_times who s zero = s
 claimed_times who s (suc k) = claim_left who (claimed_times who s k) (lowest_ready_of (claimed_times who s k))
 
--- the task that holds a stage whose claim was granted, with its function's number and arguments
+-- the task that holds a stage whose claim was granted
 abbrev pub granted_task : ℕ → State → CfTask → Claimed → CfTask
-granted_task i s t (Granted args) = record t { held = 1; stage = i; function = number_or_none (function_at s.plan.stages i); args = as_args args }
+granted_task i s t (Granted args) = holding t i (function_at s.plan.stages i) args
 granted_task i s t reply = record t { held = 0 }
 
 -- what a task holds once the lowest ready stage was claimed for it, or nothing

@@ -5,8 +5,7 @@ use Rattle.cf_core.specs.declared.graph.lending.Stop.{Stop}
 use Rattle.cf_ledger.specs.declared.step.Held.{Held}
 use Rattle.cf_model.specs.Graphs.{Graph as Graph'}
 use Rattle.cf_model.specs.States.{State, lowest_ready_of}
-use Rattle.cf_handles.specs.Tasks.{held_by, number_or_none}
-use Rattle.cf_handles.specs.Values.{as_args}
+use Rattle.cf_handles.specs.Tasks.{held_by, holding}
 use Rattle.cf_handles.specs.declared.code.Code.{Code}
 use Rattle.cf_handles.specs.declared.code.Code.TheVariants.{NotHeld, NotOver, Nothing, WrongKind}
 use Rattle.cf_handles.specs.declared.handle.object.Object.{Object}
@@ -36,12 +35,12 @@ abbrev pub landed_by : ℕ → State → Option Held → State
 landed_by who s None = s
 landed_by who s (Some h) = served_by who s h.stage h.answer
 
--- the sweep stops at the lowest ready stage, and the task holds that, with its function's number and arguments
+-- the sweep stops at the lowest ready stage, and the task holds that
 pub record IsStop (had has : CfTask) (now : Sweep') : Type 0 where
   pub stop : Stop
   pub lowest : StopsAt now.state stop
   pub stands : now.stands ≡ Some stop.stage
-  pub task : has ≡ record had { held = 1; stage = stop.stage; function = number_or_none stop.function; args = as_args stop.args; finished = 0 }
+  pub task : has ≡ holding (record had { finished = 0 }) stop.stage stop.function stop.args
 
 -- no stage is ready: all are behind the sweep, and the task holds nothing
 pub record IsOver (had has : CfTask) (now : Sweep') : Type 0 where

@@ -33,6 +33,10 @@ abbrev pub number_or_none : Option ℕ → ℕ
 number_or_none None = 0
 number_or_none (Some number) = number
 
+-- the task that holds a stage, with its function's number and arguments
+abbrev pub holding : CfTask → ℕ → Option ℕ → Args → CfTask
+holding t stage function args = record t { held = 1; stage = stage; function = number_or_none function; args = as_args args }
+
 -- The graph finishes a stage for a caller, and is at the sequential graph's state then. It takes no turn that it doesn't need.
 pub record IsFinished (who : ℕ) (h : Held) (g : Graph') (r : Result ℕ Code) (now : Graph') : Type 0 where
   pub there : h.stage < length g.state.plan.stages
@@ -47,11 +51,11 @@ Finishes who None g r now = (r ≡ Ok 0) × (now ≡ g)
 Finishes who (Some h) g (Err NoStage) now = (length g.state.plan.stages ≤ h.stage) × (now ≡ g)
 Finishes who (Some h) g r now = IsFinished who h g r now
 
--- a stage is claimed, and the task holds it, with its function's number and arguments
+-- a stage is claimed, and the task holds it
 pub record IsTaken (who i : ℕ) (s : State) (had has : CfTask) (now : Graph') : Type 0 where
   pub args : Args
   pub granted : (Granted args, now.state) ≡ claiming s who i
-  pub is : has ≡ record had { held = 1; stage = i; function = number_or_none (function_at s.plan.stages i); args = as_args args }
+  pub is : has ≡ holding had i (function_at s.plan.stages i) args
 
 -- the stage that is ready is claimed, and where none is the task holds nothing
 abbrev pub Claims : ℕ → Option ℕ → State → CfTask → Result (Unit {0}) Code → CfTask → Graph' → Type 0

@@ -6,8 +6,8 @@ ghost use Rattle.cf_handles.specs.Desks.{IsSameCaller};
 
 use crate::code::{Code, desk_code};
 use crate::handle::object::{Caller, Object};
-use crate::values::task::{CfTask, held_by, number_or_none};
-use crate::values::{as_args, finish_number};
+use crate::values::finish_number;
+use crate::values::task::{CfTask, held_by};
 use cf_desk::Call;
 use cf_ledger::Held;
 use cf_model::{Claimed, Reply};
@@ -60,7 +60,7 @@ impl Caller {
         }
     }
 
-    /// Looks once, claims the lowest ready stage, and writes it into the task part by part.
+    /// Looks once, claims the lowest ready stage, and gives it to the task.
     #[inline(always)]
     fn take(&mut self, task: &mut CfTask) -> Result<(), Code>
         ensures same { IsSameCaller self.old self.new }
@@ -73,10 +73,7 @@ impl Caller {
         let function = self.pass.function(stage);
         match self.desk.act(&mut self.pass, Call::Claim(stage)) {
             Ok(Reply::Claim(Claimed::Granted(args))) => {
-                task.held = 1;
-                task.stage = stage;
-                task.function = number_or_none(function);
-                task.args = as_args(args);
+                task.give(stage, function, args);
                 Ok(())
             }
             Ok(_) => {

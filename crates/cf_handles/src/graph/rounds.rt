@@ -6,8 +6,8 @@ ghost use Rattle.cf_handles.specs.Rounds.{AreClaimed, AreFinished, IsFirstFault,
 
 use crate::code::Code;
 use crate::handle::object::Object;
-use crate::values::task::{CfTask, held_by, number_or_none};
-use crate::values::{as_args, finish_number};
+use crate::values::finish_number;
+use crate::values::task::{CfTask, held_by};
 use cf_core::Graph;
 use cf_ledger::Held;
 use cf_model::Claimed;
@@ -108,12 +108,7 @@ fn claim(graph: &mut Graph, who: u8, task: &mut CfTask)
     };
     let function = graph.function(stage);
     match graph.claim(who, stage) {
-        Claimed::Granted(args) => {
-            task.held = 1;
-            task.stage = stage;
-            task.function = number_or_none(function);
-            task.args = as_args(args);
-        }
+        Claimed::Granted(args) => task.give(stage, function, args),
         _ => task.held = 0,
     }
 }

@@ -4,8 +4,7 @@ ghost use Rattle.cf_handles.specs.Tasks.{Finishes, Steps, Takes};
 
 use crate::code::Code;
 use crate::handle::object::Object;
-use crate::values::as_args;
-use crate::values::task::{CfTask, finished_as, held_by, number_or_none};
+use crate::values::task::{CfTask, finished_as, held_by};
 use cf_core::Graph;
 use cf_ledger::Held;
 use cf_model::Claimed;
@@ -41,7 +40,7 @@ fn finish(graph: &mut Graph, who: u8, held: Option<Held>) -> Result<u32, Code>
     finished_as(graph.finish(who, stage, answer))
 }
 
-/// Claims the lowest ready stage, and writes it into the task part by part.
+/// Claims the lowest ready stage, and gives it to the task.
 #[inline(always)]
 #[tactic(auto, using(crate::proofs::Steps::ready_within))]
 fn take(graph: &mut Graph, who: u8, task: &mut CfTask) -> Result<(), Code>
@@ -56,9 +55,6 @@ fn take(graph: &mut Graph, who: u8, task: &mut CfTask) -> Result<(), Code>
     let Claimed::Granted(args) = graph.claim(who, stage) else {
         unreachable!();
     };
-    task.held = 1;
-    task.stage = stage;
-    task.function = number_or_none(function);
-    task.args = as_args(args);
+    task.give(stage, function, args);
     Ok(())
 }

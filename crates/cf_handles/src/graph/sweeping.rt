@@ -4,8 +4,7 @@ ghost use Rattle.cf_handles.specs.Sweeps.{BeginsSweep, EndsSweep, Stops, Sweeps,
 
 use crate::code::Code;
 use crate::handle::object::{Object, hold, take};
-use crate::values::as_args;
-use crate::values::task::{CfTask, held_by, number_or_none};
+use crate::values::task::{CfTask, held_by};
 use cf_core::{Stop, Sweep};
 use cf_ledger::Held;
 use std::alloc::Global;
@@ -72,7 +71,7 @@ fn land(sweep: &mut Sweep, held: Option<Held>) -> bool
     }
 }
 
-/// Goes on to the lowest ready stage, and writes it into the task part by part.
+/// Goes on to the lowest ready stage, and gives it to the task.
 #[inline(always)]
 fn go_on(sweep: &mut Sweep, task: &mut CfTask) -> Result<(), Code>
     requires { sweep.old.stands ≡ None }
@@ -92,10 +91,7 @@ fn go_on(sweep: &mut Sweep, task: &mut CfTask) -> Result<(), Code>
                 args,
             },
         ) => {
-            task.held = 1;
-            task.stage = stage;
-            task.function = number_or_none(function);
-            task.args = as_args(args);
+            task.give(stage, function, args);
             Ok(())
         }
     }

@@ -5,9 +5,9 @@ ghost use Rattle.cf_handles.specs.LedgerSteps.{FinishNews, StepsLedger, claim_wo
 use crate::code::Code;
 use crate::handle::object::Object;
 use crate::ledger::telling::give_news;
+use crate::values::finish_number;
 use crate::values::stage::CfNews;
-use crate::values::task::{CfStep, CfTask, held_by, number_or_none};
-use crate::values::{as_args, finish_number};
+use crate::values::task::{CfStep, CfTask, held_by};
 use cf_ledger::{Finish, Ledger, StepFault, Taken};
 use cf_model::Finished;
 
@@ -109,10 +109,7 @@ fn take(task: &mut CfTask, taken: Option<Taken>) -> Result<(), Code>
             Err(Code::Nothing)
         }
         Some(taken) => {
-            task.held = 1;
-            task.stage = taken.stage;
-            task.function = number_or_none(taken.function);
-            task.args = as_args(taken.args);
+            task.give(taken.stage, taken.function, taken.args);
             Ok(())
         }
     }

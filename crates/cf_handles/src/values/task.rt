@@ -1,11 +1,12 @@
 //! What a caller is given to do, as C has it: a stage that it has claimed, and what the stage's function answered.
 ghost use Rattle.std.specs.Prelude.{◌≡◌};
-ghost use Rattle.cf_handles.specs.Tasks.{finished_as, held_by, number_or_none};
+ghost use Rattle.cf_handles.specs.Tasks.{finished_as, held_by, holding, number_or_none};
 
 use crate::code::Code;
-use crate::values::{CfAnswer, CfArgs, answer_of, finish_number};
+use crate::values::{CfAnswer, CfArgs, answer_of, as_args, finish_number};
 use cf_ledger::Held;
 use cf_model::Finished;
+use cf_plan::Args;
 
 /// What a caller holds: nothing (`held` is 0), or a stage, with the number and the arguments of its function, and a place for
 /// what that answers. `finished` is what the last finish was answered: won (0), also where nothing was held, or late (1).
@@ -18,6 +19,19 @@ pub struct CfTask {
     pub args: CfArgs,
     pub answer: CfAnswer,
     pub finished: u32,
+}
+
+impl CfTask {
+    /// Gives it a stage, which is written part by part.
+    #[inline(always)]
+    pub(crate) fn give(&mut self, stage: u16, function: Option<u16>, args: Args)
+        ensures { self.new ≡ holding self.old stage function args }
+    {
+        self.held = 1;
+        self.stage = stage;
+        self.function = number_or_none(function);
+        self.args = as_args(args);
+    }
 }
 
 /// Who takes a step of a ledger, and from which stage on; and then the place of the first word that it wrote, and its words:
@@ -59,7 +73,7 @@ pub(crate) fn finished_as(finished: Finished) -> Result<u32, Code>
 
 /// The number of a function, of which a ready stage has one.
 #[inline(always)]
-pub(crate) fn number_or_none(function: Option<u16>) -> u16
+fn number_or_none(function: Option<u16>) -> u16
     ensures { result ≡ number_or_none function }
 {
     match function {
