@@ -22,7 +22,7 @@ use Rattle.cf_desk.specs.Results.{DeskAnswers, Refuses}
 use Rattle.cf_desk.specs.Views.{Acts, Desk, Follows, HoldsClaim, IsSamePass, LooksOnce, Pass, state_of}
 use Rattle.cf_desk.proofs.OpenClaims.{claims_stay_open}
 use Rattle.cf_ledger.specs.declared.step.Held.{Held}
-use Rattle.cf_handles.specs.DeskTasks.{AreCompleted, Claims, Ends, Finishes, IsFinished, CompletesMany, IsNotGranted, IsRow, StepsCaller, StepsDesk, Takes, call_of, reply_number}
+use Rattle.cf_handles.specs.DeskTasks.{AreCompleted, Claims, DeskTakes, Ends, Finishes, IsFinished, CompletesMany, IsNotGranted, IsRow, StepsCaller, StepsDesk, call_of, reply_number}
 use Rattle.cf_handles.specs.Desks.{IsSameCaller}
 use Rattle.cf_handles.specs.Tasks.{held_by}
 use Rattle.cf_handles.specs.Codes.{desk_code}
@@ -111,11 +111,11 @@ claim_refused d i p q why code a is = inr (record { why = why; refuses = a; tell
 
 -- what is ready after a look is claimed
 pub takes_found : (d : Desk) (p found q : Pass) (ready : Option ℕ) (had has : CfTask) (r : Result (Unit {0}) Code) → Follows p found → LooksOnce d p found → ready ≡ lowest_ready_of (state_of found.known) → Claims d ready found had r has q
-    → Takes d p had r has q
+    → DeskTakes d p had r has q
 takes_found d p found q ready had has r seen looks told claims = record { found = found; seen = seen; looks = looks; claims = subst (λ (x : Option ℕ). Claims d x found had r has q) told claims }
 
 pub step_done : (c now : Caller') (between : Pass) (had has : CfTask) (told : ℕ) (r : Result (Unit {0}) Code) → Finishes (arc_value c.desk) (held_by had) c.pass (Ok told) between
-    → Takes (arc_value c.desk) between (record had { finished = told }) r has now.pass → StepsDesk had has c r now
+    → DeskTakes (arc_value c.desk) between (record had { finished = told }) r has now.pass → StepsDesk had has c r now
 step_done c now between had has told r finishes takes = inl (record { told = told; between = between; finishes = finishes; takes = takes })
 
 pub step_refused : (c now : Caller') (had : CfTask) (code : Code) → Finishes (arc_value c.desk) (held_by had) c.pass (Err code) now.pass → StepsDesk had had c (Err code) now

@@ -45,16 +45,16 @@ ClosingRefuses closing Full = (arc_value closing.desk).setting.callers ≤ lengt
 ClosingRefuses closing code = ⊥
 
 -- a closing takes what is given, if it is a caller that isn't refused; else it stays
-abbrev pub Takes : Closing' → Object → Result (Unit {0}) Code → Closing' → Type 0
-Takes c (Caller d) (Ok done) now = HasMore c d now
-Takes c (Caller d) (Err fault) now = ClosingRefuses c fault × (now ≡ c)
-Takes c given r now = (r ≡ Err WrongKind) × (now ≡ c)
+abbrev pub ClosingTakes : Closing' → Object → Result (Unit {0}) Code → Closing' → Type 0
+ClosingTakes c (Caller d) (Ok done) now = HasMore c d now
+ClosingTakes c (Caller d) (Err fault) now = ClosingRefuses c fault × (now ≡ c)
+ClosingTakes c given r now = (r ≡ Err WrongKind) × (now ≡ c)
 
 -- the same from a handle, which is empty then; where it is refused, it stays behind the handle
 abbrev pub TakesFrom : Closing' → Option Object → Result (Unit {0}) Code → Closing' → Option Object → Type 0
 TakesFrom c None r now back = (r ≡ Err Empty) × (now ≡ c) × (back ≡ None)
-TakesFrom c (Some given) (Ok done) now back = Takes c given (Ok done) now × (back ≡ None)
-TakesFrom c (Some given) (Err fault) now back = Takes c given (Err fault) now × (back ≡ Some given)
+TakesFrom c (Some given) (Ok done) now back = ClosingTakes c given (Ok done) now × (back ≡ None)
+TakesFrom c (Some given) (Err fault) now back = ClosingTakes c given (Err fault) now × (back ≡ Some given)
 
 -- a closing takes what stands behind a handle; of another kind nothing does
 abbrev pub Returns : Option Object → Option Object → Object → Result (Unit {0}) Code → Object → Type 0

@@ -82,7 +82,7 @@ Claims d (Some i) p had (Ok done) has q = IsGranted d i p had has q
 Claims d (Some i) p had (Err code) has q = (has ≡ record had { held = 0 }) × IsNotGranted d i p code q
 
 -- the caller looks once, and the lowest stage that is ready then is claimed
-pub record Takes (d : Desk) (p : Pass) (had : CfTask) (r : Result (Unit {0}) Code) (has : CfTask) (q : Pass) : Type 0 where
+pub record DeskTakes (d : Desk) (p : Pass) (had : CfTask) (r : Result (Unit {0}) Code) (has : CfTask) (q : Pass) : Type 0 where
   pub found : Pass
   pub seen : Follows p found
   pub looks : LooksOnce d p found
@@ -93,7 +93,7 @@ pub record IsStep (d : Desk) (p : Pass) (had : CfTask) (r : Result (Unit {0}) Co
   pub told : ℕ
   pub between : Pass
   pub finishes : Finishes d (held_by had) p (Ok told) between
-  pub takes : Takes d between (record had { finished = told }) r has q
+  pub takes : DeskTakes d between (record had { finished = told }) r has q
 
 -- what the task holds can't be finished: the task stays, and no event is added
 pub record IsNoStep (d : Desk) (p : Pass) (had : CfTask) (r : Result (Unit {0}) Code) (has : CfTask) (q : Pass) : Type 0 where

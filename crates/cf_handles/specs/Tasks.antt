@@ -63,7 +63,7 @@ Claims who None s had r has now = (r ≡ Err Nothing) × (has ≡ record had { h
 Claims who (Some i) s had r has now = (r ≡ Ok tt) × IsTaken who i s had has now
 
 -- the lowest ready stage is taken, without a turn that isn't needed
-pub record Takes (who : ℕ) (g : Graph') (had : CfTask) (r : Result (Unit {0}) Code) (has : CfTask) (now : Graph') : Type 0 where
+pub record GraphTakes (who : ℕ) (g : Graph') (had : CfTask) (r : Result (Unit {0}) Code) (has : CfTask) (now : Graph') : Type 0 where
   pub claims : Claims who (lowest_ready_of g.state) g.state had r has now
   pub rests : NoneLeftFor (lowest_ready_of g.state) g.left → now.turns ≡ g.turns
 
@@ -74,7 +74,7 @@ pub record IsStep (who : ℕ) (g : Graph') (had : CfTask) (r : Result (Unit {0})
   pub now : Graph'
   pub is : new ≡ Graph now
   pub finishes : Finishes who (held_by had) g (Ok finished) between
-  pub takes : Takes who between (record had { finished = finished }) r has now
+  pub takes : GraphTakes who between (record had { finished = finished }) r has now
 
 -- what the task holds can't be finished: nothing is changed
 pub record IsNoStep (who : ℕ) (g : Graph') (had : CfTask) (why : Code) (has : CfTask) (new : Object) : Type 0 where

@@ -1,7 +1,7 @@
 //! Closing a desk, and what a closed desk tells.
 ghost use Rattle.std.specs.Prelude.{◌≡◌, Err, MatchResult, Ok, Some};
 ghost use Rattle.cf_handles.specs.declared.handle.object.Object.TheVariants.{Closing as IsClosing};
-ghost use Rattle.cf_handles.specs.Closings.{AreOfOneDesk, BecomesGraph, Begins, Ends, OfClosed, Returns, Takes, TakesFrom, events_told, record_told, records_told, word_told};
+ghost use Rattle.cf_handles.specs.Closings.{AreOfOneDesk, BecomesGraph, Begins, ClosingTakes, Ends, OfClosed, Returns, TakesFrom, events_told, record_told, records_told, word_told};
 
 pub mod closed;
 pub mod closing;
@@ -67,7 +67,7 @@ fn add_from(alloc: Global, closing: &mut Closing, caller: &mut CfHandle) -> Resu
 /// Takes what is given, if it is a caller. Where it is refused it comes back.
 fn add_given(closing: &mut Closing, given: Object) -> Result<(), (Object, Code)>
     requires { AreOfOneDesk (Some (IsClosing closing.old)) (Some given) }
-    ensures { MatchResult result (λ done. Takes closing.old given (Ok done) closing.new) (λ back. Takes closing.old given (Err back.1) closing.new × (back.0 ≡ given)) }
+    ensures { MatchResult result (λ done. ClosingTakes closing.old given (Ok done) closing.new) (λ back. ClosingTakes closing.old given (Err back.1) closing.new × (back.0 ≡ given)) }
 {
     match given {
         Object::Caller(caller) => match closing.refusal(&caller) {

@@ -1,7 +1,7 @@
 //! One step of a caller of a desk: it finishes what it holds, and takes the lowest ready stage.
 ghost use Rattle.std.specs.Prelude.{◌≡◌};
 ghost use Rattle.std.specs.Arc.{arc_value};
-ghost use Rattle.cf_handles.specs.DeskTasks.{Finishes, StepsCaller, StepsDesk, Takes, reply_number};
+ghost use Rattle.cf_handles.specs.DeskTasks.{DeskTakes, Finishes, StepsCaller, StepsDesk, reply_number};
 ghost use Rattle.cf_handles.specs.Desks.{IsSameCaller};
 
 use crate::code::{Code, desk_code};
@@ -64,7 +64,7 @@ impl Caller {
     #[inline(always)]
     fn take(&mut self, task: &mut CfTask) -> Result<(), Code>
         ensures same { IsSameCaller self.old self.new }
-        ensures takes { Takes (arc_value self.old.desk) self.old.pass task.old result task.new self.new.pass }
+        ensures takes { DeskTakes (arc_value self.old.desk) self.old.pass task.old result task.new self.new.pass }
     {
         let Some(stage) = self.desk.ready(&mut self.pass) else {
             task.held = 0;

@@ -1,6 +1,6 @@
 //! One step of a caller of a graph: it finishes what it holds, and takes the lowest ready stage.
 ghost use Rattle.std.specs.Prelude.{◌≡◌, ◌<◌, length};
-ghost use Rattle.cf_handles.specs.Tasks.{Finishes, Steps, Takes};
+ghost use Rattle.cf_handles.specs.Tasks.{Finishes, GraphTakes, Steps};
 
 use crate::code::Code;
 use crate::handle::object::Object;
@@ -44,7 +44,7 @@ fn finish(graph: &mut Graph, who: u8, held: Option<Held>) -> Result<u32, Code>
 #[inline(always)]
 #[tactic(auto, using(crate::proofs::Steps::ready_within))]
 fn take(graph: &mut Graph, who: u8, task: &mut CfTask) -> Result<(), Code>
-    ensures { Takes who graph.old task.old result task.new graph.new }
+    ensures { GraphTakes who graph.old task.old result task.new graph.new }
 {
     let _stages = graph.stages();
     let Some(stage) = graph.lowest_ready() else {
