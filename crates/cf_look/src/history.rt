@@ -1,4 +1,7 @@
 //! A history as JSON.
+ghost use Rattle.std.specs.Prelude.{◌≡◌, IfErr, IfOk, false, true};
+ghost use Rattle.cf_plan.specs.Plans.{has_place};
+
 use crate::fault::Unreadable;
 use crate::texts::{is_unknown, now, reply, settled};
 use anyhow::Result;
@@ -27,18 +30,14 @@ pub(crate) struct Account {
 pub(crate) fn judge(alloc: Global, bytes: &[u8]) -> Result<Verdict> {
     let json = json_of(alloc, bytes)?;
     let (plan, room, shared) = shared_of(alloc, &json)?;
-    if !plan.has_place(room) {
-        return Err(Unreadable::Room.into());
-    }
+    check_room(&plan, room)?;
     Ok(check_shared(alloc, &plan, room, shared)?)
 }
 
 /// The history that a JSON value says.
 pub(crate) fn account_of(alloc: Global, json: &Json) -> Result<Account> {
     let (plan, room, shared) = shared_of(alloc, json)?;
-    if !plan.has_place(room) {
-        return Err(Unreadable::Room.into());
-    }
+    check_room(&plan, room)?;
     let history = fill_in(alloc, &plan, room, shared)?;
     Ok(Account {
         plan,
@@ -49,10 +48,20 @@ pub(crate) fn account_of(alloc: Global, json: &Json) -> Result<Account> {
 
 /// The verdict on it.
 pub(crate) fn verdict_on(alloc: Global, account: &Account) -> Result<Verdict> {
-    if !account.plan.has_place(account.room) {
-        return Err(Unreadable::Room.into());
-    }
+    check_room(&account.plan, account.room)?;
     Ok(check(alloc, &account.plan, account.room, &account.history)?)
+}
+
+/// Refuses more room than a plan has place for.
+pub(crate) fn check_room(plan: &Plan, room: u16) -> Result<(), Unreadable>
+    ensures place { IfOk result (λ _. has_place plan.now.stages room ≡ true) }
+    ensures refused { IfErr result (λ why. (why ≡ Unreadable.Room) × (has_place plan.now.stages room ≡ false)) }
+{
+    if plan.has_place(room) {
+        Ok(())
+    } else {
+        Err(Unreadable::Room)
+    }
 }
 
 /// The JSON of these bytes.

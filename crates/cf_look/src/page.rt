@@ -1,7 +1,6 @@
 //! Pages, traces and spans of an account or a script.
 use crate::args::Shape;
-use crate::fault::Unreadable;
-use crate::history::{Account, account_of, verdict_on};
+use crate::history::{Account, account_of, check_room, verdict_on};
 use crate::people::{fill_people, people_in};
 use crate::show::write_verdict;
 use anyhow::Result;
@@ -107,17 +106,13 @@ fn words_in(
     functions: &[Func],
     steps: &[Step],
 ) -> Result<Vec<u64>> {
-    if !plan.has_place(room) {
-        return Err(Unreadable::Room.into());
-    }
+    check_room(plan, room)?;
     Ok(words_of(alloc, plan, room, functions, steps)?)
 }
 
 /// The text that shows it.
 pub(crate) fn text_of(alloc: Global, shown: &Shown, shape: Shape) -> Result<String> {
-    if !shown.plan.has_place(shown.room) {
-        return Err(Unreadable::Room.into());
-    }
+    check_room(&shown.plan, shown.room)?;
     let people = &shown.people;
     let scene = scene_of(alloc, &shown.plan, shown.room, &shown.words, people)?;
     let text = match shape {
