@@ -14,7 +14,8 @@ use Rattle.cf_model.specs.declared.events.Event.{Event}
 use Rattle.cf_model.specs.declared.events.Event.TheVariants.{Complete as Completes, Fail as Fails, Cancel as Cancels, Claim as Claims, Finish as Finishes, Tick as Ticks, Attach as Attaches}
 use Rattle.cf_model.specs.declared.events.Reply.{Reply}
 use Rattle.cf_model.specs.Calls.{as_call, event_by, who_of}
-use Rattle.cf_model.specs.Ranges.{EventFits}
+use Rattle.cf_model.specs.Ranges.{EventFits, fits}
+use Rattle.cf_model.proofs.Fitting.{fits-decides}
 use Rattle.cf_model.specs.States.{State, start}
 use Rattle.cf_model.specs.Events.{answered, state_after, state_at}
 use Rattle.cf_event.specs.declared.record.Record.{Record}
@@ -25,8 +26,7 @@ use Rattle.cf_explore.specs.declared.step.Move.TheVariants as moving
 use Rattle.cf_explore.specs.declared.step.Place.{Place}
 use Rattle.cf_explore.specs.declared.step.Step.{Step}
 use Rattle.cf_explore.specs.Programs.{Programmed, Situated, place_at, step_of}
-use Rattle.cf_explore.specs.Moves.{call_event, caller_moves, calling, carried_out, moved, moves, onward, own_moves, step_moves, stepped, takes, worker_moves}
-use Rattle.cf_explore.proofs.Taking.{takes-decides}
+use Rattle.cf_explore.specs.Moves.{call_event, caller_moves, calling, carried_out, moved, moves, onward, own_moves, step_moves, stepped, worker_moves}
 use Rattle.cf_covers.specs.Tellings.{but_vain, grants, is_vain, step_for}
 use Rattle.cf_covers.proofs.Lists.{contains-first, same-first, slice_get-behind, slice_get-mapped}
 
@@ -207,10 +207,10 @@ no-step p s c so_far steps at =
 
 -- a call that fits is carried out, and is its event
 pub calling-is : (s : Situated) (e : Event) → EventFits (length s.state.plan.stages) e → calling s (who_of e) (as_call e) ≡ carried_out s e (answered s.state e)
-calling-is s e fits =
-    ap (λ (x : Event). if takes (length s.state.plan.stages) x then carried_out s x (answered s.state x) else s) (call-is e)
-    ∙ ap (λ (b : Bool). if b then carried_out s e (answered s.state e) else s) ((takes-decides (length s.state.plan.stages) e).1 fits)
+calling-is s e there =
+    ap (λ (x : Event). if fits (length s.state.plan.stages) x then carried_out s x (answered s.state x) else s) (call-is e)
+    ∙ ap (λ (b : Bool). if b then carried_out s e (answered s.state e) else s) ((fits-decides (length s.state.plan.stages) e).1 there)
 
 pub event-is : (n : ℕ) (e : Event) → EventFits n e → call_event (as_call e) n (who_of e) ≡ Some e
-event-is n e fits =
-    ap (λ (x : Event). if takes n x then Some x else None) (call-is e) ∙ ap (λ (b : Bool). if b then Some e else None) ((takes-decides n e).1 fits)
+event-is n e there =
+    ap (λ (x : Event). if fits n x then Some x else None) (call-is e) ∙ ap (λ (b : Bool). if b then Some e else None) ((fits-decides n e).1 there)

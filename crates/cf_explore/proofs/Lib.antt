@@ -1,4 +1,3 @@
-pub mod Taking
 pub mod Counting
 pub mod Sums
 pub mod Trails

@@ -1,12 +1,10 @@
 -- Which moves there are in a situation, and where each leads.
-use Rattle.std.specs.Prelude.{ℕ, ◌+◌, ◌==◌, Bool, true, false, ◌&&◌, ◌||◌, Option, Some, None, List, [], ◌∷◌, ◌++◌, is_some, length, nat_lt, nat_le, slice_get, slice_set, if◌then◌else◌}
+use Rattle.std.specs.Prelude.{ℕ, ◌+◌, ◌==◌, Bool, true, false, ◌||◌, Option, Some, None, List, [], ◌∷◌, ◌++◌, is_some, length, nat_lt, nat_le, slice_get, slice_set, if◌then◌else◌}
 use Rattle.std.proofs.Common.{zero, suc}
-use Rattle.std.specs.List.{list_all}
 use Rattle.std.specs.Option.{option_map_or}
 use Rattle.cf_plan.specs.declared.limits.Limit.{Limit}
 use Rattle.cf_plan.specs.declared.forms.Answer.{Answer}
 use Rattle.cf_plan.specs.Meanings.{Meanings, stage_answer}
-use Rattle.cf_plan.specs.Plans.{fits_form, sources_of}
 use Rattle.cf_model.specs.declared.events.Event.{Event}
 use Rattle.cf_model.specs.declared.events.Event.TheVariants as events
 use Rattle.cf_model.specs.declared.events.Reply.{Reply}
@@ -20,7 +18,7 @@ use Rattle.cf_model.specs.declared.calls.Call.{Call}
 use Rattle.cf_model.specs.Calls.{event_by}
 use Rattle.cf_model.specs.States.{State, outcome_at, stage_at}
 use Rattle.cf_model.specs.Events.{answered, claiming, finishing, ticking}
-use Rattle.cf_model.specs.Graphs.{moved_by}
+use Rattle.cf_model.specs.Ranges.{fits}
 use Rattle.cf_explore.specs.declared.step.Step.{Step}
 use Rattle.cf_explore.specs.declared.step.Step.TheVariants as steps
 use Rattle.cf_explore.specs.declared.step.Hand.{Hand}
@@ -28,12 +26,6 @@ use Rattle.cf_explore.specs.declared.step.Hand.TheVariants as hands
 use Rattle.cf_explore.specs.declared.step.Move.{Move}
 use Rattle.cf_explore.specs.declared.step.Move.TheVariants as moving
 use Rattle.cf_explore.specs.Programs.{Programmed, Situated, hand_at, place_at, step_of}
-
--- whether a graph of n stages takes an event: `EventFits` as a Bool, which `takes-decides` proves
-abbrev pub takes : ℕ → Event → Bool
-takes n (events.Tick who now) = true
-takes n (events.Attach who form of function) = fits_form form (length (sources_of of)) (is_some function) && list_all (λ j. nat_lt j n) (sources_of of)
-takes n e = nat_lt (moved_by n e) n
 
 -- Which moves there are: each caller's next step; of each worker that is idle the claim of each ready stage, and of any other
 -- the call or the finish that it owes; and, where the clock is free, the moment of the next unused limit.
@@ -90,7 +82,7 @@ carried_out s e answer = record s { state = answer.1; called = marked s.called e
 
 abbrev pub calling : Situated → ℕ → Call → Situated
 calling s c call =
-    if takes (length s.state.plan.stages) (event_by c call) then carried_out s (event_by c call) (answered s.state (event_by c call)) else s
+    if fits (length s.state.plan.stages) (event_by c call) then carried_out s (event_by c call) (answered s.state (event_by c call)) else s
 
 -- a caller goes on to its next step, or looks once more
 abbrev pub onward : Situated → ℕ → Situated
@@ -155,7 +147,7 @@ moved m p s moving.Tick = ticked s
 -- The event that a move is, if it is one: a read, a function's call and a call that the graph doesn't take are none. The clock
 -- stands behind callers and workers.
 abbrev pub call_event : Call → ℕ → ℕ → Option Event
-call_event call n c = if takes n (event_by c call) then Some (event_by c call) else None
+call_event call n c = if fits n (event_by c call) then Some (event_by c call) else None
 
 abbrev pub step_event : Option Step → ℕ → ℕ → Option Event
 step_event (Some (steps.Do call)) n c = call_event call n c

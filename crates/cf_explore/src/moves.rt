@@ -8,7 +8,7 @@ ghost use Rattle.cf_explore.specs.Moves.{call_by, caller_moves, claim_answer, cl
 
 use crate::program::Program;
 use crate::situation::Situation;
-use crate::situation::changes::{next_moment, put_called, put_hand, takes};
+use crate::situation::changes::{next_moment, put_called, put_hand};
 use crate::step::{Hand, Move, Step};
 use cf_model::{Call, Event, Stage, event_by};
 use cf_outcome::Value;
@@ -293,7 +293,7 @@ fn call_event(call: Call, stages: u16, c: u8) -> Option<Event>
     ensures { result ≡ call_event call stages c }
 {
     let event = event_by(c, call);
-    if takes(stages, &event) {
+    if event.fits(stages) {
         Some(event)
     } else {
         None

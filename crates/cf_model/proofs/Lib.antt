@@ -1,4 +1,5 @@
 pub mod StateLemmas
+pub mod Fitting
 pub mod Moves
 pub mod Lost
 pub mod Claimable

@@ -1,5 +1,6 @@
 -- Which stages events and questions may name.
-use Rattle.std.specs.Prelude.{◌≡◌, ℕ, ◌<◌, true, is_some, length, List, [], ◌∷◌, All}
+use Rattle.std.specs.Prelude.{◌≡◌, ℕ, ◌<◌, Bool, true, ◌&&◌, is_some, length, nat_lt, List, [], ◌∷◌, All}
+use Rattle.std.specs.List.{list_all}
 use Rattle.cf_plan.specs.Plans.{fits_form, sources_of}
 use Rattle.cf_model.specs.declared.asks.Ask.{Ask}
 use Rattle.cf_model.specs.declared.asks.Ask.TheVariants.{Now as AsksNow, Outcome as AsksOutcome}
@@ -17,6 +18,16 @@ EventFits n (Claims who i) = i < n
 EventFits n (Finishes who i answer) = i < n
 EventFits n (Ticks who now) = Unit {0}
 EventFits n (Attaches who form of function) = (fits_form form (length (sources_of of)) (is_some function) ≡ true) × All (λ j. j < n) (sources_of of)
+
+-- the same as a Bool, which `fits-decides` proves
+abbrev pub fits : ℕ → Event → Bool
+fits n (Completes who i v) = nat_lt i n
+fits n (Fails who i code) = nat_lt i n
+fits n (Cancels who i) = nat_lt i n
+fits n (Claims who i) = nat_lt i n
+fits n (Finishes who i answer) = nat_lt i n
+fits n (Ticks who now) = true
+fits n (Attaches who form of function) = fits_form form (length (sources_of of)) (is_some function) && list_all (λ j. nat_lt j n) (sources_of of)
 
 -- each event fits the graph as those before it leave it
 abbrev pub EventsFit : State → List Event → Type 0

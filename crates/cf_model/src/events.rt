@@ -1,7 +1,7 @@
 //! What callers do to a graph, and what it replies.
 ghost use Rattle.std.specs.Prelude.{◌≡◌, ◌↔◌, IsTrue};
 ghost use Rattle.cf_model.specs.Calls.{who_of};
-ghost use Rattle.cf_model.specs.Ranges.{EventFits};
+ghost use Rattle.cf_model.specs.Ranges.{EventFits, fits};
 
 use crate::replies::{Attached, Claimed, Finished, Ticked};
 use cf_outcome::Value;
@@ -64,7 +64,8 @@ impl Event {
     /// Whether a graph of so many stages takes it: the stages that it names are there, and one that it attaches fits its
     /// form.
     pub fn fits(&self, stages: u16) -> bool
-        ensures { IsTrue result ↔ EventFits stages self.now }
+        ensures told { result ≡ fits stages self.now }
+        ensures fitting { IsTrue result ↔ EventFits stages self.now }
     {
         match *self {
             Event::Complete { stage, .. } => stage < stages,

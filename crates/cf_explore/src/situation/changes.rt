@@ -1,16 +1,15 @@
 //! The changes of a situation. Each fails only where there is no memory, and the situation isn't to be used any more then.
-ghost use Rattle.std.specs.Prelude.{◌≡◌, ◌↔◌, ◌+◌, ◌<◌, ◌++◌, [], ◌∷◌, IfOk, IsTrue, false, is_some, slice_set, true};
+ghost use Rattle.std.specs.Prelude.{◌≡◌, ◌+◌, ◌<◌, ◌++◌, [], ◌∷◌, IfOk, false, is_some, slice_set, true};
 ghost use Rattle.cf_model.specs.Events.{claiming, finishing, ticking};
 ghost use Rattle.cf_model.specs.States.{outcome_at};
 ghost use Rattle.cf_explore.specs.declared.step.Step.TheVariants.{Join};
 ghost use Rattle.cf_explore.specs.Programs.{hand_at, place_at};
 ghost use Rattle.cf_model.specs.Calls.{event_by};
-ghost use Rattle.cf_model.specs.Ranges.{EventFits};
-ghost use Rattle.cf_explore.specs.Moves.{calling, claim_answer, claim_by, finish_by, finished, hand_of, is_settled, marked, next_moment, once_more, onward, stepped, takes, ticked};
+ghost use Rattle.cf_explore.specs.Moves.{calling, claim_answer, claim_by, finish_by, finished, hand_of, is_settled, marked, next_moment, once_more, onward, stepped, ticked};
 
 use crate::situation::Situation;
 use crate::step::{Hand, Place};
-use cf_model::{Attached, Call, Claimed, Event, Reply, event_by};
+use cf_model::{Attached, Call, Claimed, Reply, event_by};
 use cf_plain::Plain;
 use cf_plan::Answer;
 use std::alloc::{AllocError, Global};
@@ -54,7 +53,7 @@ impl Situation {
         ensures places { IfOk result (λ _. self.new.places ≡ self.old.places) }
     {
         let event = event_by(c, call);
-        if takes(self.graph.stages(), &event) {
+        if event.fits(self.graph.stages()) {
             let reply = self.graph.answer(alloc, &event)?;
             mark(&mut self.called, c, call, reply)?;
         }
@@ -195,14 +194,6 @@ fn finish(
     } else {
         Ok(())
     }
-}
-
-/// Whether a graph of so many stages takes an event.
-pub(crate) fn takes(stages: u16, event: &Event) -> bool
-    ensures taken { result ≡ takes stages event.now }
-    ensures fits { IsTrue result ↔ EventFits stages event.now }
-{
-    event.fits(stages)
 }
 
 /// Says of a stage whose claim was granted that its function was called, and of one that was attached that it wasn't.
