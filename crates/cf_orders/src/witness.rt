@@ -7,7 +7,7 @@ use cf_explore::{Found, Move, Situation, Step, Witness};
 use cf_model::{Ask, Event, Reply, Told};
 use cf_outcome::{Outcome, Value};
 use cf_plan::Answer;
-use cf_text::{write_reply, write_settled, write_told};
+use cf_text::{write_did, write_saw, write_settled};
 use std::alloc::{AllocError, Global};
 
 /// As what an order is told.
@@ -139,9 +139,7 @@ impl Retold {
         let place = self.place;
         if let Some(text) = self.records.get_mut(who) {
             comma(text)?;
-            write!(text, "[\"did\",{place},\"{word}\",\"")?;
-            write_reply(text, reply)?;
-            write!(text, "\"]")?;
+            write_did(text, place, word, reply)?;
         }
         Ok(())
     }
@@ -197,9 +195,7 @@ impl Retold {
         let place = self.place;
         if let Some(text) = self.records.get_mut(c) {
             comma(text)?;
-            write_ask(text, place, ask)?;
-            write_told(text, told)?;
-            write!(text, "\"]")?;
+            write_saw(text, place, ask, told)?;
         }
         Ok(())
     }
@@ -283,15 +279,6 @@ pub(crate) fn comma(text: &mut String) -> Result<(), AllocError> {
         Ok(())
     } else {
         text.push(',')
-    }
-}
-
-/// Adds the head of a question's record.
-fn write_ask(text: &mut String, place: usize, ask: Ask) -> Result<(), AllocError> {
-    match ask {
-        Ask::Now(stage, Value::Nil) => write!(text, "[\"now\",{place},{stage},null,\""),
-        Ask::Now(stage, Value::Int(v)) => write!(text, "[\"now\",{place},{stage},{v},\""),
-        Ask::Outcome(stage) => write!(text, "[\"outcome\",{place},{stage},\""),
     }
 }
 

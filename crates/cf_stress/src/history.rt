@@ -4,9 +4,8 @@ use crate::texts::write_stage;
 use cf_core::Graph;
 use cf_desk::{Closed, Kept, Rec, event_by};
 use cf_event::{encode, is_event};
-use cf_model::{Ask, Event, Reply, Told};
-use cf_outcome::Value;
-use cf_text::{write_reply, write_told};
+use cf_model::Event;
+use cf_text::{write_did, write_saw};
 use serde_json::Value as Json;
 use std::alloc::{AllocError, Global};
 use std::io;
@@ -83,18 +82,19 @@ fn write_words(text: &mut String, events: &[Event]) -> io::Result<()> {
     text.push_str(",\"events\":[")?;
     for (at, event) in events.iter().enumerate() {
         write_comma(text, at)?;
-        write_word(text, *event)?;
+        let word = word_of(*event)?;
+        write!(text, "\"{word}\"")?;
     }
     Ok(text.push_str("]")?)
 }
 
-/// Adds the word of an event, in decimal.
-fn write_word(text: &mut String, event: Event) -> io::Result<()> {
-    if !is_event(&event) {
-        return Err(io::Error::other("an event has no word"));
+/// The word of an event.
+fn word_of(event: Event) -> io::Result<u64> {
+    if is_event(&event) {
+        Ok(encode(&event))
+    } else {
+        Err(io::Error::other("an event has no word"))
     }
-    let word = encode(&event);
-    Ok(write!(text, "\"{word}\"")?)
 }
 
 /// Adds each caller's records.
@@ -118,39 +118,13 @@ fn write_records(text: &mut String, caller: u8, records: &[Rec]) -> io::Result<(
 
 fn write_record(text: &mut String, caller: u8, record: Rec) -> io::Result<()> {
     match record {
-        Rec::Did { place, call, reply } => write_did(text, place, event_by(caller, call), reply),
-        Rec::Saw { place, ask, told } => Ok(write_saw(text, place, ask, told)?),
+        Rec::Did { place, call, reply } => {
+            let word = word_of(event_by(caller, call))?;
+            write_did(text, usize::from(place), word, reply)?;
+        }
+        Rec::Saw { place, ask, told } => write_saw(text, usize::from(place), ask, told)?,
     }
-}
-
-/// `["did",place,word,reply]`
-fn write_did(text: &mut String, place: u16, event: Event, reply: Reply) -> io::Result<()> {
-    write!(text, "[\"did\",{place},")?;
-    write_word(text, event)?;
-    Ok(write_replied(text, reply)?)
-}
-
-fn write_replied(text: &mut String, reply: Reply) -> Result<(), AllocError> {
-    text.push_str(",\"")?;
-    write_reply(text, reply)?;
-    text.push_str("\"]")
-}
-
-/// `["now",place,stage,absent,told]` or `["outcome",place,stage,told]`
-fn write_saw(text: &mut String, place: u16, ask: Ask, told: Told) -> Result<(), AllocError> {
-    write_asking(text, place, ask)?;
-    text.push_str(",\"")?;
-    write_told(text, told)?;
-    text.push_str("\"]")
-}
-
-/// The record of a question, but for what was told.
-fn write_asking(text: &mut String, place: u16, ask: Ask) -> Result<(), AllocError> {
-    match ask {
-        Ask::Now(i, Value::Nil) => write!(text, "[\"now\",{place},{i},null"),
-        Ask::Now(i, Value::Int(n)) => write!(text, "[\"now\",{place},{i},{n}"),
-        Ask::Outcome(i) => write!(text, "[\"outcome\",{place},{i}"),
-    }
+    Ok(())
 }
 
 /// Adds what each stage holds.

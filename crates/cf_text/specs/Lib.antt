@@ -1,3 +1,4 @@
 pub mod Texts
 pub mod Names
 pub mod Faults
+pub mod Records
