@@ -3,8 +3,8 @@ ghost use Rattle.std.specs.Prelude.{◌≡◌, true};
 ghost use Rattle.cf_plan.specs.Plans.{has_place};
 
 use cf_event::{encode, is_event};
-use cf_ledger::{Ledger, LedgerFault};
-use cf_model::{Claimed, Event, Reply};
+use cf_ledger::{Held, Ledger, LedgerFault, Step as Done, StepFault, Taken};
+use cf_model::Event;
 use cf_plan::{MAX_STAGES, Plan, StageFn};
 use cf_reading::{Func, Step, WORKER};
 use std::alloc::{AllocError, Global};
@@ -21,10 +21,8 @@ pub fn words_of(
     requires place { has_place plan.now.stages room ≡ true }
 {
     let mut words = Vec::new(alloc);
-    match add_words(alloc, plan, room, &mut words, functions, steps) {
-        Ok(()) => Ok(words),
-        Err(refused) => Err(refused),
-    }
+    add_words(alloc, plan, room, &mut words, functions, steps)?;
+    Ok(words)
 }
 
 /// Does the steps to a new ledger of the plan, and writes the words of their events.
@@ -51,9 +49,7 @@ fn do_all(
 ) -> Result<(), AllocError> {
     for step in steps {
         match *step {
-            Step::Does(event) => {
-                do_one(ledger, words, event)?;
-            }
+            Step::Does(event) => do_one(ledger, words, event)?,
             Step::Work => work(ledger, words, functions)?,
             Step::Asks(_) | Step::Nudge(_) => {}
         }
@@ -61,66 +57,62 @@ fn do_all(
     Ok(())
 }
 
-/// Does an event, and writes its word.
-fn do_one(
-    ledger: &mut Ledger,
-    words: &mut Vec<u64>,
-    event: Event,
-) -> Result<Option<Reply>, AllocError> {
+/// Does an event, and writes its word. An attach that finds no room is an event, too.
+fn do_one(ledger: &mut Ledger, words: &mut Vec<u64>, event: Event) -> Result<(), AllocError> {
     if !is_event(&event) {
-        return Ok(None);
+        return Ok(());
     }
     let word = encode(&event);
     match ledger.apply(word) {
-        Ok(reply) => {
-            words.push(word)?;
-            Ok(Some(reply))
-        }
-        Err(LedgerFault::NoRoom) => {
-            words.push(word)?;
-            Ok(None)
-        }
-        Err(LedgerFault::NoMemory) => Err(AllocError),
-        Err(_) => Ok(None),
+        Ok(_) | Err(LedgerFault::NoRoom) => words.push(word)?,
+        Err(LedgerFault::NoMemory) => return Err(AllocError),
+        Err(_) => {}
     }
+    Ok(())
 }
 
 /// Claims, calls and finishes the lowest ready stage, while there is one.
 fn work(ledger: &mut Ledger, words: &mut Vec<u64>, functions: &[Func]) -> Result<(), AllocError> {
-    // Each stage is claimed once.
-    for _ in 0..MAX_STAGES {
-        let Some(stage) = ledger.next_ready(0) else {
+    let mut held = None;
+    // Each stage is claimed once, and the last is finished by one step more.
+    for _ in 0..=MAX_STAGES {
+        let Some(taken) = step(ledger, words, held)? else {
             return Ok(());
         };
-        work_one(ledger, words, functions, stage)?;
+        held = called(functions, &taken);
     }
     Ok(())
 }
 
-/// Claims a stage, calls its function, and hands in the answer.
-fn work_one(
+/// Finishes what is held, claims the lowest ready stage, and writes the words of both.
+fn step(
     ledger: &mut Ledger,
     words: &mut Vec<u64>,
-    functions: &[Func],
-    stage: u16,
-) -> Result<(), AllocError> {
-    let who = WORKER;
-    let claimed = do_one(ledger, words, Event::Claim { who, stage })?;
-    let Some(function) = function_of(ledger, functions, stage) else {
-        return Ok(());
-    };
-    if let Some(Reply::Claim(Claimed::Granted(args))) = claimed {
-        let answer = function.call(&args);
-        do_one(ledger, words, Event::Finish { who, stage, answer })?;
+    held: Option<Held>,
+) -> Result<Option<Taken>, AllocError> {
+    match ledger.step(WORKER, held, 0) {
+        Ok(done) => write_done(words, &done),
+        Err(StepFault::NoMemory) => Err(AllocError),
+        Err(_) => Ok(None),
     }
-    Ok(())
 }
 
-/// The function of a stage.
-fn function_of(ledger: &Ledger, functions: &[Func], stage: u16) -> Option<Func> {
-    if stage >= ledger.stages() {
-        return None;
+/// Writes the words of a step, and tells what it has claimed.
+fn write_done(words: &mut Vec<u64>, done: &Done) -> Result<Option<Taken>, AllocError> {
+    if let Some(finish) = done.finish {
+        words.push(finish.word)?;
     }
-    let number = ledger.function(stage)?;
-    functions.get(number as usize).copied()
+    if let Some(taken) = done.taken {
+        words.push(taken.word)?;
+    }
+    Ok(done.taken)
+}
+
+/// What the function of a claimed stage answers.
+fn called(functions: &[Func], taken: &Taken) -> Option<Held> {
+    let function = functions.get(taken.function? as usize)?;
+    Some(Held {
+        stage: taken.stage,
+        answer: function.call(&taken.args),
+    })
 }
