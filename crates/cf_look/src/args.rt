@@ -2,7 +2,7 @@
 use anyhow::{Result, anyhow};
 use cf_orders::OrderShape;
 use clap::{Arg, ArgAction, ArgMatches, Command, Error};
-use std::alloc::Global;
+use std::alloc::{AllocError, Global};
 use std::rt::{Env, Files};
 use std::{env, fs};
 
@@ -79,31 +79,124 @@ fn words_of<R: Env + AllocGlobal>(rt: &R) -> Result<Vec<String>> {
     Ok(args.collect(rt.alloc())?)
 }
 
+/// A command that is known, with its options, and what help says of them.
+struct Known {
+    name: &'static str,
+    about: &'static str,
+    options: &'static [Opt],
+}
+
+/// An option: its name, whether a value stands behind it, and what help says of it.
+type Opt = (&'static str, bool, &'static str);
+
+const COMMANDS: [Known; 6] = [
+    Known {
+        name: "check",
+        about: "Say whether the history on standard input is one history, and where not, what doesn't fit",
+        options: &[(
+            "lines",
+            false,
+            "Take each line of standard input as a history",
+        )],
+    },
+    Known {
+        name: "explain",
+        about: "Say what is wrong with the script on standard input, where, and what would be right, or what is odd about it",
+        options: &[],
+    },
+    Known {
+        name: "dot",
+        about: "Draw the plan of the script on standard input for Graphviz, with what becomes of each stage",
+        options: &[],
+    },
+    Known {
+        name: "page",
+        about: "Write a page on which the account or script on standard input can be seen, event by event",
+        options: &[],
+    },
+    Known {
+        name: "trace",
+        about: "Write the account or script on standard input as a trace, for tools that show one",
+        options: &[(
+            "spans",
+            false,
+            "Write OpenTelemetry's spans in place of a trace for Chrome's viewer and Perfetto",
+        )],
+    },
+    Known {
+        name: "explore",
+        about: "Search all orders in which the steps of the callers on standard input can come",
+        options: &EXPLORE,
+    },
+];
+
+const EXPLORE: [Opt; 6] = [
+    (
+        "json",
+        false,
+        "Write JSON, each order with its account and its script",
+    ),
+    ("states", true, "See at most so many situations (1000000)"),
+    (
+        "of",
+        true,
+        "Tell ends by the outcomes of these stages alone: 0,3",
+    ),
+    ("account", true, "Write this order alone, as an account"),
+    ("script", true, "Write this order alone, as a script"),
+    ("while", true, "Go on while this file is there"),
+];
+
 /// The words that are known.
-fn command_of<'a>(alloc: Global) -> Result<Command<'a>> {
-    let check = check_command(alloc)?;
-    let none = Command::new(alloc, "cf_look")
+fn command_of<'a>(alloc: Global) -> Result<Command<'a>, AllocError> {
+    let commands = commands_of(alloc)?;
+    Command::new(alloc, "cf_look")
         .about("Look at histories and scripts of completable futures")
         .subcommand_required(true)
-        .arg_required_else_help(true);
-    let one = none.subcommand(check)?;
-    let two = one.subcommand(explain_command(alloc))?;
-    let three = two.subcommand(dot_command(alloc))?;
-    shown_too(alloc, three)
+        .arg_required_else_help(true)
+        .subcommands(commands)
 }
 
-/// These words, and those that show.
-fn shown_too<'a>(alloc: Global, others: Command<'a>) -> Result<Command<'a>> {
-    let trace = trace_command(alloc)?;
-    let four = others.subcommand(page_command(alloc))?;
-    let five = four.subcommand(trace)?;
-    searched_too(alloc, five)
+fn commands_of<'a>(alloc: Global) -> Result<Vec<Command<'a>>, AllocError> {
+    let mut commands = Vec::new(alloc);
+    for known in &COMMANDS {
+        push_command(alloc, &mut commands, known)?;
+    }
+    Ok(commands)
 }
 
-/// These words, and the one that searches.
-fn searched_too<'a>(alloc: Global, others: Command<'a>) -> Result<Command<'a>> {
-    let explore = explore_command(alloc)?;
-    Ok(others.subcommand(explore)?)
+fn push_command<'a>(
+    alloc: Global,
+    commands: &mut Vec<Command<'a>>,
+    known: &Known,
+) -> Result<(), AllocError> {
+    commands.push(one_of(alloc, known)?)?;
+    Ok(())
+}
+
+fn one_of<'a>(alloc: Global, known: &Known) -> Result<Command<'a>, AllocError> {
+    let args = args_of(alloc, known.options)?;
+    Command::new(alloc, known.name)
+        .about(known.about)
+        .args(args)
+}
+
+fn args_of<'a>(alloc: Global, options: &[Opt]) -> Result<Vec<Arg<'a>>, AllocError> {
+    let mut args = Vec::new(alloc);
+    for option in options {
+        args.push(arg_of(alloc, *option))?;
+    }
+    Ok(args)
+}
+
+fn arg_of<'a>(alloc: Global, option: Opt) -> Arg<'a> {
+    let (name, takes_value, help) = option;
+    let action = if takes_value {
+        ArgAction::Set
+    } else {
+        ArgAction::SetTrue
+    };
+    Arg::new(alloc, name).long(name).action(action).help(help)
 }
 
 /// What the words ask for, once they are taken apart.
@@ -182,90 +275,4 @@ fn shape_of(spans: bool) -> Shape {
 fn nothing<R: Print + Eprint>(rt: &R, error: Error) -> Result<Look> {
     error.print(rt)?;
     Ok(Look::Nothing(error.exit_code() as u8))
-}
-
-/// `check`
-fn check_command<'a>(alloc: Global) -> Result<Command<'a>> {
-    let lines = Arg::new(alloc, "lines")
-        .long("lines")
-        .action(ArgAction::SetTrue)
-        .help("Take each line of standard input as a history");
-    let check = Command::new(alloc, "check")
-        .about(
-            "Say whether the history on standard input is one history, and where not, what doesn't fit",
-        )
-        .arg(lines)?;
-    Ok(check)
-}
-
-/// `explain`
-fn explain_command<'a>(alloc: Global) -> Command<'a> {
-    Command::new(alloc, "explain").about(
-        "Say what is wrong with the script on standard input, where, and what would be right, or what is odd about it",
-    )
-}
-
-/// `dot`
-fn dot_command<'a>(alloc: Global) -> Command<'a> {
-    Command::new(alloc, "dot").about(
-        "Draw the plan of the script on standard input for Graphviz, with what becomes of each stage",
-    )
-}
-
-/// `page`
-fn page_command<'a>(alloc: Global) -> Command<'a> {
-    Command::new(alloc, "page").about(
-        "Write a page on which the account or script on standard input can be seen, event by event",
-    )
-}
-
-/// `trace`
-fn trace_command<'a>(alloc: Global) -> Result<Command<'a>> {
-    let spans = Arg::new(alloc, "spans")
-        .long("spans")
-        .action(ArgAction::SetTrue)
-        .help("Write OpenTelemetry's spans in place of a trace for Chrome's viewer and Perfetto");
-    let trace = Command::new(alloc, "trace")
-        .about("Write the account or script on standard input as a trace, for tools that show one")
-        .arg(spans)?;
-    Ok(trace)
-}
-
-/// `explore`
-fn explore_command<'a>(alloc: Global) -> Result<Command<'a>> {
-    let explore = Command::new(alloc, "explore")
-        .about("Search all orders in which the steps of the callers on standard input can come")
-        .arg(flag(
-            alloc,
-            "json",
-            "Write JSON, each order with its account and its script",
-        ))?;
-    let one = explore.arg(option(alloc, "states", "See at most so many situations (1000000)"))?;
-    let two = one.arg(option(
-        alloc,
-        "of",
-        "Tell ends by the outcomes of these stages alone: 0,3",
-    ))?;
-    let three = two.arg(option(alloc, "account", "Write this order alone, as an account"))?;
-    shown_orders(alloc, three)
-}
-
-/// The last of its options.
-fn shown_orders<'a>(alloc: Global, others: Command<'a>) -> Result<Command<'a>> {
-    let four = others.arg(option(alloc, "script", "Write this order alone, as a script"))?;
-    Ok(four.arg(option(alloc, "while", "Go on while this file is there"))?)
-}
-
-fn flag<'a>(alloc: Global, name: &'a str, help: &'a str) -> Arg<'a> {
-    Arg::new(alloc, name)
-        .long(name)
-        .action(ArgAction::SetTrue)
-        .help(help)
-}
-
-fn option<'a>(alloc: Global, name: &'a str, help: &'a str) -> Arg<'a> {
-    Arg::new(alloc, name)
-        .long(name)
-        .action(ArgAction::Set)
-        .help(help)
 }
