@@ -255,19 +255,15 @@ new_one n c seat mine lt s m = m ∙ (λ i. (head_of (s i).0, [])) ∙ (λ i. ((
 pub agrees_new : (n : DeskConfig) (c most : ℕ) (mine : Me ℕ (List CallerView)) (replica : State) (records : List Rec) → c < n.callers → n.callers ≤ 64 → most ≡ n.functions → mine ≡ (blank n c ∷ [], []) → replica ≡ start n.plan → records ≡ [] → Agrees (known_of mine.0) c most 0 replica records
 agrees_new n c most mine replica records lt few functions me opening none = subst (λ (m : Me ℕ (List CallerView)). Agrees (known_of m.0) c most 0 replica records) (sym me) (record { caller = refl; one_of = lt; few = few; functions = functions; count = refl; state = opening; events = tt; fits = subst (Fits n.plan c []) (sym none) (fits_new n.plan c) })
 
--- one pass more is split off
-pub split_next : (z : TableId) (n : DeskConfig) (c calls : ℕ) (seat new mine : Me ℕ (List CallerView)) (passes now : List Pass) (pass : Pass) → c < n.callers → seat ≡ (fresh n c (n.callers - c), []) → new ≡ (rest_of seat.0, seat.1) → mine ≡ (head_of seat.0, [])
-    → passes ≡ map (new_pass z calls) (fresh n 0 c) → now ≡ passes ++ pass ∷ [] → pass ≡ new_pass z calls (known_of mine.0)
-    → (new ≡ (fresh n (c + 1) (n.callers - (c + 1)), [])) × (mine ≡ (blank n c ∷ [], [])) × (now ≡ map (new_pass z calls) (fresh n 0 (c + 1)))
-split_next z n c calls seat new mine passes now pass lt s e m p w is =
-    let h = fresh_head n c (n.callers - c) (n.callers - (c + 1)) (omega arith) in
-    let head : head_of seat.0 ≡ blank n c ∷ [] = (λ i. head_of (s i).0) ∙ h.0 in
-    let me : mine ≡ (blank n c ∷ [], []) = m ∙ (λ i. (head i, [])) in (
-      e ∙ (λ i. (rest_of (s i).0, (s i).1)) ∙ (λ i. (h.1 i, [])),
-      me,
-      w ∙ (λ i. p i ++ is i ∷ []) ∙ (λ i. map (new_pass z calls) (fresh n 0 c) ++ new_pass z calls (known_of (me i).0) ∷ [])
-          ∙ sym (map-append (new_pass z calls) (fresh n 0 c) (blank n c ∷ [])) ∙ ap (map (new_pass z calls)) (ap (λ (x : ℕ). fresh n 0 c ++ blank n x ∷ []) (let o : c ≡ 0 + c = omega arith in o) ∙ sym (fresh_snoc n 0 c) ∙ ap (λ (x : ℕ). fresh n 0 x) (let o : suc c ≡ c + 1 = omega arith in o)),
-    )
+-- what is left in the seat, once one pass more is split off
+pub split_rest : (n : DeskConfig) (c : ℕ) (seat new : Me ℕ (List CallerView)) → c < n.callers → seat ≡ (fresh n c (n.callers - c), []) → new ≡ (rest_of seat.0, seat.1) → new ≡ (fresh n (c + 1) (n.callers - (c + 1)), [])
+split_rest n c seat new lt s e = e ∙ (λ i. (rest_of (s i).0, (s i).1)) ∙ (λ i. ((fresh_head n c (n.callers - c) (n.callers - (c + 1)) (omega arith)).1 i, []))
+
+-- one pass more is there
+pub passes_next : (z : TableId) (n : DeskConfig) (c calls : ℕ) (passes now : List Pass) (pass : Pass) → passes ≡ map (new_pass z calls) (fresh n 0 c) → now ≡ passes ++ pass ∷ [] → pass ≡ new_pass z calls (blank n c) → now ≡ map (new_pass z calls) (fresh n 0 (c + 1))
+passes_next z n c calls passes now pass p w is =
+    w ∙ (λ i. p i ++ is i ∷ [])
+    ∙ sym (map-append (new_pass z calls) (fresh n 0 c) (blank n c ∷ [])) ∙ ap (map (new_pass z calls)) (ap (λ (x : ℕ). fresh n 0 c ++ blank n x ∷ []) (let o : c ≡ 0 + c = omega arith in o) ∙ sym (fresh_snoc n 0 c) ∙ ap (λ (x : ℕ). fresh n 0 x) (let o : suc c ≡ c + 1 = omega arith in o))
 
 -- the passes of a new desk are its own, one for each caller
 fresh_of : (d : Desk) (calls c n : ℕ) → All (IsOf d) (map (new_pass d.table calls) (fresh d.setting c n))

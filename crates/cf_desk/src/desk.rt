@@ -4,20 +4,21 @@ mod closing;
 mod reading;
 mod steps;
 
-ghost use Rattle.std.specs.Prelude.{◌≡◌, ◌≢◌, ◌<◌, ◌≤◌, ◌↔◌, All, IfErr, IfOk, IsTrue, MatchOption, [], length, true, vec_capacity, vec_len};
+ghost use Rattle.std.specs.Prelude.{◌≡◌, ◌≢◌, ◌<◌, ◌≤◌, ◌+◌, ◌-◌, ◌↔◌, All, IfErr, IfOk, IsTrue, MatchOption, [], length, true, vec_capacity, vec_len};
 ghost use Rattle.cf_plan.specs.Plans.{function_at, has_place, with_room};
 ghost use Rattle.cf_model.specs.States.{start};
 ghost use Rattle.cf_desk.specs.declared.faults.OpenFault.TheVariants.{NoMemory};
 ghost use Rattle.cf_desk.specs.Faults.{AreCounts, IsDueToGrow, IsDueToOpen};
 ghost use Rattle.cf_desk.specs.Functions.{function_bound};
-ghost use Rattle.cf_desk.specs.Views.{IsOf, opened};
+ghost use Rattle.cf_desk.specs.Rule.{blank, first, fresh};
+ghost use Rattle.cf_desk.specs.Views.{IsOf, new_pass as pass_of, opened};
 
 use crate::calls::{Kept, Rec};
 use crate::faults::OpenFault;
 use crate::functions::function_bound;
 use crate::pass::Pass;
 use crate::row::{DeskConfig, GivesFirst, LogConfig, RowRule, SeatView};
-use atomic_table::Table;
+use atomic_table::{Seat, Table};
 use cf_core::Graph;
 use cf_model::{Ask, Event, Told};
 use cf_plan::{GrowingPlan, Plan};
@@ -223,6 +224,95 @@ fn no_records(alloc: Global, calls: u16) -> Result<Vec<Rec>, AllocError>
     Ok(records)
 }
 
+/// A row of empty words, the seat that stands for all passes, and what the row was told.
+fn new_row(
+    alloc: Global,
+    plan: &Plan,
+    callers: u8,
+    log: u16,
+    room: u16,
+    functions: u32,
+) -> Result<(Row, Seat<u8, SeatView>, LogConfig), AllocError>
+    requires { has_place plan.now.stages room ≡ true }
+    ensures terms { IfOk result (λ r. r.2 ≡ record { setting = record { plan = with_room plan.now room; callers = callers; functions = functions }; words = log }) }
+    ensures row { IfOk result (λ r. (r.0.shared.key ≡ r.2) × (r.0.shared.table_id.words ≡ log) × (r.0.shared.table_id.slots ≡ 0)) }
+    ensures seat { IfOk result (λ r. (r.1.table_id ≡ r.0.shared.table_id) × (r.1.me ≡ (first r.2, []))) }
+{
+    let zeros = vec![in alloc; 0u64; log as usize]?;
+    let terms = LogConfig {
+        setting: DeskConfig {
+            plan: growing(alloc, plan, room)?,
+            callers,
+            functions,
+        },
+        words: log,
+    };
+    match Table::of_words(alloc, zeros.as_slice(), &terms) {
+        Ok((table, seat)) => Ok((table, seat, terms)),
+        Err(refused) => {
+            drop(terms);
+            Err(refused)
+        }
+    }
+}
+
+/// The pass of a caller who hasn't one yet, nor has any after it, split from the seat that stands for them.
+fn new_pass(
+    alloc: Global,
+    plan: &Plan,
+    room: u16,
+    row: &Row,
+    seat: &mut Seat<u8, SeatView>,
+    setting: &DeskConfig,
+    caller: u8,
+    calls: u16,
+) -> Result<Pass, AllocError>
+    requires place { has_place plan.now.stages room ≡ true }
+    requires plan { setting.now.plan ≡ with_room plan.now room }
+    requires callers { (caller < setting.now.callers) × (setting.now.callers ≤ 64) }
+    requires row { (seat.old.table_id ≡ row.now.shared.table_id) × (0 < row.now.shared.table_id.words) }
+    requires seat { seat.old.me ≡ (fresh setting.now caller (setting.now.callers - caller), []) }
+    ensures pass { IfOk result (λ pass. pass ≡ pass_of row.now.shared.table_id calls (blank setting.now caller)) }
+    ensures seat { IfOk result (λ _. (seat.new.table_id ≡ seat.old.table_id) × (seat.new.me ≡ (fresh setting.now (caller + 1) (setting.now.callers - (caller + 1)), []))) }
+{
+    let records = no_records(alloc, calls)?;
+    let replica = Graph::growing_of(alloc, plan, room)?;
+    Ok(Pass {
+        seat: row.shared.split_seat::<GivesFirst>(seat),
+        caller,
+        count: 0,
+        functions: setting.functions,
+        replica,
+        records,
+        calls,
+        padding: [0; 16],
+    })
+}
+
+/// The passes of all callers, in order.
+fn new_passes(
+    alloc: Global,
+    plan: &Plan,
+    room: u16,
+    row: &Row,
+    seat: &mut Seat<u8, SeatView>,
+    setting: &DeskConfig,
+    calls: u16,
+) -> Result<Vec<Pass>, AllocError>
+    requires place { has_place plan.now.stages room ≡ true }
+    requires plan { setting.now.plan ≡ with_room plan.now room }
+    requires callers { setting.now.callers ≤ 64 }
+    requires row { (seat.old.table_id ≡ row.now.shared.table_id) × (0 < row.now.shared.table_id.words) }
+    requires seat { seat.old.me ≡ (fresh setting.now 0 setting.now.callers, []) }
+    ensures { IfOk result (λ passes. passes.items ≡ opened row.now.shared.table_id setting.now calls) }
+{
+    let mut passes = Vec::with_capacity(alloc, setting.callers as usize)?;
+    for caller in 0..setting.callers {
+        passes.push_reserved(new_pass(alloc, plan, room, row, seat, setting, caller, calls)?);
+    }
+    Ok(passes)
+}
+
 /// A desk with empty words, and its passes.
 fn open_with(
     alloc: Global,
@@ -240,38 +330,20 @@ fn open_with(
 {
     let history = Vec::with_capacity(alloc, log as usize)?;
     let kept = Vec::with_capacity(alloc, callers as usize)?;
-    let zeros = vec![in alloc; 0u64; log as usize]?;
-    let terms = LogConfig {
-        setting: DeskConfig {
-            plan: growing(alloc, plan, room)?,
-            callers,
-            functions,
-        },
-        words: log,
-    };
-    let (table, mut seat) = Table::of_words(alloc, zeros.as_slice(), &terms)?;
-    let mut passes = Vec::with_capacity(alloc, callers as usize)?;
-    for caller in 0..callers {
-        let records = no_records(alloc, calls)?;
-        let replica = Graph::growing_of(alloc, plan, room)?;
-        let mine = table.shared.split_seat::<GivesFirst>(&mut seat);
-        let pass = Pass {
-            seat: mine,
-            caller,
-            count: 0,
-            functions,
-            replica,
-            records,
-            calls,
-            padding: [0; 16],
-        };
-        passes.push(pass)?;
+    let (table, mut seat, terms) = new_row(alloc, plan, callers, log, room, functions)?;
+    match new_passes(alloc, plan, room, &table, &mut seat, &terms.setting, calls) {
+        Ok(passes) => {
+            let desk = Desk {
+                table,
+                terms,
+                history,
+                kept,
+            };
+            Ok((desk, passes))
+        }
+        Err(refused) => {
+            drop(terms);
+            Err(refused)
+        }
     }
-    let desk = Desk {
-        table,
-        terms,
-        history,
-        kept,
-    };
-    Ok((desk, passes))
 }

@@ -96,10 +96,11 @@ fn later(replica: Option<Graph>, most: u16, mine: Graph, count: u16) -> Graph
     ensures newer { most < count → result ≡ mine }
     ensures older { count ≤ most → result ≡ unwrap_or replica mine }
 {
-    match replica {
-        Some(replica) if count <= most => replica,
-        _ => mine,
+    if count <= most {
+        return replica.unwrap_or(mine);
     }
+    drop(replica);
+    mine
 }
 
 /// Reads the events of the filled words.
