@@ -38,7 +38,7 @@ replied_more first events i d now next replies r l told after k =
           ∙ sym (append_assoc replies (r ∷ []) (replies_from next rest));
     }
 
-none_left : {X : Type 0} (out : List X) → out ++ [] ≡ out
+pub none_left : {X : Type 0} (out : List X) → out ++ [] ≡ out
 none_left [] = refl
 none_left (x ∷ xs) = ap (λ (l : List _). x ∷ l) (none_left xs)
 

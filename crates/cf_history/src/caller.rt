@@ -1,10 +1,11 @@
 //! One caller's records, read along a history.
-ghost use Rattle.std.specs.Prelude.{◌≡◌, ◌<◌, ◌≤◌, ◌↔◌, [], IsTrue, MatchResult, Some, length, slice_get, take, drop};
+ghost use Rattle.std.specs.Prelude.{◌≡◌, ◌<◌, ◌≤◌, ◌↔◌, [], IsTrue, MatchResult, length, take, drop};
 ghost use Rattle.cf_model.specs.Ranges.{AskFits, EventsFit};
 ghost use Rattle.cf_event.specs.Events.{own};
+ghost use Rattle.cf_event.specs.Words.{IsEvent};
 ghost use Rattle.cf_history.specs.Records.{RecordGoesOn, state_in};
 ghost use Rattle.cf_history.specs.Callers.{IsJudged};
-ghost use Rattle.cf_history.specs.Verdicts.{IsMisfit, IsNext};
+ghost use Rattle.cf_history.specs.Verdicts.{IsMisfit, IsNext, IsOwnAt};
 ghost use Rattle.cf_event.specs.declared.record.Record.TheVariants.{Did, Saw};
 
 use crate::verdict::Misfit;
@@ -98,37 +99,38 @@ fn judge_call(
     if passed < n {
         return Err(Misfit::Skips(at + passed + 1));
     }
-    let there = event_at(rest, n);
-    let has_word = is_event(&event);
-    if !has_word {
-        return Err(Misfit::Other);
-    }
-    let is_word = is_event(&there);
-    if !is_word {
-        return Err(Misfit::Other);
-    }
-    let wanted = encode(&event);
-    let found = encode(&there);
-    if found != wanted {
-        return Err(Misfit::Other);
-    }
-    if event.who() as usize != caller {
+    if !is_own_at(rest, n, &event, caller) {
         return Err(Misfit::Other);
     }
     let given = graph.answer(&event);
-    if given == reply {
+    if is_reply(given, reply) {
         Ok(())
     } else {
         Err(Misfit::Reply(given))
     }
 }
 
-/// The event behind the first `n`.
-fn event_at(rest: &[Event], n: usize) -> Event
+/// Whether the event behind the first `n` is this one, and is the caller's.
+fn is_own_at(rest: &[Event], n: usize, event: &Event, caller: usize) -> bool
     requires { n < length rest.now }
-    ensures { slice_get rest.now n ≡ Some result }
+    ensures { IsTrue result ↔ IsOwnAt caller rest.now n event.now }
 {
-    rest[n]
+    let there = rest[n];
+    event.who() as usize == caller && is_same(&there, event)
+}
+
+/// Whether two events are the same one that has a word.
+fn is_same(there: &Event, event: &Event) -> bool
+    ensures { IsTrue result ↔ ((there.now ≡ event.now) × IsEvent event.now) }
+{
+    is_event(event) && is_event(there) && encode(there) == encode(event)
+}
+
+/// Whether the reply that was given is the one that is told.
+fn is_reply(given: Reply, told: Reply) -> bool
+    ensures { IsTrue result ↔ (given ≡ told) }
+{
+    given == told
 }
 
 /// Reads the record of a question.

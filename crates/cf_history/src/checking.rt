@@ -44,11 +44,28 @@ fn verdict(alloc: Global, plan: &Plan, room: u16, history: &History) -> Result<V
     ensures { IfOk result (λ verdict. IsVerdict (with_room plan.now room) history.now verdict) }
 {
     let events = read_events(alloc, &history.words)?;
-    let mut graph = Graph::growing_of(alloc, plan, room)?;
-    judge_events(alloc, plan, room, &mut graph, &events, history)
+    verdict_on(alloc, plan, room, &events, history)
 }
 
 /// The verdict where these are the events of the words, up to the first that is no event's.
+fn verdict_on(
+    alloc: Global,
+    plan: &Plan,
+    room: u16,
+    events: &[Event],
+    history: &History,
+) -> Result<Verdict, AllocError>
+    requires place { has_place plan.now.stages room ≡ true }
+    requires read { events.now ≡ decoded history.now.words.items }
+    ensures { IfOk result (λ verdict. IsVerdict (with_room plan.now room) history.now verdict) }
+{
+    let mut graph = Graph::growing_of(alloc, plan, room)?;
+    let verdict = judge_events(alloc, plan, room, &mut graph, events, history);
+    drop(graph);
+    verdict
+}
+
+/// The same by a graph at its start.
 fn judge_events(
     alloc: Global,
     plan: &Plan,
@@ -146,7 +163,9 @@ fn judge_one(
     ensures { IfOk result (IsJudged caller (start (with_room plan.now room)) events.now records.now) }
 {
     let mut graph = Graph::growing_of(alloc, plan, room)?;
-    Ok(judge_caller(&mut graph, events, caller, records))
+    let judged = judge_caller(&mut graph, events, caller, records);
+    drop(graph);
+    Ok(judged)
 }
 
 /// The verdict where all records fit.

@@ -1,20 +1,21 @@
 //! The replies that nobody knows, by the sequential graph.
-ghost use Rattle.std.specs.Prelude.{◌≡◌, ◌↔◌, IfOk, false, get_or, map, true};
+ghost use Rattle.std.specs.Prelude.{◌≡◌, ◌↔◌, [], All, IfOk, IsTrue, false, get_or, length, map, true};
 ghost use Rattle.cf_plan.specs.Plans.{has_place, with_room};
 ghost use Rattle.cf_model.specs.Ranges.{EventsFit};
 ghost use Rattle.cf_model.specs.States.{start};
 ghost use Rattle.cf_model.specs.declared.events.Reply.TheVariants.{Flag};
 ghost use Rattle.cf_event.specs.Decoding.{decoded};
 ghost use Rattle.cf_event.specs.Events.{AreEventsOf};
+ghost use Rattle.cf_event.specs.Words.{IsEvent};
 ghost use Rattle.cf_history.specs.Histories.{FitsOneGraph};
-ghost use Rattle.cf_history.specs.Shared.{Fills, FitsWithSomeReplies, HasGraphsReplies, IsSharedVerdict, all_filled, entries_of, filled, records_of, replies_at};
+ghost use Rattle.cf_history.specs.Shared.{Fills, FitsWithSomeReplies, HasGraphsReplies, IsSharedVerdict, AreAllFilled, all_filled, entries_of, filled, merged_all, records_of, replies_at};
 ghost use Rattle.cf_history.specs.declared.verdict.Verdict.TheVariants.{Fits};
 
 use crate::checking::check;
 use crate::events::{find_unfit, read_events};
 use crate::history::{Caller, History};
 use crate::merging::merge_all;
-use crate::shared::{Entry, SharedCaller, SharedHistory};
+use crate::shared::{Entry, Session, SharedCaller, SharedHistory};
 use crate::verdict::Verdict;
 use cf_core::Graph;
 use cf_event::Record;
@@ -35,7 +36,9 @@ pub fn check_shared(
     ensures tells { IfOk result (λ verdict. IsSharedVerdict (with_room plan.now room) shared verdict) }
 {
     let history = fill_in(alloc, plan, room, shared)?;
-    check(alloc, plan, room, &history)
+    let verdict = check(alloc, plan, room, &history);
+    drop(history);
+    verdict
 }
 
 /// What sessions tell, as a history: the records of a caller are those of its sessions, by their places, and a reply that
@@ -66,20 +69,55 @@ fn filled_in(
     ensures fills { IfOk result (λ history. Fills shared history) }
     ensures replies { IfOk result (λ history. HasGraphsReplies (with_room plan.now room) shared history) }
 {
+    match filled_callers(alloc, plan, room, &shared) {
+        Ok(callers) => Ok(of_callers(shared, callers)),
+        Err(refused) => {
+            drop(shared);
+            Err(refused)
+        }
+    }
+}
+
+/// The same records, by their callers.
+fn filled_callers(
+    alloc: Global,
+    plan: &Plan,
+    room: u16,
+    shared: &SharedHistory,
+) -> Result<Vec<Caller>, AllocError>
+    requires place { has_place plan.now.stages room ≡ true }
+    ensures fills { IfOk result (λ callers. AreAllFilled (entries_of shared.now.callers.items) (records_of callers.items)) }
+    ensures replies { IfOk result (λ callers. AreEventsOf (length shared.now.callers.items) shared.now.functions (start (with_room plan.now room)) (decoded shared.now.words.items) → records_of callers.items ≡ all_filled (replies_at (start (with_room plan.now room)) (decoded shared.now.words.items)) (entries_of shared.now.callers.items)) }
+{
+    let callers = shared.callers.as_slice();
+    let replies = known_replies(
+        alloc,
+        plan,
+        room,
+        &shared.words,
+        callers.len(),
+        shared.functions,
+    )?;
+    let filled = fill_callers(alloc, &replies, callers)?;
+    Ok(filled)
+}
+
+/// What sessions tell, with these for its callers.
+fn of_callers(shared: SharedHistory, callers: Vec<Caller>) -> History
+    ensures { result ≡ record { functions = shared.functions; words = shared.words; callers = callers; outcomes = shared.outcomes } }
+{
     let SharedHistory {
         functions,
         words,
-        callers,
+        callers: _,
         outcomes,
     } = shared;
-    let replies = known_replies(alloc, plan, room, &words, callers.len(), functions)?;
-    let callers = fill_callers(alloc, &replies, &callers)?;
-    Ok(History {
+    History {
         functions,
         words,
         callers,
         outcomes,
-    })
+    }
 }
 
 /// What the graph replies to the events of these words, by their places, where it takes them.
@@ -95,10 +133,48 @@ fn known_replies(
     ensures { IfOk result (λ replies. AreEventsOf callers functions (start (with_room plan.now room)) (decoded words.now) → replies.items ≡ replies_at (start (with_room plan.now room)) (decoded words.now)) }
 {
     let events = read_events(alloc, words)?;
+    replies_where_fit(alloc, plan, room, &events, callers, functions)
+}
+
+/// What the graph of a plan replies to these events that have words, where it takes them.
+fn replies_where_fit(
+    alloc: Global,
+    plan: &Plan,
+    room: u16,
+    events: &[Event],
+    callers: usize,
+    functions: u32,
+) -> Result<Vec<Reply>, AllocError>
+    requires place { has_place plan.now.stages room ≡ true }
+    requires words { All IsEvent events.now }
+    ensures { IfOk result (λ replies. AreEventsOf callers functions (start (with_room plan.now room)) events.now → replies.items ≡ replies_at (start (with_room plan.now room)) events.now) }
+{
+    if all_fit(alloc, plan, room, events, callers, functions)? {
+        replies_anew(alloc, plan, room, events)
+    } else {
+        Ok(Vec::new(alloc))
+    }
+}
+
+/// Whether the graph of a plan takes these events that have words.
+fn all_fit(
+    alloc: Global,
+    plan: &Plan,
+    room: u16,
+    events: &[Event],
+    callers: usize,
+    functions: u32,
+) -> Result<bool, AllocError>
+    requires place { has_place plan.now.stages room ≡ true }
+    requires words { All IsEvent events.now }
+    ensures { IfOk result (λ fit. IsTrue fit ↔ AreEventsOf callers functions (start (with_room plan.now room)) events.now) }
+{
     let mut graph = Graph::growing_of(alloc, plan, room)?;
-    match find_unfit(&mut graph, &events, callers, functions) {
-        Some((_k, _why)) => Ok(Vec::new(alloc)),
-        None => replies_anew(alloc, plan, room, &events),
+    let unfit = find_unfit(&mut graph, events, callers, functions);
+    drop(graph);
+    match unfit {
+        Some((_k, _why)) => Ok(false),
+        None => Ok(true),
     }
 }
 
@@ -114,7 +190,9 @@ fn replies_anew(
     ensures { IfOk result (λ replies. replies.items ≡ replies_at (start (with_room plan.now room)) events.now) }
 {
     let mut graph = Graph::growing_of(alloc, plan, room)?;
-    replies_of(alloc, &mut graph, events)
+    let replies = replies_of(alloc, &mut graph, events);
+    drop(graph);
+    replies
 }
 
 /// What a graph replies to each of these events, behind one that stands for place 0.
@@ -140,11 +218,22 @@ fn fill_callers(
 {
     let mut told = Vec::new(alloc);
     for caller in callers {
-        let entries = merge_all(alloc, &caller.sessions)?;
-        let records = fill(alloc, replies, &entries)?;
+        let records = fill_caller(alloc, replies, &caller.sessions)?;
         told.push(Caller { records })?;
     }
     Ok(told)
+}
+
+/// The records of a caller of these sessions.
+fn fill_caller(
+    alloc: Global,
+    replies: &[Reply],
+    sessions: &[Session],
+) -> Result<Vec<Record>, AllocError>
+    ensures { IfOk result (λ records. records.items ≡ map (filled replies.now) (merged_all [] sessions.now)) }
+{
+    let entries = merge_all(alloc, sessions)?;
+    fill(alloc, replies, &entries)
 }
 
 /// These entries with the replies at their places.

@@ -1,5 +1,5 @@
 -- Words that are written one behind another.
-use Rattle.std.proofs.Common.{◌≡◌, ℕ, zero, suc, ◌+◌, ◌<◌, ◌≤◌, List, [], ◌∷◌, ◌++◌, length, length-append, map, refl, ap, sym, ◌∙◌, arith, subst, take, Bool}
+use Rattle.std.proofs.Common.{◌≡◌, ℕ, zero, suc, ◌+◌, ◌<◌, List, [], ◌∷◌, ◌++◌, length, length-append, map, refl, ap, sym, ◌∙◌, arith, subst, take, Bool}
 use Rattle.std.specs.Prelude.{Option, Some, None, position, slice_get}
 use Rattle.cf_plan.specs.Plans.{Planned, PlannedStage}
 use Rattle.cf_model.specs.Graphs.{AreChanges, Graph}
@@ -15,8 +15,7 @@ use Rattle.cf_event.specs.Words.{word_of}
 use Rattle.cf_event.specs.Decoding.{decoded, decoded_with, event_of}
 use Rattle.cf_ledger.specs.Ledgers.{DoesAll, AreTaken, Does, IsFirstRefused, IsKept, LedgerRefuses, IsTaken, Ledger, state_of}
 use Rattle.cf_ledger.specs.declared.faults.LedgerFault.{LedgerFault}
-use Rattle.std.proofs.Common.{drop, get_or}
-use Rattle.std.proofs.lemmas.List.{drop_more, drop_all}
+use Rattle.std.proofs.Common.{get_or}
 
 -- words that are all read keep their events when one more is written
 push_with : (o : Option Event) (x : ℕ) (es more : List Event) (ws : List ℕ) (e : Event) → x ∷ ws ≡ map word_of (decoded_with o es) → (ws ≡ map word_of es → more ≡ es ++ e ∷ []) →
@@ -107,50 +106,6 @@ does_push plan ws s t w e reply written left_was is word taken told =
       written = ap (λ (es : List Event). let l : Ledger = record { plan = plan; events = es } in l) more;
     }
 
--- How far words were done: those so far are written, and where the rest is refused the whole is.
-pub record Done (s : State) (words : List ℕ) (i : ℕ) (now : Ledger) : Type 0 where
-  pub written : map word_of now.events ++ drop i words ≡ words
-  pub refused : (k : ℕ) (why : LedgerFault) → IsFirstRefused (state_of now) k (drop i words) why → IsFirstRefused s (i + k) words why
-
-pub done_none : (plan : Planned) (words : List ℕ) → Done (start plan) words 0 (record { plan = plan; events = [] })
-done_none plan words = record { written = refl; refused = λ k why u. subst (λ (n : ℕ). IsFirstRefused (start plan) n words why) (let p : k ≡ 0 + k = omega arith in p) u }
-
-push_assoc : (xs ys : List ℕ) (w : ℕ) → (xs ++ w ∷ []) ++ ys ≡ xs ++ w ∷ ys
-push_assoc [] ys w = refl
-push_assoc (x ∷ xs) ys w = ap (λ (zs : List ℕ). x ∷ zs) (push_assoc xs ys w)
-
-pub done_more : (s : State) (words : List ℕ) (i : ℕ) (old new : Ledger) (reply : Reply) → i < length words → Does (get_or words i 0) old reply new → Done s words i old → Done s words (i + 1) new
-done_more s words i old new reply l d h =
-    let split : drop i words ≡ get_or words i 0 ∷ drop (i + 1) words = drop_more words i 0 l in
-    let events : new.events ≡ old.events ++ d.event ∷ [] = ap (λ (x : Ledger). x.events) d.written in
-    let next : state_of new ≡ (answered (state_of old) d.event).1 = ap (λ p. p.1) d.told in
-    record {
-      written =
-          ap (λ (es : List Event). map word_of es ++ drop (i + 1) words) events
-          ∙ ap (λ (ws : List ℕ). ws ++ drop (i + 1) words) (map_push old.events d.event ∙ ap (λ (w : ℕ). map word_of old.events ++ w ∷ []) d.named)
-          ∙ push_assoc (map word_of old.events) (drop (i + 1) words) (get_or words i 0)
-          ∙ ap (λ (ws : List ℕ). map word_of old.events ++ ws) (sym split)
-          ∙ h.written;
-      refused = λ k why u.
-          subst (λ (n : ℕ). IsFirstRefused s n words why) (let p : i + suc k ≡ i + 1 + k = omega arith in p)
-          (h.refused (suc k) why (subst (λ (ws : List ℕ). IsFirstRefused (state_of old) (suc k) ws why) (sym split)
-          (d.event, d.read, d.taken, subst (λ (x : State). IsFirstRefused x k (drop (i + 1) words) why) next u)));
-    }
-
-pub done_refused : (s : State) (words : List ℕ) (i : ℕ) (now : Ledger) (why : LedgerFault) → i < length words → LedgerRefuses (state_of now) (get_or words i 0) why → Done s words i now →
-    IsFirstRefused s i words why
-done_refused s words i now why l u h =
-    let split : drop i words ≡ get_or words i 0 ∷ drop (i + 1) words = drop_more words i 0 l in
-    subst (λ (n : ℕ). IsFirstRefused s n words why) (let p : i + 0 ≡ i = omega arith in p)
-    (h.refused 0 why (subst (λ (ws : List ℕ). IsFirstRefused (state_of now) 0 ws why) (sym split) u))
-
-append_none : (xs : List ℕ) → xs ++ [] ≡ xs
-append_none [] = refl
-append_none (x ∷ xs) = ap (λ (zs : List ℕ). x ∷ zs) (append_none xs)
-
-pub done_all : (s : State) (words : List ℕ) (i : ℕ) (now : Ledger) → length words ≤ i → Done s words i now → map word_of now.events ≡ words
-done_all s words i now l h = sym (append_none (map word_of now.events)) ∙ ap (λ (ws : List ℕ). map word_of now.events ++ ws) (sym (drop_all i words l)) ∙ h.written
-
 -- ---- words behind others
 
 events_assoc : (xs ys zs : List Event) → (xs ++ ys) ++ zs ≡ xs ++ (ys ++ zs)
@@ -181,3 +136,26 @@ all_more old now next ws w reply h d =
           ∙ ap (λ (es : List Event). let l : Ledger = record { plan = old.plan; events = es } in l)
           (ap (λ (es : List Event). es ++ d.event ∷ []) events ∙ events_assoc old.events (decoded ws) (d.event ∷ []) ∙ ap (λ (es : List Event). old.events ++ es) (sym pushed));
     }
+
+-- Where the first k words are those of events that are taken, and the k-th isn't done, it is the first such.
+refused_with : (o : Option Event) (s : State) (w k : ℕ) (words : List ℕ) (why : LedgerFault) → event_of w ≡ o → let es = decoded_with o (decoded (take k words)) in map word_of es ≡ w ∷ take k words → AreTaken s es →
+    LedgerRefuses (state_after s es) (get_or words k 0) why →
+    ((t : State) → let more = decoded (take k words) in map word_of more ≡ take k words → AreTaken t more → LedgerRefuses (state_after t more) (get_or words k 0) why → IsFirstRefused t k words why) →
+    IsFirstRefused s (suc k) (w ∷ words) why
+refused_with None s w k words why is all taken u next = cc
+refused_with (Some e) s w k words why is all taken u next = (e, is, taken.0, next ((answered s e).1) (let rest : map word_of (decoded (take k words)) ≡ take k words = cc in rest) taken.1 u)
+
+pub first_refused : (s : State) (k : ℕ) (words : List ℕ) (why : LedgerFault) → k < length words → let es = decoded (take k words) in map word_of es ≡ take k words → AreTaken s es →
+    LedgerRefuses (state_after s es) (get_or words k 0) why → IsFirstRefused s k words why
+first_refused s k [] why l all taken u = absurd (omega arith)
+first_refused s zero (w ∷ words) why l all taken u = u
+first_refused s (suc k) (w ∷ words) why l all taken u =
+    refused_with (event_of w) s w k words why refl all taken u (λ t rest h more. first_refused t k words why (omega arith) rest h more)
+
+pub first_behind : (plan : Planned) (old new : Ledger) (k : ℕ) (words : List ℕ) (why : LedgerFault) → old ≡ (record { plan = plan; events = [] }) → DoesAll old (take k words) new → k < length words →
+    LedgerRefuses (state_of new) (get_or words k 0) why → IsFirstRefused (start plan) k words why
+first_behind plan old new k words why is h l u =
+    let es = decoded (take k words) in
+    let state : state_of new ≡ state_after (start plan) es = ap state_of h.written ∙ ap (λ (x : Ledger). state_after (start x.plan) (x.events ++ es)) is in
+    first_refused (start plan) k words why l h.named (subst (λ (x : Ledger). AreTaken (state_of x) es) is h.taken)
+    (subst (λ (s : State). LedgerRefuses s (get_or words k 0) why) state u)

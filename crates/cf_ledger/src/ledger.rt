@@ -22,6 +22,7 @@ use cf_outcome::Outcome;
 use cf_plan::{MAX_STAGES, Plan};
 use std::alloc::{AllocError, Global};
 use std::marker::Model;
+use std::mem;
 
 /// A graph with the words of all that was done to it, and with the stages that each changed.
 ///
@@ -58,11 +59,11 @@ impl Ledger {
         requires place { has_place plan.now.stages room ≡ true }
         ensures { IfOk result (λ ledger. ledger ≡ record { plan = with_room plan.now room; events = [] }) }
     {
+        let changed = flags_of(alloc, plan, room)?;
+        let shared = plan.share()?;
         let graph = graph_of(alloc, plan, room)?;
-        let plan = plan.share()?;
-        let changed = flags_of(alloc, &graph)?;
         Ok(Ledger {
-            plan,
+            plan: shared,
             room,
             graph,
             words: Vec::new(alloc),
@@ -274,14 +275,13 @@ impl Ledger {
         ensures refused { IfErr result (λ m. m.why ≢ LedgerFault.NoMemory → IsFirstRefused (start (with_room plan.now room)) m.place words.now m.why) }
     {
         let mut ledger = Ledger::new(alloc, plan, room)?;
-        for (place, word) in words.iter().enumerate() {
-            match ledger.apply(*word) {
-                Ok(_) => {}
-                Err(why) => return Err(Misfit { place, why }),
+        match ledger.apply_all(words) {
+            Ok(()) => Ok(ledger),
+            Err(misfit) => {
+                drop(ledger);
+                Err(misfit)
             }
         }
-        let _written = ledger.words();
-        Ok(ledger)
     }
 
     /// Starts again: nothing is written then, and all of its room is free. It takes no memory, and keeps what its rows have.
@@ -316,7 +316,7 @@ impl Ledger {
     {
         match Ledger::of_words(alloc, &self.plan, self.room + more, &self.words) {
             Ok(ledger) => {
-                *self = ledger;
+                renew(self, ledger);
                 Ok(())
             }
             Err(misfit) => Err(misfit.why),
@@ -357,10 +357,19 @@ fn worked_out(graph: Graph) -> Graph
 }
 
 /// A flag for each stage that there may ever be.
-fn flags_of(alloc: Global, graph: &Graph) -> Result<BitSet, AllocError>
-    ensures { IfOk result (λ flags. flags ≡ replicate (length graph.now.state.plan.stages + graph.now.state.plan.room) false) }
+#[tactic(auto, using(cf_plan::proofs::PlanLemmas::place_is))]
+fn flags_of(alloc: Global, plan: &Plan, room: u16) -> Result<BitSet, AllocError>
+    requires place { has_place plan.now.stages room ≡ true }
+    ensures { IfOk result (λ flags. flags ≡ replicate (length plan.now.stages + room) false) }
 {
-    BitSet::new(alloc, graph.stages() + graph.room())
+    BitSet::new(alloc, plan.stages() + room)
+}
+
+/// Puts a ledger in the place of another, which is freed.
+fn renew(ledger: &mut Ledger, now: Ledger)
+    ensures { ledger.new ≡ now }
+{
+    drop(mem::replace(ledger, now))
 }
 
 /// Whether there is room for the stage that an event attaches, if it attaches one.

@@ -2,6 +2,7 @@ use Rattle.std.proofs.Common.{◌+◌, ◌∙◌, [], List, ℕ, ap, false, leng
 use Rattle.std.proofs.lemmas.List.{length-replicate}
 use Rattle.std.specs.Prelude.{position}
 use Rattle.cf_plan.specs.Plans.{with_room}
+use Rattle.cf_model.specs.States.{State}
 use Rattle.cf_ledger.specs.Ledgers.{IsKept}
 use Rattle.cf_ledger.proofs.Flags.{none_set}
 use Rattle.cf_ledger.proofs.ledger.Ledger.new.Goals as goal
@@ -9,17 +10,17 @@ use Rattle.cf_ledger.proofs.ledger.Ledger.new.Goals as goal
 pub invariant_of-result : goal.invariant_of-result
 invariant_of-result c =
     let g = c.in_ok-graph.graph in
-    let all = length g.state.plan.stages + g.state.plan.room in
+    let all = length c.args.plan.now.stages + c.args.room in
     let flags = c.in_ok-changed.ensures in
-    let none : IsKept (with_room c.in_ok-plan.plan c.args.room) [] g c.in_ok-changed.changed [] = record {
+    let none : IsKept (with_room c.in_ok-shared.shared c.args.room) [] g c.in_ok-changed.changed [] = record {
       place = search rules;
       written = refl;
       taken = tt;
       left = search rules;
       worked_out = c.in_ok-graph.ensures.worked_out;
       unset = ap (position (λ b. b)) flags ∙ none_set all;
-      flags = ap length flags ∙ length-replicate all false;
+      flags = ap length flags ∙ length-replicate all false ∙ sym (ap (λ (s : State). length s.plan.stages + s.plan.room) c.in_ok-graph.ensures.graph);
       noted = tt;
     } in
-    subst (λ lists. IsKept (with_room c.in_ok-plan.plan c.args.room) c.new.result.items g c.in_ok-changed.changed lists) (sym c.new-2.ensures)
-    (subst (λ (words : List ℕ). IsKept (with_room c.in_ok-plan.plan c.args.room) words g c.in_ok-changed.changed []) (sym c.new.ensures.items) none)
+    subst (λ lists. IsKept (with_room c.in_ok-shared.shared c.args.room) c.new.result.items g c.in_ok-changed.changed lists) (sym c.new-2.ensures)
+    (subst (λ (words : List ℕ). IsKept (with_room c.in_ok-shared.shared c.args.room) words g c.in_ok-changed.changed []) (sym c.new.ensures.items) none)
