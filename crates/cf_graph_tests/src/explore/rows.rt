@@ -1,4 +1,5 @@
 //! What small programs can come to.
+use crate::checks::{holds, same_at};
 use crate::explore::programs::{Rows, functions_of, program};
 use cf_explore::{Condition, Fact, Found, How, Program, Step, When};
 use cf_model::{Ask, Call};
@@ -192,33 +193,47 @@ fn explore(alloc: Global, row: &Row, program: &Program) -> Result<Found, Fail> {
     Ok(program.explore(alloc, &functions, &conditions, row.bound)?)
 }
 
-/// Whether a program comes to what its row says.
-fn check(rt: &impl Abort, alloc: Global, row: &Row) -> Result<(), Fail> {
-    let made = program(alloc, &row.rows)?;
-    assert!(rt; made.is_some(), "{}", row.name);
-    if let Some(program) = made {
-        let found = explore(alloc, row, &program)?;
-        let twice = moves_to(alloc, &found)?;
-        assert_eq!(rt;
-            (found.ends.len(), orders_to(&found)),
-            (row.ends, row.orders),
-            "{}",
-            row.name
-        );
-        assert_eq!(rt;
-            (found.trail.len(), found.whole, twice),
-            (row.situations, row.whole, row.twice),
-            "{}",
-            row.name
-        );
-    }
+/// What a search found, in the order of a row.
+fn told_by(alloc: Global, found: &Found) -> Result<((usize, u128), (usize, bool, usize)), Fail> {
+    let twice = moves_to(alloc, found)?;
+    Ok((
+        (found.ends.len(), orders_to(found)),
+        (found.trail.len(), found.whole, twice),
+    ))
+}
+
+/// What a program comes to, in the order of its row.
+fn come_to(
+    alloc: Global,
+    row: &Row,
+    program: &Program,
+) -> Result<((usize, u128), (usize, bool, usize)), Fail> {
+    let found = explore(alloc, row, program)?;
+    told_by(alloc, &found)
+}
+
+/// A program comes to what its row says.
+fn check(rt: &impl Abort, alloc: Global, row: &Row, program: &Program) -> Result<(), Fail> {
+    let (ends, seen) = come_to(alloc, row, program)?;
+    same_at(rt, ends, (row.ends, row.orders), row.name);
+    same_at(rt, seen, (row.situations, row.whole, row.twice), row.name);
     Ok(())
+}
+
+/// The program of a row comes to what the row says.
+fn check_row(rt: &impl Abort, alloc: Global, row: &Row) -> Result<(), Fail> {
+    let made = program(alloc, &row.rows)?;
+    holds(rt, made.is_some(), row.name);
+    match &made {
+        Some(program) => check(rt, alloc, row, program),
+        None => Ok(()),
+    }
 }
 
 #[test]
 fn programs_come_to_their_ends(rt: HostRuntime) -> Result<(), Fail> {
-    for row in ROWS {
-        check(&rt, rt.alloc(), &row)?;
+    for row in &ROWS {
+        check_row(&rt, rt.alloc(), row)?;
     }
     Ok(())
 }
