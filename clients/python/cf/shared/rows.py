@@ -1,6 +1,6 @@
 """Rows of words in engines: put where nothing stands yet, read, wait.
 
-An entry is a word and a token. The token names who put it, 40 bits of a session and 23 that count, so an append that is made again after a
+An entry is a word and a token. The token names who put it, 39 bits of a session and 23 that count, so an append that is made again after a
 lost reply is known by what stands at its place. A payload is bytes; it is put with its word, in one transaction, and named by the word's
 place, counted from 1: no word names what isn't there.
 """
