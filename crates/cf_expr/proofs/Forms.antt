@@ -2,6 +2,7 @@
 use Rattle.std.proofs.Common.{◌≡◌, ◌≢◌, ℕ, ◌<◌, ◌==◌, ◌∷◌, [], List, Bool, true, false, cond, Option, Some, None, All, length, arith, refl, map, is_some}
 use Rattle.std.specs.Prelude.{slice_get, option_and_then, ◌&&◌}
 use Rattle.std.specs.List.{list_all}
+use Rattle.std.proofs.lemmas.Bool.{and_parts}
 use Rattle.std.proofs.lemmas.Bool.Decides.{nat_tests}
 use Rattle.std.proofs.lemmas.List.Elements.{All-head, All-tail}
 use Rattle.cf_outcome.specs.declared.outcome.Outcome.{Outcome}
@@ -61,21 +62,13 @@ there_same : (x y : Option Outcome) → is_some x ≡ true → ((o : Outcome) �
 there_same (Some o) y t h = h o refl
 there_same None y t h = cc
 
-and_left : (a b : Bool) → (a && b) ≡ true → a ≡ true
-and_left true b h = refl
-and_left false b h = cc
-
-and_right : (a b : Bool) → (a && b) ≡ true → b ≡ true
-and_right true b h = h
-and_right false b h = cc
-
 pub sources_same : (f g : ℕ → Option Outcome) (i : ℕ) (sources : List ℕ) → All (λ j. j < i) sources → list_all is_some (map f sources) ≡ true →
     ((j : ℕ) (o : Outcome) → j < i → f j ≡ Some o → g j ≡ Some o) → map g sources ≡ map f sources
 sources_same f g i [] lower t h = refl
 sources_same f g i (j ∷ sources) lower t h =
     let l : j < i = All-head (λ k. k < i) j sources lower in
-    let here = there_same (f j) (g j) (and_left (is_some (f j)) (list_all is_some (map f sources)) t) (λ o e. h j o l e) in
-    let rest = sources_same f g i sources (All-tail (λ k. k < i) j sources lower) (and_right (is_some (f j)) (list_all is_some (map f sources)) t) h in
+    let here = there_same (f j) (g j) (and_parts (is_some (f j)) (list_all is_some (map f sources)) t).0 (λ o e. h j o l e) in
+    let rest = sources_same f g i sources (All-tail (λ k. k < i) j sources lower) (and_parts (is_some (f j)) (list_all is_some (map f sources)) t).1 h in
     cc
 
 -- the outcome of the first source

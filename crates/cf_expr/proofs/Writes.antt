@@ -3,6 +3,7 @@ use Rattle.std.proofs.Common.{◌≡◌, ◌≢◌, ℕ, ◌<◌, ◌==◌, ◌�
 use mathlib.Core.Path.{fun_ext}
 use Rattle.std.specs.Prelude.{slice_get, option_and_then, unwrap_or, ◌&&◌}
 use Rattle.std.specs.Option.{option_map}
+use Rattle.std.proofs.lemmas.Bool.{and_from, and_right}
 use Rattle.std.proofs.lemmas.Bool.Decides.{nat_tests}
 use Rattle.cf_outcome.specs.declared.outcome.Outcome.{Outcome}
 use Rattle.cf_outcome.specs.Outcomes.{wrap}
@@ -69,14 +70,6 @@ closed_cases (x ∷ xs) (suc i) zero = inr refl
 closed_cases (x ∷ xs) (suc i) (suc k) = closed_cases xs i k
 
 -- what is granted by a claim
-both_tests : (a b : Bool) → a ≡ true → b ≡ true → (a && b) ≡ true
-both_tests true b e f = f
-both_tests false b e f = e
-
-one_test : (a b : Bool) → b ≡ false → (a && b) ≡ false
-one_test true b e = e
-one_test false b e = refl
-
 claim_own : (xs : List (Option ℕ)) (i : ℕ) (who w : ℕ) → unwrap_or (slice_get (set xs i (Some who)) i) None ≡ Some w → w ≡ who
 claim_own [] i who w e = cc
 claim_own (x ∷ xs) zero who w e = cc
@@ -88,12 +81,12 @@ own_grant granted claims who i k w args e c =
     let is : w ≡ who = claim_own claims i who w (ap (λ n. unwrap_or (slice_get (set claims i (Some who)) n) None) (sym e) ∙ c) in
     let a : (w == who) ≡ true = grind (arith, nat_tests) in
     let b : (k == i) ≡ true = grind (arith, nat_tests) in
-    ap (λ t. cond t (Some args) (granted w k)) (both_tests (w == who) (k == i) a b)
+    ap (λ t. cond t (Some args) (granted w k)) (and_from (w == who) (k == i) a b)
 
 other_grant : (granted : Grants) (who i k w : ℕ) (args : Args) → k ≢ i → cond (w == who && k == i) (Some args) (granted w k) ≡ granted w k
 other_grant granted who i k w args ne =
     let b : (k == i) ≡ false = grind (arith, nat_tests) in
-    ap (λ t. cond t (Some args) (granted w k)) (one_test (w == who) (k == i) b)
+    ap (λ t. cond t (Some args) (granted w k)) (and_right (w == who) (k == i) b)
 
 -- ---- the same by other names
 

@@ -1,6 +1,6 @@
 -- The graph's replies one after another, and the records that have them.
 use Rattle.std.proofs.Common.{◌≡◌, ℕ, ◌+◌, ◌<◌, ◌≤◌, false, List, [], ◌∷◌, ◌++◌, length, map, drop, get_or, refl, ap, sym, ◌∙◌, subst}
-use Rattle.std.proofs.lemmas.List.{append_assoc, drop_more, drop_all, map-append}
+use Rattle.std.proofs.lemmas.List.{append_assoc, append-nil, drop_more, drop_all, map-append}
 use Rattle.cf_model.specs.declared.events.Event.{Event}
 use Rattle.cf_model.specs.declared.events.Reply.{Reply}
 use Rattle.cf_model.specs.declared.events.Reply.TheVariants.{Flag}
@@ -38,14 +38,10 @@ replied_more first events i d now next replies r l told after k =
           ∙ sym (append_assoc replies (r ∷ []) (replies_from next rest));
     }
 
-pub none_left : {X : Type 0} (out : List X) → out ++ [] ≡ out
-none_left [] = refl
-none_left (x ∷ xs) = ap (λ (l : List _). x ∷ l) (none_left xs)
-
 pub replied_all : (first : State) (events : List Event) (i : ℕ) (now : State) (replies : List Reply) → length events ≤ i → Replied first events i now replies →
     replies ≡ replies_at first events
 replied_all first events i now replies l k =
-    sym (k.all ∙ ap (λ (es : List Event). replies ++ replies_from now es) (drop_all i events l) ∙ none_left replies)
+    sym (k.all ∙ ap (λ (es : List Event). replies ++ replies_from now es) (drop_all i events l) ∙ append-nil replies)
 
 -- one element more
 pub map_more : {X Y : Type 0} (f : X → Y) (xs : List X) (i : ℕ) (d : X) (out : List Y) → i < length xs → map f xs ≡ out ++ map f (drop i xs) →
@@ -54,7 +50,7 @@ map_more f xs i d out l all =
     all ∙ ap (λ (ys : List _). out ++ map f ys) (drop_more xs i d l) ∙ sym (append_assoc out (f (get_or xs i d) ∷ []) (map f (drop (i + 1) xs)))
 
 pub map_all : {X Y : Type 0} (f : X → Y) (xs : List X) (i : ℕ) (out : List Y) → length xs ≤ i → map f xs ≡ out ++ map f (drop i xs) → out ≡ map f xs
-map_all f xs i out l all = sym (all ∙ ap (λ (ys : List _). out ++ map f ys) (drop_all i xs l) ∙ none_left out)
+map_all f xs i out l all = sym (all ∙ ap (λ (ys : List _). out ++ map f ys) (drop_all i xs l) ∙ append-nil out)
 
 -- one caller more
 pub callers_more : (replies : List Reply) (callers : List SharedCaller) (i : ℕ) (d : SharedCaller) (told : List Caller) (k : Caller) → i < length callers →
@@ -71,4 +67,4 @@ callers_more replies callers i d told k l is all =
 pub callers_all : (replies : List Reply) (callers : List SharedCaller) (i : ℕ) (told : List Caller) → length callers ≤ i →
     all_filled replies (entries_of callers) ≡ records_of told ++ all_filled replies (entries_of (drop i callers)) → records_of told ≡ all_filled replies (entries_of callers)
 callers_all replies callers i told l all =
-    sym (all ∙ ap (λ (ks : List SharedCaller). records_of told ++ all_filled replies (entries_of ks)) (drop_all i callers l) ∙ none_left (records_of told))
+    sym (all ∙ ap (λ (ks : List SharedCaller). records_of told ++ all_filled replies (entries_of ks)) (drop_all i callers l) ∙ append-nil (records_of told))

@@ -1,7 +1,7 @@
 -- Words as events, and events as the graph takes them.
 use Rattle.std.proofs.Common.{◌≡◌, ℕ, zero, suc, ◌+◌, ◌<◌, ◌≤◌, List, [], ◌∷◌, ◌++◌, length, drop, get_or, refl, ap, sym, ◌∙◌, arith, subst}
 use Rattle.std.specs.Prelude.{Option, Some, None}
-use Rattle.std.proofs.lemmas.List.{append_assoc, drop_more, drop_all}
+use Rattle.std.proofs.lemmas.List.{append_assoc, append-nil, drop_more, drop_all}
 use Rattle.cf_model.specs.declared.events.Event.{Event}
 use Rattle.cf_model.specs.States.{State}
 use Rattle.cf_model.specs.Events.{answered, state_after}
@@ -10,7 +10,6 @@ use Rattle.std.proofs.lemmas.List.Elements.{All-nil, All-cons}
 use Rattle.cf_event.specs.Words.{IsEvent}
 use Rattle.cf_event.proofs.WordLemmas.{event_of_is}
 use Rattle.cf_event.specs.Decoding.{decoded, decoded_with, event_of}
-use Rattle.cf_history.proofs.Replies.{none_left}
 use Rattle.cf_history.specs.declared.verdict.Unfit.{Unfit}
 use Rattle.cf_history.specs.declared.verdict.Unfit.TheVariants.{NoEvent, NoCaller, NoStage, NoFunction}
 use Rattle.cf_event.specs.Events.{AreEventsOf, IsEventOf}
@@ -35,7 +34,7 @@ read_more ws i es more e l is pushed all =
     all ∙ ap (λ (ds : List Event). es ++ ds) (decoded_more ws i e l is) ∙ sym (append_assoc es (e ∷ []) rest) ∙ ap (λ (ds : List Event). ds ++ rest) (sym pushed)
 
 pub read_up_to : (ws : List ℕ) (i : ℕ) (es : List Event) → decoded (drop i ws) ≡ [] → decoded ws ≡ es ++ decoded (drop i ws) → es ≡ decoded ws
-read_up_to ws i es none all = sym (all ∙ ap (λ (ds : List Event). es ++ ds) none ∙ none_left es)
+read_up_to ws i es none all = sym (all ∙ ap (λ (ds : List Event). es ++ ds) none ∙ append-nil es)
 
 -- there are no more events than words
 few_with : (o : Option Event) (es : List Event) (n : ℕ) → length es ≤ n → length (decoded_with o es) ≤ suc n

@@ -316,7 +316,7 @@ impl Ledger {
     {
         match Ledger::of_words(alloc, &self.plan, self.room + more, &self.words) {
             Ok(ledger) => {
-                renew(self, ledger);
+                drop(mem::replace(self, ledger));
                 Ok(())
             }
             Err(misfit) => Err(misfit.why),
@@ -363,13 +363,6 @@ fn flags_of(alloc: Global, plan: &Plan, room: u16) -> Result<BitSet, AllocError>
     ensures { IfOk result (λ flags. flags ≡ replicate (length plan.now.stages + room) false) }
 {
     BitSet::new(alloc, plan.stages() + room)
-}
-
-/// Puts a ledger in the place of another, which is freed.
-fn renew(ledger: &mut Ledger, now: Ledger)
-    ensures { ledger.new ≡ now }
-{
-    drop(mem::replace(ledger, now))
 }
 
 /// Whether there is room for the stage that an event attaches, if it attaches one.

@@ -1,5 +1,5 @@
 -- Dependents are the converse of sources.
-use Rattle.std.proofs.Common.{◌≡◌, ℕ, ◌+◌, ◌<◌, ◌≤◌, ◌∷◌, ◌++◌, [], List, All, length, suc, zero, arith, refl, ◌∙◌, ⊎_elim, length-append}
+use Rattle.std.proofs.Common.{◌≡◌, ℕ, ◌+◌, ◌<◌, ◌≤◌, ◌∷◌, ◌++◌, [], List, All, length, suc, zero, arith, ap, sym, refl, ◌∙◌, ⊎_elim, append_assoc, length-append}
 use Rattle.std.specs.Prelude.{replicate, ◌==◌, cond}
 use Rattle.std.specs.List.{sum_by, range_with_len, Contains}
 use Rattle.std.proofs.lemmas.List.{length-replicate}
@@ -109,6 +109,14 @@ pub dependents_converse : (stages : List PlannedStage) (i k : ℕ) → mentions 
 dependents_converse stages i k =
     let same : 0 + k ≡ k = omega arith in
     rw same at (dependents_converse_from 0 stages i k)
+
+-- stages, and more behind them
+pub dependents_from-append : (k : ℕ) (xs ys : List PlannedStage) (i : ℕ) → dependents_from k (xs ++ ys) i ≡ dependents_from k xs i ++ dependents_from (k + length xs) ys i
+dependents_from-append k [] ys i = let e : k + 0 ≡ k = omega arith in ap (λ m. dependents_from m ys i) (sym e)
+dependents_from-append k (x ∷ xs) ys i =
+    let e : k + 1 + length xs ≡ k + suc (length xs) = omega arith in
+    ap (λ r. replicate (mentions i x.sources) k ++ r) (dependents_from-append (k + 1) xs ys i ∙ ap (λ m. dependents_from (k + 1) xs i ++ dependents_from m ys i) e)
+    ∙ sym (append_assoc (replicate (mentions i x.sources) k) (dependents_from (k + 1) xs i) (dependents_from (k + suc (length xs)) ys i))
 
 -- a stage has as many dependents as sources of all stages name it
 pub length-dependents_from : (k : ℕ) (stages : List PlannedStage) (i : ℕ) → length (dependents_from k stages i) ≡ mentions i (all_sources stages)

@@ -15,19 +15,12 @@ use Rattle.cf_plan.specs.Growing.{AreGrowing, attached_of, grown_of, attached_de
 use Rattle.cf_plan.specs.Plans.{HasLowerSources, IsBuilt, IsGrowing, Planned, PlannedStage, and_stage, attached_stage, calls_function, dependents_from, dependents_of, edges_of, fits_count, fits_form, mentions, plan_of, sources_of, with_stage}
 use Rattle.cf_plan.specs.Rows.{all_sources}
 use Rattle.cf_plan.specs.AttachedLists.{AreAttachedLists, IsAttachedList, head_at, list_of}
-use Rattle.cf_plan.proofs.DependentLemmas.{dependents_above, dependents_below, dependents_there, length-dependents_from, mentions-cons, one_where}
+use Rattle.cf_plan.proofs.DependentLemmas.{dependents_above, dependents_below, dependents_from-append, dependents_there, length-dependents_from, mentions-cons, one_where}
 use Rattle.cf_plan.proofs.PlanLemmas.{IsBuilt-with_stage, MayAdd}
 use Rattle.cf_plan.proofs.AttachedListLemmas.{AreAttachedLists-same, count_is}
 use Rattle.std.proofs.lemmas.List.Concat.{length-flat_map}
 
 -- ---- dependents of more stages
-
-pub dependents_from-append : (k : ℕ) (xs ys : List PlannedStage) (i : ℕ) → dependents_from k (xs ++ ys) i ≡ dependents_from k xs i ++ dependents_from (k + length xs) ys i
-dependents_from-append k [] ys i = let e : k + 0 ≡ k = omega arith in ap (λ m. dependents_from m ys i) (sym e)
-dependents_from-append k (x ∷ xs) ys i =
-    let e : k + 1 + length xs ≡ k + suc (length xs) = omega arith in
-    ap (λ r. replicate (mentions i x.sources) k ++ r) (dependents_from-append (k + 1) xs ys i ∙ ap (λ m. dependents_from (k + 1) xs i ++ dependents_from m ys i) e)
-    ∙ sym (append_assoc (replicate (mentions i x.sources) k) (dependents_from (k + 1) xs i) (dependents_from (k + suc (length xs)) ys i))
 
 reverse-replicate : (n k : ℕ) → reverse (replicate n k) ≡ replicate n k
 reverse-replicate zero k = refl

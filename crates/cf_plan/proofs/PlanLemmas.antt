@@ -4,7 +4,7 @@ use Rattle.std.specs.Prelude.{slice_get, nat_lt, nat_le, is_some, is_none, not, 
 use Rattle.std.specs.List.{list_all}
 use Rattle.std.proofs.lemmas.List.Elements.{All-push}
 use Rattle.std.proofs.lemmas.List.Sums.{sum_by-append, AllPass-from_list_all}
-use Rattle.std.proofs.lemmas.Bool.{ltb-true, le-leb, leb-true}
+use Rattle.std.proofs.lemmas.Bool.{ltb-true, le-leb, leb-true, and_from, and_parts}
 use Rattle.cf_plan.specs.declared.faults.PlanFault.{PlanFault}
 use Rattle.cf_plan.specs.declared.faults.PlanFault.TheVariants.{TooManyStages, SourceNotLower, WrongSourceCount, FunctionMissing, FunctionUnwanted, TooManyEdges, NoSuchStage, TooManyLimits}
 use Rattle.cf_plan.specs.declared.limits.Limit.{Limit}
@@ -113,23 +113,14 @@ IsBuilt-with_limit plan new h may =
     }
 
 -- what it is that there is place
-both : (a b : Bool) → (a && b) ≡ true → (a ≡ true) × (b ≡ true)
-both true b e = (refl, e)
-both false b e = cc
-
 pub place_is : (stages : List PlannedStage) (room : ℕ) → has_place stages room ≡ true → (length stages + room ≤ 4096) × (edges_of stages + 2 * room ≤ 16384)
 place_is stages room e =
-    let parts = both (nat_le (length stages + room) 4096) (nat_le (edges_of stages + 2 * room) 16384) e in
+    let parts = and_parts (nat_le (length stages + room) 4096) (nat_le (edges_of stages + 2 * room) 16384) e in
     (leb-true (length stages + room) 4096 parts.0, leb-true (edges_of stages + 2 * room) 16384 parts.1)
 
 -- where there is
-and_so : (a b : Bool) → a ≡ true → b ≡ true → (a && b) ≡ true
-and_so true true a b = refl
-and_so true false a b = cc
-and_so false b a d = cc
-
 pub place_of : (stages : List PlannedStage) (room : ℕ) → length stages + room ≤ 4096 → edges_of stages + 2 * room ≤ 16384 → has_place stages room ≡ true
-place_of stages room few edges = and_so (nat_le (length stages + room) 4096) (nat_le (edges_of stages + 2 * room) 16384) (le-leb (length stages + room) 4096 few) (le-leb (edges_of stages + 2 * room) 16384 edges)
+place_of stages room few edges = and_from (nat_le (length stages + room) 4096) (nat_le (edges_of stages + 2 * room) 16384) (le-leb (length stages + room) 4096 few) (le-leb (edges_of stages + 2 * room) 16384 edges)
 
 -- for no room there is, in a plan that was built
 pub place_for_none : (plan : Planned) → IsBuilt plan → has_place plan.stages 0 ≡ true
