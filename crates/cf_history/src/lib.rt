@@ -16,10 +16,10 @@
 //! what the sessions tell: their records together, by their places, and the graph's own reply where none is known. It fits
 //! exactly where it fits with any replies, so `check_shared` judges it.
 //!
-//! When records fit is `IsOneHistory` of `cf_event`, which is also what a closed desk promises; `specs/Histories` says what
-//! a history holds beside its records, `specs/Shared` the same of sessions; `specs/Records` says the same of the records one after another, as `check` reads
-//! them; `specs/Verdicts` says what each verdict tells, and a law that there is one. `check` gives the one verdict `Fits`
-//! exactly where all fits.
+//! When records fit is `IsOneHistory` of `cf_event`, which is also what a closed desk promises. `specs/Histories` says what
+//! a history holds beside its records, and `specs/Shared` the same of sessions. `specs/Records` goes through the records one
+//! after another, as `check` reads them. `specs/Verdicts` says what each verdict tells, and a law that there is one: `check`
+//! gives `Fits` exactly where all fits.
 #![tactic(auto)]
 
 mod caller;
