@@ -28,11 +28,24 @@ TESTS = {
 OF_TESTS = 5  # to prove a crate that holds tests alone
 CALLERS = 120  # seconds, for the rows that are left when rt ci ends
 EVERY = 30  # seconds from one line to the next
+AMPLE = 4 << 30  # bytes of memory for each processor, with which no check waits for memory
 TICKS = os.sysconf("SC_CLK_TCK")
 
 
 def has_tests(name: str) -> bool:
     return any("#[test]" in path.read_text(encoding="utf-8") for path in (TOP / "crates" / name / "src").rglob("*.rt"))
+
+
+def at_once(memory: int) -> int:
+    """How many checks that take so many bytes may go on at a time: there is a processor and memory for each."""
+    with open("/proc/meminfo", encoding="ascii") as file:
+        free = next(int(it.split()[1]) << 10 for it in file if it.startswith("MemAvailable"))
+    try:
+        with open("/sys/fs/cgroup/memory.max", encoding="ascii") as file:
+            free = min(free, int(file.read()))
+    except (OSError, ValueError):
+        pass  # no control group, or no limit in it
+    return max(1, min(len(os.sched_getaffinity(0)), free // memory))
 
 
 def lines_of(pipe: IO[bytes]) -> Iterator[Optional[str]]:
@@ -127,7 +140,11 @@ def run_gate(tell: Callable[[str], object]) -> int:
     and built where it is a program."""
     gate, began = Gate(), time.monotonic()
     told = began
-    with subprocess.Popen(["rt", "ci"], cwd=str(TOP), stdout=subprocess.PIPE) as running:
+    environment = dict(os.environ)
+    if at_once(AMPLE) == len(os.sched_getaffinity(0)):
+        # (rt leaves a processor idle where it reckons that memory won't do: some 6 GB for a check that takes 2)
+        environment.setdefault("RT_JOBS", str(at_once(AMPLE)))
+    with subprocess.Popen(["rt", "ci"], cwd=str(TOP), env=environment, stdout=subprocess.PIPE) as running:
         try:
             for line in lines_of(running.stdout):
                 if line is not None:
