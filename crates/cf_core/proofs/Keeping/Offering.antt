@@ -1,5 +1,6 @@
 -- What is offered is what is due, and what a form keeps of its function's answer.
-use Rattle.std.proofs.Common.{◌≡◌, ◌∙◌, ℕ, List, [], ◌∷◌, true, false, Option, Some, None, ap, refl, map}
+use Rattle.std.proofs.Common.{◌≡◌, ◌∙◌, ℕ, List, [], ◌∷◌, Bool, true, false, Option, Some, None, ap, cond, refl, map}
+use Rattle.std.specs.Prelude.{nat_lt, ◌&&◌}
 use Rattle.cf_outcome.specs.declared.outcome.Outcome.{Outcome}
 use Rattle.cf_outcome.specs.declared.outcome.Outcome.TheVariants.{Value as Gives, Fault}
 use Rattle.cf_outcome.specs.declared.outcome.Value.{Value}
@@ -7,10 +8,11 @@ use Rattle.cf_plan.specs.declared.forms.Form.{Form}
 use Rattle.cf_plan.specs.declared.forms.Form.TheVariants as forms
 use Rattle.cf_plan.specs.declared.forms.Args.{Args}
 use Rattle.cf_plan.specs.declared.forms.Args.TheVariants.{Two}
-use Rattle.cf_plan.specs.declared.forms.Answer.TheVariants.{Give}
+use Rattle.cf_plan.specs.declared.forms.Answer.{Answer}
+use Rattle.cf_plan.specs.declared.forms.Answer.TheVariants.{Give, Throw, Link}
 use Rattle.cf_plan.specs.declared.forms.Due.TheVariants.{Needs}
-use Rattle.cf_plan.specs.declared.forms.Landing.TheVariants.{Settles as Lands}
-use Rattle.cf_plan.specs.Forms.{landing}
+use Rattle.cf_plan.specs.declared.forms.Landing.TheVariants.{Settles as Lands, Links}
+use Rattle.cf_plan.specs.Forms.{bad_answer, composes, kept_value, landing}
 use Rattle.cf_model.specs.declared.stage.Stage.{Stage}
 use Rattle.cf_model.specs.declared.stage.Stage.TheVariants.{Pending, Ready, Claimed, Linked, Settled}
 use Rattle.cf_model.specs.States.{is_ready}
@@ -68,6 +70,24 @@ kept_lands forms.WhenComplete i source v e = cc
 kept_lands forms.AllOf i source v e = cc
 kept_lands forms.AnyOf i source v e = cc
 kept_lands forms.ExceptionallyCompose i source v e = cc
+
+-- a form that links is one that composes
+link_composes : (b c : Bool) (j k : ℕ) → cond (b && c) (Links j) bad_answer ≡ Links k → b ≡ true
+link_composes true c j k e = refl
+link_composes false c j k e = cc
+
+value_composes : (b : Bool) (o : Outcome) (k : ℕ) → cond b bad_answer (Lands o) ≡ Links k → b ≡ true
+value_composes true o k e = refl
+value_composes false o k e = cc
+
+pub landing-composes : (form : Form) (i : ℕ) (source : Option Outcome) (answer : Answer) (k : ℕ) → landing form i source answer ≡ Links k → composes form ≡ true
+landing-composes forms.WhenComplete i (Some (Fault cause wrapped)) answer k e = cc
+landing-composes forms.WhenComplete i (Some (Gives v)) (Throw code) k e = cc
+landing-composes forms.WhenComplete i (Some (Gives v)) (Link j) k e = cc
+landing-composes forms.WhenComplete i (Some (Gives v)) (Give w) k e = cc
+landing-composes form i source (Throw code) k e = cc
+landing-composes form i source (Link j) k e = link_composes (composes form) (nat_lt j i) j k e
+landing-composes form i source (Give v) k e = value_composes (composes form) (Gives (kept_value form v)) k e
 
 pub unready_args : (stage : Stage) → is_ready stage ≡ false → None ≡ args_of stage
 unready_args (Ready args) e = cc

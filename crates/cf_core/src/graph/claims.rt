@@ -1,10 +1,10 @@
 //! The calls by which a caller takes a stage's function and hands in its answer.
-ghost use Rattle.std.specs.Prelude.{◌≡◌, ◌+◌, ◌<◌, ◌≤◌, ◌==◌, None, false, length, option_and_then, slice_get, unwrap_or};
+ghost use Rattle.std.specs.Prelude.{◌≡◌, ℕ, ◌+◌, ◌<◌, ◌≤◌, ◌==◌, None, false, length, option_and_then, slice_get, unwrap_or};
 ghost use Rattle.std.specs.Option.{option_map_or};
 ghost use Rattle.cf_plan.specs.Forms.{landing};
 ghost use Rattle.cf_plan.specs.Plans.{form_at, sources_at};
-ghost use Rattle.cf_model.specs.States.{outcome_in};
-ghost use Rattle.cf_model.specs.Events.{claiming, finishing};
+ghost use Rattle.cf_model.specs.States.{State, is_ready, outcome_in};
+ghost use Rattle.cf_model.specs.Events.{claimed_by, claiming, finishing};
 ghost use Rattle.cf_core.specs.Keeping.SoundStages.{settled_view_of};
 ghost use Rattle.cf_core.specs.Keeping.Sweeps.{AreSwept};
 ghost use Rattle.cf_model.specs.Graphs.{MovesOnly, RestsUpTo, most_turns};
@@ -38,9 +38,7 @@ impl Graph {
                 self.claims[i as usize] = Some(who);
                 Claimed::Granted(args)
             }
-            Stage::Settled(_) => Claimed::Settled,
-            Stage::Claimed | Stage::Linked(_) => Claimed::Taken,
-            Stage::Pending => Claimed::NotReady,
+            stage => refusal(stage),
         }
     }
 
@@ -67,6 +65,20 @@ impl Graph {
                 Finished::Won
             }
         }
+    }
+}
+
+/// What a claim of a stage is told that isn't ready.
+#[inline(always)]
+fn refusal(stage: Stage) -> Claimed
+    requires { is_ready stage ≡ false }
+    ensures { (s : State) (who i : ℕ) → claimed_by stage s who i ≡ (result, s) }
+{
+    match stage {
+        Stage::Settled(_) => Claimed::Settled,
+        Stage::Claimed | Stage::Linked(_) => Claimed::Taken,
+        Stage::Pending => Claimed::NotReady,
+        Stage::Ready(_) => unreachable!(),
     }
 }
 

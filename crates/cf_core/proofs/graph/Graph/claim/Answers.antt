@@ -1,7 +1,7 @@
-use Rattle.std.proofs.Common.{◌≡◌, ◌∙◌, Some, ap, refl, sym, length-set, inl, inr}
+use Rattle.std.proofs.Common.{◌≡◌, ◌∙◌, Some, ap, refl, sym, length-set}
 use Rattle.std.specs.Prelude.{is_some, slice_get}
-use Rattle.cf_model.specs.declared.stage.Stage.TheVariants.{Pending, Ready, Claimed, Linked, Settled}
-use Rattle.cf_model.specs.declared.replies.Claimed.TheVariants.{Settled as IsSettled, Taken, NotReady}
+use Rattle.cf_model.specs.declared.stage.Stage.TheVariants.{Ready, Settled}
+use Rattle.cf_model.specs.declared.replies.Claimed.TheVariants.{Settled as IsSettled}
 use Rattle.cf_model.specs.States.{outcome_of}
 use Rattle.cf_core.specs.Keeping.Sound.{kept_at}
 use Rattle.cf_core.specs.Keeping.SoundStages.{settled_view_of}
@@ -39,30 +39,9 @@ returns-in-Ready-clause-told c =
     let is : slice_get (settled_view_of plan t) c.args.i ≡ Some (Ready c.in-Ready.args) = told ∙ ap (λ x. Some x) (sym c.stage.ensures ∙ c.in-Ready.is) in
     rw (← c.self.view_is) (claims_now _ c.args.who c.args.i c.in-Ready.args (settled_view_of plan t) (settled_view_of plan c.claim.new.self) c.treat_up_to.ensures.same is c.claim.ensures.claimed)
 
-pub returns-in-Settled-clause-told : goal.returns-in-Settled-clause-told
-returns-in-Settled-clause-told c =
-    let plan = c.self.inside.plan.stages in
-    let t = c.treat_up_to.new.self in
-    let told = told_stage plan t c.args.i c.treat_up_to.ensures.sound (rw (← c.self.view_is) at c.requires) c.treat_up_to.ensures.treated in
-    let is : slice_get (settled_view_of plan t) c.args.i ≡ Some (Settled c.in-Settled.field-0) = told ∙ ap (λ x. Some x) (sym c.stage.ensures ∙ c.in-Settled.is) in
-    rw (← c.self.view_is) (claims_not _ c.args.who c.args.i (Settled c.in-Settled.field-0) IsSettled (settled_view_of plan t) c.treat_up_to.ensures.same is refl)
-
-pub returns-in-Claimed-clause-told : goal.returns-in-Claimed-clause-told
-returns-in-Claimed-clause-told c =
+pub returns-in_default-clause-told : goal.returns-in_default-clause-told
+returns-in_default-clause-told c =
     let plan = c.self.inside.plan.stages in
     let t = c.treat_up_to.new.self in
     let told = told_stage plan t c.args.i c.treat_up_to.ensures.sound (rw (← c.self.view_is) at c.requires) c.treat_up_to.ensures.treated ∙ ap (λ x. Some x) (sym c.stage.ensures) in
-    elim c.in-Claimed.is [
-      | inl e ↦ (let is : slice_get (settled_view_of plan t) c.args.i ≡ Some Claimed = told ∙ ap (λ x. Some x) e in
-          rw (← c.self.view_is) (claims_not _ c.args.who c.args.i Claimed Taken (settled_view_of plan t) c.treat_up_to.ensures.same is refl))
-      | inr e ↦ (let is : slice_get (settled_view_of plan t) c.args.i ≡ Some (Linked e.0) = told ∙ ap (λ x. Some x) e.1 in
-          rw (← c.self.view_is) (claims_not _ c.args.who c.args.i (Linked e.0) Taken (settled_view_of plan t) c.treat_up_to.ensures.same is refl))
-    ]
-
-pub returns-in-Pending-clause-told : goal.returns-in-Pending-clause-told
-returns-in-Pending-clause-told c =
-    let plan = c.self.inside.plan.stages in
-    let t = c.treat_up_to.new.self in
-    let told = told_stage plan t c.args.i c.treat_up_to.ensures.sound (rw (← c.self.view_is) at c.requires) c.treat_up_to.ensures.treated in
-    let is : slice_get (settled_view_of plan t) c.args.i ≡ Some Pending = told ∙ ap (λ x. Some x) (sym c.stage.ensures ∙ c.in-Pending.is) in
-    rw (← c.self.view_is) (claims_not _ c.args.who c.args.i Pending NotReady (settled_view_of plan t) c.treat_up_to.ensures.same is refl)
+    rw (← c.self.view_is) (claims_not _ c.args.who c.args.i c.stage.result c.refusal.result (settled_view_of plan t) c.treat_up_to.ensures.same told (c.refusal.ensures _ c.args.who c.args.i))

@@ -4,6 +4,8 @@ use Rattle.std.specs.Option.{option_map_or}
 use Rattle.cf_model.specs.States.{outcome_in}
 use Rattle.cf_core.specs.Keeping.SoundStages.{settled_view_of}
 use Rattle.cf_core.proofs.Keeping.GraphLemmas.{AreClaimed-closed, AreClaimed-stay, claim_there, finishes_late, finishes_now, open_claimed, room_stays, told_outcome}
+use Rattle.cf_model.proofs.Stable.{landing-lower}
+use Rattle.cf_core.proofs.Keeping.Offering.{landing-composes}
 use Rattle.cf_core.proofs.Keeping.Sweeping.{treated_swept}
 use Rattle.cf_core.proofs.graph.Graph.finish.Goals as goal
 use Rattle.cf_core.proofs.graph.Graph.finish.Goals.{After-outcome}
@@ -34,6 +36,12 @@ invariant_of-self-in-Some c =
 pub landing_of-at-requires-clause-treated : goal.landing_of-at-requires-clause-treated
 landing_of-at-requires-clause-treated c =
     treated_swept c.self.inside.plan.stages (c.args.i + 1) c.treat_up_to.new.self c.treat_up_to.ensures.sound c.treat_up_to.ensures.treated
+
+pub land-requires-clause-target : goal.land-requires-clause-target
+land-requires-clause-target c j e = landing-lower _ _ _ _ j (sym c.landing_of-at.ensures ∙ e)
+
+pub land-requires-clause-composes : goal.land-requires-clause-composes
+land-requires-clause-composes c j e = landing-composes _ _ _ _ j (sym c.landing_of-at.ensures ∙ e)
 
 pub land-requires-clause-claimed : goal.land-requires-clause-claimed
 land-requires-clause-claimed c =

@@ -1,5 +1,6 @@
-use Rattle.std.proofs.Common.{◌∙◌, refl, ap, length}
+use Rattle.std.proofs.Common.{◌∙◌, refl, ap, arith, length}
 use Rattle.std.specs.Prelude.{false, replicate}
+use Rattle.std.proofs.lemmas.List.{length-replicate}
 use Rattle.cf_core.specs.Keeping.Sound.{settled_view}
 use Rattle.cf_core.specs.Keeping.Starts.{mark_starts, untreated}
 use Rattle.cf_core.proofs.Keeping.Places.{IsSound-same}
@@ -24,3 +25,14 @@ returns-clause-sound c =
     c.in_ok-links.ensures
     refl refl
     (start_sound plan c.list_count.result c.list_count.ensures.composing built.few_stages built.few_edges built.lower)
+
+pub mark_starts-requires : goal.mark_starts-requires
+mark_starts-requires c = ap length c.in_ok-marks.ensures ∙ length-replicate c.stages-count.result false ∙ c.stages-count.ensures.count
+
+pub returns-clause-room : goal.returns-clause-room
+returns-clause-room c =
+    let count = c.stages-count.ensures.count in
+    let room = c.room-room.ensures in
+    let kept = c.in_ok-kept.ensures.room in
+    let lists = ap length c.in_ok-links.ensures ∙ length-replicate c.list_count.result _ in
+    (omega (arith, count, room, kept), λ more. (let enough = c.list_count.ensures.room more in omega (arith, lists, enough)))
