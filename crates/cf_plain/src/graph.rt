@@ -133,9 +133,9 @@ impl Plain {
     pub fn copy(&self, alloc: Global) -> Result<Plain, AllocError>
         ensures { IfOk result (λ plain. plain ≡ self.now) }
     {
-        let plan = self.plan.copy(alloc)?;
         let stages = Vec::from_slice(alloc, &self.stages)?;
         let claims = Vec::from_slice(alloc, &self.claims)?;
+        let plan = self.plan.copy(alloc)?;
         Ok(Plain {
             plan,
             stages,

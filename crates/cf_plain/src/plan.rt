@@ -118,8 +118,8 @@ impl PlainPlan {
     pub fn copy(&self, alloc: Global) -> Result<PlainPlan, AllocError>
         ensures { IfOk result (λ plan. plan ≡ self.now) }
     {
-        let opening = self.opening.share()?;
         let attached = copied_stages(alloc, &self.attached)?;
+        let opening = self.opening.share()?;
         Ok(PlainPlan {
             opening,
             attached,

@@ -48,9 +48,9 @@ fn next(
             let outcomes = outcomes_of(alloc, below, sources)?;
             Ok(due_stage(follows(form, &outcomes)))
         }
-        Stage::Linked(j) => match below.get(j as usize) {
-            Some(Stage::Settled(o)) => Ok(Stage::Settled(wrap(*o))),
-            _ => Ok(stage),
+        Stage::Linked(j) => match outcome_in(below, j) {
+            Some(o) => Ok(Stage::Settled(wrap(o))),
+            None => Ok(stage),
         },
         _ => Ok(stage),
     }
@@ -78,17 +78,19 @@ fn outcomes_of(
 {
     let mut outcomes = Vec::new(alloc);
     for j in sources {
-        outcomes.push(outcome_below(below, *j))?;
+        outcomes.push(outcome_in(below, *j))?;
     }
     Ok(outcomes)
 }
 
-/// The outcome of a stage below.
-fn outcome_below(below: &[Stage], j: u16) -> Option<Outcome>
-    requires { j < length below.now }
-    ensures { result ≡ outcome_in below.now j }
+/// The outcome of one of these stages, if it is there and settled.
+pub fn outcome_in(stages: &[Stage], j: u16) -> Option<Outcome>
+    ensures { result ≡ outcome_in stages.now j }
 {
-    outcome(below[j as usize])
+    match stages.get(j as usize) {
+        None => None,
+        Some(stage) => outcome(*stage),
+    }
 }
 
 /// The outcome of a settled stage.

@@ -5,7 +5,7 @@ ghost use Rattle.cf_model.specs.States.{after, flowed, outcome_at};
 ghost use Rattle.cf_model.specs.Events.{cancelling, claiming, finishing, landed, settling, source_outcome};
 
 use crate::graph::Plain;
-use crate::stages::{new_stages, outcome};
+use crate::stages::{new_stages, outcome_in};
 use cf_model::{Claimed, Finished, Stage};
 use cf_outcome::{Cause, Outcome, is_cancelled, wrap};
 use cf_plan::{Answer, Landing, landing};
@@ -17,7 +17,7 @@ impl Plain {
         requires { i < length self.old.plan.stages }
         ensures { IfOk result (λ done. (done, self.new) ≡ settling self.old i o) }
     {
-        match outcome(self.stages[i as usize]) {
+        match self.outcome(i) {
             Some(_) => Ok(false),
             None => {
                 self.take(alloc, i, o)?;
@@ -31,7 +31,7 @@ impl Plain {
         requires { i < length self.old.plan.stages }
         ensures { IfOk result (λ done. (done, self.new) ≡ cancelling self.old i) }
     {
-        match outcome(self.stages[i as usize]) {
+        match self.outcome(i) {
             Some(old) => Ok(is_cancelled(old)),
             None => {
                 self.take(alloc, i, raw(Cause::Cancelled))?;
@@ -45,7 +45,7 @@ impl Plain {
         requires { i < length self.old.plan.stages }
         ensures { (result, self.new) ≡ claiming self.old who i }
     {
-        match self.stages[i as usize] {
+        match self.stage(i) {
             Stage::Pending => Claimed::NotReady,
             Stage::Ready(args) => {
                 self.stages[i as usize] = Stage::Claimed;
@@ -73,7 +73,7 @@ impl Plain {
             return Ok(Finished::NotYours);
         }
         self.claims[i as usize] = None;
-        match outcome(self.stages[i as usize]) {
+        match self.outcome(i) {
             Some(_) => Ok(Finished::Late),
             None => {
                 let source = self.source(i);
@@ -90,7 +90,7 @@ impl Plain {
         ensures { result ≡ source_outcome self.now i }
     {
         let j = self.plan.sources(i).first()?;
-        outcome(self.stages[*j as usize])
+        self.outcome(*j)
     }
 
     /// A stage lands.
@@ -101,12 +101,9 @@ impl Plain {
     {
         match at {
             Landing::Settles(o) => self.take(alloc, i, o),
-            Landing::Links(j) => match self.stages.get(j as usize) {
-                Some(Stage::Settled(o)) => {
-                    let o = *o;
-                    self.take(alloc, i, wrap(o))
-                }
-                _ => {
+            Landing::Links(j) => match outcome_in(&self.stages, j) {
+                Some(o) => self.take(alloc, i, wrap(o)),
+                None => {
                     self.stages[i as usize] = Stage::Linked(j);
                     Ok(())
                 }
