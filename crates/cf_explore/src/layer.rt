@@ -46,7 +46,9 @@ impl Layer {
         let hash = hash_of(&situation);
         match find(&self.entries, &self.table, &situation, hash) {
             Some(i) => {
-                more_orders(&mut self.entries, i, orders);
+                // It stands there already.
+                drop(situation);
+                self.more_orders(i, orders);
                 Ok(false)
             }
             None => {
@@ -60,6 +62,15 @@ impl Layer {
                 Ok(true)
             }
         }
+    }
+
+    /// So many orders more lead to the situation at this place.
+    fn more_orders(&mut self, i: usize, orders: u128)
+        requires { i < length self.old.entries.items }
+        ensures { (e : Entry) → slice_get self.old.entries.items i ≡ Some e → self.new.entries.items ≡ slice_set self.old.entries.items i (more e orders) }
+    {
+        let entry = &mut self.entries[i];
+        entry.orders = entry.orders.saturating_add(orders);
     }
 
     /// Puts the last entry into the table, which grows with the entries.
@@ -106,15 +117,6 @@ fn is_there(entries: &[Entry], i: usize, situation: &Situation, hash: u64) -> bo
         None => false,
         Some(entry) => entry.hash == hash && entry.situation.is_same(situation),
     }
-}
-
-/// So many orders more lead to the situation at this place.
-fn more_orders(entries: &mut [Entry], i: usize, orders: u128)
-    requires { i < length entries.old }
-    ensures { (e : Entry) → slice_get entries.old i ≡ Some e → entries.new ≡ slice_set entries.old i (more e orders) }
-{
-    let entry = &mut entries[i];
-    entry.orders = entry.orders.saturating_add(orders);
 }
 
 /// A table of these entries, with room for as many more.

@@ -92,11 +92,10 @@ impl Program {
         ensures { IfOk result (λ s. s ≡ start_of self.now) }
     {
         let _room = &self.room;
-        let plan = self.plan.share()?;
-        let called = vec![in alloc; false; plan.stages() as usize]?;
-        let graph = Plain::start_growing(alloc, plan, self.room)?;
+        let called = vec![in alloc; false; self.plan.stages() as usize]?;
         let places = vec![in alloc; Place { at: 0, looks: 0 }; self.callers.len()]?;
         let hands = vec![in alloc; Hand::Idle; self.workers as usize]?;
+        let graph = Plain::start_growing(alloc, self.plan.share()?, self.room)?;
         Ok(Situation {
             graph,
             places,

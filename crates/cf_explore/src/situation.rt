@@ -34,10 +34,10 @@ impl Situation {
     pub fn copy(&self, alloc: Global) -> Result<Situation, AllocError>
         ensures { IfOk result (λ s. s ≡ self.now) }
     {
-        let graph = self.graph.copy(alloc)?;
         let places = Vec::from_slice(alloc, &self.places)?;
         let hands = Vec::from_slice(alloc, &self.hands)?;
         let called = Vec::from_slice(alloc, &self.called)?;
+        let graph = self.graph.copy(alloc)?;
         Ok(Situation {
             graph,
             places,
