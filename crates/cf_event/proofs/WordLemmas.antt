@@ -124,13 +124,6 @@ event_of_is w e h =
     let found = event_with_is (w / 2 ^ 56) (w / 2 ^ 48 % 2 ^ 8) (w / 2 ^ 36 % 2 ^ 12) (w / 2 ^ 32 % 2 ^ 4) (w % 2 ^ 32) e (omega arith) (omega arith) h in
     (found.0, found.1 ∙ word_of_fields w)
 
--- a word of kind 7 is that of an attaching, if it is one's
-pub event_of_7 : (w : ℕ) → w / 2 ^ 56 ≡ 7 → w / 2 ^ 48 % 2 ^ 8 ≤ 63 → event_of w ≡ attach_with (w / 2 ^ 48 % 2 ^ 8) (w / 2 ^ 36 % 2 ^ 12) (w / 2 ^ 32 % 2 ^ 4) (w % 2 ^ 32)
-unfolding event_of
-event_of_7 w k l =
-    ap (λ n. event_with n (w / 2 ^ 48 % 2 ^ 8) (w / 2 ^ 36 % 2 ^ 12) (w / 2 ^ 32 % 2 ^ 4) (w % 2 ^ 32)) k
-    ∙ event_with_attach (w / 2 ^ 48 % 2 ^ 8) (w / 2 ^ 36 % 2 ^ 12) (w / 2 ^ 32 % 2 ^ 4) (w % 2 ^ 32) l
-
 -- what is found for a word is its event, and there is no other
 pub found_is : (w : ℕ) (x : Option Event) → event_of w ≡ x → IfSome x (λ e. IsEvent e × (word_of e ≡ w))
 found_is w None h = tt

@@ -93,6 +93,14 @@ pub fn decode(w: u64) -> Option<Event>
     let stage = (w / STAGE % 4096) as u16;
     let tag = (w / TAG % 16) as u8;
     let low = (w % TAG) as u32;
+    event_with(kind, who, stage, tag, low)
+}
+
+/// The event with these fields, if there is one.
+#[inline(always)]
+fn event_with(kind: u8, who: u8, stage: u16, tag: u8, low: u32) -> Option<Event>
+    ensures { result ≡ event_with kind who stage tag low }
+{
     if who > LAST_CALLER {
         return None;
     }
