@@ -1,5 +1,5 @@
 //! How a race begins: caller 0 does the steps, and then it meets each other caller.
-ghost use Rattle.std.specs.Prelude.{◌≡◌, ◌<◌, ◌≤◌, All, IfOk, length, vec_len};
+ghost use Rattle.std.specs.Prelude.{◌≡◌, ◌+◌, ◌<◌, ◌≤◌, All, IfOk, length, vec_len};
 ghost use Rattle.cf_plan.specs.Plans.{with_room};
 ghost use Rattle.cf_desk.specs.Views.{IsOf};
 ghost use Rattle.cf_pool.specs.Beginnings.{HasDoneSteps, HasTaken, HaveBegun, IsApart, IsIdle};
@@ -34,11 +34,29 @@ pub(crate) fn begin(
         Ok(opened) => opened,
         Err(_) => return Err(AllocError),
     };
-    let mut first = passes.remove(0);
-    take_steps(&desk, &mut first, steps);
-    let mut passes = meet_others(alloc, &desk, &mut first, passes)?;
-    passes.insert(0, first)?;
+    let first = passes.remove(0);
+    let passes = begin_with(alloc, &desk, first, passes, steps)?;
     Ok((desk, passes))
+}
+
+/// Begins a race at its desk: caller 0 does the steps, and meets the others. Of the passes caller 0's comes first.
+fn begin_with(
+    alloc: Global,
+    desk: &Desk,
+    mut first: Pass,
+    others: Vec<Pass>,
+    steps: &[Event],
+) -> Result<Vec<Pass>, AllocError>
+    requires first { HasTaken desk.now steps.now 0 first }
+    requires others { All (IsIdle desk.now first.calls) others.items }
+    requires steps { All IsStep steps.now }
+    ensures count { IfOk result (λ passes. vec_len passes ≡ vec_len others + 1) }
+    ensures begun { IfOk result (λ passes. HaveBegun desk.now steps.now first.calls passes.items) }
+{
+    take_steps(desk, &mut first, steps);
+    let mut passes = meet_others(alloc, desk, &mut first, others)?;
+    passes.insert(0, first)?;
+    Ok(passes)
 }
 
 /// Does the steps in order, up to the first that is refused. In a race none is: all that caller 0 has then seen is its own,
