@@ -15,7 +15,7 @@ next-preserved g c =
     let pushed = c.push_reserved.ensures in
     let rest = c.in-Some.ensures.cases in record {
       left = (let l = i.left in let n = pushed.len in let k = pushed.capacity in let r = rest.1 in omega (arith, l, n, k, r));
-      each = zip_step _ c.args.started.items _ _ c.next.worked.items _ c.in-Some.one c.ended-new.result rest.0 pushed.items c.ended-new.ensures i.each;
+      each = zip_step _ c.args.started.items (into_iter_items c.next.rest) (into_iter_items c.next-in-next.new.self) c.next.worked.items c.push_reserved.new.self.items c.in-Some.one c.ended-new.result rest.0 pushed.items c.ended-new.ensures i.each;
     }
 
 pub returns : goal.returns

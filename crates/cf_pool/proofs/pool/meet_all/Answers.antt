@@ -39,6 +39,15 @@ meet-requires g c =
       );
     }
 
+pub push_reserved-requires : goal.push_reserved-requires
+push_reserved-requires g c = let left = c.next.invariant.left in let one = c.in-Some.ensures.cases.1 in omega (arith, left, one)
+
+pub push_reserved-requires-in-Some : goal.push_reserved-requires-in-Some
+push_reserved-requires-in-Some g c = let left = c.next.invariant.left_too in let one = c.in-Some.ensures.cases.1 in omega (arith, left, one)
+
+pub returns-clause-room : goal.returns-clause-room
+returns-clause-room g c = (c.next.invariant.room, c.next.invariant.room_too)
+
 pub next-preserved : goal.next-preserved
 next-preserved g c =
     let i = c.next.invariant in
@@ -54,7 +63,7 @@ next-preserved g c =
       room = (let r = i.room in let k = passes.capacity in omega (arith, r, k));
       room_too = (let r = i.room_too in let k = workers.capacity in omega (arith, r, k));
       mine = sees_then c.args.mine.now c.next.mine c.meet.new.p i.mine (sees_left c.next.mine c.in-Some.w.pass c.meet.new.p c.meet.new.q m);
-      others = subst (AllZip SeesOn (i.done ++ c.in-Some.w ∷ [])) (sym passes.items) (zip_push SeesOn i.done c.next.back.passes.items c.in-Some.w c.meet.new.q i.others (sees_right c.next.mine c.in-Some.w.pass c.meet.new.p c.meet.new.q m));
+      others = subst (AllZip SeesOn (i.done ++ c.in-Some.w ∷ [])) (sym {A = List Pass} passes.items) (zip_push SeesOn i.done c.next.back.passes.items c.in-Some.w c.meet.new.q i.others (sees_right c.next.mine c.in-Some.w.pass c.meet.new.p c.meet.new.q m));
       workers = workers.items ∙ ap (λ l. l ++ c.in-Some.w.worker ∷ []) i.workers ∙ sym (map-append (λ (w : Worked g.row.W.Denot). w.worker) i.done (c.in-Some.w ∷ []));
-      short = subst (λ (l : List Pass). AllShort (length c.meet.new.p.known.seen) (knowns l)) (sym passes.items) (short_met c.next.mine c.in-Some.w.pass c.meet.new.p c.meet.new.q c.next.back.passes.items m i.short);
+      short = subst (λ (l : List Pass). AllShort (length c.meet.new.p.known.seen) (knowns l)) (sym {A = List Pass} passes.items) (short_met c.next.mine c.in-Some.w.pass c.meet.new.p c.meet.new.q c.next.back.passes.items m i.short);
     }

@@ -25,7 +25,7 @@ next-preserved g c =
     let rest = c.in-Some.ensures.cases in record {
       all = All-tail (λ w. IsOf c.args.desk.now w.0) c.in-Some.one (into_iter_items c.next-in-next.new.self) (subst (All (λ w. IsOf c.args.desk.now w.0)) rest.0 i.all);
       left = (let l = i.left in let n = pushed.len in let k = pushed.capacity in let r = rest.1 in omega (arith, l, n, k, r));
-      each = zip_step _ c.args.workers.items _ _ c.next.started.items _ c.in-Some.one c.start-new.result rest.0 pushed.items c.start-new.ensures i.each;
+      each = zip_step _ c.args.workers.items (into_iter_items c.next.rest) (into_iter_items c.next-in-next.new.self) c.next.started.items c.push_reserved.new.self.items c.in-Some.one c.start-new.result rest.0 pushed.items c.start-new.ensures i.each;
     }
 
 pub returns : goal.returns

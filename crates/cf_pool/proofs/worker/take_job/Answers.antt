@@ -19,6 +19,9 @@ finish-requires-clause-stage g c =
     let a = acted g (goal.at.finish-requires-clause-stage g c).In_ok-reply in
     still_there c.args.pass.now c.act.new.p c.args.stage _ c.in_ok-reply.reply a.0 c.requires.there
 
+pub finish-requires-clause-pass : goal.finish-requires-clause-pass
+finish-requires-clause-pass g c = (c.act.ensures.same.0 ∙ c.requires.pass.0, c.act.ensures.same.1 ∙ c.requires.pass.1)
+
 pub returns-in_err-reply-clause-adds : goal.returns-in_err-reply-clause-adds
 returns-in_err-reply-clause-adds g c =
     adds_stops (g.W.Worker.meanings c.args.worker.now) c.args.desk.now c.args.pass.now c.act.new.p _
@@ -54,6 +57,17 @@ pub returns-in-None-clause-done : goal.returns-in-None-clause-done
 returns-in-None-clause-done g c =
     let a = acted g (goal.at.returns-in-None-clause-done g c).In_ok-reply in
     (does_claim _ c.args.pass.now c.act.new.p c.args.stage c.in_ok-reply.reply a.0 a.1 c.requires.there (ready_is c.args.pass.now.known c.args.stage c.requires.ready) (sym c.granted.ensures ∙ c.in-None.is)).0
+
+pub returns-in-None-clause-more : goal.returns-in-None-clause-more
+returns-in-None-clause-more g c =
+    let a = acted g (goal.at.returns-in-None-clause-more g c).In_ok-reply in
+    (does_claim (g.W.Worker.meanings c.args.worker.now) c.args.pass.now c.act.new.p c.args.stage c.in_ok-reply.reply a.0 a.1 c.requires.there (ready_is c.args.pass.now.known c.args.stage c.requires.ready) (sym c.granted.ensures ∙ c.in-None.is)).1
+
+pub returns-in_ok-finished-in-Some-clause-more : goal.returns-in_ok-finished-in-Some-clause-more
+returns-in_ok-finished-in-Some-clause-more g c =
+    let a = acted g (goal.at.returns-in_ok-finished-in-Some-clause-more g c).In_ok-reply in
+    (does_both (g.W.Worker.meanings c.args.worker.now) c.args.pass.now c.act.new.p c.finish.new.pass c.args.stage c.in_ok-reply.reply c.in_ok-finished-in-Some.finished c.in-Some.args c.count.result a.0 c.requires.there (ready_is c.args.pass.now.known c.args.stage c.requires.ready) (sym c.granted.ensures ∙ c.in-Some.is)
+    c.in_ok-finished-in-Some.ensures.done c.in_ok-finished-in-Some.ensures.room c.count.ensures.run c.count.ensures.won c.count.ensures.late).1
 
 pub returns-in_ok-finished-in-Some-clause-adds : goal.returns-in_ok-finished-in-Some-clause-adds
 returns-in_ok-finished-in-Some-clause-adds g c =
