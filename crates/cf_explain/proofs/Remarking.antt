@@ -1,8 +1,8 @@
 -- The remarks on steps.
-use Rattle.std.proofs.Common.{◌≡◌, ℕ, zero, suc, ◌+◌, ◌<◌, ◌≤◌, Bool, true, false, List, [], ◌∷◌, ◌++◌, All, None, Option, Some, ap, append-nil, arith, drop, is_some, length, map, refl, subst, sym, take, ◌∙◌}
+use Rattle.std.proofs.Common.{◌≡◌, ℕ, zero, suc, ◌+◌, ◌<◌, ◌≤◌, Bool, true, false, List, [], ◌∷◌, ◌++◌, All, None, Option, Some, ap, append-nil, append_assoc, arith, drop, get_or, is_some, length, map, refl, subst, sym, take, ◌∙◌}
 use Rattle.std.specs.Prelude.{nat_le, nat_lt, slice_get, if◌then◌else◌, ◌==◌, option_map}
-use Rattle.std.proofs.lemmas.Bool.{eqb-true, le-ltb}
-use Rattle.std.proofs.lemmas.List.{drop_all}
+use Rattle.std.proofs.lemmas.Bool.{eqb-true, le-ltb, lt-ltb}
+use Rattle.std.proofs.lemmas.List.{at_drop_more, drop_all}
 use Rattle.std.proofs.lemmas.List.Elements.{All-append, All-cons, All-nil}
 use Rattle.std.proofs.lemmas.Option.{none-some, same_Some}
 use Rattle.cf_plan.specs.declared.limits.Limit.{Limit}
@@ -126,6 +126,31 @@ idles_stop limits s k steps said all past is = sym (append-nil said) ∙ ap (λ 
 pub idles_done : (limits : List Limit) (s : Sight) (k : ℕ) (steps : List Step) (said all : List Remark) → length steps ≤ k → said ++ idles_from limits s k (drop k steps) ≡ all → said ≡ all
 idles_done limits s k steps said all past is =
     sym (append-nil said) ∙ ap (λ (xs : List Step). said ++ idles_from limits s k xs) (sym (drop_all k steps past)) ∙ is
+
+-- ---- one step more
+
+if_so : (b : Bool) (xs : List Remark) → b ≡ true → (if b then xs else []) ≡ xs
+if_so true xs e = refl
+if_so false xs e = absurd (cc)
+
+idles_at : (limits : List Limit) (s : Sight) (k : ℕ) (steps : List Step) (d : Step) → k < length steps → k < 4294967296 →
+    idles_from limits s k (drop k steps) ≡ idle_remarks k (idle_by s (get_or steps k d)) ++ idles_from limits (seen_by limits (get_or steps k d) k s) (k + 1) (drop (k + 1) steps)
+idles_at limits s k steps d here fits =
+    let step = get_or steps k d in
+    at_drop_more (idles_from limits s k) steps k d here
+    ∙ if_so (nat_lt k 4294967296) (idle_remarks k (idle_by s step) ++ idles_from limits (seen_by limits step k s) (k + 1) (drop (k + 1) steps)) (lt-ltb k 4294967296 fits)
+
+pub idles_more : (limits : List Limit) (s t : Sight) (k : ℕ) (steps : List Step) (d : Step) (said now all : List Remark) → k < length steps → k < 4294967296 →
+    now ≡ said ++ idle_remarks k (idle_by s (get_or steps k d)) → t ≡ seen_by limits (get_or steps k d) k s → said ++ idles_from limits s k (drop k steps) ≡ all →
+    now ++ idles_from limits t (k + 1) (drop (k + 1) steps) ≡ all
+idles_more limits s t k steps d said now all here fits e f is =
+    let step = get_or steps k d in
+    let rest = drop (k + 1) steps in
+    ap (λ (xs : List Remark). xs ++ idles_from limits t (k + 1) rest) e
+    ∙ append_assoc said (idle_remarks k (idle_by s step)) (idles_from limits t (k + 1) rest)
+    ∙ ap (λ (u : Sight). said ++ (idle_remarks k (idle_by s step) ++ idles_from limits u (k + 1) rest)) f
+    ∙ ap (λ (xs : List Remark). said ++ xs) (sym (idles_at limits s k steps d here fits))
+    ∙ is
 
 -- ---- one stage more
 

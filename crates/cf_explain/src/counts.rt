@@ -42,6 +42,11 @@ pub(crate) fn counts_before(json: &Json, k: usize) -> Counts {
     }
 }
 
+/// The element at this position of a list that is a member of a script.
+pub(crate) fn element_of<'a>(json: &'a Json, member: &str, k: usize) -> Option<&'a Json> {
+    json.get(member)?.get(k)
+}
+
 /// How many of these stages have a function.
 fn with_function(list: &[Json]) -> u32 {
     let mut count = 0u32;

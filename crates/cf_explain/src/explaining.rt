@@ -87,10 +87,10 @@ fn remarks_of(
 ) -> Result<Vec<Remark>, AllocError>
     ensures { IfOk result (λ v. AreRemarked (view json.now) script v.items) }
 {
+    let mut idle = idle_steps(alloc, script)?;
     let mut remarks = Vec::new(alloc);
     remark_written(alloc, bytes, json, &mut remarks)?;
     remark_behind(alloc, json, &mut remarks)?;
-    let mut idle = idle_steps(alloc, script)?;
     remarks.append(&mut idle)?;
     Ok(remarks)
 }

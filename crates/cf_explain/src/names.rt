@@ -25,16 +25,15 @@ pub(crate) fn remark_title(json: &Json, remarks: &mut Vec<Remark>) -> Result<(),
     requires { All IsOfWriting remarks.old.items }
     ensures { OnOk result (All IsOfWriting remarks.new.items) }
 {
-    if json.get("name").is_some_and(|said| said.as_str().is_none()) {
+    let title = json.get("name");
+    if title.is_some() && title.and_then(Json::as_str).is_none() {
         remarks.push(Remark::NoTitle(Place::top().member("name")))?;
     }
-    if json
-        .get("names")
-        .is_some_and(|said| said.as_array().is_none())
-    {
+    let names = json.get("names");
+    if names.is_some() && names.and_then(Json::as_array).is_none() {
         remarks.push(Remark::NoList(Place::top().member("names")))?;
     }
-    'names: for (k, said) in items(json.get("names")).iter().enumerate() {
+    'names: for (k, said) in items(names).iter().enumerate() {
         remark_name(Place::top().member("names").item(k), Some(said), remarks)?;
     }
     Ok(())
@@ -49,7 +48,7 @@ pub(crate) fn remark_name(
     requires { All IsOfWriting remarks.old.items }
     ensures { OnOk result (All IsOfWriting remarks.new.items) }
 {
-    if said.is_some_and(|said| stage_name(said).is_none()) {
+    if said.is_some() && said.and_then(stage_name).is_none() {
         remarks.push(Remark::NoName(place))?;
     }
     Ok(())

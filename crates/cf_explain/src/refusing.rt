@@ -2,6 +2,7 @@
 ghost use Rattle.std.specs.Prelude.{◌≡◌, IfOk};
 ghost use Rattle.cf_explain.specs.Places.{IsIn};
 
+use crate::counts::element_of;
 use crate::functions::function_wrong;
 use crate::place::Place;
 use crate::planned::plan_wrong;
@@ -32,8 +33,7 @@ pub(crate) fn found(
         ReadingFault::Shape(part) => shape_wrong(alloc, place, part, json),
         ReadingFault::Plan(refusal, k) => Ok(plan_wrong(place, refusal, k as usize, json)),
         ReadingFault::Function(k) => {
-            let stage = json.get("stages").and_then(|list| list.get(k as usize));
-            let said = stage.and_then(|stage| stage.get("fn"));
+            let said = function_of(json, k as usize);
             function_wrong(alloc, place.member("fn"), said)
         }
         ReadingFault::Step(k) => step_wrong(alloc, place, k as usize, json),
@@ -42,6 +42,11 @@ pub(crate) fn found(
         | ReadingFault::Read
         | ReadingFault::NoMemory => Ok(None),
     }
+}
+
+/// What stands as the function of a stage.
+fn function_of(json: &Json, k: usize) -> Option<&Json> {
+    element_of(json, "stages", k)?.get("fn")
 }
 
 /// This is wrong at this place.

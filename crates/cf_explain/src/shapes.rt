@@ -2,6 +2,7 @@
 ghost use Rattle.std.specs.Prelude.{IfOk};
 ghost use Rattle.cf_explain.specs.Places.{IsIn};
 
+use crate::counts::element_of;
 use crate::fitting::{needed, optional, taken, word_wrong};
 use crate::place::Place;
 use crate::reason::Reason;
@@ -35,7 +36,7 @@ pub(crate) fn shape_wrong(
         Part::Limits => Ok(optional(place, json.get("limits"), Wanted::Array)),
         Part::Steps => Ok(optional(place, json.get("steps"), Wanted::Array)),
         Part::Stage(k) => {
-            let said = json.get("stages").and_then(|list| list.get(k as usize));
+            let said = element_of(json, "stages", k as usize);
             match said {
                 None => Ok(None),
                 Some(stage) => {
@@ -44,7 +45,7 @@ pub(crate) fn shape_wrong(
             }
         }
         Part::Limit(k) => {
-            let said = json.get("limits").and_then(|list| list.get(k as usize));
+            let said = element_of(json, "limits", k as usize);
             match said {
                 None => Ok(None),
                 Some(limit) => limit_wrong(alloc, place, limit),

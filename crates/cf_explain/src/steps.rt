@@ -2,7 +2,7 @@
 ghost use Rattle.std.specs.Prelude.{IfOk};
 ghost use Rattle.cf_explain.specs.Places.{IsIn};
 
-use crate::counts::{Counts, counts_before};
+use crate::counts::{Counts, counts_before, element_of};
 use crate::fitting::{lone_wrong, taken, word_wrong};
 use crate::functions::function_wrong;
 use crate::place::Place;
@@ -122,7 +122,7 @@ pub(crate) fn step_wrong(
     if k >= MAX_STEPS {
         return Ok(wrong_at(place, Reason::TooMany(MAX_STEPS as u32, "steps")));
     }
-    let Some(step) = json.get("steps").and_then(|list| list.get(k)) else {
+    let Some(step) = element_of(json, "steps", k) else {
         return Ok(None);
     };
     if let Some(found) = taken(place, step, Wanted::Array) {

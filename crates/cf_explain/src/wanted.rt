@@ -59,9 +59,9 @@ fn within(json: &Json, least: i64, most: i64) -> bool {
 
 /// Whether it is an array of two numbers of 16 bits.
 fn is_pair(json: &Json) -> bool {
-    match json.as_array() {
-        Some(list) => list.len() == 2 && list.iter().all(|item| within(item, 0, 65_535)),
-        None => false,
+    match json.as_array().map(Vec::as_slice) {
+        Some([one, other]) => within(one, 0, 65_535) && within(other, 0, 65_535),
+        _ => false,
     }
 }
 
