@@ -107,13 +107,13 @@ fn carry_out_script<R: Print + Threads + Sync + AllocGlobal>(
     run: Run,
 ) -> io::Result<()> {
     let (plan, _, functions, _) = script.into_parts();
-    carry_out_plan(rt, json, plan, functions.as_slice(), run)
+    carry_out_plan(rt, json, &plan, functions.as_slice(), run)
 }
 
 fn carry_out_plan<R: Print + Threads + Sync + AllocGlobal>(
     rt: &R,
     json: &Json,
-    plan: Plan,
+    plan: &Plan,
     functions: &[Func],
     run: Run,
 ) -> io::Result<()> {
@@ -126,7 +126,7 @@ fn carry_out_plan<R: Print + Threads + Sync + AllocGlobal>(
 fn carry_out_steps<R: Print + Threads + Sync + AllocGlobal>(
     rt: &R,
     json: &Json,
-    plan: Plan,
+    plan: &Plan,
     functions: &[Func],
     steps: &[Step],
     run: Run,
@@ -144,7 +144,11 @@ fn print_closing<R: Print + AllocGlobal>(
     run: Run,
 ) -> io::Result<()> {
     match closed {
-        Ok(mut closed) => print_closed(rt, &mut closed, json, refused, run),
+        Ok(mut closed) => {
+            let printed = print_closed(rt, &mut closed, json, refused, run);
+            drop(closed);
+            printed
+        }
         Err(_) => Err(io::Error::other("the desk wasn't closed")),
     }
 }
@@ -184,7 +188,7 @@ type Used = (Result<Closed, CloseFault>, Vec<Vec<Refusal>>);
 
 fn used<R: Threads + Sync + AllocGlobal>(
     rt: &R,
-    plan: Plan,
+    plan: &Plan,
     functions: &[Func],
     steps: &[Step],
     run: Run,
@@ -192,7 +196,10 @@ fn used<R: Threads + Sync + AllocGlobal>(
     let (desk, passes) = open(rt.alloc(), plan, run.sizes)?;
     match worked(rt, &desk, passes, functions, steps, run.in_turn) {
         Ok((passes, refused)) => Ok((desk.close(passes), refused)),
-        Err(fault) => Err(io::Error::from(fault)),
+        Err(fault) => {
+            drop(desk);
+            Err(io::Error::from(fault))
+        }
     }
 }
 
@@ -210,16 +217,32 @@ fn worked<R: Threads + Sync + AllocGlobal>(
     ensures count { IfOk result (λ r. vec_len r.0 ≡ vec_len passes) }
 {
     let mut hands = hands_of(rt.alloc(), desk, passes)?;
-    if in_turn {
-        take_turns(desk, hands.as_mut_slice(), functions, steps);
-    } else {
-        take_all(rt, desk, hands.as_mut_slice(), functions, steps);
-    }
+    take_steps(rt, desk, hands.as_mut_slice(), functions, steps, in_turn);
     parts_of(rt.alloc(), desk, hands)
 }
 
+/// Lets the callers do their steps, in turn or each on a thread of its own.
+fn take_steps<R: Threads + Sync>(
+    rt: &R,
+    desk: &Desk,
+    hands: &mut [Hand],
+    functions: &[Func],
+    steps: &[Step],
+    in_turn: bool,
+)
+    requires { All (λ h. h.pass.table ≡ desk.now.table) hands.old }
+    ensures table { All (λ h. h.pass.table ≡ desk.now.table) hands.new }
+    ensures count { length hands.new ≡ length hands.old }
+{
+    if in_turn {
+        take_turns(desk, hands, functions, steps)
+    } else {
+        take_all(rt, desk, hands, functions, steps)
+    }
+}
+
 /// A desk of a plan, and its passes.
-fn open(alloc: Global, plan: Plan, sizes: Sizes) -> io::Result<(Desk, Vec<Pass>)>
+fn open(alloc: Global, plan: &Plan, sizes: Sizes) -> io::Result<(Desk, Vec<Pass>)>
     ensures table { IfOk result (λ r. All (λ p. p.table ≡ r.0.table) r.1.items) }
     ensures count { IfOk result (λ r. vec_len r.1 ≡ r.0.setting.callers) }
 {
@@ -231,7 +254,7 @@ fn open(alloc: Global, plan: Plan, sizes: Sizes) -> io::Result<(Desk, Vec<Pass>)
         functions,
     } = sizes;
     let functions = u32::from(functions);
-    match Desk::open_growing(alloc, plan, callers, log, calls, room, functions) {
+    match Desk::open_growing_of(alloc, plan, callers, log, calls, room, functions) {
         Ok(opened) => Ok(opened),
         Err(_) => Err(io::Error::other("the desk wasn't opened")),
     }

@@ -42,10 +42,18 @@ fn write_passes(
     refused: &[Vec<Refusal>],
     calls: u16,
 ) -> Result<(), AllocError> {
-    for (kept, refused) in passes.iter().zip(refused) {
-        write_pass(text, kept, refused, calls)?;
+    for kept in passes {
+        write_pass(text, kept, refused_of(refused, kept.caller), calls)?;
     }
     Ok(())
+}
+
+/// What a caller was refused.
+fn refused_of(refused: &[Vec<Refusal>], caller: u8) -> &[Refusal] {
+    match refused.get(usize::from(caller)) {
+        Some(mine) => mine.as_slice(),
+        None => &[],
+    }
 }
 
 /// A pass, with each refusal behind the records that it had by then.
