@@ -1,7 +1,7 @@
 //! Attaching a stage to each stage of a graph of which the first half is settled.
 use crate::graphs::graph_or_none;
 use crate::shape::{Shape, no_plan, plan_of};
-use crate::times::{Shown, Times};
+use crate::times::{Shown, Times, Work, measured};
 use crate::work::{checksum, settle};
 use cf_core::Graph;
 use cf_plan::{Form, Of, Plan};
@@ -30,7 +30,7 @@ fn half_settled_of(alloc: Global, plan: Plan) -> Result<Graph> {
 
 /// A graph of the chain, with room for as many stages as it has.
 fn roomy(alloc: Global, plan: Plan) -> Result<Graph> {
-    if plan.stages() <= STAGES && plan.edges() <= u32::from(STAGES) {
+    if plan.has_place(STAGES) {
         graph_or_none(Graph::new_growing(alloc, plan, STAGES))
     } else {
         Err(Error::other("the plan is another one"))
@@ -46,26 +46,31 @@ fn attach_all(graph: &mut Graph) {
     }
 }
 
-/// A round of attaching.
-fn attach_round<R: Clock>(rt: &R, alloc: Global, times: &mut Times) -> Result<()> {
-    let mut graph = half_settled(alloc)?;
+/// Attaching to a graph that is made for it.
+#[derive(Clone, Copy)]
+struct Attaching {
+    alloc: Global,
+}
+
+impl<R: Clock> Work<R> for Attaching {
+    fn round(&mut self, rt: &R, times: &mut Times) -> Result<()> {
+        let mut graph = half_settled(self.alloc)?;
+        let added = attach_timed(rt, &mut graph, times);
+        drop(graph);
+        added
+    }
+}
+
+/// Attaches all stages, and adds what it took.
+fn attach_timed<R: Clock>(rt: &R, graph: &mut Graph, times: &mut Times) -> Result<()> {
     let start = Instant::now(rt)?;
-    attach_all(&mut graph);
+    attach_all(graph);
     times.add_since(rt, start)
 }
 
 /// What attaching a stage took.
 pub(crate) fn measured_attach<R: Clock>(rt: &R, alloc: Global) -> Result<Shown> {
-    let mut times = Times::new(alloc);
-    attach_rounds(rt, alloc, &mut times)
-}
-
-fn attach_rounds<R: Clock>(rt: &R, alloc: Global, times: &mut Times) -> Result<Shown> {
-    times.reserve(ROUNDS)?;
-    for _ in 0..ROUNDS {
-        attach_round(rt, alloc, times)?;
-    }
-    Ok(times.a_part(STAGES))
+    measured(rt, alloc, ROUNDS, STAGES, &mut Attaching { alloc })
 }
 
 /// How many stages there are then, and a checksum of all outcomes once the attached ones that are ready are done.
@@ -74,5 +79,7 @@ pub(crate) fn attach_checksum(alloc: Global) -> Result<(u16, u64)> {
     attach_all(&mut graph);
     let stages = graph.stages();
     settle(&mut graph, Shape::Chain, stages);
-    Ok((stages, checksum(&mut graph, stages)))
+    let sum = checksum(&mut graph, stages);
+    drop(graph);
+    Ok((stages, sum))
 }

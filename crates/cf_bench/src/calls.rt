@@ -4,7 +4,7 @@ ghost use Rattle.std.specs.Prelude.{◌≡◌, All, IfOk};
 use crate::desk::no_desk;
 use crate::graphs::graph_of;
 use crate::shape::{Shape, no_plan, plan_of};
-use crate::times::{Shown, Times};
+use crate::times::{Shown, Times, Work, measured};
 use cf_core::Graph;
 use cf_desk::{Ask, Call, Desk, Pass};
 use cf_model::{Claimed, Finished, Reply, Told};
@@ -26,6 +26,15 @@ const WORKER: u8 = 0;
 const SOURCE: Value = Value::Int(1);
 
 const GIVEN: Value = Value::Int(2);
+
+/// The kinds of calls whose rounds are alike.
+#[derive(Clone, Copy)]
+enum Kind {
+    Ready,
+    Claim,
+    Finish,
+    Outcome,
+}
 
 /// What a claim, a finish, a question for the lowest ready stage and one for an outcome took.
 #[derive(Clone, Copy)]
@@ -129,28 +138,21 @@ fn outcomes_in(graph: &mut Graph) -> u16 {
     right
 }
 
-fn ready_round<R: Clock>(rt: &R, times: &mut Times, graph: &mut Graph) -> Result<()> {
-    let start = Instant::now(rt)?;
-    let ready = ready_in(graph);
-    note(rt, times, start, ready)
+/// How many calls of a kind a graph answers rightly.
+fn right_in(graph: &mut Graph, kind: Kind) -> u16 {
+    match kind {
+        Kind::Ready => ready_in(graph),
+        Kind::Claim => claimed_in(graph),
+        Kind::Finish => finished_in(graph),
+        Kind::Outcome => outcomes_in(graph),
+    }
 }
 
-fn claim_round<R: Clock>(rt: &R, times: &mut Times, graph: &mut Graph) -> Result<()> {
+/// A round of one kind of call.
+fn round_in<R: Clock>(rt: &R, times: &mut Times, graph: &mut Graph, kind: Kind) -> Result<()> {
     let start = Instant::now(rt)?;
-    let claimed = claimed_in(graph);
-    note(rt, times, start, claimed)
-}
-
-fn finish_round<R: Clock>(rt: &R, times: &mut Times, graph: &mut Graph) -> Result<()> {
-    let start = Instant::now(rt)?;
-    let finished = finished_in(graph);
-    note(rt, times, start, finished)
-}
-
-fn outcome_round<R: Clock>(rt: &R, times: &mut Times, graph: &mut Graph) -> Result<()> {
-    let start = Instant::now(rt)?;
-    let outcomes = outcomes_in(graph);
-    note(rt, times, start, outcomes)
+    let right = right_in(graph, kind);
+    note(rt, times, start, right)
 }
 
 /// A round of each kind of call.
@@ -159,16 +161,18 @@ fn call_graph<R: Clock>(rt: &R, rounds: &mut Rounds, graph: &mut Graph) -> Resul
     if graph.has(0) {
         graph.complete(0, SOURCE);
     }
-    ready_round(rt, &mut rounds.ready, graph)?;
-    claim_round(rt, &mut rounds.claim, graph)?;
-    finish_round(rt, &mut rounds.finish, graph)?;
-    outcome_round(rt, &mut rounds.outcome, graph)
+    round_in(rt, &mut rounds.ready, graph, Kind::Ready)?;
+    round_in(rt, &mut rounds.claim, graph, Kind::Claim)?;
+    round_in(rt, &mut rounds.finish, graph, Kind::Finish)?;
+    round_in(rt, &mut rounds.outcome, graph, Kind::Outcome)
 }
 
 /// What each kind of call of a graph took.
 pub(crate) fn measured_graph_calls<R: Clock>(rt: &R, alloc: Global) -> Result<Calls> {
     let mut graph = graph_of(alloc, Shape::FanOut, STAGES)?;
-    measured_graph(rt, alloc, &mut graph)
+    let took = measured_graph(rt, alloc, &mut graph);
+    drop(graph);
+    took
 }
 
 fn measured_graph<R: Clock>(rt: &R, alloc: Global, graph: &mut Graph) -> Result<Calls> {
@@ -196,31 +200,33 @@ fn completed_in(graph: &mut Graph) -> u16 {
     right
 }
 
-/// A round of completions, of which the last settles the allOf, too.
-fn complete_round<R: Clock>(rt: &R, times: &mut Times, graph: &mut Graph) -> Result<()> {
-    graph.restart();
-    let start = Instant::now(rt)?;
-    let completed = completed_in(graph);
-    note(rt, times, start, completed)
+/// Completions of all sources of an allOf, of which the last settles the allOf, too.
+#[derive(Drop)]
+struct Completes<'a> {
+    graph: &'a mut Graph,
+}
+
+impl<R: Clock> Work<R> for Completes<'_> {
+    fn round(&mut self, rt: &R, times: &mut Times) -> Result<()> {
+        self.graph.restart();
+        let start = Instant::now(rt)?;
+        let completed = completed_in(self.graph);
+        note(rt, times, start, completed)
+    }
 }
 
 /// What a completion of a source took, of those of an allOf.
 pub(crate) fn measured_completions<R: Clock>(rt: &R, alloc: Global) -> Result<Shown> {
     let mut graph = graph_of(alloc, Shape::AllOf, STAGES)?;
-    measured_sources(rt, alloc, &mut graph)
-}
-
-fn measured_sources<R: Clock>(rt: &R, alloc: Global, graph: &mut Graph) -> Result<Shown> {
-    let mut times = Times::new(alloc);
-    complete_rounds(rt, &mut times, graph)
-}
-
-fn complete_rounds<R: Clock>(rt: &R, times: &mut Times, graph: &mut Graph) -> Result<Shown> {
-    times.reserve(ROUNDS)?;
-    for _ in 0..ROUNDS {
-        complete_round(rt, times, graph)?;
-    }
-    Ok(times.a_part(STAGES - 1))
+    let took = measured(
+        rt,
+        alloc,
+        ROUNDS,
+        STAGES - 1,
+        &mut Completes { graph: &mut graph },
+    );
+    drop(graph);
+    took
 }
 
 fn ready_on(desk: &Desk, p: &mut Pass) -> u16
@@ -276,40 +282,33 @@ fn outcomes_on(desk: &Desk, p: &mut Pass) -> u16
     right
 }
 
-fn ready_round_on<R: Clock>(rt: &R, times: &mut Times, desk: &Desk, p: &mut Pass) -> Result<()>
+/// How many calls of a kind a desk answers rightly.
+fn right_on(desk: &Desk, p: &mut Pass, kind: Kind) -> u16
     requires { p.old.table ≡ desk.now.table }
     ensures { p.new.table ≡ p.old.table }
 {
-    let start = Instant::now(rt)?;
-    let ready = ready_on(desk, p);
-    note(rt, times, start, ready)
+    match kind {
+        Kind::Ready => ready_on(desk, p),
+        Kind::Claim => claimed_on(desk, p),
+        Kind::Finish => finished_on(desk, p),
+        Kind::Outcome => outcomes_on(desk, p),
+    }
 }
 
-fn claim_round_on<R: Clock>(rt: &R, times: &mut Times, desk: &Desk, p: &mut Pass) -> Result<()>
+/// A round of one kind of call.
+fn round_on<R: Clock>(
+    rt: &R,
+    times: &mut Times,
+    desk: &Desk,
+    p: &mut Pass,
+    kind: Kind,
+) -> Result<()>
     requires { p.old.table ≡ desk.now.table }
     ensures { p.new.table ≡ p.old.table }
 {
     let start = Instant::now(rt)?;
-    let claimed = claimed_on(desk, p);
-    note(rt, times, start, claimed)
-}
-
-fn finish_round_on<R: Clock>(rt: &R, times: &mut Times, desk: &Desk, p: &mut Pass) -> Result<()>
-    requires { p.old.table ≡ desk.now.table }
-    ensures { p.new.table ≡ p.old.table }
-{
-    let start = Instant::now(rt)?;
-    let finished = finished_on(desk, p);
-    note(rt, times, start, finished)
-}
-
-fn outcome_round_on<R: Clock>(rt: &R, times: &mut Times, desk: &Desk, p: &mut Pass) -> Result<()>
-    requires { p.old.table ≡ desk.now.table }
-    ensures { p.new.table ≡ p.old.table }
-{
-    let start = Instant::now(rt)?;
-    let outcomes = outcomes_on(desk, p);
-    note(rt, times, start, outcomes)
+    let right = right_on(desk, p, kind);
+    note(rt, times, start, right)
 }
 
 /// A round of each kind of call.
@@ -317,10 +316,10 @@ fn call_desk<R: Clock>(rt: &R, rounds: &mut Rounds, desk: &Desk, p: &mut Pass) -
     requires { p.old.table ≡ desk.now.table }
 {
     let _ = desk.act(p, Call::Complete(0, SOURCE));
-    ready_round_on(rt, &mut rounds.ready, desk, p)?;
-    claim_round_on(rt, &mut rounds.claim, desk, p)?;
-    finish_round_on(rt, &mut rounds.finish, desk, p)?;
-    outcome_round_on(rt, &mut rounds.outcome, desk, p)
+    round_on(rt, &mut rounds.ready, desk, p, Kind::Ready)?;
+    round_on(rt, &mut rounds.claim, desk, p, Kind::Claim)?;
+    round_on(rt, &mut rounds.finish, desk, p, Kind::Finish)?;
+    round_on(rt, &mut rounds.outcome, desk, p, Kind::Outcome)
 }
 
 /// The same by the first pass.
@@ -355,7 +354,10 @@ fn open_of(alloc: Global, plan: Plan) -> Result<(Desk, Vec<Pass>)>
 /// The same of a desk that is opened for it.
 fn call_new_desk<R: Clock>(rt: &R, alloc: Global, rounds: &mut Rounds) -> Result<()> {
     let (desk, mut passes) = open(alloc)?;
-    call_first(rt, rounds, &desk, passes.as_mut_slice())
+    let called = call_first(rt, rounds, &desk, passes.as_mut_slice());
+    drop(passes);
+    drop(desk);
+    called
 }
 
 /// What each kind of call of a desk's one caller took.

@@ -3,7 +3,7 @@ ghost use Rattle.std.specs.Prelude.{◌≡◌, All, length, vec_len};
 ghost use Rattle.cf_desk.specs.Views.{IsOf};
 
 use crate::shape::{Shape, no_plan, plan_of};
-use crate::times::{Shown, Times};
+use crate::times::{Shown, Times, Work, measured};
 use crate::work::{OneMore, checksum};
 use cf_desk::{Call, Closed, Desk, Pass};
 use cf_outcome::Value;
@@ -100,43 +100,35 @@ pub(crate) fn desk_checksum(alloc: Global, callers: u8) -> Result<(u64, usize)> 
 /// A checksum of the first outcomes of a closed desk, and the number of its events.
 pub(crate) fn checksum_of(closed: Result<Closed>, stages: u16) -> Result<(u64, usize)> {
     let mut closed = closed?;
-    Ok((checksum(&mut closed.graph, stages), closed.history.len()))
+    let sum = checksum(&mut closed.graph, stages);
+    let events = closed.history.len();
+    drop(closed);
+    Ok((sum, events))
 }
 
-/// A round of a desk.
-fn use_round<R: Clock>(
-    rt: &R,
+/// Opening a desk of a plan that is there, using it, closing it and letting it go.
+#[derive(Clone, Copy)]
+struct UsesDesk<'a> {
     alloc: Global,
-    plan: &Plan,
+    plan: &'a Plan,
     callers: u8,
-    times: &mut Times,
-) -> Result<()> {
-    let start = Instant::now(rt)?;
-    drop(used(alloc, plan, callers)?);
-    times.add_since(rt, start)
+}
+
+impl<R: Clock> Work<R> for UsesDesk<'_> {
+    fn round(&mut self, rt: &R, times: &mut Times) -> Result<()> {
+        let start = Instant::now(rt)?;
+        drop(used(self.alloc, self.plan, self.callers)?);
+        times.add_since(rt, start)
+    }
 }
 
 /// What a desk took that was opened of a plan that is there, used and closed, and let go.
 pub(crate) fn measured_desk<R: Clock>(rt: &R, alloc: Global, callers: u8) -> Result<Shown> {
     let plan = chain(alloc)?;
-    measured_desk_of(rt, alloc, &plan, callers)
-}
-
-fn measured_desk_of<R: Clock>(rt: &R, alloc: Global, plan: &Plan, callers: u8) -> Result<Shown> {
-    let mut times = Times::new(alloc);
-    use_rounds(rt, alloc, plan, callers, &mut times)
-}
-
-fn use_rounds<R: Clock>(
-    rt: &R,
-    alloc: Global,
-    plan: &Plan,
-    callers: u8,
-    times: &mut Times,
-) -> Result<Shown> {
-    times.reserve(ROUNDS)?;
-    for _ in 0..ROUNDS {
-        use_round(rt, alloc, plan, callers, times)?;
-    }
-    Ok(times.a_part(1))
+    let mut work = UsesDesk {
+        alloc,
+        plan: &plan,
+        callers,
+    };
+    measured(rt, alloc, ROUNDS, 1, &mut work)
 }

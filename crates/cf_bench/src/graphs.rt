@@ -1,6 +1,6 @@
 //! Graphs of the shapes: what came of them, and how long it took.
 use crate::shape::{Shape, no_plan, plan_of};
-use crate::times::{Shown, Times};
+use crate::times::{Shown, Times, Work, measured};
 use crate::work::{checksum, settle, settle_at_once};
 use cf_core::{Graph, GraphFault};
 use std::alloc::Global;
@@ -39,9 +39,16 @@ pub(crate) struct Sums {
 /// The checksums of a shape at a size.
 pub(crate) fn sums_of(alloc: Global, shape: Shape, stages: u16) -> io::Result<Sums> {
     let (calls, again) = sums_before_and_after(alloc, shape, stages)?;
-    let mut graph = graph_of(alloc, shape, stages)?;
-    let work = sum_by_work(&mut graph, shape, stages);
+    let work = sum_of_new(alloc, shape, stages)?;
     Ok(Sums { calls, work, again })
+}
+
+/// The checksum of a new graph that one call of `work` settles.
+fn sum_of_new(alloc: Global, shape: Shape, stages: u16) -> io::Result<u64> {
+    let mut graph = graph_of(alloc, shape, stages)?;
+    let sum = sum_by_work(&mut graph, shape, stages);
+    drop(graph);
+    Ok(sum)
 }
 
 /// The checksum of a graph that is settled by a claim and a finish for each stage, and then that after a restart.
@@ -50,7 +57,9 @@ fn sums_before_and_after(alloc: Global, shape: Shape, stages: u16) -> io::Result
     settle(&mut graph, shape, stages);
     let calls = checksum(&mut graph, stages);
     graph.restart();
-    Ok((calls, sum_by_work(&mut graph, shape, stages)))
+    let again = sum_by_work(&mut graph, shape, stages);
+    drop(graph);
+    Ok((calls, again))
 }
 
 /// The checksum of a graph that one call of `work` settles.
@@ -63,18 +72,23 @@ fn rounds_of(stages: u16) -> u32 {
     STAGES_A_SHAPE / u32::from(stages).max(1)
 }
 
-/// A round from scratch: builds a plan with its room and a graph of it, and settles all its stages.
-fn settle_from_scratch<R: Clock>(
-    rt: &R,
+/// Building a plan with its room and a graph of it, and settling all its stages.
+#[derive(Clone, Copy)]
+struct FromScratch {
     alloc: Global,
     shape: Shape,
     stages: u16,
-    times: &mut Times,
-) -> io::Result<()> {
-    let start = Instant::now(rt)?;
-    let mut graph = graph_of(alloc, shape, stages)?;
-    settle_at_once(&mut graph, shape, stages);
-    times.add_since(rt, start)
+}
+
+impl<R: Clock> Work<R> for FromScratch {
+    fn round(&mut self, rt: &R, times: &mut Times) -> io::Result<()> {
+        let start = Instant::now(rt)?;
+        let mut graph = graph_of(self.alloc, self.shape, self.stages)?;
+        settle_at_once(&mut graph, self.shape, self.stages);
+        let added = times.add_since(rt, start);
+        drop(graph);
+        added
+    }
 }
 
 /// What building a plan with its room and a graph of it, and settling all its stages took, a stage. That the graph is
@@ -85,37 +99,29 @@ pub(crate) fn measured_from_scratch<R: Clock>(
     shape: Shape,
     stages: u16,
 ) -> io::Result<Shown> {
-    let mut times = Times::new(alloc);
-    rounds_from_scratch(rt, alloc, shape, stages, &mut times)
+    let mut work = FromScratch {
+        alloc,
+        shape,
+        stages,
+    };
+    measured(rt, alloc, rounds_of(stages), stages, &mut work)
 }
 
-fn rounds_from_scratch<R: Clock>(
-    rt: &R,
-    alloc: Global,
+/// Restarting a graph that is there, and settling all its stages again, as each request has to.
+#[derive(Drop)]
+struct PerRequest<'a> {
+    graph: &'a mut Graph,
     shape: Shape,
     stages: u16,
-    times: &mut Times,
-) -> io::Result<Shown> {
-    let rounds = rounds_of(stages);
-    times.reserve(rounds)?;
-    for _ in 0..rounds {
-        settle_from_scratch(rt, alloc, shape, stages, times)?;
+}
+
+impl<R: Clock> Work<R> for PerRequest<'_> {
+    fn round(&mut self, rt: &R, times: &mut Times) -> io::Result<()> {
+        let start = Instant::now(rt)?;
+        self.graph.restart();
+        settle_at_once(self.graph, self.shape, self.stages);
+        times.add_since(rt, start)
     }
-    Ok(times.a_part(stages))
-}
-
-/// A round of a request: restarts a graph that is there, and settles all its stages again.
-fn settle_again<R: Clock>(
-    rt: &R,
-    graph: &mut Graph,
-    shape: Shape,
-    stages: u16,
-    times: &mut Times,
-) -> io::Result<()> {
-    let start = Instant::now(rt)?;
-    graph.restart();
-    settle_at_once(graph, shape, stages);
-    times.add_since(rt, start)
 }
 
 /// What restarting a graph that is there and settling all its stages again took, a stage.
@@ -127,7 +133,9 @@ pub(crate) fn measured_per_request<R: Clock>(
 ) -> io::Result<Shown> {
     let mut graph = graph_of(alloc, shape, stages)?;
     settle_at_once(&mut graph, shape, stages);
-    measured_again(rt, alloc, &mut graph, shape, stages)
+    let took = measured_again(rt, alloc, &mut graph, shape, stages);
+    drop(graph);
+    took
 }
 
 fn measured_again<R: Clock>(
@@ -137,21 +145,10 @@ fn measured_again<R: Clock>(
     shape: Shape,
     stages: u16,
 ) -> io::Result<Shown> {
-    let mut times = Times::new(alloc);
-    rounds_again(rt, graph, shape, stages, &mut times)
-}
-
-fn rounds_again<R: Clock>(
-    rt: &R,
-    graph: &mut Graph,
-    shape: Shape,
-    stages: u16,
-    times: &mut Times,
-) -> io::Result<Shown> {
-    let rounds = rounds_of(stages);
-    times.reserve(rounds)?;
-    for _ in 0..rounds {
-        settle_again(rt, graph, shape, stages, times)?;
-    }
-    Ok(times.a_part(stages))
+    let mut work = PerRequest {
+        graph,
+        shape,
+        stages,
+    };
+    measured(rt, alloc, rounds_of(stages), stages, &mut work)
 }

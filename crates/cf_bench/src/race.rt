@@ -4,7 +4,7 @@ ghost use Rattle.std.specs.Prelude.{◌≡◌, All, IfOk, length, vec_len};
 use crate::desk::{checksum_of, no_desk, not_closed};
 use crate::gate::Gate;
 use crate::shape::no_plan;
-use crate::times::{Shown, Times};
+use crate::times::{Shown, Times, Work, measured};
 use cf_desk::{Ask, Call, Closed, Desk, Pass};
 use cf_outcome::Value;
 use cf_plan::{Form, Plan, PlanBuilder, PlanFault};
@@ -125,7 +125,7 @@ fn race_time<R: Clock + Threads + Sync>(
     gate.took()
 }
 
-/// What a race took, a stage.
+/// What a race took, a stage. No `Work`, whose `R` couldn't be lent to the threads.
 pub(crate) fn measured_race<R: Clock + Threads + Sync>(
     rt: &R,
     alloc: Global,
@@ -167,24 +167,37 @@ fn read_first(desk: &Desk, passes: &mut [Pass])
     }
 }
 
-/// A round of reads.
-fn read_round<R: Clock>(rt: &R, alloc: Global, times: &mut Times) -> io::Result<()> {
-    let (desk, mut passes) = open(alloc, 1, 1, READS)?;
+/// Reads at a desk that is opened for them.
+#[derive(Clone, Copy)]
+struct Reads {
+    alloc: Global,
+}
+
+impl<R: Clock> Work<R> for Reads {
+    fn round(&mut self, rt: &R, times: &mut Times) -> io::Result<()> {
+        let (desk, mut passes) = open(self.alloc, 1, 1, READS)?;
+        let added = read_timed(rt, &desk, passes.as_mut_slice(), times);
+        drop(passes);
+        drop(desk);
+        added
+    }
+}
+
+/// Does the reads of the first pass, and adds what they took.
+fn read_timed<R: Clock>(
+    rt: &R,
+    desk: &Desk,
+    passes: &mut [Pass],
+    times: &mut Times,
+) -> io::Result<()>
+    requires { All (λ p. p.table ≡ desk.now.table) passes.old }
+{
     let start = Instant::now(rt)?;
-    read_first(&desk, passes.as_mut_slice());
+    read_first(desk, passes);
     times.add_since(rt, start)
 }
 
 /// What a read took which found nothing new.
 pub(crate) fn measured_read<R: Clock>(rt: &R, alloc: Global) -> io::Result<Shown> {
-    let mut times = Times::new(alloc);
-    read_rounds(rt, alloc, &mut times)
-}
-
-fn read_rounds<R: Clock>(rt: &R, alloc: Global, times: &mut Times) -> io::Result<Shown> {
-    times.reserve(ROUNDS)?;
-    for _ in 0..ROUNDS {
-        read_round(rt, alloc, times)?;
-    }
-    Ok(times.a_part(READS))
+    measured(rt, alloc, ROUNDS, READS, &mut Reads { alloc })
 }

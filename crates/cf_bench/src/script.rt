@@ -1,5 +1,5 @@
 //! A script as large as scripts may be, and what running it takes beside reading its bytes as JSON alone.
-use crate::times::{Shown, Times};
+use crate::times::{Shown, Times, Work, measured};
 use cf_script::run_script;
 use serde_json::Value as Json;
 use std::alloc::{AllocError, Global};
@@ -131,58 +131,47 @@ fn is_json(alloc: Global, text: &str) -> bool {
     json.is_ok()
 }
 
-/// A round of JSON.
-fn json_round<R: Clock>(rt: &R, alloc: Global, text: &str, times: &mut Times) -> io::Result<()> {
-    let start = Instant::now(rt)?;
-    let read = is_json(alloc, text);
-    times.add_since(rt, start)?;
-    if !read {
-        return Err(io::Error::other("the bytes are no JSON"));
+/// Reading bytes as JSON.
+#[derive(Clone, Copy)]
+struct ReadsJson<'a> {
+    alloc: Global,
+    text: &'a str,
+}
+
+impl<R: Clock> Work<R> for ReadsJson<'_> {
+    fn round(&mut self, rt: &R, times: &mut Times) -> io::Result<()> {
+        let start = Instant::now(rt)?;
+        let read = is_json(self.alloc, self.text);
+        times.add_since(rt, start)?;
+        if read {
+            Ok(())
+        } else {
+            Err(io::Error::other("the bytes are no JSON"))
+        }
     }
-    Ok(())
 }
 
 /// What reading the bytes as JSON and letting the value go again took.
 pub(crate) fn measured_json<R: Clock>(rt: &R, alloc: Global, text: &str) -> io::Result<Shown> {
-    let mut times = Times::new(alloc);
-    json_rounds(rt, alloc, text, &mut times)
+    measured(rt, alloc, ROUNDS, 1, &mut ReadsJson { alloc, text })
 }
 
-fn json_rounds<R: Clock>(
-    rt: &R,
+/// Running a script.
+#[derive(Clone, Copy)]
+struct RunsScript<'a> {
     alloc: Global,
-    text: &str,
-    times: &mut Times,
-) -> io::Result<Shown> {
-    times.reserve(ROUNDS)?;
-    for _ in 0..ROUNDS {
-        json_round(rt, alloc, text, times)?;
-    }
-    Ok(times.a_part(1))
+    text: &'a str,
 }
 
-/// A round of the script.
-fn script_round<R: Clock>(rt: &R, alloc: Global, text: &str, times: &mut Times) -> io::Result<()> {
-    let start = Instant::now(rt)?;
-    drop(report(alloc, text)?);
-    times.add_since(rt, start)
+impl<R: Clock> Work<R> for RunsScript<'_> {
+    fn round(&mut self, rt: &R, times: &mut Times) -> io::Result<()> {
+        let start = Instant::now(rt)?;
+        drop(report(self.alloc, self.text)?);
+        times.add_since(rt, start)
+    }
 }
 
 /// What running the script took.
 pub(crate) fn measured_script<R: Clock>(rt: &R, alloc: Global, text: &str) -> io::Result<Shown> {
-    let mut times = Times::new(alloc);
-    script_rounds(rt, alloc, text, &mut times)
-}
-
-fn script_rounds<R: Clock>(
-    rt: &R,
-    alloc: Global,
-    text: &str,
-    times: &mut Times,
-) -> io::Result<Shown> {
-    times.reserve(ROUNDS)?;
-    for _ in 0..ROUNDS {
-        script_round(rt, alloc, text, times)?;
-    }
-    Ok(times.a_part(1))
+    measured(rt, alloc, ROUNDS, 1, &mut RunsScript { alloc, text })
 }

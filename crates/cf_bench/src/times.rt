@@ -4,6 +4,38 @@ use std::fmt;
 use std::io::Result;
 use std::time::{Clock, Duration, Instant};
 
+/// Work that is done in rounds.
+pub(crate) trait Work<R> {
+    /// Does one more round, and adds what it took.
+    fn round(&mut self, rt: &R, times: &mut Times) -> Result<()>;
+}
+
+/// What so many rounds took, each of which does so many parts of work.
+pub(crate) fn measured<R, W: Work<R>>(
+    rt: &R,
+    alloc: Global,
+    rounds: u32,
+    parts: u16,
+    work: &mut W,
+) -> Result<Shown> {
+    let mut times = Times::new(alloc);
+    measure(rt, &mut times, rounds, parts, work)
+}
+
+fn measure<R, W: Work<R>>(
+    rt: &R,
+    times: &mut Times,
+    rounds: u32,
+    parts: u16,
+    work: &mut W,
+) -> Result<Shown> {
+    times.reserve(rounds)?;
+    for _ in 0..rounds {
+        work.round(rt, times)?;
+    }
+    Ok(times.a_part(parts))
+}
+
 /// How long each round took, in nanoseconds.
 #[derive(Drop)]
 pub(crate) struct Times {
