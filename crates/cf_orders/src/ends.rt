@@ -1,5 +1,5 @@
 //! Ends by the outcomes of some stages.
-use cf_explore::{Found, Witness};
+use cf_explore::{End, Found, Witness};
 use cf_outcome::Outcome;
 use std::alloc::{AllocError, Global};
 
@@ -20,45 +20,36 @@ pub fn grouped_by(
 ) -> Result<Vec<Grouped>, AllocError> {
     let mut groups: Vec<Grouped> = Vec::new(alloc);
     for end in found.ends.iter() {
-        let outcomes = told(alloc, end.outcomes.as_slice(), of)?;
-        add(
-            &mut groups,
-            Grouped {
-                outcomes,
-                orders: end.orders,
-                witness: end.witness,
-            },
-        )?;
+        add(alloc, &mut groups, end, of)?;
     }
     Ok(groups)
 }
 
-/// Adds ends to those with the same outcomes, or behind all others.
-fn add(groups: &mut Vec<Grouped>, ends: Grouped) -> Result<(), AllocError> {
+/// Adds an end to those with the same outcomes, or behind all others.
+fn add(
+    alloc: Global,
+    groups: &mut Vec<Grouped>,
+    end: &End,
+    of: Option<&[u16]>,
+) -> Result<(), AllocError> {
+    let outcomes = told(alloc, end.outcomes.as_slice(), of)?;
     for group in groups.iter_mut() {
-        if are_same(group.outcomes.as_slice(), ends.outcomes.as_slice()) {
-            group.orders = group.orders.saturating_add(ends.orders);
-            group.witness = shorter(group.witness, ends.witness);
+        if group.outcomes == outcomes {
+            group.orders = group.orders.saturating_add(end.orders);
+            group.witness = shorter(group.witness, end.witness);
             return Ok(());
         }
     }
-    Ok(groups.push(ends)?)
+    groups.push(Grouped {
+        outcomes,
+        orders: end.orders,
+        witness: end.witness,
+    })?;
+    Ok(())
 }
 
 fn shorter(one: Witness, other: Witness) -> Witness {
     if other.moves < one.moves { other } else { one }
-}
-
-fn are_same(one: &[(u16, Option<Outcome>)], other: &[(u16, Option<Outcome>)]) -> bool {
-    if one.len() != other.len() {
-        return false;
-    }
-    for (a, b) in one.iter().zip(other.iter()) {
-        if a.0 != b.0 || a.1 != b.1 {
-            return false;
-        }
-    }
-    true
 }
 
 /// The outcomes of the stages that are asked for.
@@ -68,18 +59,21 @@ fn told(
     of: Option<&[u16]>,
 ) -> Result<Vec<(u16, Option<Outcome>)>, AllocError> {
     let mut told = Vec::new(alloc);
-    match of {
-        None => {
-            for (i, outcome) in outcomes.iter().enumerate() {
-                told.push((u16::try_from(i).unwrap_or(u16::MAX), *outcome))?;
-            }
-        }
-        Some(of) => {
-            for i in of {
-                let outcome = outcomes.get(usize::from(*i)).copied().flatten();
-                told.push((*i, outcome))?;
-            }
-        }
+    let count = match of {
+        None => outcomes.len(),
+        Some(of) => of.len(),
+    };
+    for k in 0..count {
+        let i = asked_at(of, k);
+        told.push((i, outcomes.get(usize::from(i)).copied().flatten()))?;
     }
     Ok(told)
+}
+
+/// The k-th stage that is asked for.
+fn asked_at(of: Option<&[u16]>, k: usize) -> u16 {
+    match of {
+        None => u16::try_from(k).unwrap_or(u16::MAX),
+        Some(of) => of.get(k).copied().unwrap_or(u16::MAX),
+    }
 }

@@ -24,6 +24,13 @@ pub(crate) struct Conditions {
     pub(crate) texts: Vec<String>,
 }
 
+/// How often a condition may hold, with the member that has the conditions of its kind.
+const KINDS: [(How, &str); 3] = [
+    (How::Never, "never"),
+    (How::Always, "always"),
+    (How::Possible, "possible"),
+];
+
 /// The conditions of a question, in order.
 pub(crate) fn read_asked(
     alloc: Global,
@@ -34,9 +41,9 @@ pub(crate) fn read_asked(
         conditions: Vec::new(alloc),
         texts: Vec::new(alloc),
     };
-    read_all(alloc, json, scope, (How::Never, "never"), &mut asked)?;
-    read_all(alloc, json, scope, (How::Always, "always"), &mut asked)?;
-    read_all(alloc, json, scope, (How::Possible, "possible"), &mut asked)?;
+    for how in &KINDS {
+        read_all(alloc, json, scope, *how, &mut asked)?;
+    }
     Ok(asked)
 }
 
@@ -56,16 +63,14 @@ fn read_all(
     };
     for (k, said) in list.iter().enumerate() {
         let condition = read_one(alloc, said, scope, how, k)?;
-        asked.texts.push(text_of(alloc, how.1, said)?)?;
         asked.conditions.push(condition)?;
+        asked.texts.push(text_of(alloc, how.1, said)?)?;
     }
     Ok(())
 }
 
 fn text_of(alloc: Global, how: &str, said: &Json) -> Result<String, AllocError> {
-    let mut text = String::new(alloc);
-    write!(text, "{how} {said}")?;
-    Ok(text)
+    format!(in alloc; "{how} {said}")
 }
 
 /// One condition.
@@ -96,7 +101,7 @@ fn read_one(
 }
 
 /// A part of a condition.
-#[derive(Drop)]
+#[derive(Clone, Copy)]
 enum ConditionPart {
     Time(When),
     Fact(Fact),
@@ -104,18 +109,17 @@ enum ConditionPart {
 
 /// `["at",c,k]`, `["stage",i,what]`, `["called",i]`, `["notcalled",i]`, `["calls",i,n]` or `["callsatleast",i,n]`.
 fn part_of(scope: &Scope<'_>, said: &Json) -> Option<ConditionPart> {
-    let word = said.get(0usize)?.as_str()?;
-    let first = said.get(1usize)?.as_i64()?;
-    match said.as_array()?.len() {
-        2 => short_part(word, stage(scope, first)?),
-        3 => long_part(scope, word, first, said.get(2usize)?),
+    match said.as_array()?.as_slice() {
+        [word, first] => short_part(scope, word, first),
+        [word, first, last] => long_part(scope, word, first, last),
         _ => None,
     }
 }
 
 /// The part of a word and a stage.
-fn short_part(word: &str, i: u16) -> Option<ConditionPart> {
-    match word {
+fn short_part(scope: &Scope<'_>, word: &Json, first: &Json) -> Option<ConditionPart> {
+    let i = stage(scope, first.as_i64()?)?;
+    match word.as_str()? {
         "called" => Some(ConditionPart::Fact(Fact::Called(i))),
         "notcalled" => Some(ConditionPart::Fact(Fact::NotCalled(i))),
         _ => None,
@@ -123,39 +127,42 @@ fn short_part(word: &str, i: u16) -> Option<ConditionPart> {
 }
 
 /// The part of a word, a number and what stands behind it.
-fn long_part(scope: &Scope<'_>, word: &str, first: i64, last: &Json) -> Option<ConditionPart> {
-    match word {
-        "at" => Some(ConditionPart::Time(time_of(scope, first, last)?)),
-        "stage" => Some(ConditionPart::Fact(is_of(scope, first, last)?)),
-        "calls" => Some(ConditionPart::Fact(calls(true, scope, first, last)?)),
-        "callsatleast" => Some(ConditionPart::Fact(calls(false, scope, first, last)?)),
+fn long_part(scope: &Scope<'_>, word: &Json, first: &Json, last: &Json) -> Option<ConditionPart> {
+    let first = first.as_i64()?;
+    match word.as_str()? {
+        "at" => time_of(scope, first, last),
+        "stage" => is_of(scope, first, last),
+        "calls" => calls(true, scope, first, last),
+        "callsatleast" => calls(false, scope, first, last),
         _ => None,
     }
 }
 
 /// What a stage is to be.
-fn is_of(scope: &Scope<'_>, i: i64, said: &Json) -> Option<Fact> {
+fn is_of(scope: &Scope<'_>, i: i64, said: &Json) -> Option<ConditionPart> {
     let what = what_of(said.as_str()?)?;
-    Some(Fact::Stage(stage(scope, i)?, what))
+    let fact = Fact::Stage(stage(scope, i)?, what);
+    Some(ConditionPart::Fact(fact))
 }
 
 /// How often a stage's function is to be called.
-fn calls(exactly: bool, scope: &Scope<'_>, i: i64, said: &Json) -> Option<Fact> {
+fn calls(exactly: bool, scope: &Scope<'_>, i: i64, said: &Json) -> Option<ConditionPart> {
     let number = function(scope, i)?;
     let times = small(said)?;
-    if exactly {
-        Some(Fact::Exactly(number, times))
+    let fact = if exactly {
+        Fact::Exactly(number, times)
     } else {
-        Some(Fact::AtLeast(number, times))
-    }
+        Fact::AtLeast(number, times)
+    };
+    Some(ConditionPart::Fact(fact))
 }
 
 /// When this step of this caller is its next one.
-fn time_of(scope: &Scope<'_>, c: i64, said: &Json) -> Option<When> {
-    let c = usize::try_from(c).ok()?;
+fn time_of(scope: &Scope<'_>, c: i64, said: &Json) -> Option<ConditionPart> {
+    let c = u8::try_from(c).ok()?;
     let k = small(said)?;
-    if usize::from(k) < *scope.steps.get(c)? {
-        Some(When::Before(u8::try_from(c).ok()?, k))
+    if usize::from(k) < *scope.steps.get(usize::from(c))? {
+        Some(ConditionPart::Time(When::Before(c, k)))
     } else {
         None
     }

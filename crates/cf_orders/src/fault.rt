@@ -64,21 +64,41 @@ impl From<PlanFault> for QuestionFault {
 
 impl fmt::Display for Spot {
     fn fmt<W: fmt::Write>(&self, f: &mut fmt::Formatter<W>) -> fmt::Result {
-        match *self {
-            Spot::Callers => write!(f, "callers"),
-            Spot::Caller(c) => write!(f, "callers[{c}]"),
-            Spot::Step(c, k) => write!(f, "callers[{c}][{k}]"),
-            Spot::Workers => write!(f, "workers"),
-            Spot::Clock => write!(f, "clock"),
-            Spot::Conditions(how) => write!(f, "{how}"),
-            Spot::Condition(how, k) => write!(f, "{how}[{k}]"),
-            Spot::Fact(how, k, n) => write!(f, "{how}[{k}][{n}]"),
-            Spot::Same(i) => write!(f, "stages[{i}].fn"),
+        f.write_str(self.member())?;
+        for place in self.places().iter().flatten() {
+            write!(f, "[{place}]")?;
+        }
+        match self {
+            Spot::Same(_) => f.write_str(".fn"),
+            _ => Ok(()),
         }
     }
 }
 
 impl Spot {
+    /// The member of a question that it is in.
+    fn member(self) -> &'static str {
+        match self {
+            Spot::Callers | Spot::Caller(_) | Spot::Step(_, _) => "callers",
+            Spot::Workers => "workers",
+            Spot::Clock => "clock",
+            Spot::Conditions(how) | Spot::Condition(how, _) | Spot::Fact(how, _, _) => how,
+            Spot::Same(_) => "stages",
+        }
+    }
+
+    /// At which place of that member, and at which of what stands there.
+    fn places(self) -> [Option<usize>; 2] {
+        match self {
+            Spot::Caller(c) => [Some(c), None],
+            Spot::Step(c, k) => [Some(c), Some(k)],
+            Spot::Condition(_, k) => [Some(k), None],
+            Spot::Fact(_, k, n) => [Some(k), Some(n)],
+            Spot::Same(i) => [Some(i), None],
+            _ => [None, None],
+        }
+    }
+
     /// What would be right there.
     pub fn wanted(self) -> &'static str {
         match self {
@@ -102,7 +122,7 @@ impl Spot {
 impl fmt::Display for QuestionFault {
     fn fmt<W: fmt::Write>(&self, f: &mut fmt::Formatter<W>) -> fmt::Result {
         match self {
-            QuestionFault::NoMemory => write!(f, "no memory"),
+            QuestionFault::NoMemory => f.write_str("no memory"),
             QuestionFault::Script(fault) => write!(f, "{}", ScriptFault::from(*fault)),
             QuestionFault::Plan(fault) => write!(f, "plan: {fault}"),
             QuestionFault::At(spot) => write!(f, "{spot}: wanted {}", spot.wanted()),

@@ -8,10 +8,17 @@ use std::alloc::{AllocError, Global};
 pub(crate) struct QuestionText {
     /// The members of the script but its steps, without the braces.
     pub(crate) head: String,
-    /// The steps of each caller, as a script has them.
-    pub(crate) callers: Vec<Vec<String>>,
-    /// For each of these, how often it looks at most, where it is a join.
-    pub(crate) joins: Vec<Vec<Option<u16>>>,
+    /// The steps of each caller.
+    pub(crate) callers: Vec<Vec<StepText>>,
+}
+
+/// A step of a caller.
+#[derive(Drop)]
+pub(crate) struct StepText {
+    /// The step as a script has it.
+    pub(crate) text: String,
+    /// How often it looks at most, where it is a join.
+    pub(crate) most: Option<u16>,
 }
 
 /// A caller has at most so many steps, as a script.
@@ -20,19 +27,15 @@ const MAX_STEPS: usize = 20_000;
 impl QuestionText {
     /// The script with all these steps.
     pub(crate) fn script(&self, alloc: Global) -> Result<String, AllocError> {
-        let mut text = String::new(alloc);
-        write!(text, "{{{},\"steps\":[", self.head)?;
-        let mut count = 0;
+        let mut text = format!(in alloc; "{{{},\"steps\":[", self.head)?;
+        let mut comma = "";
         for own in self.callers.iter() {
             for step in own.iter() {
-                if count > 0 {
-                    text.push(',')?;
-                }
-                text.push_str(step)?;
-                count = 1;
+                write!(text, "{comma}{}", step.text)?;
+                comma = ",";
             }
         }
-        write!(text, "]}}")?;
+        text.push_str("]}")?;
         Ok(text)
     }
 
@@ -51,129 +54,100 @@ impl QuestionText {
 
 /// The question's text, as far as a script has it.
 pub(crate) fn joined_of(alloc: Global, json: &Json) -> Result<QuestionText, QuestionFault> {
-    let mut made = QuestionText {
-        head: head_of(alloc, json)?,
-        callers: Vec::new(alloc),
-        joins: Vec::new(alloc),
-    };
-    let Some(callers) = json.get("callers").and_then(Json::as_array) else {
+    let head = head_of(alloc, json)?;
+    let Some(list) = json.get("callers").and_then(Json::as_array) else {
         return Err(QuestionFault::At(Spot::Callers));
     };
-    for (c, said) in callers.iter().enumerate() {
-        add_caller(alloc, &mut made, c, said)?;
+    let mut callers = Vec::new(alloc);
+    for (c, said) in list.iter().enumerate() {
+        callers.push(caller_of(alloc, c, said)?)?;
     }
-    Ok(made)
+    Ok(QuestionText { head, callers })
 }
 
-/// Adds a caller's steps.
-fn add_caller(
-    alloc: Global,
-    made: &mut QuestionText,
-    c: usize,
-    said: &Json,
-) -> Result<(), QuestionFault> {
-    let Some(list) = said.as_array() else {
-        return Err(QuestionFault::At(Spot::Caller(c)));
-    };
-    if list.len() > MAX_STEPS {
-        return Err(QuestionFault::At(Spot::Caller(c)));
+/// A caller's steps.
+fn caller_of(alloc: Global, c: usize, said: &Json) -> Result<Vec<StepText>, QuestionFault> {
+    let mut own = Vec::new(alloc);
+    match said.as_array() {
+        Some(list) if list.len() <= MAX_STEPS => add_steps(alloc, &mut own, c, list)?,
+        _ => return Err(QuestionFault::At(Spot::Caller(c))),
     }
-    let mut texts = Vec::new(alloc);
-    let mut looks = Vec::new(alloc);
+    Ok(own)
+}
+
+/// Adds the steps of a caller.
+fn add_steps(
+    alloc: Global,
+    own: &mut Vec<StepText>,
+    c: usize,
+    list: &[Json],
+) -> Result<(), QuestionFault> {
     for (k, said) in list.iter().enumerate() {
         let Some(step) = step_of(said) else {
             return Err(QuestionFault::At(Spot::Step(c, k)));
         };
-        texts.push(text_of(alloc, c, step, said)?)?;
-        looks.push(looks_of(step))?;
+        own.push(StepText {
+            text: text_of(alloc, c, step, said)?,
+            most: most_in(step),
+        })?;
     }
-    made.callers.push(texts)?;
-    made.joins.push(looks)?;
     Ok(())
 }
 
 /// How a step of a caller stands in a script.
 #[derive(Clone, Copy)]
-enum Stands {
+enum Stands<'a> {
     /// As it is.
     Same,
-    /// With the caller's number behind its word.
-    Numbered,
-    /// As a question for the stage's outcome, asked so often at most.
-    Join(u16),
-}
-
-/// How often a step looks at most, where it is a join.
-fn looks_of(step: Stands) -> Option<u16> {
-    match step {
-        Stands::Join(most) => Some(most),
-        _ => None,
-    }
+    /// A claim of this stage, with the caller's number behind its word.
+    Claim(&'a Json),
+    /// A finish of this stage with this answer, with the caller's number behind its word.
+    Finish(&'a Json, &'a Json),
+    /// As a question for this stage's outcome, asked so often at most.
+    Join(&'a Json, u16),
 }
 
 /// How a step stands in a script, if it is one that callers have. What is wrong within it the reading of scripts finds.
-fn step_of(said: &Json) -> Option<Stands> {
-    let word = said.get(0usize)?.as_str()?;
-    let count = said.as_array()?.len();
-    match word {
-        "claim" if count == 2 => Some(Stands::Numbered),
-        "finish" if count == 3 => Some(Stands::Numbered),
-        "join" if count == 3 => most_of(said.get(2usize)?),
-        "complete" | "fail" | "cancel" => Some(Stands::Same),
-        "tick" | "now" | "outcome" | "attach" => Some(Stands::Same),
+fn step_of(said: &Json) -> Option<Stands<'_>> {
+    let (word, rest) = said.as_array()?.split_first()?;
+    form_of(word.as_str()?, rest)
+}
+
+/// How a step of this word stands in a script, where this follows the word.
+fn form_of<'a>(word: &str, rest: &'a [Json]) -> Option<Stands<'a>> {
+    match (word, rest) {
+        ("claim", [stage]) => Some(Stands::Claim(stage)),
+        ("finish", [stage, answer]) => Some(Stands::Finish(stage, answer)),
+        ("join", [stage, most]) => join_of(stage, most),
+        ("complete" | "fail" | "cancel" | "tick", _) => Some(Stands::Same),
+        ("now" | "outcome" | "attach", _) => Some(Stands::Same),
         _ => None,
     }
 }
 
-/// How often a join looks at most: 1 to 65,535 times.
-fn most_of(said: &Json) -> Option<Stands> {
-    let most = u16::try_from(said.as_i64()?).ok()?;
-    if most == 0 {
-        None
-    } else {
-        Some(Stands::Join(most))
+/// How often a step looks at most, where it is a join.
+fn most_in(step: Stands<'_>) -> Option<u16> {
+    match step {
+        Stands::Join(_, most) => Some(most),
+        _ => None,
+    }
+}
+
+/// A join, which looks 1 to 65,535 times at most.
+fn join_of<'a>(stage: &'a Json, most: &Json) -> Option<Stands<'a>> {
+    match u16::try_from(most.as_i64()?) {
+        Ok(most) if most > 0 => Some(Stands::Join(stage, most)),
+        _ => None,
     }
 }
 
 /// The text of a step in a script.
-fn text_of(alloc: Global, c: usize, step: Stands, said: &Json) -> Result<String, AllocError> {
-    let mut text = String::new(alloc);
+fn text_of(alloc: Global, c: usize, step: Stands<'_>, said: &Json) -> Result<String, AllocError> {
     match step {
-        Stands::Same => write!(text, "{said}")?,
-        Stands::Numbered => write_numbered(&mut text, c, said)?,
-        Stands::Join(_) => {
-            write!(text, "[\"outcome\",")?;
-            write_item(&mut text, said, 1)?;
-            text.push(']')?;
-        }
-    }
-    Ok(text)
-}
-
-/// The step with the caller's number behind its word.
-fn write_numbered(text: &mut String, c: usize, said: &Json) -> Result<(), AllocError> {
-    text.push('[')?;
-    write_item(text, said, 0)?;
-    write!(text, ",{c}")?;
-    for k in 1..count_of(said) {
-        text.push(',')?;
-        write_item(text, said, k)?;
-    }
-    text.push(']')
-}
-
-/// How many elements it has.
-fn count_of(said: &Json) -> usize {
-    match said.as_array() {
-        Some(list) => list.len(),
-        None => 0,
-    }
-}
-
-fn write_item(text: &mut String, said: &Json, k: usize) -> Result<(), AllocError> {
-    match said.get(k) {
-        Some(item) => write!(text, "{item}"),
-        None => write!(text, "null"),
+        Stands::Same => format!(in alloc; "{said}"),
+        Stands::Claim(stage) => format!(in alloc; "[\"claim\",{c},{stage}]"),
+        Stands::Finish(stage, answer) => { format!(in alloc; "[\"finish\",{c},{stage},{answer}]") }
+        Stands::Join(stage, _) => format!(in alloc; "[\"outcome\",{stage}]"),
     }
 }
 
@@ -181,29 +155,33 @@ fn write_item(text: &mut String, said: &Json, k: usize) -> Result<(), AllocError
 fn head_of(alloc: Global, json: &Json) -> Result<String, QuestionFault> {
     let mut head = String::new(alloc);
     match json.get("cf") {
-        Some(version) => write!(head, "\"cf\":{version}")?,
-        None => write!(head, "\"cf\":null")?,
+        Some(version) => write!(head, "\"cf\":{version}"),
+        None => head.push_str("\"cf\":null"),
+    }?;
+    for name in ["room", "limits"] {
+        write_member(&mut head, json, name)?;
     }
-    if let Some(room) = json.get("room") {
-        write!(head, ",\"room\":{room}")?;
+    if let Some(stages) = json.get("stages") {
+        write_stages(&mut head, stages)?;
     }
-    if let Some(limits) = json.get("limits") {
-        write!(head, ",\"limits\":{limits}")?;
-    }
-    write_stages(&mut head, json.get("stages"))?;
     Ok(head)
 }
 
+/// A member behind others, if it is there.
+fn write_member(text: &mut String, json: &Json, name: &str) -> Result<(), AllocError> {
+    match json.get(name) {
+        None => Ok(()),
+        Some(said) => write!(text, ",\"{name}\":{said}"),
+    }
+}
+
 /// The stages, each with its function in its own text.
-fn write_stages(head: &mut String, said: Option<&Json>) -> Result<(), QuestionFault> {
-    let Some(said) = said else {
-        return Ok(());
-    };
+fn write_stages(head: &mut String, said: &Json) -> Result<(), QuestionFault> {
     let Some(stages) = said.as_array() else {
         write!(head, ",\"stages\":{said}")?;
         return Ok(());
     };
-    write!(head, ",\"stages\":[")?;
+    head.push_str(",\"stages\":[")?;
     for (i, stage) in stages.iter().enumerate() {
         if i > 0 {
             head.push(',')?;
@@ -222,8 +200,7 @@ fn write_stage(
     stage: &Json,
 ) -> Result<(), QuestionFault> {
     let Some(shared) = same_of(stage) else {
-        write!(head, "{stage}")?;
-        return Ok(());
+        return Ok(write!(head, "{stage}")?);
     };
     match source_of(stages, i, shared) {
         Some(function) => Ok(write_with(head, stage, function)?),
@@ -233,7 +210,7 @@ fn write_stage(
 
 /// The function of the earlier stage that stage i names, unless that shares one, too.
 fn source_of<'a>(stages: &'a [Json], i: usize, shared: &Json) -> Option<&'a Json> {
-    let k = usize::try_from(shared.as_i64()?).ok()?;
+    let k = shared.as_u64()? as usize;
     if k >= i {
         return None;
     }
@@ -248,26 +225,20 @@ fn source_of<'a>(stages: &'a [Json], i: usize, shared: &Json) -> Option<&'a Json
 fn write_with(head: &mut String, stage: &Json, function: &Json) -> Result<(), AllocError> {
     write!(head, "{{\"fn\":{function}")?;
     for name in ["form", "of", "name"] {
-        if let Some(said) = stage.get(name) {
-            write!(head, ",\"{name}\":{said}")?;
-        }
+        write_member(head, stage, name)?;
     }
     head.push('}')
 }
 
 /// With which stage each stage shares its function, where it does.
-pub(crate) fn shared_of(alloc: Global, json: &Json) -> Result<Vec<Option<u16>>, AllocError> {
+pub(crate) fn shared_of(alloc: Global, json: &Json) -> Result<Vec<Option<u64>>, AllocError> {
     let mut shared = Vec::new(alloc);
     if let Some(stages) = json.get("stages").and_then(Json::as_array) {
         for stage in stages.iter() {
-            shared.push(same_in(stage))?;
+            shared.push(same_of(stage).and_then(Json::as_u64))?;
         }
     }
     Ok(shared)
-}
-
-fn same_in(stage: &Json) -> Option<u16> {
-    u16::try_from(same_of(stage)?.as_i64()?).ok()
 }
 
 /// What a stage says that its function is the same as.

@@ -82,13 +82,12 @@ fn write_end(
 }
 
 fn write_outcomes(out: &mut String, outcomes: &[(u16, Option<Outcome>)]) -> Result<(), AllocError> {
-    for (k, (i, outcome)) in outcomes.iter().enumerate() {
-        if k > 0 {
-            out.push(',')?;
-        }
-        write!(out, "\"{i}\":\"")?;
+    let mut comma = "";
+    for (i, outcome) in outcomes.iter() {
+        write!(out, "{comma}\"{i}\":\"")?;
         write_settled(out, *outcome)?;
         out.push('"')?;
+        comma = ",";
     }
     Ok(())
 }
@@ -129,8 +128,21 @@ fn write_order(
     found: &Found,
     witness: Witness,
 ) -> Result<(), AllocError> {
-    let account = witness_of(alloc, question, found, witness, OrderShape::Account)?;
-    let script = witness_of(alloc, question, found, witness, OrderShape::Script)?;
-    write!(out, ",\"moves\":{},\n\"account\":{account}", witness.moves)?;
-    write!(out, ",\n\"script\":{script}")
+    write!(out, ",\"moves\":{},\n\"account\":", witness.moves)?;
+    write_retold(alloc, out, question, found, witness, OrderShape::Account)?;
+    out.push_str(",\n\"script\":")?;
+    write_retold(alloc, out, question, found, witness, OrderShape::Script)
+}
+
+/// Adds what is told of an order.
+fn write_retold(
+    alloc: Global,
+    out: &mut String,
+    question: &Question,
+    found: &Found,
+    witness: Witness,
+    shape: OrderShape,
+) -> Result<(), AllocError> {
+    let text = witness_of(alloc, question, found, witness, shape)?;
+    out.push_str(&text)
 }

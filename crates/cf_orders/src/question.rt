@@ -2,6 +2,7 @@
 ghost use Rattle.std.specs.Prelude.{◌≡◌, true};
 ghost use Rattle.cf_plan.specs.Plans.{has_place};
 
+use crate::joined::StepText;
 use cf_explore::{Condition, Program};
 use cf_plan::Plan;
 use cf_reading::Func;
@@ -25,6 +26,6 @@ pub struct Question {
     /// The script's members but its steps, without the braces.
     pub(crate) head: String,
     /// Each caller's steps, as a script has them.
-    pub(crate) steps: Vec<Vec<String>>,
+    pub(crate) steps: Vec<Vec<StepText>>,
     pub ghost place: { has_place plan.stages room ≡ true },
 }

@@ -4,7 +4,7 @@ ghost use Rattle.cf_plan.specs.Plans.{has_place};
 
 use crate::facts::{Conditions, Scope, read_asked};
 use crate::fault::{QuestionFault, Spot};
-use crate::joined::{QuestionText, joined_of, shared_of};
+use crate::joined::{QuestionText, StepText, joined_of, shared_of};
 use crate::planning::with_shared;
 use crate::question::Question;
 use cf_explore::{Caller, Program, Step};
@@ -139,7 +139,6 @@ fn put_together(joined: QuestionText, rest: Rest) -> Question {
     let QuestionText {
         head,
         callers: steps,
-        joins: _,
     } = joined;
     let Parts {
         plan,
@@ -234,9 +233,9 @@ fn callers_of(
 ) -> Result<Vec<Caller>, QuestionFault> {
     let mut callers = Vec::new(alloc);
     let mut first = 0;
-    for joins in joined.joins.iter() {
-        callers.push(caller_of(alloc, joins.as_slice(), steps, first)?)?;
-        first = first.saturating_add(joins.len());
+    for own in joined.callers.iter() {
+        callers.push(caller_of(alloc, own.as_slice(), steps, first)?)?;
+        first = first.saturating_add(own.len());
     }
     Ok(callers)
 }
@@ -244,13 +243,13 @@ fn callers_of(
 /// A caller with as many steps, from one on.
 fn caller_of(
     alloc: Global,
-    joins: &[Option<u16>],
+    texts: &[StepText],
     steps: &[Said],
     first: usize,
 ) -> Result<Caller, QuestionFault> {
     let mut own = Vec::new(alloc);
-    for (k, join) in joins.iter().enumerate() {
-        match step_at(steps, first.saturating_add(k), *join) {
+    for (k, text) in texts.iter().enumerate() {
+        match step_at(steps, first.saturating_add(k), text.most) {
             Some(step) => own.push(step)?,
             None => return Err(QuestionFault::At(Spot::Callers)),
         }

@@ -128,20 +128,21 @@ impl Retold {
         let word = encode(&event);
         let reply = self.graph.answer(&event);
         self.place = self.place.saturating_add(1);
-        comma(&mut self.words)?;
-        write!(self.words, "\"{word}\"")?;
+        let comma = if self.place > 1 { "," } else { "" };
+        write!(self.words, "{comma}\"{word}\"")?;
         self.record(usize::from(event.who()), word, reply)?;
         self.step(question, s, by, event)
     }
 
     /// The record of an event's caller.
     fn record(&mut self, who: usize, word: u64, reply: Reply) -> Result<(), AllocError> {
-        let place = self.place;
-        if let Some(text) = self.records.get_mut(who) {
-            comma(text)?;
-            write_did(text, place, word, reply)?;
+        match self.records.get_mut(who) {
+            None => Ok(()),
+            Some(text) => {
+                comma(text)?;
+                write_did(text, self.place, word, reply)
+            }
         }
-        Ok(())
     }
 
     /// An event as a step of a script: a caller's as it was written.
@@ -159,10 +160,10 @@ impl Retold {
             (_, Event::Finish { who, stage, answer }) => {
                 write!(self.steps, "[\"finish\",{who},{stage},")?;
                 write_answer(&mut self.steps, answer)?;
-                write!(self.steps, "]")
+                self.steps.push(']')
             }
             (_, Event::Tick { moment, .. }) => write!(self.steps, "[\"tick\",{moment}]"),
-            _ => write!(self.steps, "null"),
+            _ => self.steps.push_str("null"),
         }
     }
 
@@ -192,12 +193,13 @@ impl Retold {
 
     /// The record of a question.
     fn saw(&mut self, c: usize, ask: Ask, told: Told) -> Result<(), AllocError> {
-        let place = self.place;
-        if let Some(text) = self.records.get_mut(c) {
-            comma(text)?;
-            write_saw(text, place, ask, told)?;
+        match self.records.get_mut(c) {
+            None => Ok(()),
+            Some(text) => {
+                comma(text)?;
+                write_saw(text, self.place, ask, told)
+            }
         }
-        Ok(())
     }
 
     /// All of it as an account.
@@ -216,17 +218,16 @@ impl Retold {
             self.words
         )?;
         self.write_records(text)?;
-        write!(text, "],\"outcomes\":[")?;
+        text.push_str("],\"outcomes\":[")?;
         self.write_outcomes(text)?;
-        write!(text, "]}}")
+        text.push_str("]}")
     }
 
     fn write_records(&self, text: &mut String) -> Result<(), AllocError> {
-        for (c, records) in self.records.iter().enumerate() {
-            if c > 0 {
-                text.push(',')?;
-            }
-            write!(text, "[{records}]")?;
+        let mut comma = "";
+        for records in self.records.iter() {
+            write!(text, "{comma}[{records}]")?;
+            comma = ",";
         }
         Ok(())
     }
@@ -242,9 +243,7 @@ impl Retold {
 
     /// All of it as a script.
     fn script(&mut self, alloc: Global, question: &Question) -> Result<String, AllocError> {
-        let mut text = String::new(alloc);
-        write!(text, "{{{},\"steps\":[{}]}}", question.head, self.steps)?;
-        Ok(text)
+        format!(in alloc; "{{{},\"steps\":[{}]}}", question.head, self.steps)
     }
 }
 
@@ -254,7 +253,7 @@ fn written(question: &Question, c: u8, at: usize) -> &str {
         return "null";
     };
     match own.get(at) {
-        Some(text) => text.as_str(),
+        Some(step) => step.text.as_str(),
         None => "null",
     }
 }
@@ -284,7 +283,7 @@ pub(crate) fn comma(text: &mut String) -> Result<(), AllocError> {
 
 fn write_answer(text: &mut String, answer: Answer) -> Result<(), AllocError> {
     match answer {
-        Answer::Give(Value::Nil) => write!(text, "{{\"give\":null}}"),
+        Answer::Give(Value::Nil) => text.push_str("{\"give\":null}"),
         Answer::Give(Value::Int(v)) => write!(text, "{{\"give\":{v}}}"),
         Answer::Throw(code) => write!(text, "{{\"throw\":{code}}}"),
         Answer::Link(j) => write!(text, "{{\"link\":{j}}}"),
