@@ -1,8 +1,11 @@
-use Rattle.std.proofs.Common.{◌≡◌, ◌++◌, ◌∷◌, [], All, ap, sym, subst, ◌∙◌, append_assoc, arith}
+use Rattle.std.proofs.Common.{◌≡◌, ◌++◌, ◌∷◌, [], All, List, ap, sym, subst, ◌∙◌, append_assoc, append-nil, arith}
+use Rattle.std.proofs.lemmas.List.{nil_from_length}
+use Rattle.std.specs.Global.{Box}
 use Rattle.std.specs.Vec.Iter.{into_iter_items}
 use Rattle.cf_desk.specs.Views.{Desk, Pass}
 use Rattle.cf_desk.proofs.Gathers.{all_at}
 use Rattle.cf_handles.specs.Opening.{AreBoxed, IsCallerOf}
+use Rattle.cf_handles.specs.declared.handle.object.Object.{Object}
 use Rattle.cf_handles.proofs.Seats.{boxed_push}
 use Rattle.cf_handles.proofs.desk.opening.boxed.Goals as goal
 use Rattle.cf_handles.proofs.desk.opening.boxed.Goals.{In-Some}
@@ -26,3 +29,23 @@ next-preserved c =
       desk = i.desk;
       boxed = subst (AreBoxed c.args.desk (i.done ++ c.in-Some.pass ∷ [])) (sym c.push_reserved.ensures.items) (boxed_push c.args.desk i.done c.next.held.items c.in-Some.pass c.in_ok-caller.caller i.boxed made);
     }
+
+pub next-init : goal.next-init
+next-init c = record {
+  done = [];
+  parts = sym c.into_iter-rest.ensures.rest;
+  left = (let l = c.into_iter-rest.ensures.len in let n = c.in_ok-held.ensures.len in let m = c.len.ensures in omega (arith, c.in_ok-held.ensures.capacity));
+  desk = c.in_ok-shared.ensures.ok;
+  boxed = subst (λ (bs : List (Box Object)). AreBoxed c.args.desk [] bs) (sym c.in_ok-held.ensures.items) tt;
+}
+
+pub push_reserved-requires : goal.push_reserved-requires
+push_reserved-requires c = (let l = c.next.invariant.left in let r = c.in-Some.ensures.cases.1 in omega arith)
+
+pub returns : goal.returns
+returns c =
+    let i = c.next.invariant in
+    let none = c.in_default.ensures.cases.0 in
+    let ok = c.next.rest.rest.ok.0 in
+    let empty : into_iter_items c.next.rest ≡ [] = nil_from_length (into_iter_items c.next.rest) (omega arith) in
+    subst (λ (ps : List Pass). AreBoxed c.args.desk ps c.next.held.items) (sym (i.parts ∙ ap (λ l. i.done ++ l) empty ∙ append-nil i.done)) i.boxed
