@@ -162,7 +162,8 @@ fn growing(rt: &impl Abort, alloc: Global) -> Graph
     let mut builder = PlanBuilder::new(alloc);
     must(rt, builder.stage(Form::Source, &[], None));
     let plan = must(rt, builder.build());
-    assert!(rt; plan.stages() > 0 && plan.stages() <= 4094 && plan.edges() <= 16380);
+    let has_place = plan.stages() > 0 && plan.stages() <= 4094 && plan.edges() <= 16380;
+    holds(rt, has_place, "place");
     must(rt, Graph::new_growing(alloc, plan, 2))
 }
 
@@ -204,6 +205,7 @@ fn events_of_words_name_attached_stages(rt: HostRuntime) {
     let mut graph = growing(&rt, rt.alloc());
     answer_all(&rt, &mut graph);
     same(&rt, graph.stages(), 3);
+    drop(graph);
 }
 
 /// Whether a stage is there, and has this outcome.
@@ -211,23 +213,26 @@ fn is_settled(graph: &mut Graph, i: u16, outcome: Outcome) -> bool {
     graph.has(i) && graph.outcome(i) == Some(outcome)
 }
 
+/// The second names the stage that the first attaches.
+const EVENTS: [Event; 2] = [
+    Event::Attach {
+        who: 0,
+        form: Form::AllOf,
+        of: Of::One(0),
+        function: None,
+    },
+    Event::Complete {
+        who: 1,
+        stage: 1,
+        value: Value::Int(4),
+    },
+];
+
 #[test]
 fn replayed_events_name_stages_attached_before(rt: HostRuntime) {
     let mut graph = growing(&rt, rt.alloc());
-    let events = [
-        Event::Attach {
-            who: 0,
-            form: Form::AllOf,
-            of: Of::One(0),
-            function: None,
-        },
-        Event::Complete {
-            who: 1,
-            stage: 1,
-            value: Value::Int(4),
-        },
-    ];
-    replay(&mut graph, &events, &[1]);
+    replay(&mut graph, &EVENTS, &[1]);
     let four = Outcome::Value(Value::Int(4));
     holds(&rt, is_settled(&mut graph, 1, four), four);
+    drop(graph);
 }

@@ -204,23 +204,27 @@ fn pair(rt: &impl Abort, alloc: Global) -> Plan {
 }
 
 /// Completes the first stage of a graph, which then ticks. With these turns before, so many are counted.
-fn complete_and_tick(rt: &impl Abort, graph: &mut Graph, nudges: &[u32], turns: u64) {
+fn complete_and_tick(rt: &impl Abort, mut graph: Graph, nudges: &[u32], turns: u64) {
     let complete = Event::Complete {
         who: 0,
         stage: 0,
         value: Value::Nil,
     };
     let tick = Event::Tick { who: 0, moment: 5 };
-    assert!(rt; graph.takes(&complete));
-    replay(graph, &[complete, tick], nudges);
+    holds(rt, graph.takes(&complete), complete);
+    replay(&mut graph, &[complete, tick], nudges);
     same(rt, graph.turns(), turns);
+    drop(graph);
 }
+
+/// Turns before the events, and how many are counted.
+const TURNS: [(&[u32], u64); 4] = [(&[], 0), (&[9], 0), (&[9, 0], 0), (&[0, 9], 1)];
 
 #[test]
 fn turns_are_taken_before_their_event(rt: HostRuntime) {
-    for (nudges, turns) in [(&[][..], 0), (&[9], 0), (&[9, 0], 0), (&[0, 9], 1)] {
-        let mut graph = must(&rt, Graph::new(rt.alloc(), pair(&rt, rt.alloc())));
-        complete_and_tick(&rt, &mut graph, nudges, turns);
+    for (nudges, turns) in &TURNS {
+        let graph = must(&rt, Graph::new(rt.alloc(), pair(&rt, rt.alloc())));
+        complete_and_tick(&rt, graph, nudges, *turns);
     }
 }
 
@@ -230,18 +234,19 @@ fn is_answered(graph: &mut Graph, event: &Event, answer: Reply) -> bool {
 }
 
 /// A claim is granted, and a tick behind a later one is past.
-fn claim_and_tick(rt: &impl Abort, graph: &mut Graph) {
+fn claim_and_tick(rt: &impl Abort, mut graph: Graph) {
     let claim = Event::Claim { who: 1, stage: 0 };
     let granted = Reply::Claim(Claimed::Granted(Args::None));
-    holds(rt, is_answered(graph, &claim, granted), claim);
-    replay(graph, &[Event::Tick { who: 0, moment: 5 }], &[2, 3]);
+    holds(rt, is_answered(&mut graph, &claim, granted), claim);
+    replay(&mut graph, &[Event::Tick { who: 0, moment: 5 }], &[2, 3]);
     let earlier = Event::Tick { who: 1, moment: 4 };
     let past = Reply::Tick(Ticked::Past);
-    holds(rt, is_answered(graph, &earlier, past), earlier);
+    holds(rt, is_answered(&mut graph, &earlier, past), earlier);
+    drop(graph);
 }
 
 #[test]
 fn events_are_done_to_a_graph(rt: HostRuntime) {
-    let mut graph = must(&rt, Graph::new(rt.alloc(), supply(&rt, rt.alloc())));
-    claim_and_tick(&rt, &mut graph);
+    let graph = must(&rt, Graph::new(rt.alloc(), supply(&rt, rt.alloc())));
+    claim_and_tick(&rt, graph);
 }

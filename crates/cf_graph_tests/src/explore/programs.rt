@@ -1,10 +1,11 @@
 //! Programs from rows.
 ghost use Rattle.std.specs.Prelude.{◌≡◌};
 
+use crate::checks::{holds, must};
 use cf_explore::{Caller, Program, Step};
 use cf_plan::{Answer, Args, Form, Limit, Plan, PlanBuilder, StageFn};
 use std::alloc::Global;
-use std::test::Fail;
+use std::process::Abort;
 
 /// A stage: its form, its sources and the number of its function.
 pub(crate) type Stage = (Form, &'static [u16], Option<u16>);
@@ -36,44 +37,43 @@ pub(crate) struct Rows {
 }
 
 /// The plan of these stages, with limits.
-fn plan_of(alloc: Global, rows: &Rows) -> Result<Plan, Fail> {
+fn plan_of(rt: &impl Abort, alloc: Global, rows: &Rows) -> Plan {
     let mut builder = PlanBuilder::new(alloc);
     for (form, of, function) in rows.stages {
-        builder.stage(*form, of, *function)?;
+        must(rt, builder.stage(*form, of, *function));
     }
     for limit in rows.limits {
-        builder.limit(limit.stage, limit.at, limit.kind)?;
+        must(rt, builder.limit(limit.stage, limit.at, limit.kind));
     }
-    Ok(builder.build()?)
+    must(rt, builder.build())
 }
 
 /// The callers with their steps.
-fn callers_of(alloc: Global, rows: &Rows) -> Result<Vec<Caller>, Fail> {
+fn callers_of(rt: &impl Abort, alloc: Global, rows: &Rows) -> Vec<Caller> {
     let mut callers = Vec::new(alloc);
     for steps in rows.callers {
         if steps.len() <= 65535 {
-            callers.push(Caller::new(Vec::from_slice(alloc, steps)?))?;
+            let steps = must(rt, Vec::from_slice(alloc, steps));
+            must(rt, callers.push(Caller::new(steps)));
         }
     }
-    Ok(callers)
+    callers
 }
 
 /// The functions.
-pub(crate) fn functions_of(alloc: Global, rows: &Rows) -> Result<Vec<Always>, Fail> {
+pub(crate) fn functions_of(rt: &impl Abort, alloc: Global, rows: &Rows) -> Vec<Always> {
     let mut functions = Vec::new(alloc);
     for answer in rows.functions {
-        functions.push(Always { answer: *answer })?;
+        must(rt, functions.push(Always { answer: *answer }));
     }
-    Ok(functions)
+    functions
 }
 
-/// The program, if it is one.
-pub(crate) fn program(alloc: Global, rows: &Rows) -> Result<Option<Program>, Fail> {
-    let plan = plan_of(alloc, rows)?;
-    let callers = callers_of(alloc, rows)?;
-    if plan.has_place(rows.room) && callers.len() + rows.workers as usize <= 63 {
-        Ok(Some(Program::new(plan, rows.room, callers, rows.workers, rows.free)))
-    } else {
-        Ok(None)
-    }
+/// The program, which has to be one.
+pub(crate) fn program(rt: &impl Abort, alloc: Global, rows: &Rows) -> Program {
+    let plan = plan_of(rt, alloc, rows);
+    let callers = callers_of(rt, alloc, rows);
+    holds(rt, plan.has_place(rows.room), "place");
+    holds(rt, callers.len() + rows.workers as usize <= 63, "callers");
+    Program::new(plan, rows.room, callers, rows.workers, rows.free)
 }

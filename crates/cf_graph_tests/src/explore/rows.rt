@@ -1,13 +1,12 @@
 //! What small programs can come to.
-use crate::checks::{holds, same_at};
+use crate::checks::{must, same_at};
 use crate::explore::programs::{Rows, functions_of, program};
-use cf_explore::{Condition, Fact, Found, How, Program, Step, When};
+use cf_explore::{Condition, Fact, Found, How, Step, When};
 use cf_model::{Ask, Call};
 use cf_outcome::Value;
 use cf_plan::{Answer, Form, Limit, LimitKind};
 use std::alloc::Global;
 use std::process::Abort;
-use std::test::Fail;
 
 const NONE: Rows = Rows {
     stages: &[(Form::Source, &[], None)],
@@ -159,22 +158,21 @@ const ROWS: [Row; 7] = [
 ];
 
 /// That function 0 is never called twice.
-fn never_twice(alloc: Global) -> Result<Vec<Condition>, Fail> {
-    let facts = vec![in alloc; Fact::Exactly(0, 2)]?;
-    let mut conditions = Vec::new(alloc);
-    conditions.push(Condition {
+fn never_twice(rt: &impl Abort, alloc: Global) -> Vec<Condition> {
+    let facts = must(rt, vec![in alloc; Fact::Exactly(0, 2)]);
+    let condition = Condition {
         how: How::Never,
         when: When::End,
         facts,
-    })?;
-    Ok(conditions)
+    };
+    must(rt, vec![in alloc; condition])
 }
 
 /// How many moves lead to what decides the first condition, 0 where nothing does.
-fn moves_to(alloc: Global, found: &Found) -> Result<usize, Fail> {
+fn moves_to(rt: &impl Abort, alloc: Global, found: &Found) -> usize {
     match found.decisions.first() {
-        Some(Some(witness)) => Ok(found.order(alloc, *witness)?.len()),
-        _ => Ok(0),
+        Some(Some(witness)) => must(rt, found.order(alloc, *witness)).len(),
+        _ => 0,
     }
 }
 
@@ -186,54 +184,29 @@ fn orders_to(found: &Found) -> u128 {
     }
 }
 
-/// What a program comes to.
-fn explore(alloc: Global, row: &Row, program: &Program) -> Result<Found, Fail> {
-    let functions = functions_of(alloc, &row.rows)?;
-    let conditions = never_twice(alloc)?;
-    Ok(program.explore(alloc, &functions, &conditions, row.bound)?)
+/// What the program of a row comes to.
+fn explore(rt: &impl Abort, alloc: Global, row: &Row) -> Found {
+    let program = program(rt, alloc, &row.rows);
+    let functions = functions_of(rt, alloc, &row.rows);
+    let conditions = never_twice(rt, alloc);
+    let told = program.explore(alloc, &functions, &conditions, row.bound);
+    drop((program, functions, conditions));
+    must(rt, told)
 }
 
-/// What a search found, in the order of a row.
-fn told_by(alloc: Global, found: &Found) -> Result<((usize, u128), (usize, bool, usize)), Fail> {
-    let twice = moves_to(alloc, found)?;
-    Ok((
-        (found.ends.len(), orders_to(found)),
-        (found.trail.len(), found.whole, twice),
-    ))
-}
-
-/// What a program comes to, in the order of its row.
-fn come_to(
-    alloc: Global,
-    row: &Row,
-    program: &Program,
-) -> Result<((usize, u128), (usize, bool, usize)), Fail> {
-    let found = explore(alloc, row, program)?;
-    told_by(alloc, &found)
-}
-
-/// A program comes to what its row says.
-fn check(rt: &impl Abort, alloc: Global, row: &Row, program: &Program) -> Result<(), Fail> {
-    let (ends, seen) = come_to(alloc, row, program)?;
+/// A search found what its row says.
+fn check(rt: &impl Abort, alloc: Global, row: &Row, found: Found) {
+    let ends = (found.ends.len(), orders_to(&found));
+    let twice = moves_to(rt, alloc, &found);
+    let seen = (found.trail.len(), found.whole, twice);
+    drop(found);
     same_at(rt, ends, (row.ends, row.orders), row.name);
     same_at(rt, seen, (row.situations, row.whole, row.twice), row.name);
-    Ok(())
-}
-
-/// The program of a row comes to what the row says.
-fn check_row(rt: &impl Abort, alloc: Global, row: &Row) -> Result<(), Fail> {
-    let made = program(alloc, &row.rows)?;
-    holds(rt, made.is_some(), row.name);
-    match &made {
-        Some(program) => check(rt, alloc, row, program),
-        None => Ok(()),
-    }
 }
 
 #[test]
-fn programs_come_to_their_ends(rt: HostRuntime) -> Result<(), Fail> {
+fn programs_come_to_their_ends(rt: HostRuntime) {
     for row in &ROWS {
-        check_row(&rt, rt.alloc(), row)?;
+        check(&rt, rt.alloc(), row, explore(&rt, rt.alloc(), row));
     }
-    Ok(())
 }

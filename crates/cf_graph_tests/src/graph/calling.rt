@@ -3,7 +3,7 @@ ghost use Rattle.std.specs.Prelude.{⊤};
 
 use crate::checks::{holds, must, same};
 use crate::graph::plans::{Row, SOURCE};
-use crate::graph::steps::{Step, gives, granted, graph_of, take};
+use crate::graph::steps::{Step, graph_of, take};
 use cf_core::Graph;
 use cf_outcome::Value;
 use cf_plan::{Answer, Args, Closure, Form, Functions};
@@ -63,10 +63,7 @@ fn notes(
         count: 0,
     };
     notes_in(rt, &mut graph, &mut noting, all, count);
-}
-
-fn one(n: i32) -> Args {
-    Args::One(Value::Int(n))
+    drop((graph, noting));
 }
 
 const ROWS: [Row<'static>; 6] = [
@@ -78,30 +75,38 @@ const ROWS: [Row<'static>; 6] = [
     (Form::Apply, &[4], Some(9)),
 ];
 
+/// What is called once stage 0 is there.
+const CALLS: [(u16, Args); 3] = [
+    (7, Args::One(Value::Int(3))),
+    (5, Args::Two(Value::Int(3), Value::Int(1))),
+    (7, Args::None),
+];
+
+const SWEPT: [Step; 1] = [Step::Complete(0, 3, true)];
+
+const MARKED: [Step; 2] = [Step::Complete(0, 3, true), Step::Nudge(9, 2)];
+
+/// In a sweep, or the first by the marks and the others in a sweep.
 #[test]
 fn calls_each_function_once(rt: HostRuntime) {
-    let three = Value::Int(3);
-    let all = [
-        (7, one(3)),
-        (5, Args::Two(three, Value::Int(1))),
-        (7, Args::None),
-    ];
-    // In a sweep, or the first by the marks and the others in a sweep.
-    let swept = [Step::Complete(0, 3, true)];
-    notes(&rt, rt.alloc(), &ROWS, &swept, &all, 3);
-    let few = [Step::Complete(0, 3, true), Step::Nudge(9, 2)];
-    notes(&rt, rt.alloc(), &ROWS, &few, &all, 3);
+    notes(&rt, rt.alloc(), &ROWS, &SWEPT, &CALLS, 3);
+    notes(&rt, rt.alloc(), &ROWS, &MARKED, &CALLS, 3);
 }
+
+const CLAIMED: [Step; 3] = [
+    Step::Complete(0, 3, true),
+    Step::Complete(4, 8, true),
+    Step::Granted(1, 3),
+];
 
 #[test]
 fn calls_no_function_that_another_has_claimed(rt: HostRuntime) {
-    let steps = [
-        Step::Complete(0, 3, true),
-        Step::Complete(4, 8, true),
-        Step::Claim(1, granted(3)),
-    ];
-    notes(&rt, rt.alloc(), &ROWS, &steps, &[(9, one(8))], 1);
+    let all = [(9, Args::One(Value::Int(8)))];
+    notes(&rt, rt.alloc(), &ROWS, &CLAIMED, &all, 1);
 }
+
+/// What is called of a few stages of many.
+const FEW: [(u16, Args); 2] = [(7, Args::One(Value::Int(3))), (5, Args::One(Value::Int(1)))];
 
 #[test]
 fn calls_a_few_functions_of_many(rt: HostRuntime) {
@@ -109,14 +114,7 @@ fn calls_a_few_functions_of_many(rt: HostRuntime) {
     rows[200] = (Form::Apply, &[199], Some(7));
     rows[201] = (Form::Apply, &[200], Some(5));
     let steps = [Step::Complete(199, 3, true)];
-    notes(
-        &rt,
-        rt.alloc(),
-        &rows,
-        &steps,
-        &[(7, one(3)), (5, one(1))],
-        2,
-    );
+    notes(&rt, rt.alloc(), &rows, &steps, &FEW, 2);
 }
 
 /// A closure counts its calls, and keeps which function was called last.
@@ -140,19 +138,21 @@ fn a_closure_remembers_its_calls(rt: HostRuntime) {
 fn remembers(rt: &impl Abort, alloc: Global, closure: &mut Closure) {
     let mut graph = graph_of(rt, alloc, &ROWS);
     works_twice(rt, &mut graph, closure);
+    drop(graph);
 }
+
+const WORKED: [Step; 3] = [
+    Step::Value(1, 10),
+    Step::Value(2, 27),
+    // The stage of a `ThenRun` gives nil.
+    Step::Complete(4, 8, true),
+];
 
 /// The closure is called three times, and once more when stage 4 is there.
 fn works_twice(rt: &impl Abort, graph: &mut Graph, closure: &mut Closure) {
-    take(rt, graph, &[Step::Complete(0, 3, true)]);
+    take(rt, graph, &SWEPT);
     same(rt, graph.work(0, closure), 3);
-    let steps = [
-        Step::Outcome(1, gives(10)),
-        Step::Outcome(2, gives(27)),
-        // The stage of a `ThenRun` gives nil.
-        Step::Complete(4, 8, true),
-    ];
-    take(rt, graph, &steps);
+    take(rt, graph, &WORKED);
     same(rt, graph.work(0, closure), 1);
-    take(rt, graph, &[Step::Outcome(5, gives(47))]);
+    take(rt, graph, &[Step::Value(5, 47)]);
 }

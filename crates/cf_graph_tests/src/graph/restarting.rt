@@ -1,6 +1,6 @@
 //! Graphs that start again, beside new ones.
-use crate::graph::plans::{SOURCE, limited, supplies};
-use crate::graph::steps::{Step, fault, gives, granted, graph_in, play, take, with_room};
+use crate::graph::plans::{Row, SOURCE, limited, supplies};
+use crate::graph::steps::{Step, graph_in, play, take, with_room};
 use cf_core::Graph;
 use cf_model::{Attached, Claimed, Finished, Ticked};
 use cf_outcome::Cause;
@@ -8,115 +8,133 @@ use cf_plan::{Answer, Args, Form, Limit, LimitKind, Of, Plan};
 use std::alloc::Global;
 use std::process::Abort;
 
+const ROWS: [Row<'static>; 5] = [
+    SOURCE,
+    SOURCE,
+    (Form::Supply, &[], Some(0)),
+    (Form::Apply, &[0], Some(1)),
+    (Form::Compose, &[0], Some(2)),
+];
+
+const LIMITS: [Limit; 1] = [Limit {
+    stage: 1,
+    at: 5,
+    kind: LimitKind::Timeout,
+}];
+
 /// Two sources, a supply, an apply and a compose of the first source, and a limit on the second.
 fn opening(rt: &impl Abort, alloc: Global) -> Plan {
-    let rows = [
-        SOURCE,
-        SOURCE,
-        (Form::Supply, &[], Some(0)),
-        (Form::Apply, &[0], Some(1)),
-        (Form::Compose, &[0], Some(2)),
-    ];
-    let limit = Limit {
-        stage: 1,
-        at: 5,
-        kind: LimitKind::Timeout,
-    };
-    limited(rt, alloc, &rows, &[limit])
+    limited(rt, alloc, &ROWS, &LIMITS)
 }
 
 /// A new graph answers so, up to an open claim of stage 3 and a link of stage 4 to stage 1.
-fn is_new() -> [Step; 15] {
-    [
-        Step::Turns(0),
-        Step::Stages(5),
-        Step::Tick(0, Ticked::Fired(0)),
-        Step::LowestReady(Some(2)),
-        Step::Turns(1),
-        Step::Outcome(0, None),
-        Step::Outcome(1, None),
-        Step::Finish(3, Answer::Throw(1), Finished::NotYours),
-        Step::Claim(3, Claimed::NotReady),
-        Step::Complete(0, 3, true),
-        Step::Claim(3, granted(3)),
-        Step::Claim(4, granted(3)),
-        Step::Finish(4, Answer::Link(1), Finished::Won),
-        Step::Outcome(4, None),
-        Step::Turns(3),
-    ]
-}
+const NEW: [Step; 15] = [
+    Step::Turns(0),
+    Step::Stages(5),
+    Step::Tick(0, Ticked::Fired(0)),
+    Step::LowestReady(Some(2)),
+    Step::Turns(1),
+    Step::Outcome(0, None),
+    Step::Outcome(1, None),
+    Step::Finish(3, Answer::Throw(1), Finished::NotYours),
+    Step::Claim(3, Claimed::NotReady),
+    Step::Complete(0, 3, true),
+    Step::Granted(3, 3),
+    Step::Granted(4, 3),
+    Step::Finish(4, Answer::Link(1), Finished::Won),
+    Step::Outcome(4, None),
+    Step::Turns(3),
+];
 
 /// The room of a graph that was found new is filled: the first stage takes what its sources have, and the second waits
 /// for stages 1 and 4.
-fn fills() -> [Step; 6] {
-    [
-        Step::Attach(Form::AnyOf, Of::Two(1, 0), None, Attached::At(5)),
-        Step::Outcome(5, gives(3)),
-        Step::Attach(Form::RunEither, Of::Two(4, 1), Some(3), Attached::At(6)),
-        Step::Outcome(6, None),
-        Step::Attach(Form::Supply, Of::None, Some(4), Attached::StagesFull),
-        Step::Turns(4),
-    ]
-}
+const FILLS: [Step; 6] = [
+    Step::Attach(Form::AnyOf, Of::Two(1, 0), None, Attached::At(5)),
+    Step::Value(5, 3),
+    Step::Attach(Form::RunEither, Of::Two(4, 1), Some(3), Attached::At(6)),
+    Step::Outcome(6, None),
+    Step::Attach(Form::Supply, Of::None, Some(4), Attached::StagesFull),
+    Step::Turns(4),
+];
 
 /// The limit of a graph that was found new settles stage 1, and so all that waits for it.
-fn expires() -> [Step; 4] {
-    [
-        Step::Tick(7, Ticked::Fired(1)),
-        Step::Tick(6, Ticked::Past),
-        Step::Outcome(1, fault(Cause::TimedOut, false)),
-        Step::Outcome(4, fault(Cause::TimedOut, true)),
-    ]
-}
+const EXPIRES: [Step; 4] = [
+    Step::Tick(7, Ticked::Fired(1)),
+    Step::Tick(6, Ticked::Past),
+    Step::Fault(1, Cause::TimedOut, false),
+    Step::Fault(4, Cause::TimedOut, true),
+];
 
 /// The graph takes the steps of these parts.
 fn take_parts(rt: &impl Abort, mut graph: Graph, parts: &[&[Step]]) {
     for steps in parts {
         take(rt, &mut graph, steps);
     }
+    drop(graph);
 }
+
+const RESTARTED: [&[Step]; 13] = [
+    &NEW,
+    &[Step::Restart],
+    &NEW,
+    &FILLS,
+    &[Step::Restart, Step::Has(5, false)],
+    &NEW,
+    &FILLS,
+    &EXPIRES,
+    &[Step::Fault(6, Cause::TimedOut, true)],
+    &[Step::Restart, Step::Restart],
+    &NEW,
+    &EXPIRES,
+    &[Step::PlanStages(5)],
+];
 
 #[test]
 fn a_restarted_graph_is_new(rt: HostRuntime) {
-    let (new, fill, expire) = (is_new(), fills(), expires());
-    let late = Step::Outcome(6, fault(Cause::TimedOut, true));
     let plan = opening(&rt, rt.alloc());
-    let graph = with_room(&rt, rt.alloc(), plan, 2);
-    let parts = [
-        &new[..],
-        &[Step::Restart],
-        &new,
-        &fill,
-        &[Step::Restart, Step::Has(5, false)],
-        &new,
-        &fill,
-        &expire,
-        &[late],
-        &[Step::Restart, Step::Restart],
-        &new,
-        &expire,
-        &[Step::PlanStages(5)],
-    ];
-    take_parts(&rt, graph, &parts);
+    take_parts(&rt, with_room(&rt, rt.alloc(), plan, 2), &RESTARTED);
 }
+
+/// The graph is full, and restarts.
+const FULL: [Step; 2] = [
+    Step::Attach(Form::AllOf, Of::None, None, Attached::StagesFull),
+    Step::Restart,
+];
+
+const WITHOUT_ROOM: [&[Step]; 7] = [&NEW, &EXPIRES, &FULL, &NEW, &EXPIRES, &FULL, &NEW];
 
 #[test]
 fn a_graph_without_room_restarts(rt: HostRuntime) {
-    let (new, expire) = (is_new(), expires());
-    let full = [
-        Step::Attach(Form::AllOf, Of::None, None, Attached::StagesFull),
-        Step::Restart,
-    ];
     let plan = opening(&rt, rt.alloc());
-    let graph = graph_in(&rt, rt.alloc(), plan);
-    let parts = [&new[..], &expire, &full, &new, &expire, &full, &new];
-    take_parts(&rt, graph, &parts);
+    take_parts(&rt, graph_in(&rt, rt.alloc(), plan), &WITHOUT_ROOM);
 }
+
+const EMPTY: [Step; 3] = [Step::Restart, Step::Stages(0), Step::LowestReady(None)];
 
 #[test]
 fn an_empty_graph_restarts(rt: HostRuntime) {
-    let steps = [Step::Restart, Step::Stages(0), Step::LowestReady(None)];
-    play(&rt, rt.alloc(), &[], &steps);
+    play(&rt, rt.alloc(), &[], &EMPTY);
+}
+
+/// Fills the room of a graph of 4,080 stages, which restarts, takes so many turns, and restarts twice more.
+fn restart_filled(rt: &impl Abort, graph: &mut Graph, taken: u32) {
+    for at in 4080..4096 {
+        let attach = Step::Attach(Form::Source, Of::None, None, Attached::At(at));
+        take(rt, graph, &[attach]);
+    }
+    let steps = [
+        Step::Stages(4096),
+        Step::Restart,
+        Step::Stages(4080),
+        Step::Nudge(taken, taken),
+        Step::Turns(taken as u64),
+        Step::Restart,
+        Step::Nudge(5000, 4080),
+        Step::Claim(4079, Claimed::Granted(Args::None)),
+        Step::LowestReady(Some(0)),
+        Step::Restart,
+    ];
+    take(rt, graph, &steps);
 }
 
 /// Marks and ready stages are left over, in all words of their sets.
@@ -124,22 +142,7 @@ fn an_empty_graph_restarts(rt: HostRuntime) {
 fn the_greatest_graph_restarts(rt: HostRuntime) {
     let mut graph = with_room(&rt, rt.alloc(), supplies(&rt, rt.alloc(), 4080), 16);
     for taken in [2000, 4080, 0, 4080] {
-        for at in 4080..4096 {
-            let attach = Step::Attach(Form::Source, Of::None, None, Attached::At(at));
-            take(&rt, &mut graph, &[attach]);
-        }
-        let steps = [
-            Step::Stages(4096),
-            Step::Restart,
-            Step::Stages(4080),
-            Step::Nudge(taken, taken),
-            Step::Turns(taken as u64),
-            Step::Restart,
-            Step::Nudge(5000, 4080),
-            Step::Claim(4079, Claimed::Granted(Args::None)),
-            Step::LowestReady(Some(0)),
-            Step::Restart,
-        ];
-        take(&rt, &mut graph, &steps);
+        restart_filled(&rt, &mut graph, taken);
     }
+    drop(graph);
 }

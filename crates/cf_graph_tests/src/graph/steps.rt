@@ -16,6 +16,8 @@ pub(crate) enum Step {
     Fail(u16, u32, bool),
     Cancel(u16, bool),
     Claim(u16, Claimed),
+    /// A claim is granted, with this number for its function.
+    Granted(u16, i32),
     /// A claim by this caller.
     ClaimBy(u8, u16, Claimed),
     Finish(u16, Answer, Finished),
@@ -25,6 +27,10 @@ pub(crate) enum Step {
     AttachBy(u8, Form, Of, Option<u16>, Attached),
     Restart,
     Outcome(u16, Option<Outcome>),
+    /// The stage is settled with this number.
+    Value(u16, i32),
+    /// The stage is settled with this fault, wrapped or not.
+    Fault(u16, Cause, bool),
     /// It gives -1 where the stage isn't settled.
     Now(u16, Now),
     LowestReady(Option<u16>),
@@ -66,6 +72,21 @@ fn attached_by(
     }
 }
 
+/// What a stage is settled with that gives this number.
+fn gives(n: i32) -> Option<Outcome> {
+    Some(Outcome::Value(Value::Int(n)))
+}
+
+/// What a stage is settled with that has this fault.
+fn fault(cause: Cause, wrapped: bool) -> Option<Outcome> {
+    Some(Outcome::Fault { cause, wrapped })
+}
+
+/// A claim is granted, with this number for its function.
+fn granted(n: i32) -> Claimed {
+    Claimed::Granted(Args::One(Value::Int(n)))
+}
+
 /// Whether a step is answered so.
 fn is_answered(graph: &mut Graph, step: Step) -> bool {
     match step {
@@ -73,6 +94,7 @@ fn is_answered(graph: &mut Graph, step: Step) -> bool {
         Step::Fail(i, code, answer) => graph.has(i) && graph.fail(i, code) == answer,
         Step::Cancel(i, answer) => graph.has(i) && graph.cancel(i) == answer,
         Step::Claim(i, answer) => graph.has(i) && graph.claim(0, i) == answer,
+        Step::Granted(i, n) => graph.has(i) && graph.claim(0, i) == granted(n),
         Step::ClaimBy(who, i, answer) => graph.has(i) && graph.claim(who, i) == answer,
         Step::Finish(i, given, answer) => graph.has(i) && graph.finish(0, i, given) == answer,
         Step::Tick(now, answer) => graph.tick(now) == answer,
@@ -87,6 +109,10 @@ fn is_answered(graph: &mut Graph, step: Step) -> bool {
             true
         }
         Step::Outcome(i, answer) => graph.has(i) && graph.outcome(i) == answer,
+        Step::Value(i, n) => graph.has(i) && graph.outcome(i) == gives(n),
+        Step::Fault(i, cause, wrapped) => {
+            graph.has(i) && graph.outcome(i) == fault(cause, wrapped)
+        }
         Step::Now(i, answer) => graph.has(i) && graph.now(i, Value::Int(-1)) == answer,
         Step::LowestReady(answer) => graph.lowest_ready() == answer,
         Step::Nudge(k, answer) => graph.nudge(k) == answer,
@@ -108,6 +134,7 @@ pub(crate) fn take(rt: &impl Abort, graph: &mut Graph, steps: &[Step]) {
 /// The graph takes these steps, and is let go.
 pub(crate) fn play_in(rt: &impl Abort, mut graph: Graph, steps: &[Step]) {
     take(rt, &mut graph, steps);
+    drop(graph);
 }
 
 /// The graph of a plan.
@@ -132,7 +159,8 @@ pub(crate) fn play_on(rt: &impl Abort, alloc: Global, plan: Plan, steps: &[Step]
 
 /// The graph of a plan, with room for so many stages.
 pub(crate) fn with_room(rt: &impl Abort, alloc: Global, plan: Plan, room: u16) -> Graph {
-    assert!(rt; room <= 16 && plan.stages() <= 4080 && plan.edges() <= 16352);
+    let has_place = room <= 16 && plan.stages() <= 4080 && plan.edges() <= 16352;
+    holds(rt, has_place, room);
     must(rt, Graph::new_growing(alloc, plan, room))
 }
 
@@ -146,24 +174,4 @@ pub(crate) fn play_growing(
 ) {
     let plan = plan_of(rt, alloc, rows);
     play_in(rt, with_room(rt, alloc, plan, room), steps);
-}
-
-/// What a stage is settled with that gives this number.
-pub(crate) fn gives(n: i32) -> Option<Outcome> {
-    Some(Outcome::Value(Value::Int(n)))
-}
-
-/// What a stage is settled with that has this fault.
-pub(crate) fn fault(cause: Cause, wrapped: bool) -> Option<Outcome> {
-    Some(Outcome::Fault { cause, wrapped })
-}
-
-/// A claim is granted, with this number for its function.
-pub(crate) fn granted(n: i32) -> Claimed {
-    Claimed::Granted(Args::One(Value::Int(n)))
-}
-
-/// The function gives this number.
-pub(crate) fn give(n: i32) -> Answer {
-    Answer::Give(Value::Int(n))
 }

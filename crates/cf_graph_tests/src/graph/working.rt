@@ -1,11 +1,7 @@
 //! Work: chains, links and faults, and how many functions are called.
-ghost use Rattle.std.specs.Prelude.{◌≡◌};
-ghost use Rattle.cf_plan.specs.declared.forms.Answer.TheVariants.{Give};
-ghost use Rattle.cf_outcome.specs.declared.outcome.Value.TheVariants.{Int};
-
 use crate::checks::same;
 use crate::graph::plans::{Row, SOURCE, longest_chain};
-use crate::graph::steps::{Step, fault, give, gives, granted, graph_in, graph_of, take};
+use crate::graph::steps::{Step, graph_in, graph_of, take};
 use cf_core::Graph;
 use cf_model::{Claimed, Finished};
 use cf_outcome::{Cause, Outcome, Value};
@@ -27,14 +23,18 @@ impl StageFn for Fixed {
     }
 }
 
-/// A function that gives this number.
-fn giving(n: i32) -> Fixed
-    ensures { result.answer ≡ Give (Int n) }
-{
+/// Functions that give 4, 5 and 6.
+const FUNCTIONS: [Fixed; 3] = [
     Fixed {
-        answer: Answer::Give(Value::Int(n)),
-    }
-}
+        answer: Answer::Give(Value::Int(4)),
+    },
+    Fixed {
+        answer: Answer::Give(Value::Int(5)),
+    },
+    Fixed {
+        answer: Answer::Give(Value::Int(6)),
+    },
+];
 
 /// What is done to a graph in turn.
 #[derive(Clone, Copy)]
@@ -60,116 +60,140 @@ fn take_turns(rt: &impl Abort, graph: &mut Graph, functions: &[Fixed], turns: &[
 fn works(rt: &impl Abort, alloc: Global, rows: &[Row<'_>], functions: &[Fixed], turns: &[Turn]) {
     let mut graph = graph_of(rt, alloc, rows);
     take_turns(rt, &mut graph, functions, turns);
+    drop(graph);
 }
+
+const DOWN: [Turn; 8] = [
+    // Nothing is ready.
+    Turn::Works(63, 0),
+    Turn::Takes(Step::Complete(0, 3, true)),
+    Turn::Works(63, 3),
+    Turn::Takes(Step::Value(1, 4)),
+    Turn::Takes(Step::Value(3, 6)),
+    Turn::Takes(Step::Turns(3)),
+    // Each was called once.
+    Turn::Works(63, 0),
+    Turn::Takes(Step::Claim(3, Claimed::Settled)),
+];
+
+const CHAIN: [Row<'static>; 4] = [
+    SOURCE,
+    (Form::Apply, &[0], Some(0)),
+    (Form::Apply, &[1], Some(1)),
+    (Form::Apply, &[2], Some(2)),
+];
 
 #[test]
 fn works_down_a_chain(rt: HostRuntime) {
-    let rows = [
-        SOURCE,
-        (Form::Apply, &[0], Some(0)),
-        (Form::Apply, &[1], Some(1)),
-        (Form::Apply, &[2], Some(2)),
-    ];
-    let turns = [
-        // Nothing is ready.
-        Turn::Works(63, 0),
-        Turn::Takes(Step::Complete(0, 3, true)),
-        Turn::Works(63, 3),
-        Turn::Takes(Step::Outcome(1, gives(4))),
-        Turn::Takes(Step::Outcome(3, gives(6))),
-        Turn::Takes(Step::Turns(3)),
-        // Each was called once.
-        Turn::Works(63, 0),
-        Turn::Takes(Step::Claim(3, Claimed::Settled)),
-    ];
-    let functions = [giving(4), giving(5), giving(6)];
-    works(&rt, rt.alloc(), &rows, &functions, &turns);
+    works(&rt, rt.alloc(), &CHAIN, &FUNCTIONS, &DOWN);
 }
+
+const LINKS: [Fixed; 1] = [Fixed {
+    answer: Answer::Link(1),
+}];
+
+const THROUGH_LINKS: [Turn; 9] = [
+    Turn::Takes(Step::Complete(0, 3, true)),
+    Turn::Works(0, 1),
+    // It is linked.
+    Turn::Takes(Step::Outcome(2, None)),
+    Turn::Takes(Step::Claim(2, Claimed::Taken)),
+    // No claim is left open.
+    Turn::Takes(Step::Finish(2, Answer::Give(Value::Nil), Finished::NotYours)),
+    Turn::Takes(Step::Complete(1, 4, true)),
+    Turn::Takes(Step::Value(2, 4)),
+    Turn::Works(0, 1),
+    // Its target is settled.
+    Turn::Takes(Step::Value(3, 4)),
+];
+
+const COMPOSED: [Row<'static>; 4] = [
+    SOURCE,
+    SOURCE,
+    (Form::Compose, &[0], Some(0)),
+    (Form::Compose, &[2], Some(0)),
+];
 
 #[test]
 fn works_through_links(rt: HostRuntime) {
-    let rows = [
-        SOURCE,
-        SOURCE,
-        (Form::Compose, &[0], Some(0)),
-        (Form::Compose, &[2], Some(0)),
-    ];
-    let nil = Answer::Give(Value::Nil);
-    let turns = [
-        Turn::Takes(Step::Complete(0, 3, true)),
-        Turn::Works(0, 1),
-        // It is linked.
-        Turn::Takes(Step::Outcome(2, None)),
-        Turn::Takes(Step::Claim(2, Claimed::Taken)),
-        // No claim is left open.
-        Turn::Takes(Step::Finish(2, nil, Finished::NotYours)),
-        Turn::Takes(Step::Complete(1, 4, true)),
-        Turn::Takes(Step::Outcome(2, gives(4))),
-        Turn::Works(0, 1),
-        // Its target is settled.
-        Turn::Takes(Step::Outcome(3, gives(4))),
-    ];
-    let links = Fixed {
-        answer: Answer::Link(1),
-    };
-    works(&rt, rt.alloc(), &rows, &[links], &turns);
+    works(&rt, rt.alloc(), &COMPOSED, &LINKS, &THROUGH_LINKS);
 }
+
+const THROWS: [Fixed; 2] = [
+    Fixed {
+        answer: Answer::Throw(7),
+    },
+    Fixed {
+        answer: Answer::Give(Value::Int(4)),
+    },
+];
+
+const FAILED: [Turn; 4] = [
+    // No function after a fault.
+    Turn::Works(1, 2),
+    Turn::Takes(Step::Fault(0, Cause::Thrown(7), true)),
+    Turn::Takes(Step::Fault(1, Cause::Thrown(7), true)),
+    // There is no function 2.
+    Turn::Takes(Step::Outcome(2, Some(Outcome::Value(Value::Nil)))),
+];
+
+const SUPPLIES: [Row<'static>; 3] = [
+    (Form::Supply, &[], Some(0)),
+    (Form::Apply, &[0], Some(1)),
+    (Form::Supply, &[], Some(2)),
+];
 
 #[test]
 fn works_on_what_fails(rt: HostRuntime) {
-    let rows = [
-        (Form::Supply, &[][..], Some(0)),
-        (Form::Apply, &[0], Some(1)),
-        (Form::Supply, &[], Some(2)),
-    ];
-    let thrown = fault(Cause::Thrown(7), true);
-    let nil = Some(Outcome::Value(Value::Nil));
-    let turns = [
-        // No function after a fault.
-        Turn::Works(1, 2),
-        Turn::Takes(Step::Outcome(0, thrown)),
-        Turn::Takes(Step::Outcome(1, thrown)),
-        // There is no function 2.
-        Turn::Takes(Step::Outcome(2, nil)),
-    ];
-    let throws = Fixed {
-        answer: Answer::Throw(7),
-    };
-    works(&rt, rt.alloc(), &rows, &[throws, giving(4)], &turns);
+    works(&rt, rt.alloc(), &SUPPLIES, &THROWS, &FAILED);
 }
+
+const ALL: [Turn; 3] = [
+    Turn::Takes(Step::Complete(0, 3, true)),
+    Turn::Works(63, 4095),
+    Turn::Takes(Step::Value(4095, 4)),
+];
 
 #[test]
 fn works_on_the_most_stages(rt: HostRuntime) {
     let plan = longest_chain(&rt, rt.alloc());
     let mut graph = graph_in(&rt, rt.alloc(), plan);
-    let turns = [
-        Turn::Takes(Step::Complete(0, 3, true)),
-        Turn::Works(63, 4095),
-        Turn::Takes(Step::Outcome(4095, gives(4))),
-    ];
-    take_turns(&rt, &mut graph, &[giving(4)], &turns);
+    take_turns(&rt, &mut graph, &FUNCTIONS[..1], &ALL);
+    drop(graph);
 }
+
+const PAST: [Turn; 8] = [
+    Turn::Takes(Step::Complete(0, 3, true)),
+    Turn::Takes(Step::Granted(1, 3)),
+    Turn::Works(1, 1),
+    Turn::Takes(Step::Outcome(1, None)),
+    Turn::Takes(Step::Value(2, 4)),
+    Turn::Takes(Step::Finish(1, Answer::Give(Value::Int(9)), Finished::Won)),
+    Turn::Works(1, 1),
+    Turn::Takes(Step::Value(3, 4)),
+];
+
+const APPLIES: [Row<'static>; 4] = [
+    SOURCE,
+    (Form::Apply, &[0], Some(0)),
+    (Form::Apply, &[0], Some(0)),
+    (Form::Apply, &[1], Some(0)),
+];
 
 #[test]
 fn works_past_what_others_claimed(rt: HostRuntime) {
-    let rows = [
-        SOURCE,
-        (Form::Apply, &[0], Some(0)),
-        (Form::Apply, &[0], Some(0)),
-        (Form::Apply, &[1], Some(0)),
-    ];
-    let turns = [
-        Turn::Takes(Step::Complete(0, 3, true)),
-        Turn::Takes(Step::Claim(1, granted(3))),
-        Turn::Works(1, 1),
-        Turn::Takes(Step::Outcome(1, None)),
-        Turn::Takes(Step::Outcome(2, gives(4))),
-        Turn::Takes(Step::Finish(1, give(9), Finished::Won)),
-        Turn::Works(1, 1),
-        Turn::Takes(Step::Outcome(3, gives(4))),
-    ];
-    works(&rt, rt.alloc(), &rows, &[giving(4)], &turns);
+    works(&rt, rt.alloc(), &APPLIES, &FUNCTIONS[..1], &PAST);
 }
+
+const FEW: [Turn; 7] = [
+    Turn::Takes(Step::Complete(199, 3, true)),
+    Turn::Works(0, 2),
+    Turn::Takes(Step::Value(201, 4)),
+    Turn::Takes(Step::Complete(0, 3, true)),
+    Turn::Works(0, 1),
+    Turn::Takes(Step::Value(1, 4)),
+    Turn::Takes(Step::Outcome(2, None)),
+];
 
 #[test]
 fn works_on_a_few_of_many(rt: HostRuntime) {
@@ -177,14 +201,5 @@ fn works_on_a_few_of_many(rt: HostRuntime) {
     rows[1] = (Form::Apply, &[0], Some(0));
     rows[200] = (Form::Apply, &[199], Some(0));
     rows[201] = (Form::Apply, &[200], Some(0));
-    let turns = [
-        Turn::Takes(Step::Complete(199, 3, true)),
-        Turn::Works(0, 2),
-        Turn::Takes(Step::Outcome(201, gives(4))),
-        Turn::Takes(Step::Complete(0, 3, true)),
-        Turn::Works(0, 1),
-        Turn::Takes(Step::Outcome(1, gives(4))),
-        Turn::Takes(Step::Outcome(2, None)),
-    ];
-    works(&rt, rt.alloc(), &rows, &[giving(4)], &turns);
+    works(&rt, rt.alloc(), &rows, &FUNCTIONS[..1], &FEW);
 }

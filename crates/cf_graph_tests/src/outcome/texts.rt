@@ -1,13 +1,13 @@
 //! Outcomes, what becomes of them, and their texts, in memory, cut short and where a writer stumbles.
-use crate::checks::{holds, same};
+use crate::checks::{holds, is_shown, same};
 use cf_outcome::{
     Cause, Now, Outcome, SHORT_ROOM, ShortText, Value, WriteFault, is_cancelled, is_exceptional,
     now_of, wrap, write_outcome, write_text,
 };
-use std::alloc::{AllocError, Global};
+use std::alloc::Global;
 use std::io;
 use std::io::{ErrorKind, Write};
-use std::test::Fail;
+use std::process::Abort;
 
 const RAW_CANCEL: Outcome = Outcome::Fault {
     cause: Cause::Cancelled,
@@ -55,37 +55,30 @@ fn wraps_and_tells(rt: HostRuntime) {
 }
 
 /// Whether an outcome is written so, to a writer and as a text.
-fn is_written(alloc: Global, outcome: Outcome, text: &str) -> Result<bool, AllocError> {
+fn is_written(rt: &impl Abort, alloc: Global, outcome: Outcome, text: &str) -> bool {
     let mut out: Vec<u8> = Vec::new(alloc);
     let written = write_outcome(&mut out, outcome).is_ok();
-    let shown = format!(in alloc; "{outcome}")?;
-    Ok(written && out.as_slice() == text.as_bytes() && shown.as_str() == text)
+    written && out.as_slice() == text.as_bytes() && is_shown(rt, alloc, &outcome, text)
 }
 
-/// The values, each as it is written.
-const VALUES: [(Value, &str); 7] = [
-    (Value::Nil, "nil"),
-    (Value::Int(0), "0"),
-    (Value::Int(9), "9"),
-    (Value::Int(10), "10"),
-    (Value::Int(-1), "-1"),
-    (Value::Int(2147483647), "2147483647"),
-    (Value::Int(-2147483648), "-2147483648"),
+/// The values, each as it is written, and as its outcome is.
+const VALUES: [(Value, &str, &str); 7] = [
+    (Value::Nil, "nil", "value nil"),
+    (Value::Int(0), "0", "value 0"),
+    (Value::Int(9), "9", "value 9"),
+    (Value::Int(10), "10", "value 10"),
+    (Value::Int(-1), "-1", "value -1"),
+    (Value::Int(2147483647), "2147483647", "value 2147483647"),
+    (Value::Int(-2147483648), "-2147483648", "value -2147483648"),
 ];
 
-/// Whether a value is written so, and its outcome with the word before it.
-fn is_value_written(alloc: Global, value: Value, text: &str) -> Result<bool, AllocError> {
-    let whole = format!(in alloc; "value {text}")?;
-    let shown = format!(in alloc; "{value}")?;
-    Ok(shown.as_str() == text && is_written(alloc, Outcome::Value(value), whole.as_str())?)
-}
-
 #[test]
-fn writes_each_value(rt: HostRuntime) -> Result<(), Fail> {
-    for (value, text) in &VALUES {
-        holds(&rt, is_value_written(rt.alloc(), *value, text)?, text);
+fn writes_each_value(rt: HostRuntime) {
+    for (value, text, whole) in &VALUES {
+        let outcome = Outcome::Value(*value);
+        holds(&rt, is_shown(&rt, rt.alloc(), value, text), text);
+        holds(&rt, is_written(&rt, rt.alloc(), outcome, whole), whole);
     }
-    Ok(())
 }
 
 /// The causes, each as it is written raw and wrapped.
@@ -127,16 +120,12 @@ fn fault(cause: Cause, wrapped: bool) -> Outcome {
 }
 
 #[test]
-fn writes_each_fault(rt: HostRuntime) -> Result<(), Fail> {
+fn writes_each_fault(rt: HostRuntime) {
     for (cause, raw, wrapped) in &CAUSES {
-        holds(&rt, is_written(rt.alloc(), fault(*cause, false), raw)?, raw);
-        holds(
-            &rt,
-            is_written(rt.alloc(), fault(*cause, true), wrapped)?,
-            wrapped,
-        );
+        let (plain, under) = (fault(*cause, false), fault(*cause, true));
+        holds(&rt, is_written(&rt, rt.alloc(), plain, raw), raw);
+        holds(&rt, is_written(&rt, rt.alloc(), under, wrapped), wrapped);
     }
-    Ok(())
 }
 
 /// What a caller is told, each as it is written.
@@ -160,13 +149,11 @@ fn is_short(told: Now, text: &str) -> bool {
 }
 
 #[test]
-fn writes_each_answer(rt: HostRuntime) -> Result<(), Fail> {
+fn writes_each_answer(rt: HostRuntime) {
     for (told, text) in &TOLD {
-        let shown = format!(in rt.alloc(); "{told}")?;
-        same(&rt, shown.as_str(), *text);
+        holds(&rt, is_shown(&rt, rt.alloc(), told, text), text);
         holds(&rt, is_short(*told, text), text);
     }
-    Ok(())
 }
 
 /// The longest stands behind as much as there is room for.

@@ -166,6 +166,7 @@ fn do_steps(rt: &impl Abort, alloc: Global, both: &mut Both, news: [New; 2], lis
 fn compare_attached(rt: &impl Abort, alloc: Global, plan: &Plan, news: [New; 2], list: u32) {
     let mut both = both_of(rt, alloc, plan, 2);
     do_steps(rt, alloc, &mut both, news, list);
+    drop(both);
 }
 
 /// Compares each pair of stages, attached to this plan, by so many lists, and counts the lists.
@@ -184,6 +185,7 @@ fn compare_pairs(rt: &impl Abort, alloc: Global, plan: &Plan) -> u32 {
 fn two_stages_are_attached(rt: HostRuntime) {
     let plan = two_sources(&rt, rt.alloc());
     same(&rt, compare_pairs(&rt, rt.alloc(), &plan), 12198);
+    drop(plan);
 }
 
 /// What was attached: by what its sources held, a bit for each form that had such ones, and how often there was no room.
@@ -267,6 +269,7 @@ fn grow_all(rt: &impl Abort, alloc: Global, both: &mut Both, seen: &mut Seen, nu
 fn compare_growing(rt: &impl Abort, alloc: Global, plan: &Plan, seen: &mut Seen, number: u32) {
     let mut both = both_of(rt, alloc, plan, (number % 9) as u16);
     grow_all(rt, alloc, &mut both, seen, number);
+    drop(both);
 }
 
 /// Two sources, or the larger plan of an odd number.
@@ -283,6 +286,7 @@ fn compare_plans(rt: &impl Abort, alloc: Global, seen: &mut Seen) {
     for number in 0..PLANS {
         let plan = plan_by(rt, alloc, number);
         compare_growing(rt, alloc, &plan, seen, number);
+        drop(plan);
     }
 }
 

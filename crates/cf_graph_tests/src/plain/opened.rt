@@ -53,6 +53,7 @@ fn call_all(rt: &impl Abort, alloc: Global, both: &mut Both, plan: &Plan, list: 
 fn compare(rt: &impl Abort, alloc: Global, plan: &Plan, list: u32, calls: u32) -> u32 {
     let mut both = both_of(rt, alloc, plan);
     call_all(rt, alloc, &mut both, plan, list, calls);
+    drop(both);
     calls
 }
 
@@ -64,6 +65,7 @@ fn compare_all(rt: &impl Abort, alloc: Global, news: &[New], number: u32) -> u32
         let list = number.wrapping_mul(LISTS).wrapping_add(list);
         replies = replies.wrapping_add(compare(rt, alloc, &plan, list, CALLS));
     }
+    drop(plan);
     replies
 }
 
@@ -95,6 +97,7 @@ fn two_stages_over_two_sources(rt: HostRuntime) {
 fn compare_larger(rt: &impl Abort, alloc: Global, number: u32) {
     let plan = larger_plan(rt, alloc, number);
     compare(rt, alloc, &plan, number, LARGER_CALLS);
+    drop(plan);
 }
 
 #[test]

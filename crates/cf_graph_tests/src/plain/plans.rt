@@ -148,11 +148,18 @@ fn add(builder: &mut PlanBuilder, new: New) -> Result<u16, PlanFault> {
 
 const GIVE: LimitKind = LimitKind::Give(Value::Int(9));
 
+const TWO_LIMITS: [(u16, u32, LimitKind); 2] = [(0, 1, GIVE), (1, 2, LimitKind::Timeout)];
+
 /// Two sources with a limit each.
 pub(crate) fn two_sources(rt: &impl Abort, alloc: Global) -> Plan {
-    let limits = [(0, 1, GIVE), (1, 2, LimitKind::Timeout)];
-    limited(rt, builder_of(rt, alloc), &limits)
+    limited(rt, builder_of(rt, alloc), &TWO_LIMITS)
 }
+
+const THREE_LIMITS: [(u16, u32, LimitKind); 3] = [
+    (2, 2, LimitKind::Timeout),
+    (0, 1, GIVE),
+    (1, 2, LimitKind::Timeout),
+];
 
 /// Two sources, these stages, and three limits.
 pub(crate) fn plan_of(rt: &impl Abort, alloc: Global, news: &[New]) -> Plan {
@@ -160,12 +167,7 @@ pub(crate) fn plan_of(rt: &impl Abort, alloc: Global, news: &[New]) -> Plan {
     for new in news {
         must(rt, add(&mut builder, *new));
     }
-    let limits = [
-        (2, 2, LimitKind::Timeout),
-        (0, 1, GIVE),
-        (1, 2, LimitKind::Timeout),
-    ];
-    limited(rt, builder, &limits)
+    limited(rt, builder, &THREE_LIMITS)
 }
 
 /// The stream of random numbers of a list of calls or of a plan, the same each time.
@@ -191,6 +193,12 @@ fn add_by(builder: &mut PlanBuilder, k: u16, x: u32) -> Result<u16, PlanFault> {
     builder.stage(form, &of[..count], function_of(called))
 }
 
+const LARGER_LIMITS: [(u16, u32, LimitKind); 3] = [
+    (2, 2, LimitKind::Timeout),
+    (0, 1, GIVE),
+    (4, 2, LimitKind::Timeout),
+];
+
 /// The larger plan of a number: two sources, 6 to 14 stages of all forms over lower ones, and three limits.
 pub(crate) fn larger_plan(rt: &impl Abort, alloc: Global, number: u32) -> Plan {
     let mut builder = builder_of(rt, alloc);
@@ -198,10 +206,5 @@ pub(crate) fn larger_plan(rt: &impl Abort, alloc: Global, number: u32) -> Plan {
     for k in 2..8 + (number % 9) as u16 {
         must(rt, add_by(&mut builder, k, numbers.next_u32()));
     }
-    let limits = [
-        (2, 2, LimitKind::Timeout),
-        (0, 1, GIVE),
-        (4, 2, LimitKind::Timeout),
-    ];
-    limited(rt, builder, &limits)
+    limited(rt, builder, &LARGER_LIMITS)
 }

@@ -81,7 +81,9 @@ fn assert_same(rt: &impl Abort, plan: &GrowingPlan, whole: &Plan) {
 /// The plan is the one that is built here, with no room left.
 fn assert_full(rt: &impl Abort, plan: &GrowingPlan, builder: PlanBuilder) {
     same(rt, plan.room(), 0);
-    assert_same(rt, plan, &must(rt, builder.build()));
+    let whole = must(rt, builder.build());
+    assert_same(rt, plan, &whole);
+    drop(whole);
 }
 
 const SOURCE: Row<'static> = Row(Form::Source, Of::None, &[], None);
@@ -149,6 +151,7 @@ fn stages_are_attached_behind_the_opening(rt: HostRuntime) {
     let mut plan = with_four(&rt, rt.alloc());
     fill(&rt, rt.alloc(), &mut plan, &EACH_COUNT);
     holds(&rt, is_left(&plan, 0, 3, 1), "opening");
+    drop(plan);
 }
 
 /// Attaches two stages to stage 1, of which the second names it twice and comes first.
@@ -164,6 +167,7 @@ fn attach_to_one(plan: &mut GrowingPlan) -> bool {
 fn the_newest_comes_first(rt: HostRuntime) {
     let mut plan = with_four(&rt, rt.alloc());
     holds(&rt, attach_to_one(&mut plan), "dependents");
+    drop(plan);
 }
 
 /// Adds a source to both plans, and an allOf of stage `i / 2` and the last, `i - 1`, for each `i` from 1 on below 4,096.
@@ -193,6 +197,7 @@ fn as_many_are_attached_as_there_may_be(rt: HostRuntime) {
     let mut plan = must(&rt, with_room(&rt, rt.alloc(), empty, MAX_STAGES as u16));
     fill_with_most(&rt, rt.alloc(), &mut plan);
     same(&rt, plan.edges(), 8_190);
+    drop(plan);
 }
 
 /// The plan is restarted, and then it is the one that was built whole, with room for four stages.
@@ -225,6 +230,8 @@ const FOUR_ALIKE: [Row<'static>; 4] = [Row(Form::AllOf, Of::Two(0, 0), &[0, 0], 
 #[test]
 fn a_restart_takes_out_what_was_attached(rt: HostRuntime) {
     let mut plan = with_four(&rt, rt.alloc());
-    restart_often(&rt, &mut plan, &must(&rt, opening(&rt, rt.alloc()).build()));
+    let whole = must(&rt, opening(&rt, rt.alloc()).build());
+    restart_often(&rt, &mut plan, &whole);
     fill(&rt, rt.alloc(), &mut plan, &FOUR_ALIKE);
+    drop((plan, whole));
 }

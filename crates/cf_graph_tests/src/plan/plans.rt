@@ -1,10 +1,9 @@
 //! Plans of every kind of size, and what is refused.
-use crate::checks::{holds, must, same};
+use crate::checks::{holds, is_shown, must, same};
 use crate::plan::rows::{Ask, Step, check, check_after, check_both, check_built, take, taken};
 use cf_outcome::{Value, WriteFault};
 use cf_plan::{Form, Limit, LimitKind, MAX_EDGES, Plan, PlanBuilder, PlanFault};
 use std::alloc::Global;
-use std::fmt::Display;
 use std::process::Abort;
 
 const SOURCE: Step<'static> = Step::Stage(Form::Source, &[], None, Ok(0));
@@ -380,18 +379,13 @@ const FAULTS: [(PlanFault, &str); 9] = [
     (PlanFault::TooManyLimits, "TooManyLimits"),
 ];
 
-/// A fault is written so.
-fn assert_written(rt: &impl Abort, alloc: Global, fault: &impl Display, text: &str) {
-    let written = must(rt, format!(in alloc; "{fault}"));
-    same(rt, written.as_str(), text);
-}
-
 #[test]
 fn faults_are_written_by_name(rt: HostRuntime) {
     for (fault, text) in &FAULTS {
-        assert_written(&rt, rt.alloc(), fault, text);
+        holds(&rt, is_shown(&rt, rt.alloc(), fault, text), text);
     }
-    assert_written(&rt, rt.alloc(), &WriteFault, "WriteFault");
+    let name = "WriteFault";
+    holds(&rt, is_shown(&rt, rt.alloc(), &WriteFault, name), name);
 }
 
 /// Adds a stage. Where a growth is refused, there are as many stages as before, and it is tried again.
@@ -427,7 +421,7 @@ fn add_again(
 fn limit_again(rt: &impl Abort, builder: &mut PlanBuilder) {
     let mut answer = builder.limit(1, 5, LimitKind::Timeout);
     if answer == Err(PlanFault::NoMemory) {
-        assert!(rt; builder.limits().is_empty());
+        holds(rt, builder.limits().is_empty(), "limits");
         answer = builder.limit(1, 5, LimitKind::Timeout);
     }
     same(rt, answer, Ok(()));
