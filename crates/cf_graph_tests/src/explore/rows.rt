@@ -47,12 +47,47 @@ const PAYS_ONCE: Rows = Rows {
     ..PAYS
 };
 
+/// A complete against a cancel.
+const AGAINST: Rows = Rows {
+    callers: &[&[COMPLETE], &[CANCEL]],
+    ..NONE
+};
+
+/// A timeout that loses, or wins.
+const TIMED: Rows = Rows {
+    limits: &[Limit {
+        stage: 0,
+        at: 10,
+        kind: LimitKind::Timeout,
+    }],
+    callers: &[&[COMPLETE]],
+    free: true,
+    ..NONE
+};
+
+/// The first of two replicas.
+const REPLICAS: Rows = Rows {
+    stages: &[
+        (Form::Source, &[], None),
+        (Form::Source, &[], None),
+        (Form::AnyOf, &[0, 1], None),
+    ],
+    callers: &[&[COMPLETE], &[OTHER]],
+    ..NONE
+};
+
+/// More orders than are counted.
+const LOOKS: Rows = Rows {
+    callers: &[&[LOOK; 70], &[LOOK; 70]],
+    ..NONE
+};
+
 /// What a program comes to: how many ends, the orders that lead to the first one, how many situations, whether they are all, and
 /// how many moves lead to an end at which function 0 was called twice, 0 where none does.
 #[derive(Clone, Copy)]
 struct Row {
     name: &'static str,
-    rows: Rows,
+    rows: &'static Rows,
     bound: u32,
     ends: usize,
     orders: u128,
@@ -64,10 +99,7 @@ struct Row {
 const ROWS: [Row; 7] = [
     Row {
         name: "complete against cancel",
-        rows: Rows {
-            callers: &[&[COMPLETE], &[CANCEL]],
-            ..NONE
-        },
+        rows: &AGAINST,
         bound: 1000,
         ends: 2,
         orders: 1,
@@ -77,16 +109,7 @@ const ROWS: [Row; 7] = [
     },
     Row {
         name: "a timeout that loses, or wins",
-        rows: Rows {
-            limits: &[Limit {
-                stage: 0,
-                at: 10,
-                kind: LimitKind::Timeout,
-            }],
-            callers: &[&[COMPLETE]],
-            free: true,
-            ..NONE
-        },
+        rows: &TIMED,
         bound: 1000,
         ends: 2,
         orders: 2,
@@ -96,15 +119,7 @@ const ROWS: [Row; 7] = [
     },
     Row {
         name: "the first of two replicas",
-        rows: Rows {
-            stages: &[
-                (Form::Source, &[], None),
-                (Form::Source, &[], None),
-                (Form::AnyOf, &[0, 1], None),
-            ],
-            callers: &[&[COMPLETE], &[OTHER]],
-            ..NONE
-        },
+        rows: &REPLICAS,
         bound: 1000,
         ends: 2,
         orders: 1,
@@ -114,7 +129,7 @@ const ROWS: [Row; 7] = [
     },
     Row {
         name: "pays twice",
-        rows: PAYS,
+        rows: &PAYS,
         bound: 1000,
         ends: 1,
         orders: 44,
@@ -124,7 +139,7 @@ const ROWS: [Row; 7] = [
     },
     Row {
         name: "pays once",
-        rows: PAYS_ONCE,
+        rows: &PAYS_ONCE,
         bound: 1000,
         ends: 1,
         orders: 2,
@@ -134,7 +149,7 @@ const ROWS: [Row; 7] = [
     },
     Row {
         name: "a full bound",
-        rows: PAYS,
+        rows: &PAYS,
         bound: 5,
         ends: 0,
         orders: 0,
@@ -144,10 +159,7 @@ const ROWS: [Row; 7] = [
     },
     Row {
         name: "more orders than are counted",
-        rows: Rows {
-            callers: &[&[LOOK; 70], &[LOOK; 70]],
-            ..NONE
-        },
+        rows: &LOOKS,
         bound: 10000,
         ends: 1,
         orders: 340282366920938463463374607431768211455,
@@ -186,8 +198,8 @@ fn orders_to(found: &Found) -> u128 {
 
 /// What the program of a row comes to.
 fn explore(rt: &impl Abort, alloc: Global, row: &Row) -> Found {
-    let program = program(rt, alloc, &row.rows);
-    let functions = functions_of(rt, alloc, &row.rows);
+    let program = program(rt, alloc, row.rows);
+    let functions = functions_of(rt, alloc, row.rows);
     let conditions = never_twice(rt, alloc);
     let told = program.explore(alloc, &functions, &conditions, row.bound);
     drop((program, functions, conditions));
