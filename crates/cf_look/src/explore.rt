@@ -8,6 +8,7 @@ use cf_orders::{
 };
 use serde_json::Value as Json;
 use std::alloc::{AllocError, Global};
+use std::fmt::Display;
 use std::rt::{Clock, Files};
 use std::time::Instant;
 
@@ -46,18 +47,38 @@ pub(crate) fn explore_one<R: Input + Print + Eprint + AllocGlobal + Clock + File
         eprintln!(rt; "unreadable: standard input")?;
         return Ok(NO_QUESTION);
     };
-    let Ok(json) = Json::from_slice(rt.alloc(), input.as_bytes()) else {
-        eprintln!(rt; "refused: fault 2 not json")?;
-        return Ok(NO_QUESTION);
-    };
-    match read_question(rt.alloc(), &json) {
+    explore_text(rt, input.as_bytes(), asked)
+}
+
+/// Searches the question of these bytes.
+fn explore_text<R: Print + Eprint + AllocGlobal + Clock + Files>(
+    rt: &R,
+    text: &[u8],
+    asked: &Exploring,
+) -> Result<u8> {
+    match Json::from_slice(rt.alloc(), text) {
+        Ok(json) => explore_json(rt, &json, asked),
+        Err(_) => refuse(rt, &"fault 2 not json"),
+    }
+}
+
+/// Searches the question that is this JSON value.
+fn explore_json<R: Print + Eprint + AllocGlobal + Clock + Files>(
+    rt: &R,
+    json: &Json,
+    asked: &Exploring,
+) -> Result<u8> {
+    match read_question(rt.alloc(), json) {
         Ok(question) => searched(rt, &question, asked),
         Err(QuestionFault::NoMemory) => Err(AllocError.into()),
-        Err(fault) => {
-            eprintln!(rt; "refused: {fault}")?;
-            Ok(NO_QUESTION)
-        }
+        Err(fault) => refuse(rt, &fault),
     }
+}
+
+/// Writes why a text is no question.
+fn refuse<R: Eprint, D: Display>(rt: &R, why: &D) -> Result<u8> {
+    eprintln!(rt; "refused: {why}")?;
+    Ok(NO_QUESTION)
 }
 
 /// Searches a question, and tells what was found.
@@ -121,8 +142,7 @@ fn write_found<R: Print + AllocGlobal>(
     asked: &Exploring,
     found: &Found,
 ) -> Result<()> {
-    let stages = asked.of.as_ref().map(|of| of.as_slice());
-    let groups = grouped_by(rt.alloc(), found, stages)?;
+    let groups = grouped_by(rt.alloc(), found, asked.of.as_deref())?;
     match asked.order {
         None => write_all(rt, question, asked.json, found, groups.as_slice()),
         Some((number, shape)) => {

@@ -83,7 +83,7 @@ fn shared_of(alloc: Global, json: &Json) -> Result<(Plan, u16, SharedHistory)> {
 fn sessions_of(alloc: Global, json: &Json, count: u32) -> Result<SharedHistory> {
     let functions = match json.get("functions") {
         None => count,
-        Some(said) => large(said).ok_or(Unreadable::Functions)?,
+        Some(said) => large(said).ok_or(Unreadable::Member("functions"))?,
     };
     Ok(SharedHistory {
         functions,
@@ -95,26 +95,26 @@ fn sessions_of(alloc: Global, json: &Json, count: u32) -> Result<SharedHistory> 
 
 /// The plan, for how many stages it has room, and how many functions it brings.
 fn plan_of(alloc: Global, json: &Json) -> Result<(Plan, u16, u32)> {
-    let said = json.get("plan").ok_or(Unreadable::Plan)?;
+    let said = json.get("plan").ok_or(Unreadable::Member("plan"))?;
     let script = match script_of(alloc, said) {
         Ok(script) => script,
         Err(fault) => return Err(Unreadable::NoPlan(fault).into()),
     };
     let (plan, room, functions, steps) = script.into_parts();
     if !steps.is_empty() {
-        return Err(Unreadable::PlanSteps.into());
+        return Err(Unreadable::Member("plan: steps").into());
     }
     let count = u32::try_from(functions.len()).ok();
-    let count = count.ok_or(Unreadable::PlanFunctions)?;
+    let count = count.ok_or(Unreadable::Member("plan: functions"))?;
     Ok((plan, room, count))
 }
 
 fn words_of(alloc: Global, json: &Json) -> Result<Vec<u64>> {
     let list = json.get("events").and_then(Json::as_array);
-    let list = list.ok_or(Unreadable::Events)?;
+    let list = list.ok_or(Unreadable::Member("events"))?;
     let mut words = Vec::new(alloc);
     for (k, said) in list.iter().enumerate() {
-        words.push(word(said).ok_or(Unreadable::Event(k))?)?;
+        words.push(word(said).ok_or(Unreadable::Element("events", k, ""))?)?;
     }
     Ok(words)
 }
@@ -129,7 +129,7 @@ pub(crate) fn word(json: &Json) -> Option<u64> {
 
 fn callers_of(alloc: Global, json: &Json) -> Result<Vec<SharedCaller>> {
     let list = json.get("callers").and_then(Json::as_array);
-    let list = list.ok_or(Unreadable::Callers)?;
+    let list = list.ok_or(Unreadable::Member("callers"))?;
     let mut callers = Vec::new(alloc);
     for (c, said) in list.iter().enumerate() {
         callers.push(caller_of(alloc, c, said)?)?;
@@ -142,11 +142,15 @@ fn caller_of(alloc: Global, c: usize, said: &Json) -> Result<SharedCaller> {
     let mut sessions = Vec::new(alloc);
     match said.get("sessions") {
         None => {
-            let own = said.as_array().ok_or(Unreadable::Caller(c))?;
+            let own = said
+                .as_array()
+                .ok_or(Unreadable::Element("callers", c, ""))?;
             sessions.push(session_of(alloc, c, None, own.as_slice())?)?;
         }
         Some(said) => {
-            let list = said.as_array().ok_or(Unreadable::Sessions(c))?;
+            let list = said
+                .as_array()
+                .ok_or(Unreadable::Element("callers", c, ".sessions"))?;
             add_sessions(alloc, c, list.as_slice(), &mut sessions)?;
         }
     }
@@ -237,11 +241,11 @@ fn outcomes_of(alloc: Global, json: &Json) -> Result<Option<Vec<Option<Outcome>>
     let Some(said) = json.get("outcomes") else {
         return Ok(None);
     };
-    let list = said.as_array().ok_or(Unreadable::Outcomes)?;
+    let list = said.as_array().ok_or(Unreadable::Member("outcomes"))?;
     let mut outcomes = Vec::new(alloc);
     for (i, said) in list.iter().enumerate() {
         let told = told_of(alloc, said)?;
-        outcomes.push(told.ok_or(Unreadable::Outcome(i))?)?;
+        outcomes.push(told.ok_or(Unreadable::Element("outcomes", i, ""))?)?;
     }
     Ok(Some(outcomes))
 }

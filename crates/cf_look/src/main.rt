@@ -45,7 +45,7 @@ use cf_explain::Verdict as Said;
 use cf_history::Verdict;
 use explore::{explore_one, fault_of, is_question};
 use history::judge;
-use page::{ReadInput, read_in, text_of, write_refusal};
+use page::{ReadInput, Shown, read_in, text_of, write_refusal};
 use script::{Drawn, draw, explain_script, script_in};
 use serde_json::Value as Json;
 use show::line_of;
@@ -158,24 +158,24 @@ fn show_one<R: Input + Print + Eprint + AllocGlobal>(rt: &R, shape: Shape) -> Re
 
 /// Shows the account or the script of these bytes.
 fn show_bytes<R: Print + Eprint + AllocGlobal>(rt: &R, shape: Shape, bytes: &[u8]) -> Result<u8> {
-    let found = match read_in(rt.alloc(), bytes) {
-        Ok(found) => found,
-        Err(why) => {
-            eprintln!(rt; "unreadable: {why}")?;
-            return Ok(UNREADABLE);
-        }
-    };
-    match found {
-        ReadInput::Refused(fault) => {
+    match read_in(rt.alloc(), bytes) {
+        Ok(ReadInput::Shown(shown)) => write_shown(rt, shape, &shown),
+        Ok(ReadInput::Refused(fault)) => {
             write_refusal(rt, bytes, fault)?;
             Ok(REFUSED)
         }
-        ReadInput::Shown(shown) => {
-            let text = text_of(rt.alloc(), &shown, shape)?;
-            print!(rt; "{text}")?;
-            Ok(DRAWN)
+        Err(why) => {
+            eprintln!(rt; "unreadable: {why}")?;
+            Ok(UNREADABLE)
         }
     }
+}
+
+/// Writes what was read, in this shape.
+fn write_shown<R: Print + AllocGlobal>(rt: &R, shape: Shape, shown: &Shown) -> Result<u8> {
+    let text = text_of(rt.alloc(), shown, shape)?;
+    print!(rt; "{text}")?;
+    Ok(DRAWN)
 }
 
 /// Judges a history, and writes the line of its verdict.

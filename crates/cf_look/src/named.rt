@@ -35,7 +35,7 @@ impl Named {
         let mut line = String::new(alloc);
         let mut rest = said;
         if let Some(place) = place {
-            let name = self.name_at(place.area);
+            let name = self.name_at(place.area).unwrap_or("");
             write!(line, "{place}")?;
             match said.strip_prefix(line.as_str()) {
                 Some(behind) if !name.is_empty() => {
@@ -49,12 +49,9 @@ impl Named {
         Ok(line)
     }
 
-    /// The name of the stage that a part of the script is of; empty where it is of none, or that has none.
-    fn name_at(&self, area: Area) -> &str {
-        match self.stage_of(area).and_then(|i| self.names.get(i)) {
-            Some(name) => name.as_str(),
-            None => "",
-        }
+    /// The name of the stage that a part of the script is of, if it is of one that a name is listed for.
+    fn name_at(&self, area: Area) -> Option<&str> {
+        Some(self.names.get(self.stage_of(area)?)?.as_str())
     }
 
     /// The stage that a part of the script is of.
@@ -83,10 +80,13 @@ impl Named {
 
     /// How many stages there are before a step, if all steps before it do what they say.
     fn stages_before(&self, k: usize) -> Option<usize> {
-        let own = self.json.get("stages")?.as_array()?.len();
-        let before = self.json.get("steps")?.as_array()?.iter().take(k);
-        let attached = before.filter(|step| is_attach(step)).count();
-        Some(own.saturating_add(attached))
+        let mut stages = self.json.get("stages")?.as_array()?.len();
+        for step in self.json.get("steps")?.as_array()?.iter().take(k) {
+            if is_attach(step) {
+                stages = stages.saturating_add(1);
+            }
+        }
+        Some(stages)
     }
 }
 

@@ -4,7 +4,7 @@ use crate::history::{Account, account_of, check_room, verdict_on};
 use crate::people::{fill_people, people_in};
 use crate::show::write_verdict;
 use anyhow::Result;
-use cf_explain::explain;
+use cf_explain::{Explanation, explain};
 use cf_history::Verdict;
 use cf_page::{People, page_of, scene_of, spans_of, trace_of, words_of};
 use cf_plan::Plan;
@@ -116,11 +116,11 @@ pub(crate) fn text_of(alloc: Global, shown: &Shown, shape: Shape) -> Result<Stri
     let people = &shown.people;
     let scene = scene_of(alloc, &shown.plan, shown.room, &shown.words, people)?;
     let text = match shape {
-        Shape::Page => page_of(alloc, &scene, people)?,
-        Shape::Trace => trace_of(alloc, &scene, people)?,
-        Shape::Spans => spans_of(alloc, &scene, people, &shown.words)?,
+        Shape::Page => page_of(alloc, &scene, people),
+        Shape::Trace => trace_of(alloc, &scene, people),
+        Shape::Spans => spans_of(alloc, &scene, people, &shown.words),
     };
-    Ok(text)
+    Ok(text?)
 }
 
 /// Writes to standard error why these bytes are no script, and where.
@@ -131,6 +131,11 @@ pub(crate) fn write_refusal<R: Eprint + AllocGlobal>(
 ) -> Result<()> {
     eprintln!(rt; "{}", ScriptFault::from(fault))?;
     let said = explain(rt.alloc(), bytes)?;
+    write_said(rt, &said)
+}
+
+/// Writes to standard error what is said of a script, without the line of its fault.
+fn write_said<R: Eprint>(rt: &R, said: &Explanation) -> Result<()> {
     if let Some(refusal) = &said.refusal {
         eprintln!(rt; "{refusal}")?;
     }

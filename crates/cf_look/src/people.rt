@@ -18,8 +18,7 @@ pub(crate) fn fill_people(
     people: &mut People,
 ) -> Result<()> {
     add_title(&mut people.name, json, "a history")?;
-    let plan = json.get("plan").and_then(|plan| plan.get("stages"));
-    add_names(alloc, &mut people.names, plan)?;
+    add_names(alloc, &mut people.names, json.pointer("/plan/stages"))?;
     put_listed(alloc, &mut people.names, json.get("names"))?;
     fill_lists(alloc, json, people)?;
     Ok(add_replies(&mut people.replies, account)?)
@@ -52,7 +51,9 @@ fn fill_lists(alloc: Global, json: &Json, people: &mut People) -> Result<()> {
 fn add_title(title: &mut String, json: &Json, none: &str) -> Result<()> {
     let text = match json.get("name") {
         None => none,
-        Some(said) => said.as_str().ok_or(Unreadable::Name)?,
+        Some(said) => said
+            .as_str()
+            .ok_or(Unreadable::Member("name: has to be a text"))?,
     };
     Ok(title.push_str(text)?)
 }
@@ -61,7 +62,11 @@ fn add_title(title: &mut String, json: &Json, none: &str) -> Result<()> {
 fn add_names(alloc: Global, names: &mut Vec<String>, stages: Option<&Json>) -> Result<()> {
     for (k, stage) in items(stages).iter().enumerate() {
         let name = name_of(stage.get("name"));
-        let name = name.ok_or(Unreadable::StageName(k))?;
+        let name = name.ok_or(Unreadable::Element(
+            "stages",
+            k,
+            ".name: has to be a text of at most 64 characters",
+        ))?;
         names.push(String::from_str(alloc, name)?)?;
     }
     Ok(())
@@ -70,7 +75,11 @@ fn add_names(alloc: Global, names: &mut Vec<String>, stages: Option<&Json>) -> R
 /// Puts the names of a list in their places, and behind the others: an empty one leaves the stage its own.
 fn put_listed(alloc: Global, names: &mut Vec<String>, said: Option<&Json>) -> Result<()> {
     for (k, said) in listed(said, "names")?.iter().enumerate() {
-        let name = name_of(Some(said)).ok_or(Unreadable::ListedName(k))?;
+        let name = name_of(Some(said)).ok_or(Unreadable::Element(
+            "names",
+            k,
+            ": has to be a text of at most 64 characters",
+        ))?;
         put(alloc, names, k, name)?;
     }
     Ok(())
@@ -112,8 +121,12 @@ fn items(said: Option<&Json>) -> &[Json] {
 fn add_attached(alloc: Global, names: &mut Vec<String>, json: &Json) -> Result<()> {
     for (k, step) in items(json.get("steps")).iter().enumerate() {
         if step.get(0usize).and_then(Json::as_str) == Some("attach") {
-            let name = name_of(step.get(1usize).and_then(|stage| stage.get("name")));
-            let name = name.ok_or(Unreadable::AttachedName(k))?;
+            let name = name_of(step.pointer("/1/name"));
+            let name = name.ok_or(Unreadable::Element(
+                "steps",
+                k,
+                "[1].name: has to be a text of at most 64 characters",
+            ))?;
             names.push(String::from_str(alloc, name)?)?;
         }
     }
@@ -128,7 +141,9 @@ fn add_texts(
     member: &'static str,
 ) -> Result<()> {
     for (k, said) in listed(said, member)?.iter().enumerate() {
-        let text = said.as_str().ok_or(Unreadable::Text(member, k))?;
+        let text = said
+            .as_str()
+            .ok_or(Unreadable::Element(member, k, ": has to be a text"))?;
         texts.push(String::from_str(alloc, text)?)?;
     }
     Ok(())
@@ -137,7 +152,11 @@ fn add_texts(
 /// Adds the times of events, in nanoseconds.
 fn add_times(times: &mut Vec<u64>, said: Option<&Json>) -> Result<()> {
     for (k, said) in listed(said, "times")?.iter().enumerate() {
-        times.push(word(said).ok_or(Unreadable::Time(k))?)?;
+        times.push(word(said).ok_or(Unreadable::Element(
+            "times",
+            k,
+            ": has to be a whole number",
+        ))?)?;
     }
     Ok(())
 }
@@ -145,7 +164,7 @@ fn add_times(times: &mut Vec<u64>, said: Option<&Json>) -> Result<()> {
 /// Adds pairs of a stage and the higher one for which it stands in.
 fn add_relays(relays: &mut Vec<(u16, u16)>, said: Option<&Json>) -> Result<()> {
     for (k, said) in listed(said, "relays")?.iter().enumerate() {
-        relays.push(pair(said).ok_or(Unreadable::Relay(k))?)?;
+        relays.push(pair(said).ok_or(Unreadable::Element("relays", k, ": has to be two stages"))?)?;
     }
     Ok(())
 }

@@ -80,15 +80,15 @@ fn names_in(alloc: Global, bytes: &[u8]) -> Result<Vec<String>> {
 pub(crate) fn explain_script<R: Print + AllocGlobal>(rt: &R, bytes: &[u8]) -> Result<Verdict> {
     let said = explain(rt.alloc(), bytes)?;
     let named = Named::of(rt.alloc(), bytes);
-    write_explanation(rt, &named, &said)?;
-    Ok(said.verdict())
+    write_explanation(rt, &named, &said)
 }
 
+/// Writes what is said of a script, and answers the verdict.
 fn write_explanation<R: Print + AllocGlobal>(
     rt: &R,
     named: &Named,
     said: &Explanation,
-) -> Result<()> {
+) -> Result<Verdict> {
     if let Some(refusal) = &said.refusal {
         println!(rt; "{}", ScriptFault::from(refusal.fault))?;
         write_at(rt, named, Some(refusal.place), refusal)?;
@@ -96,10 +96,11 @@ fn write_explanation<R: Print + AllocGlobal>(
     for remark in &said.remarks {
         write_at(rt, named, place_of(remark), remark)?;
     }
-    if said.verdict() == Verdict::Right {
+    let verdict = said.verdict();
+    if verdict == Verdict::Right {
         println!(rt; "nothing is wrong")?;
     }
-    Ok(())
+    Ok(verdict)
 }
 
 /// Writes the line of what is said, with the name of the stage that its place is of.
