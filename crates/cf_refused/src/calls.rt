@@ -47,7 +47,11 @@ const EVENTS: [Event; 8] = [
 /// that memory was refused.
 pub(crate) fn show_calls<R: Print>(rt: &R, alloc: Global, plan: &Plan) -> io::Result<()> {
     match opened(alloc, plan) {
-        Some(mut graph) => show_answers(rt, &mut graph),
+        Some(mut graph) => {
+            let shown = show_answers(rt, &mut graph);
+            drop(graph);
+            shown
+        }
         None => println!(rt; "calls: no memory"),
     }
 }
@@ -61,7 +65,7 @@ fn opened(alloc: Global, plan: &Plan) -> Option<Graph> {
 }
 
 fn opened_of(alloc: Global, plan: Plan) -> Option<Graph> {
-    if plan.stages() == 2 && plan.edges() == 1 {
+    if plan.has_place(1) {
         Graph::new_growing(alloc, plan, 1).ok()
     } else {
         None

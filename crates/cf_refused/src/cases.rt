@@ -1,10 +1,14 @@
 //! Calls that take memory.
+ghost use Rattle.std.specs.Prelude.{◌≡◌, All, IfOk, vec_len};
+ghost use Rattle.cf_desk.specs.Views.{IsOf};
+
 use crate::answers::{Numbers, Want};
 use crate::graphs::settled;
+use crate::plans::Stage;
 use crate::shared::{run_by_three, used};
 use cf_command::{Command, read_command};
 use cf_core::{Graph, GraphFault};
-use cf_desk::Desk;
+use cf_desk::{Desk, OpenFault, Pass};
 use cf_plan::{Form, LimitKind, Plan, PlanBuilder, PlanFault};
 use std::alloc::Global;
 use std::sync::Wait;
@@ -15,24 +19,31 @@ use std::thread::Threads;
 pub(crate) enum Case {
     Builder,
     RoomyBuilder,
-    PlanCopy,
-    Graph,
-    GrowingGraph,
-    Desk,
-    GrowingDesk,
+    /// A plan is copied, and the copy used.
+    Copied(Use),
     /// A run of three workers on threads of their own.
     Run,
     Words,
 }
 
+/// What is opened over the copy of a plan.
+#[derive(Clone, Copy)]
+pub(crate) enum Use {
+    Nothing,
+    Graph,
+    GrowingGraph,
+    Desk,
+    GrowingDesk,
+}
+
 pub(crate) const CASES: [Case; 9] = [
     Case::Builder,
     Case::RoomyBuilder,
-    Case::PlanCopy,
-    Case::Graph,
-    Case::GrowingGraph,
-    Case::Desk,
-    Case::GrowingDesk,
+    Case::Copied(Use::Nothing),
+    Case::Copied(Use::Graph),
+    Case::Copied(Use::GrowingGraph),
+    Case::Copied(Use::Desk),
+    Case::Copied(Use::GrowingDesk),
     Case::Run,
     Case::Words,
 ];
@@ -42,11 +53,11 @@ pub(crate) fn name_of(case: Case) -> &'static str {
     match case {
         Case::Builder => "builder",
         Case::RoomyBuilder => "builder with room",
-        Case::PlanCopy => "copy of a plan",
-        Case::Graph => "graph",
-        Case::GrowingGraph => "growing graph",
-        Case::Desk => "desk",
-        Case::GrowingDesk => "growing desk",
+        Case::Copied(Use::Nothing) => "copy of a plan",
+        Case::Copied(Use::Graph) => "graph",
+        Case::Copied(Use::GrowingGraph) => "growing graph",
+        Case::Copied(Use::Desk) => "desk",
+        Case::Copied(Use::GrowingDesk) => "growing desk",
         Case::Run => "run of three workers",
         Case::Words => "words",
     }
@@ -64,11 +75,7 @@ pub(crate) fn numbers_of<R: Threads + Wait + Sync>(
     match case {
         Case::Builder => built(PlanBuilder::new(alloc)),
         Case::RoomyBuilder => roomy(alloc),
-        Case::PlanCopy => of_plan(plan.copy(), 0),
-        Case::Graph => graph(alloc, plan),
-        Case::GrowingGraph => grown(alloc, plan),
-        Case::Desk => shared(alloc, plan),
-        Case::GrowingDesk => grown_and_shared(alloc, plan),
+        Case::Copied(with) => of_copy(alloc, plan.copy(), with),
         Case::Run => run_by_three(rt, alloc),
         Case::Words => words(alloc),
     }
@@ -84,7 +91,7 @@ pub(crate) fn plan_of_three(alloc: Global) -> Result<Plan, PlanFault> {
 }
 
 /// The stages of that plan.
-const STAGES: [(Form, &[u16], Option<u16>); 3] = [
+const STAGES: [Stage; 3] = [
     (Form::Source, &[], None),
     (Form::Apply, &[0], Some(0)),
     (Form::Combine, &[0, 1], Some(1)),
@@ -150,58 +157,47 @@ fn roomy(alloc: Global) -> Result<Numbers, Want> {
     }
 }
 
-fn graph(alloc: Global, plan: &Plan) -> Result<Numbers, Want> {
-    match plan.copy() {
-        Ok(plan) => of_graph(Graph::new(alloc, plan)),
+fn of_copy(alloc: Global, copy: Result<Plan, PlanFault>, with: Use) -> Result<Numbers, Want> {
+    match copy {
+        Ok(plan) => of_use(alloc, plan, with),
         Err(fault) => Err(Want::from(fault)),
+    }
+}
+
+fn of_use(alloc: Global, plan: Plan, with: Use) -> Result<Numbers, Want> {
+    match with {
+        Use::Nothing => of_plan(Ok(plan), 0),
+        Use::Graph => of_graph(Graph::new(alloc, plan)),
+        Use::GrowingGraph => grown(alloc, plan),
+        Use::Desk => of_desk(Desk::open(alloc, plan, 3, 16, 16)),
+        Use::GrowingDesk => of_desk(Desk::open_growing(alloc, plan, 3, 16, 16, 2, 4)),
     }
 }
 
 fn of_graph(graph: Result<Graph, GraphFault>) -> Result<Numbers, Want> {
     match graph {
-        Ok(mut graph) => Ok(settled(&mut graph)),
+        Ok(mut graph) => {
+            let numbers = settled(&mut graph);
+            drop(graph);
+            Ok(numbers)
+        }
         Err(fault) => Err(Want::from(fault)),
     }
 }
 
-fn grown(alloc: Global, plan: &Plan) -> Result<Numbers, Want> {
-    match plan.copy() {
-        Ok(plan) => grown_of(alloc, plan),
-        Err(fault) => Err(Want::from(fault)),
-    }
-}
-
-fn grown_of(alloc: Global, plan: Plan) -> Result<Numbers, Want> {
-    if plan.stages() == 3 && plan.edges() == 3 {
+fn grown(alloc: Global, plan: Plan) -> Result<Numbers, Want> {
+    if plan.has_place(2) {
         of_graph(Graph::new_growing(alloc, plan, 2))
     } else {
         Err(Want::Other)
     }
 }
 
-fn shared(alloc: Global, plan: &Plan) -> Result<Numbers, Want> {
-    match plan.copy() {
-        Ok(plan) => shared_of(alloc, plan),
-        Err(fault) => Err(Want::from(fault)),
-    }
-}
-
-fn shared_of(alloc: Global, plan: Plan) -> Result<Numbers, Want> {
-    match Desk::open(alloc, plan, 3, 16, 16) {
-        Ok((desk, passes)) => used(desk, passes),
-        Err(fault) => Err(Want::from(fault)),
-    }
-}
-
-fn grown_and_shared(alloc: Global, plan: &Plan) -> Result<Numbers, Want> {
-    match plan.copy() {
-        Ok(plan) => grown_and_shared_of(alloc, plan),
-        Err(fault) => Err(Want::from(fault)),
-    }
-}
-
-fn grown_and_shared_of(alloc: Global, plan: Plan) -> Result<Numbers, Want> {
-    match Desk::open_growing(alloc, plan, 3, 16, 16, 2, 4) {
+fn of_desk(opened: Result<(Desk, Vec<Pass>), OpenFault>) -> Result<Numbers, Want>
+    requires all { IfOk opened (λ r. All (IsOf r.0) r.1.items) }
+    requires count { IfOk opened (λ r. vec_len r.1 ≡ r.0.setting.callers) }
+{
+    match opened {
         Ok((desk, passes)) => used(desk, passes),
         Err(fault) => Err(Want::from(fault)),
     }

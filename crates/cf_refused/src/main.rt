@@ -9,6 +9,7 @@ mod answers;
 mod calls;
 mod cases;
 mod graphs;
+mod plans;
 mod rows;
 mod shared;
 
@@ -17,7 +18,8 @@ use calls::show_calls;
 use cases::{CASES, Case, name_of, numbers_of, plan_of_three};
 use cf_plan::Plan;
 use cf_script::{NoGate, ScriptFault, race_script, run_script};
-use rows::{ROWS, show_row, source_and_apply};
+use plans::plan_of;
+use rows::{ROWS, SOURCE_AND_APPLY, show_row};
 use std::alloc::Global;
 use std::io;
 use std::io::Write;
@@ -26,7 +28,7 @@ use std::sync::Wait;
 use std::thread::Threads;
 
 /// A source and a function over it.
-const SOURCE_AND_APPLY: &str =
+const SOURCE_AND_APPLY_SCRIPT: &str =
     "{\"cf\":1,\"stages\":[{\"form\":\"source\"},{\"form\":\"apply\",\"of\":[0],\"fn\":{\"add\":5}}],\"steps\":[[\"complete\",0,3]]}";
 
 /// Two functions that nothing waits for, and one over both.
@@ -44,12 +46,12 @@ struct Scripted {
 const SCRIPTS: [Scripted; 3] = [
     Scripted {
         name: "run",
-        text: SOURCE_AND_APPLY,
+        text: SOURCE_AND_APPLY_SCRIPT,
         is_race: false,
     },
     Scripted {
         name: "race",
-        text: SOURCE_AND_APPLY,
+        text: SOURCE_AND_APPLY_SCRIPT,
         is_race: true,
     },
     Scripted {
@@ -87,7 +89,7 @@ fn no_plan() -> io::Result<()> {
 
 /// Prints what the calls give that take no memory, once what they work on is opened.
 fn show_free<R: Print>(rt: &R, alloc: Global) -> io::Result<()> {
-    match source_and_apply(alloc) {
+    match plan_of(alloc, &SOURCE_AND_APPLY) {
         Ok(plan) => show_free_on(rt, alloc, &plan),
         Err(_) => no_plan(),
     }

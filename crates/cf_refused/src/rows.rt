@@ -1,14 +1,15 @@
 //! Calls of a desk that take no memory, once it is opened. A row is refused for want of memory where its desk is opened, or
 //! does all of its steps, whatever memory is refused later.
-ghost use Rattle.std.specs.Prelude.{◌≡◌, All, IfOk, IfSome};
+ghost use Rattle.std.specs.Prelude.{◌≡◌, All, IfOk, length, vec_len};
 ghost use Rattle.cf_desk.specs.Views.{IsOf};
 
 use crate::answers::{Want, show_told};
 use crate::graphs::{Four, settled_stages};
-use cf_desk::{Call, Closed, Desk, Kept, Pass};
+use crate::plans::Stage;
+use cf_desk::{Call, CloseFault, Closed, Desk, Kept, Pass};
 use cf_model::Ask;
 use cf_outcome::Value;
-use cf_plan::{Form, Of, Plan, PlanBuilder, PlanFault};
+use cf_plan::{Form, Of, Plan};
 use cf_pool::{NoGate, Shared, work};
 use std::alloc::Global;
 use std::io;
@@ -81,18 +82,10 @@ pub(crate) const ROWS: [Row; 3] = [
 ];
 
 /// A source, and a function over it.
-pub(crate) fn source_and_apply(alloc: Global) -> Result<Plan, PlanFault> {
-    let mut builder = PlanBuilder::new(alloc);
-    match add_both(&mut builder) {
-        Ok(_) => builder.build(),
-        Err(fault) => Err(fault),
-    }
-}
-
-fn add_both(builder: &mut PlanBuilder) -> Result<u16, PlanFault> {
-    builder.stage(Form::Source, &[], None)?;
-    builder.stage(Form::Apply, &[0], Some(0))
-}
+pub(crate) const SOURCE_AND_APPLY: [Stage; 2] = [
+    (Form::Source, &[], None),
+    (Form::Apply, &[0], Some(0)),
+];
 
 /// Prints what each step of a row's callers is answered, and what the closed desk has; or that memory was refused.
 pub(crate) fn show_row<R: Print>(rt: &R, alloc: Global, plan: &Plan, row: &Row) -> io::Result<()> {
@@ -105,9 +98,18 @@ pub(crate) fn show_row<R: Print>(rt: &R, alloc: Global, plan: &Plan, row: &Row) 
 /// The desk of a row.
 fn opened(alloc: Global, plan: &Plan, row: &Row) -> Result<(Desk, Vec<Pass>), Want>
     ensures all { IfOk result (λ r. All (IsOf r.0) r.1.items) }
-    ensures callers { IfOk result (λ r. r.0.setting.callers ≡ 2) }
+    ensures count { IfOk result (λ r. vec_len r.1 ≡ r.0.setting.callers) }
 {
-    let plan = plan.copy()?;
+    match plan.copy() {
+        Ok(plan) => opened_of(alloc, plan, row),
+        Err(fault) => Err(Want::from(fault)),
+    }
+}
+
+fn opened_of(alloc: Global, plan: Plan, row: &Row) -> Result<(Desk, Vec<Pass>), Want>
+    ensures all { IfOk result (λ r. All (IsOf r.0) r.1.items) }
+    ensures count { IfOk result (λ r. vec_len r.1 ≡ r.0.setting.callers) }
+{
     match Desk::open_growing(alloc, plan, 2, row.log, row.calls, row.room, 4) {
         Ok(opened) => Ok(opened),
         Err(fault) => Err(Want::from(fault)),
@@ -115,59 +117,57 @@ fn opened(alloc: Global, plan: &Plan, row: &Row) -> Result<(Desk, Vec<Pass>), Wa
 }
 
 /// Prints what each step is answered, and what the closed desk has.
-fn show_steps<R: Print>(rt: &R, desk: Desk, passes: Vec<Pass>, row: &Row) -> io::Result<()>
+fn show_steps<R: Print>(rt: &R, desk: Desk, mut passes: Vec<Pass>, row: &Row) -> io::Result<()>
     requires all { All (IsOf desk) passes.items }
-    requires callers { desk.setting.callers ≡ 2 }
+    requires count { vec_len passes ≡ desk.setting.callers }
 {
-    match both_of(&desk, passes) {
-        Some((first, second, rest)) => show_both(rt, desk, first, second, rest, row),
+    let shown = take_both(rt, &desk, passes.as_mut_slice(), row);
+    show_closed(rt, desk.close(passes), shown)
+}
+
+/// Lets the first two passes take the steps of a row.
+fn take_both<R: Print>(rt: &R, desk: &Desk, passes: &mut [Pass], row: &Row) -> io::Result<()>
+    requires { All (IsOf desk.now) passes.old }
+    ensures all { All (IsOf desk.now) passes.new }
+    ensures count { length passes.new ≡ length passes.old }
+{
+    match passes.split_first_mut() {
+        Some((first, rest)) => take_beside(rt, desk, first, rest, row),
         None => Ok(()),
     }
 }
 
-/// The first and the second of two passes, which are both of one desk, and the list that they stood in.
-fn both_of(desk: &Desk, mut passes: Vec<Pass>) -> Option<(Pass, Pass, Vec<Pass>)>
-    requires { All (IsOf desk.now) passes.items }
-    ensures first { IfSome result (λ r. IsOf desk.now r.0) }
-    ensures second { IfSome result (λ r. IsOf desk.now r.1) }
-{
-    let second = passes.pop()?;
-    let first = passes.pop()?;
-    passes.clear();
-    Some((first, second, passes))
-}
-
-fn show_both<R: Print>(
+/// Lets a pass and the first of the others take the steps of a row.
+fn take_beside<R: Print>(
     rt: &R,
-    desk: Desk,
-    mut first: Pass,
-    mut second: Pass,
-    rest: Vec<Pass>,
+    desk: &Desk,
+    first: &mut Pass,
+    rest: &mut [Pass],
     row: &Row,
 ) -> io::Result<()>
-    requires callers { desk.setting.callers ≡ 2 }
-    requires passes { IsOf desk first × IsOf desk second }
+    requires { IsOf desk.now first.old × All (IsOf desk.now) rest.old }
+    ensures all { IsOf desk.now first.new × All (IsOf desk.now) rest.new }
+    ensures count { length rest.new ≡ length rest.old }
 {
-    let shown = take(rt, &desk, &mut first, &mut second, row);
-    show_closed(rt, close_two(desk, rest, first, second), shown)
-}
-
-/// The desk of two passes, closed, with the memory of a list that two passes stood in.
-fn close_two(desk: Desk, mut list: Vec<Pass>, first: Pass, second: Pass) -> Option<Closed>
-    requires callers { desk.setting.callers ≡ 2 }
-    requires passes { IsOf desk first × IsOf desk second }
-{
-    list.clear();
-    list.push(first).ok()?;
-    list.push(second).ok()?;
-    desk.close(list).ok()
+    match rest.first_mut() {
+        Some(second) => take(rt, desk, first, second, row),
+        None => Ok(()),
+    }
 }
 
 /// Prints what a closed desk has, where its steps were shown.
-fn show_closed<R: Print>(rt: &R, closed: Option<Closed>, shown: io::Result<()>) -> io::Result<()> {
+fn show_closed<R: Print>(
+    rt: &R,
+    closed: Result<Closed, CloseFault>,
+    shown: io::Result<()>,
+) -> io::Result<()> {
     match closed {
-        Some(mut closed) => show_end(rt, &mut closed, shown),
-        None => shown,
+        Ok(mut closed) => {
+            let shown = show_end(rt, &mut closed, shown);
+            drop(closed);
+            shown
+        }
+        Err(_) => shown,
     }
 }
 

@@ -4,9 +4,10 @@ ghost use Rattle.cf_desk.specs.Views.{IsOf};
 
 use crate::answers::{Numbers, Want};
 use crate::graphs::{Four, settled_stages};
+use crate::plans::{Stage, plan_of};
 use cf_desk::{Call, Closed, Desk, Pass};
 use cf_outcome::Value;
-use cf_plan::{Form, Of, Plan, PlanBuilder, PlanFault};
+use cf_plan::{Form, Of, Plan};
 use cf_pool::{Left, NoGate, PoolFault, Shared, run, share, work};
 use std::alloc::Global;
 use std::sync::Wait;
@@ -20,7 +21,11 @@ pub(crate) fn used(desk: Desk, mut passes: Vec<Pass>) -> Result<Numbers, Want>
 {
     use_in_turn(&desk, passes.as_mut_slice());
     match desk.close(passes) {
-        Ok(mut closed) => Ok(of_closed(&mut closed)),
+        Ok(mut closed) => {
+            let numbers = of_closed(&mut closed);
+            drop(closed);
+            Ok(numbers)
+        }
         Err(_) => Err(Want::Other),
     }
 }
@@ -62,19 +67,11 @@ fn use_by_one(desk: &Desk, p: &mut Pass)
 }
 
 /// Two functions that nothing waits for, and one over both.
-fn supplies(alloc: Global) -> Result<Plan, PlanFault> {
-    let mut builder = PlanBuilder::new(alloc);
-    match add_supplies(&mut builder) {
-        Ok(_) => builder.build(),
-        Err(fault) => Err(fault),
-    }
-}
-
-fn add_supplies(builder: &mut PlanBuilder) -> Result<u16, PlanFault> {
-    builder.stage(Form::Supply, &[], Some(0))?;
-    builder.stage(Form::Supply, &[], Some(0))?;
-    builder.stage(Form::Combine, &[0, 1], Some(0))
-}
+const SUPPLIES: [Stage; 3] = [
+    (Form::Supply, &[], Some(0)),
+    (Form::Supply, &[], Some(0)),
+    (Form::Combine, &[0, 1], Some(0)),
+];
 
 /// Three workers on threads of their own call all functions: their number, how many passes are left, and how many stages
 /// are settled.
@@ -82,7 +79,7 @@ pub(crate) fn run_by_three<R: Threads + Wait + Sync>(
     rt: &R,
     alloc: Global,
 ) -> Result<Numbers, Want> {
-    match supplies(alloc) {
+    match plan_of(alloc, &SUPPLIES) {
         Ok(plan) => run_over(rt, alloc, plan),
         Err(fault) => Err(Want::from(fault)),
     }
@@ -106,7 +103,11 @@ fn run_on<R: Threads + Wait + Sync>(
 {
     match share(alloc, [Four].as_slice(), &NoGate, 4) {
         Ok(workers) => of_run(run(rt, desk, passes, workers)),
-        Err(_) => Err(Want::Memory),
+        Err(_) => {
+            drop(passes);
+            drop(desk);
+            Err(Want::Memory)
+        }
     }
 }
 
@@ -119,7 +120,10 @@ fn of_run<W: Drop>(ended: Result<Left<W>, PoolFault<W>>) -> Result<Numbers, Want
 
 fn of_left<W: Drop>(left: Left<W>) -> Numbers {
     let passes = left.closed.passes.len();
-    Numbers(3, passes, settled_stages(&mut left.into_graph(), 3))
+    let mut graph = left.into_graph();
+    let settled = settled_stages(&mut graph, 3);
+    drop(graph);
+    Numbers(3, passes, settled)
 }
 
 fn of_fault<W: Drop>(fault: PoolFault<W>) -> Want {
