@@ -9,7 +9,6 @@ mod example;
 mod growing;
 mod late;
 mod listing;
-mod plans;
 mod room;
 mod steps;
 mod threads;

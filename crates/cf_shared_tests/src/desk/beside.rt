@@ -9,11 +9,11 @@ use std::thread::Threads;
 
 /// What one caller does while the other one joins a stage.
 #[derive(Clone, Copy)]
-pub(crate) struct Work<'a> {
+pub(crate) struct Work {
     /// The calls before the other one starts to join.
-    pub(crate) before: &'a [Call],
+    pub(crate) before: &'static [Call],
     /// The calls a while after that.
-    pub(crate) after: &'a [Call],
+    pub(crate) after: &'static [Call],
     /// The stage that is joined.
     pub(crate) stage: u16,
 }
@@ -44,7 +44,7 @@ fn pass_time(flag: &AtomicBool) {
 }
 
 /// Does the first calls, and the others a while after the other caller has come to its join.
-fn do_work(desk: &Desk, p: &mut Pass, work: Work<'_>, flags: &Flags)
+fn do_work(desk: &Desk, p: &mut Pass, work: Work, flags: &Flags)
     requires { p.old.table ≡ desk.now.table }
     ensures { p.new.table ≡ p.old.table }
 {
@@ -71,7 +71,7 @@ pub(crate) fn join_beside<R: Threads + Sync>(
     desk: &Desk,
     works: &mut Pass,
     joins: &mut Pass,
-    work: Work<'_>,
+    work: Work,
 )
     requires { (works.old.table ≡ desk.now.table) × (joins.old.table ≡ desk.now.table) }
     ensures { (works.new.table ≡ works.old.table) × (joins.new.table ≡ joins.old.table) }

@@ -3,7 +3,7 @@ ghost use Rattle.std.specs.Prelude.{◌≡◌, ◌+◌, ◌∷◌, ◌++◌, [],
 
 use crate::checks::{holds, must, same};
 use crate::desk::desks::{last_of, open_desk};
-use crate::desk::plans::{SOURCE_AND_SUPPLY, plan_of};
+use crate::plans::{SOURCE_AND_SUPPLY, plan_of};
 use cf_desk::{Call, Closed, Desk, DeskFault, OpenFault, Pass};
 use cf_model::Event;
 use cf_outcome::Value;
@@ -99,6 +99,7 @@ fn check_size(rt: &impl Abort, alloc: Global, stages: u16, callers: u8, log: u16
         value: Value::Nil,
     };
     let has_all = begins_with(&closed.history, log.min(calls) as usize, &first);
+    drop(closed);
     holds(
         rt,
         fault == Some(full) && has_all,

@@ -2,7 +2,7 @@
 ghost use Rattle.std.specs.Prelude.{◌≡◌, ◌+◌, All, IfOk, OnOk, vec_len};
 
 use crate::checks::must;
-use crate::desk::plans::{Row, SOURCE, SOURCE_AND_SUPPLY, plan_of};
+use crate::plans::{Row, SOURCE, SOURCE_AND_SUPPLY, plan_of};
 use cf_desk::{Call, Closed, Desk, Pass};
 use cf_plan::Plan;
 use std::alloc::Global;
@@ -12,9 +12,9 @@ use std::thread::Threads;
 
 /// How a desk for two callers is opened and closed.
 #[derive(Clone, Copy)]
-pub(crate) struct Opening<'a> {
+pub(crate) struct Opening {
     /// The stages of its plan.
-    pub(crate) rows: &'a [Row<'a>],
+    pub(crate) rows: &'static [Row<'static>],
     pub(crate) log: u16,
     /// How many records each pass has room for.
     pub(crate) calls: u16,
@@ -25,7 +25,7 @@ pub(crate) struct Opening<'a> {
 }
 
 /// A desk over a source and a supply, with no room for more stages.
-pub(crate) fn small(log: u16, calls: u16) -> Opening<'static> {
+pub(crate) fn small(log: u16, calls: u16) -> Opening {
     Opening {
         rows: &SOURCE_AND_SUPPLY,
         log,
@@ -36,7 +36,7 @@ pub(crate) fn small(log: u16, calls: u16) -> Opening<'static> {
 }
 
 /// A desk over a source with so much room and so many functions, and a log of eight words.
-pub(crate) fn with_room(calls: u16, room: u16, functions: u32) -> Opening<'static> {
+pub(crate) fn with_room(calls: u16, room: u16, functions: u32) -> Opening {
     Opening {
         rows: &SOURCE,
         log: 8,
@@ -118,7 +118,7 @@ pub(crate) fn open_growing(
 }
 
 /// The desk that is opened so, and its passes.
-fn opened(rt: &impl Abort, alloc: Global, opening: Opening<'_>) -> (Desk, Vec<Pass>)
+fn opened(rt: &impl Abort, alloc: Global, opening: Opening) -> (Desk, Vec<Pass>)
     ensures table { All (λ p. p.table ≡ result.0.table) result.1.items }
     ensures callers { result.0.setting.callers ≡ 2 }
 {
@@ -131,7 +131,7 @@ fn opened(rt: &impl Abort, alloc: Global, opening: Opening<'_>) -> (Desk, Vec<Pa
 }
 
 /// The desk that is opened so, and its two passes.
-pub(crate) fn open_two(rt: &impl Abort, alloc: Global, opening: Opening<'_>) -> (Desk, Pass, Pass)
+pub(crate) fn open_two(rt: &impl Abort, alloc: Global, opening: Opening) -> (Desk, Pass, Pass)
     ensures first { result.1.table ≡ result.0.table }
     ensures second { result.2.table ≡ result.0.table }
     ensures callers { result.0.setting.callers ≡ 2 }

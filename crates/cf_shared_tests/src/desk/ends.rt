@@ -6,12 +6,12 @@ use std::process::Abort;
 
 /// What a desk has once it is closed.
 #[derive(Clone, Copy)]
-pub(crate) enum End<'a> {
+pub(crate) enum End {
     /// So many events.
     Events(usize),
-    History(&'a [Event]),
+    History(&'static [Event]),
     /// The pass that was handed in at this place has these records.
-    Records(usize, &'a [Rec]),
+    Records(usize, &'static [Rec]),
     /// It has so many records.
     Keeps(usize, usize),
     /// The last record of the pass at this place is of a cancel of stage 0 that was answered false.
@@ -19,7 +19,7 @@ pub(crate) enum End<'a> {
     /// So many calls of all passes were replied this.
     Replied(Reply, usize),
     /// So many calls are kept by the passes that keep the first of those that the first and the second were to make.
-    InOrder(&'a [Call], &'a [Call], usize),
+    InOrder(&'static [Call], &'static [Call], usize),
     /// The graph has so many stages.
     Stages(u16),
     /// The graph took so many turns.
@@ -29,7 +29,7 @@ pub(crate) enum End<'a> {
 }
 
 /// Whether a closed desk has this.
-fn is_so(closed: &mut Closed, end: End<'_>) -> bool {
+fn is_so(closed: &mut Closed, end: End) -> bool {
     match end {
         End::Events(count) => closed.history.len() == count,
         End::History(events) => closed.history.as_slice() == events,
@@ -45,7 +45,7 @@ fn is_so(closed: &mut Closed, end: End<'_>) -> bool {
 }
 
 /// A closed desk has all of this.
-pub(crate) fn check_ends(rt: &impl Abort, closed: &mut Closed, ends: &[End<'_>]) {
+pub(crate) fn check_ends(rt: &impl Abort, closed: &mut Closed, ends: &[End]) {
     for (at, end) in ends.iter().enumerate() {
         holds(rt, is_so(closed, *end), ("end", at));
     }

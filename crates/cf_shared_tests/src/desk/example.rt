@@ -1,12 +1,14 @@
 //! That two callers take their turns. tests/check.rows has what the closed desk hands out as an account, which is judged.
+use crate::checks::{must, same};
 use crate::desk::ends::{End, check_ends};
+use crate::plans::{SOURCE_AND_APPLY, plan_of};
 use cf_desk::{Ask, Call, Closed, Rec, Told};
 use cf_example::take_turns;
 use cf_model::{Attached, Event, Reply};
 use cf_outcome::{Outcome, Value};
-use cf_plan::{Form, Of, PlanBuilder};
+use cf_plan::{Form, Of};
 use std::alloc::Global;
-use std::test::Fail;
+use std::process::Abort;
 
 const THREE: Value = Value::Int(3);
 
@@ -56,15 +58,17 @@ const SECOND: [Rec; 3] = [
 ];
 
 /// The closed desk of two callers over a source and what is applied to it.
-fn taken(alloc: Global) -> Result<Closed, Fail> {
-    let mut builder = PlanBuilder::new(alloc);
-    builder.stage(Form::Source, &[], None)?;
-    builder.stage(Form::Apply, &[0], Some(0))?;
-    match take_turns(alloc, builder.build()?, THREE) {
-        Ok(closed) => Ok(closed),
-        Err(_) => Err(Fail::from("no turns were taken")),
-    }
+fn taken(rt: &impl Abort, alloc: Global) -> Closed {
+    let plan = plan_of(rt, alloc, &SOURCE_AND_APPLY);
+    must(rt, take_turns(alloc, plan, THREE))
 }
+
+const ENDS: [End; 4] = [
+    End::Stages(3),
+    End::History(&HISTORY),
+    End::Records(0, &FIRST),
+    End::Records(1, &SECOND),
+];
 
 /// What a closed desk's graph holds of stage 0.
 fn settled(closed: &mut Closed) -> Option<Outcome> {
@@ -76,15 +80,9 @@ fn settled(closed: &mut Closed) -> Option<Outcome> {
 }
 
 #[test]
-fn the_first_of_two_settles(rt: HostRuntime) -> Result<(), Fail> {
-    let mut closed = taken(rt.alloc())?;
-    assert_eq!(rt; settled(&mut closed), Some(Outcome::Value(THREE)));
-    let ends = [
-        End::Stages(3),
-        End::History(&HISTORY),
-        End::Records(0, &FIRST),
-        End::Records(1, &SECOND),
-    ];
-    check_ends(&rt, &mut closed, &ends);
-    Ok(())
+fn the_first_of_two_settles(rt: HostRuntime) {
+    let mut closed = taken(&rt, rt.alloc());
+    same(&rt, settled(&mut closed), Some(Outcome::Value(THREE)));
+    check_ends(&rt, &mut closed, &ENDS);
+    drop(closed);
 }

@@ -20,40 +20,38 @@ const AT_ONE: Reply = Reply::Attach(Attached::At(1));
 
 const BAD: Result<Reply, DeskFault> = Err(DeskFault::BadAttach);
 
+const SEEING: [Turn; 3] = [
+    Turn::Together(&[ATTACHES, Call::Complete(1, Value::Int(4))], &[]),
+    Turn::Second(Step::Reads(
+        Ask::Now(1, Value::Nil),
+        Ok(Told::Now(Now::Got(Value::Int(4)))),
+    )),
+    Turn::Second(Step::Has(2, 7)),
+];
+
+const SEEN: [End; 1] = [End::Records(
+    0,
+    &[
+        Rec::Did {
+            place: 1,
+            call: ATTACHES,
+            reply: AT_ONE,
+        },
+        Rec::Did {
+            place: 2,
+            call: Call::Complete(1, Value::Int(4)),
+            reply: Reply::Flag(true),
+        },
+    ],
+)];
+
 #[test]
 fn attach_seen(rt: HostRuntime) {
-    play(
-        &rt,
-        rt.alloc(),
-        with_room(8, 1, 0),
-        &[
-            Turn::Together(&[ATTACHES, Call::Complete(1, Value::Int(4))], &[]),
-            Turn::Second(Step::Reads(
-                Ask::Now(1, Value::Nil),
-                Ok(Told::Now(Now::Got(Value::Int(4)))),
-            )),
-            Turn::Second(Step::Has(2, 7)),
-        ],
-        &[End::Records(
-            0,
-            &[
-                Rec::Did {
-                    place: 1,
-                    call: ATTACHES,
-                    reply: AT_ONE,
-                },
-                Rec::Did {
-                    place: 2,
-                    call: Call::Complete(1, Value::Int(4)),
-                    reply: Reply::Flag(true),
-                },
-            ],
-        )],
-    );
+    play(&rt, rt.alloc(), with_room(8, 1, 0), &SEEING, &SEEN);
 }
 
 /// Stages that don't fit, with a log and a pass of one place, and one that does.
-const FITTING: [Turn<'static>; 12] = [
+const FITTING: [Turn; 12] = [
     Turn::First(Step::Acts(Call::Attach(Form::Apply, Of::None, Some(0)), BAD)),
     Turn::First(Step::Acts(Call::Attach(Form::Apply, Of::Two(0, 0), Some(0)), BAD)),
     Turn::First(Step::Acts(Call::Attach(Form::Apply, Of::One(0), None), BAD)),
@@ -135,33 +133,41 @@ const ATTACHED: [Event; 2] = [
     },
 ];
 
+const WITHOUT_ROOM: [Turn; 7] = [
+    Turn::DeskIsFor(4, 2, 4),
+    Turn::First(Step::Acts(ATTACHES, Ok(FULL))),
+    Turn::First(Step::Has(1, 3)),
+    Turn::First(Step::Acts(Call::Attach(Form::Apply, Of::One(0), Some(4)), BAD)),
+    Turn::First(Step::Has(1, 3)),
+    Turn::Second(Step::Acts(Call::Attach(Form::Apply, Of::One(0), Some(3)), Ok(FULL))),
+    Turn::Second(Step::Knows(2, false)),
+];
+
+const WITHOUT_ROOM_ENDS: [End; 2] = [End::Stages(2), End::History(&ATTACHED)];
+
 #[test]
 fn a_desk_without_room_attaches_nothing(rt: HostRuntime) {
     play(
         &rt,
         rt.alloc(),
         small(4, 4),
-        &[
-            Turn::DeskIsFor(4, 2, 4),
-            Turn::First(Step::Acts(ATTACHES, Ok(FULL))),
-            Turn::First(Step::Has(1, 3)),
-            Turn::First(Step::Acts(Call::Attach(Form::Apply, Of::One(0), Some(4)), BAD)),
-            Turn::First(Step::Has(1, 3)),
-            Turn::Second(Step::Acts(Call::Attach(Form::Apply, Of::One(0), Some(3)), Ok(FULL))),
-            Turn::Second(Step::Knows(2, false)),
-        ],
-        &[End::Stages(2), End::History(&ATTACHED)],
+        &WITHOUT_ROOM,
+        &WITHOUT_ROOM_ENDS,
     );
 }
 
 const THRICE: [Call; 3] = [ATTACHES; 3];
 
+const BOTH_ATTACH: Turn = Turn::Together(&[ATTACHES], &[ATTACHES]);
+
 /// All but the last of so many places are taken, and then each caller attaches a stage on a thread of its own.
-fn attach_last<R: Threads + Sync + Abort>(rt: &R, alloc: Global, room: u16, before: &[Call]) {
-    let turns = [
-        Turn::First(Step::ActsAll(before)),
-        Turn::Together(&[ATTACHES], &[ATTACHES]),
-    ];
+fn attach_last<R: Threads + Sync + Abort>(
+    rt: &R,
+    alloc: Global,
+    room: u16,
+    before: &'static [Call],
+) {
+    let turns = [Turn::First(Step::ActsAll(before)), BOTH_ATTACH];
     let all = before.len().saturating_add(2);
     let ends = [
         End::InOrder(&THRICE, &THRICE, all),
@@ -173,17 +179,20 @@ fn attach_last<R: Threads + Sync + Abort>(rt: &R, alloc: Global, room: u16, befo
     play(rt, alloc, with_room(3, room, 0), &turns, &ends);
 }
 
+/// Rooms, and what takes all but the last place.
+const LAST: [(u16, &[Call]); 3] = [(1, &[]), (2, &[ATTACHES]), (3, &[ATTACHES, ATTACHES])];
+
 #[test]
 fn one_of_two_gets_the_last_room(rt: HostRuntime) {
-    attach_last(&rt, rt.alloc(), 1, &[]);
-    attach_last(&rt, rt.alloc(), 2, &[ATTACHES]);
-    attach_last(&rt, rt.alloc(), 3, &[ATTACHES, ATTACHES]);
+    for (room, before) in &LAST {
+        attach_last(&rt, rt.alloc(), *room, *before);
+    }
 }
 
 const FULL_PASS: Result<Reply, DeskFault> = Err(DeskFault::PassFull);
 
 /// A full pass doesn't know the stage that the other caller attaches, until a call names it.
-const LOOKING: [Turn<'static>; 13] = [
+const LOOKING: [Turn; 13] = [
     Turn::Second(Step::Acts(Call::Tick(0), Ok(Reply::Tick(Ticked::Fired(0))))),
     Turn::Second(Step::Acts(Call::Complete(1, Value::Nil), Err(DeskFault::NoStage))),
     Turn::Second(Step::Reads(Ask::Now(1, Value::Nil), Err(DeskFault::NoStage))),
@@ -211,7 +220,7 @@ fn a_full_pass_looks_for_a_stage_that_it_does_not_know(rt: HostRuntime) {
 }
 
 /// What looks for events of others.
-const LOOKS: [Step<'static>; 4] = [
+const LOOKS: [Step; 4] = [
     Step::Acts(Call::Cancel(1), Ok(Reply::Flag(true))),
     Step::Reads(Ask::Outcome(1), Ok(Told::Outcome(None))),
     Step::Joins(1, 0, Ok(Joined::NotYet)),
@@ -219,7 +228,7 @@ const LOOKS: [Step<'static>; 4] = [
 ];
 
 /// The second caller knows the stage that the first one attached once it has done this.
-fn find_by<R: Threads + Sync + Abort>(rt: &R, alloc: Global, looks: Step<'_>) {
+fn find_by<R: Threads + Sync + Abort>(rt: &R, alloc: Global, looks: Step) {
     let turns = [
         Turn::First(Step::Acts(ATTACHES, Ok(AT_ONE))),
         Turn::Second(Step::Knows(1, false)),
@@ -237,7 +246,7 @@ fn a_look_finds_an_attached_stage(rt: HostRuntime) {
 }
 
 /// A supply is attached and done, while the other caller joins it.
-const SUPPLIES: Work<'static> = Work {
+const SUPPLIES: Work = Work {
     before: &[Call::Attach(Form::Supply, Of::None, Some(5))],
     after: &[Call::Claim(1), Call::Finish(1, Answer::Give(Value::Int(6)))],
     stage: 1,
@@ -249,23 +258,21 @@ const SAW: [Rec; 1] = [Rec::Saw {
     told: Told::Outcome(Some(Outcome::Value(Value::Int(6)))),
 }];
 
+const JOINING: [Turn; 5] = [
+    Turn::Second(Step::Knows(0, true)),
+    Turn::Second(Step::Knows(1, false)),
+    Turn::SecondJoins(SUPPLIES),
+    Turn::Second(Step::KnowsFunction(1, Some(5))),
+    Turn::Second(Step::Knows(2, false)),
+];
+
+const JOINED: [End; 3] = [
+    End::Replied(Reply::Claim(Claimed::Granted(Args::None)), 1),
+    End::Replied(Reply::Finish(Finished::Won), 1),
+    End::Records(1, &SAW),
+];
+
 #[test]
 fn join_sees_an_attached_stage(rt: HostRuntime) {
-    play(
-        &rt,
-        rt.alloc(),
-        with_room(3, 1, 6),
-        &[
-            Turn::Second(Step::Knows(0, true)),
-            Turn::Second(Step::Knows(1, false)),
-            Turn::SecondJoins(SUPPLIES),
-            Turn::Second(Step::KnowsFunction(1, Some(5))),
-            Turn::Second(Step::Knows(2, false)),
-        ],
-        &[
-            End::Replied(Reply::Claim(Claimed::Granted(Args::None)), 1),
-            End::Replied(Reply::Finish(Finished::Won), 1),
-            End::Records(1, &SAW),
-        ],
-    );
+    play(&rt, rt.alloc(), with_room(3, 1, 6), &JOINING, &JOINED);
 }

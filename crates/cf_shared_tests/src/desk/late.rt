@@ -1,17 +1,13 @@
 //! A desk leaves all work that nobody's question needs; and the texts of its faults.
-use crate::checks::{must, same};
+use crate::checks::{holds, is_shown};
 use crate::desk::desks::Opening;
 use crate::desk::ends::End;
-use crate::desk::plans::Row;
 use crate::desk::steps::{Step, Turn, play};
+use crate::plans::Row;
 use cf_desk::{Ask, Call, CloseFault, DeskFault, OpenFault, Told};
 use cf_model::Reply;
 use cf_outcome::{Outcome, Value};
 use cf_plan::Form;
-use std::alloc::Global;
-use std::fmt::Display;
-use std::process::Abort;
-use std::thread::Threads;
 
 /// A source and three stages, each of which follows the one before.
 const CHAIN: [Row<'static>; 4] = [
@@ -22,7 +18,7 @@ const CHAIN: [Row<'static>; 4] = [
 ];
 
 /// A desk over the chain.
-const CHAINED: Opening<'static> = Opening {
+const CHAINED: Opening = Opening {
     rows: &CHAIN,
     log: 4,
     calls: 4,
@@ -30,38 +26,39 @@ const CHAINED: Opening<'static> = Opening {
     second_first: false,
 };
 
-/// The first caller completes the source, and the second one makes these calls and reads it.
-fn read_after<R: Threads + Sync + Abort>(
-    rt: &R,
-    alloc: Global,
-    opening: Opening<'_>,
-    calls: &[Call],
-) {
-    let turns = [
-        Turn::First(Step::Acts(Call::Complete(0, Value::Int(1)), Ok(Reply::Flag(true)))),
-        Turn::Second(Step::ActsAll(calls)),
-        Turn::Second(Step::Reads(Ask::Outcome(0), Ok(ONE))),
-    ];
-    play(
-        rt,
-        alloc,
-        opening,
-        &turns,
-        &[End::Turns(0), End::Nudge(9, 3)],
-    );
-}
+/// The same, closed with the second caller's pass first.
+const SECOND_FIRST: Opening = Opening {
+    second_first: true,
+    ..CHAINED
+};
 
-const ONE: Told = Told::Outcome(Some(Outcome::Value(Value::Int(1))));
+const COMPLETES: Turn = Turn::First(Step::Acts(
+    Call::Complete(0, Value::Int(1)),
+    Ok(Reply::Flag(true)),
+));
+
+const READS: Turn = Turn::Second(Step::Reads(
+    Ask::Outcome(0),
+    Ok(Told::Outcome(Some(Outcome::Value(Value::Int(1))))),
+));
+
+/// The second caller reads what the first one completed, and before it ticks, or doesn't.
+const READ: [Turn; 2] = [COMPLETES, READS];
+
+const TICKED: [Turn; 3] = [
+    COMPLETES,
+    Turn::Second(Step::ActsAll(&[Call::Tick(1)])),
+    READS,
+];
+
+/// Nothing of the chain was treated, and all of it is then.
+const LEFT: [End; 2] = [End::Turns(0), End::Nudge(9, 3)];
 
 #[test]
 fn leaves_what_nobody_asks_for(rt: HostRuntime) {
-    read_after(&rt, rt.alloc(), CHAINED, &[]);
-    let second_first = Opening {
-        second_first: true,
-        ..CHAINED
-    };
-    read_after(&rt, rt.alloc(), second_first, &[]);
-    read_after(&rt, rt.alloc(), CHAINED, &[Call::Tick(1)]);
+    play(&rt, rt.alloc(), CHAINED, &READ, &LEFT);
+    play(&rt, rt.alloc(), SECOND_FIRST, &READ, &LEFT);
+    play(&rt, rt.alloc(), CHAINED, &TICKED, &LEFT);
 }
 
 const OPEN_FAULTS: [(OpenFault, &str); 6] = [
@@ -80,19 +77,18 @@ const DESK_FAULTS: [(DeskFault, &str); 4] = [
     (DeskFault::PassFull, "PassFull"),
 ];
 
-/// A fault is written so.
-fn assert_written(rt: &impl Abort, alloc: Global, fault: &impl Display, text: &str) {
-    let written = must(rt, format!(in alloc; "{fault}"));
-    same(rt, written.as_str(), text);
-}
-
 #[test]
 fn the_text_of_a_fault_is_its_name(rt: HostRuntime) {
     for (fault, name) in &OPEN_FAULTS {
-        assert_written(&rt, rt.alloc(), fault, name);
+        holds(&rt, is_shown(&rt, rt.alloc(), fault, name), name);
     }
     for (fault, name) in &DESK_FAULTS {
-        assert_written(&rt, rt.alloc(), fault, name);
+        holds(&rt, is_shown(&rt, rt.alloc(), fault, name), name);
     }
-    assert_written(&rt, rt.alloc(), &CloseFault::Mismatch, "Mismatch");
+    let name = "Mismatch";
+    holds(
+        &rt,
+        is_shown(&rt, rt.alloc(), &CloseFault::Mismatch, name),
+        name,
+    );
 }

@@ -4,7 +4,7 @@ ghost use Rattle.std.specs.Prelude.{◌≡◌};
 use crate::checks::{must, same};
 use crate::desk::desks::{last_of, open_growing};
 use crate::desk::growing::ATTACHES;
-use crate::desk::plans::{SOURCE, plan_of};
+use crate::plans::{SOURCE, plan_of};
 use cf_desk::{Closed, Desk, OpenFault, Pass};
 use cf_model::{Attached, Reply};
 use cf_plan::{Form, Plan, PlanBuilder};
@@ -39,6 +39,7 @@ fn check_room(rt: &impl Abort, alloc: Global, room: u16, functions: u32) {
     let (fills, closed) = filled(rt, alloc, room, functions);
     let all = room as usize + 1;
     let told = (fills, closed.graph.stages() as usize, closed.history.len());
+    drop(closed);
     same(rt, told, (true, all, all));
 }
 
@@ -90,7 +91,11 @@ struct Sizes(u8, u16, u16, u16, u32);
 fn opened(alloc: Global, plan: Plan, sizes: Sizes) -> Result<u32, OpenFault> {
     let Sizes(callers, log, calls, room, functions) = sizes;
     match Desk::open_growing(alloc, plan, callers, log, calls, room, functions) {
-        Ok((desk, _)) => Ok(desk.functions()),
+        Ok(opened) => {
+            let number = opened.0.functions();
+            drop(opened);
+            Ok(number)
+        }
         Err(fault) => Err(fault),
     }
 }
@@ -126,8 +131,10 @@ fn refuses_too_much_room(rt: HostRuntime) {
 
 /// How many functions the smallest desk of a plan without room has.
 fn functions_of(rt: &impl Abort, alloc: Global, plan: Plan) -> u32 {
-    let (desk, _) = must(rt, Desk::open(alloc, plan, 1, 1, 1));
-    desk.functions()
+    let opened = must(rt, Desk::open(alloc, plan, 1, 1, 1));
+    let number = opened.0.functions();
+    drop(opened);
+    number
 }
 
 /// The functions of supplies, and the least number that they are below.

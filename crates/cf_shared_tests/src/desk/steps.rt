@@ -13,10 +13,10 @@ use std::thread::Threads;
 
 /// What a caller does, and what it is answered.
 #[derive(Clone, Copy)]
-pub(crate) enum Step<'a> {
+pub(crate) enum Step {
     Acts(Call, Result<Reply, DeskFault>),
     /// Calls one after another, whatever they are answered.
-    ActsAll(&'a [Call]),
+    ActsAll(&'static [Call]),
     Reads(Ask, Result<Told, DeskFault>),
     /// A join of a stage, with so many looks and one more.
     Joins(u16, u16, Result<Joined, DeskFault>),
@@ -35,15 +35,15 @@ pub(crate) enum Step<'a> {
 
 /// Whose turn it is.
 #[derive(Clone, Copy)]
-pub(crate) enum Turn<'a> {
-    First(Step<'a>),
-    Second(Step<'a>),
+pub(crate) enum Turn {
+    First(Step),
+    Second(Step),
     /// The first caller makes its calls on one thread, and the second one makes these on another.
-    Together(&'a [Call], &'a [Call]),
+    Together(&'static [Call], &'static [Call]),
     /// The first caller works on one thread, while the second one joins a stage on another.
-    SecondJoins(Work<'a>),
+    SecondJoins(Work),
     /// The second caller works, while the first one joins.
-    FirstJoins(Work<'a>),
+    FirstJoins(Work),
     Meet,
     /// The desk is for so many words, callers and functions.
     DeskIsFor(u16, u8, u32),
@@ -54,7 +54,7 @@ pub(crate) enum Turn<'a> {
 }
 
 /// Whether a step is answered so.
-fn is_answered(desk: &Desk, p: &mut Pass, step: Step<'_>) -> bool
+fn is_answered(desk: &Desk, p: &mut Pass, step: Step) -> bool
     requires { p.old.table ≡ desk.now.table }
     ensures { p.new.table ≡ p.old.table }
 {
@@ -76,13 +76,7 @@ fn is_answered(desk: &Desk, p: &mut Pass, step: Step<'_>) -> bool
 }
 
 /// Whether a turn is answered so.
-fn is_taken<R: Threads + Sync>(
-    rt: &R,
-    desk: &Desk,
-    a: &mut Pass,
-    b: &mut Pass,
-    turn: Turn<'_>,
-) -> bool
+fn is_taken<R: Threads + Sync>(rt: &R, desk: &Desk, a: &mut Pass, b: &mut Pass, turn: Turn) -> bool
     requires { (a.old.table ≡ desk.now.table) × (b.old.table ≡ desk.now.table) }
     ensures { (a.new.table ≡ a.old.table) × (b.new.table ≡ b.old.table) }
 {
@@ -116,13 +110,7 @@ fn is_taken<R: Threads + Sync>(
 }
 
 /// The callers take these turns, and each is answered as it says.
-fn take<R: Threads + Sync + Abort>(
-    rt: &R,
-    desk: &Desk,
-    a: &mut Pass,
-    b: &mut Pass,
-    turns: &[Turn<'_>],
-)
+fn take<R: Threads + Sync + Abort>(rt: &R, desk: &Desk, a: &mut Pass, b: &mut Pass, turns: &[Turn])
     requires { (a.old.table ≡ desk.now.table) × (b.old.table ≡ desk.now.table) }
     ensures { (a.new.table ≡ a.old.table) × (b.new.table ≡ b.old.table) }
 {
@@ -135,8 +123,8 @@ fn take<R: Threads + Sync + Abort>(
 fn closed<R: Threads + Sync + Abort>(
     rt: &R,
     alloc: Global,
-    opening: Opening<'_>,
-    turns: &[Turn<'_>],
+    opening: Opening,
+    turns: &[Turn],
 ) -> Closed {
     let (desk, mut a, mut b) = open_two(rt, alloc, opening);
     take(rt, &desk, &mut a, &mut b, turns);
@@ -151,10 +139,11 @@ fn closed<R: Threads + Sync + Abort>(
 pub(crate) fn play<R: Threads + Sync + Abort>(
     rt: &R,
     alloc: Global,
-    opening: Opening<'_>,
-    turns: &[Turn<'_>],
-    ends: &[End<'_>],
+    opening: Opening,
+    turns: &[Turn],
+    ends: &[End],
 ) {
     let mut closed = closed(rt, alloc, opening, turns);
     check_ends(rt, &mut closed, ends);
+    drop(closed);
 }

@@ -5,8 +5,8 @@ use crate::checks::{must, same};
 use crate::desk::beside::Work;
 use crate::desk::desks::{open_desk, small};
 use crate::desk::ends::{End, calls_in_order, replied_to_all};
-use crate::desk::plans::{SOURCE_AND_SUPPLY, plan_of};
 use crate::desk::steps::{Turn, play};
+use crate::plans::{SOURCE_AND_SUPPLY, plan_of};
 use cf_desk::{Ask, Call, Closed, Desk, DeskFault, Pass, Rec, Told};
 use cf_model::{Reply, Ticked};
 use cf_outcome::{Outcome, Value};
@@ -23,24 +23,22 @@ const FIRSTS: [Call; 2] = [
 
 const SECONDS: [Call; 2] = [Call::Complete(0, Value::Int(3)), Call::Cancel(0)];
 
+const COMPLETIONS: [Turn; 1] = [Turn::Together(&FIRSTS, &SECONDS)];
+
+const ONE_SETTLES: [End; 4] = [
+    End::Events(4),
+    End::InOrder(&FIRSTS, &SECONDS, 4),
+    End::Replied(Reply::Flag(true), 1),
+    End::EndsWithRefusedCancel(1),
+];
+
 #[test]
 fn one_of_three_completions_settles(rt: HostRuntime) {
-    play(
-        &rt,
-        rt.alloc(),
-        small(4, 4),
-        &[Turn::Together(&FIRSTS, &SECONDS)],
-        &[
-            End::Events(4),
-            End::InOrder(&FIRSTS, &SECONDS, 4),
-            End::Replied(Reply::Flag(true), 1),
-            End::EndsWithRefusedCancel(1),
-        ],
-    );
+    play(&rt, rt.alloc(), small(4, 4), &COMPLETIONS, &ONE_SETTLES);
 }
 
 /// A completion of the stage that the other caller joins.
-const COMPLETES: Work<'static> = Work {
+const COMPLETES: Work = Work {
     before: &[],
     after: &[Call::Complete(0, Value::Int(6))],
     stage: 0,
@@ -102,6 +100,7 @@ fn check_ticks<R: Threads + Sync + Abort>(rt: &R, alloc: Global, log: u16, refus
     let fired = replied_to_all(&closed, Reply::Tick(Ticked::Fired(0)));
     let all = log as usize;
     let told = (full, closed.history.len(), in_order, fired);
+    drop(closed);
     same(rt, told, (refused, all, all, all));
 }
 

@@ -23,36 +23,34 @@ const CLAIMED: Reply = Reply::Claim(Claimed::Granted(Args::None));
 
 const FINISHES: Call = Call::Finish(1, Answer::Give(Value::Int(4)));
 
+const JOINED: [Turn; 6] = [
+    Turn::Together(&[COMPLETES], &[]),
+    Turn::Second(Step::Reads(NOW, Ok(GOT))),
+    Turn::Second(Step::Has(1, 3)),
+    Turn::Together(&[Call::Tick(0)], &[]),
+    Turn::Second(Step::Reads(OUTCOME, Ok(TOLD))),
+    Turn::Second(Step::Has(2, 2)),
+];
+
+const READS: [End; 1] = [End::Records(
+    1,
+    &[
+        Rec::Saw {
+            place: 1,
+            ask: NOW,
+            told: GOT,
+        },
+        Rec::Saw {
+            place: 2,
+            ask: OUTCOME,
+            told: TOLD,
+        },
+    ],
+)];
+
 #[test]
 fn reads_what_a_joined_thread_did(rt: HostRuntime) {
-    play(
-        &rt,
-        rt.alloc(),
-        small(4, 4),
-        &[
-            Turn::Together(&[COMPLETES], &[]),
-            Turn::Second(Step::Reads(NOW, Ok(GOT))),
-            Turn::Second(Step::Has(1, 3)),
-            Turn::Together(&[Call::Tick(0)], &[]),
-            Turn::Second(Step::Reads(OUTCOME, Ok(TOLD))),
-            Turn::Second(Step::Has(2, 2)),
-        ],
-        &[End::Records(
-            1,
-            &[
-                Rec::Saw {
-                    place: 1,
-                    ask: NOW,
-                    told: GOT,
-                },
-                Rec::Saw {
-                    place: 2,
-                    ask: OUTCOME,
-                    told: TOLD,
-                },
-            ],
-        )],
-    );
+    play(&rt, rt.alloc(), small(4, 4), &JOINED, &READS);
 }
 
 /// What the log of two words has.
@@ -65,21 +63,19 @@ const TWO_EVENTS: [Event; 2] = [
     Event::Cancel { who: 0, stage: 0 },
 ];
 
+const FULL_LOG: [Turn; 5] = [
+    Turn::First(Step::Acts(COMPLETES, Ok(Reply::Flag(true)))),
+    Turn::First(Step::Acts(Call::Cancel(0), Ok(Reply::Flag(false)))),
+    Turn::First(Step::Acts(Call::Tick(5), Err(DeskFault::LogFull))),
+    Turn::First(Step::Acts(Call::Claim(2), Err(DeskFault::NoStage))),
+    Turn::First(Step::Reads(OUTCOME, Ok(TOLD))),
+];
+
+const FULL_LOG_ENDS: [End; 2] = [End::Keeps(0, 3), End::History(&TWO_EVENTS)];
+
 #[test]
 fn a_full_log_refuses_calls_and_answers_reads(rt: HostRuntime) {
-    play(
-        &rt,
-        rt.alloc(),
-        small(2, 4),
-        &[
-            Turn::First(Step::Acts(COMPLETES, Ok(Reply::Flag(true)))),
-            Turn::First(Step::Acts(Call::Cancel(0), Ok(Reply::Flag(false)))),
-            Turn::First(Step::Acts(Call::Tick(5), Err(DeskFault::LogFull))),
-            Turn::First(Step::Acts(Call::Claim(2), Err(DeskFault::NoStage))),
-            Turn::First(Step::Reads(OUTCOME, Ok(TOLD))),
-        ],
-        &[End::Keeps(0, 3), End::History(&TWO_EVENTS)],
-    );
+    play(&rt, rt.alloc(), small(2, 4), &FULL_LOG, &FULL_LOG_ENDS);
 }
 
 /// What the pass with room for two records keeps.
@@ -96,102 +92,88 @@ const TWO_RECORDS: [Rec; 2] = [
     },
 ];
 
+const FULL_PASS: [Turn; 5] = [
+    Turn::First(Step::Joins(0, 2, Ok(Joined::NotYet))),
+    Turn::First(Step::Acts(COMPLETES, Ok(Reply::Flag(true)))),
+    Turn::Second(Step::Acts(Call::Tick(0), Ok(Reply::Tick(Ticked::Fired(0))))),
+    Turn::First(Step::Reads(NOW, Err(DeskFault::PassFull))),
+    Turn::First(Step::Acts(Call::Tick(1), Err(DeskFault::PassFull))),
+];
+
 #[test]
 fn a_full_pass_is_told_before_a_full_log(rt: HostRuntime) {
     play(
         &rt,
         rt.alloc(),
         small(2, 2),
-        &[
-            Turn::First(Step::Joins(0, 2, Ok(Joined::NotYet))),
-            Turn::First(Step::Acts(COMPLETES, Ok(Reply::Flag(true)))),
-            Turn::Second(Step::Acts(Call::Tick(0), Ok(Reply::Tick(Ticked::Fired(0))))),
-            Turn::First(Step::Reads(NOW, Err(DeskFault::PassFull))),
-            Turn::First(Step::Acts(Call::Tick(1), Err(DeskFault::PassFull))),
-        ],
+        &FULL_PASS,
         &[End::Records(0, &TWO_RECORDS)],
     );
 }
 
+const MEETING: [Turn; 12] = [
+    Turn::First(Step::Acts(COMPLETES, Ok(Reply::Flag(true)))),
+    Turn::First(Step::Has(1, 3)),
+    Turn::Second(Step::Has(0, 4)),
+    Turn::Meet,
+    Turn::First(Step::Has(1, 3)),
+    Turn::Second(Step::Has(1, 4)),
+    Turn::Second(Step::Acts(Call::Cancel(0), Ok(Reply::Flag(false)))),
+    Turn::First(Step::Has(1, 3)),
+    Turn::Second(Step::Has(2, 3)),
+    Turn::Meet,
+    Turn::First(Step::Has(2, 3)),
+    Turn::Second(Step::Has(2, 3)),
+];
+
 #[test]
 fn meet_levels(rt: HostRuntime) {
-    play(
-        &rt,
-        rt.alloc(),
-        small(4, 4),
-        &[
-            Turn::First(Step::Acts(COMPLETES, Ok(Reply::Flag(true)))),
-            Turn::First(Step::Has(1, 3)),
-            Turn::Second(Step::Has(0, 4)),
-            Turn::Meet,
-            Turn::First(Step::Has(1, 3)),
-            Turn::Second(Step::Has(1, 4)),
-            Turn::Second(Step::Acts(Call::Cancel(0), Ok(Reply::Flag(false)))),
-            Turn::First(Step::Has(1, 3)),
-            Turn::Second(Step::Has(2, 3)),
-            Turn::Meet,
-            Turn::First(Step::Has(2, 3)),
-            Turn::Second(Step::Has(2, 3)),
-        ],
-        &[End::Events(2)],
-    );
+    play(&rt, rt.alloc(), small(4, 4), &MEETING, &[End::Events(2)]);
 }
+
+const WORKING: [Turn; 5] = [
+    Turn::First(Step::FindsReady(Some(1))),
+    Turn::First(Step::Acts(Call::Claim(1), Ok(CLAIMED))),
+    Turn::First(Step::Acts(FINISHES, Ok(Reply::Finish(Finished::Won)))),
+    Turn::First(Step::FindsReady(None)),
+    Turn::First(Step::Joins(1, 0, Ok(Joined::Value(Value::Int(4))))),
+];
 
 #[test]
 fn a_caller_does_the_ready_work(rt: HostRuntime) {
-    play(
-        &rt,
-        rt.alloc(),
-        small(4, 4),
-        &[
-            Turn::First(Step::FindsReady(Some(1))),
-            Turn::First(Step::Acts(Call::Claim(1), Ok(CLAIMED))),
-            Turn::First(Step::Acts(FINISHES, Ok(Reply::Finish(Finished::Won)))),
-            Turn::First(Step::FindsReady(None)),
-            Turn::First(Step::Joins(1, 0, Ok(Joined::Value(Value::Int(4))))),
-        ],
-        &[End::Events(2)],
-    );
+    play(&rt, rt.alloc(), small(4, 4), &WORKING, &[End::Events(2)]);
 }
+
+const TOLD_OF_SIZES: [Turn; 6] = [
+    Turn::DeskIsFor(4, 2, 4),
+    Turn::First(Step::Is(0)),
+    Turn::Second(Step::Is(1)),
+    Turn::DeskHas(1, true),
+    Turn::DeskHas(2, false),
+    Turn::DeskFunction(1, Some(3)),
+];
 
 #[test]
 fn a_desk_and_its_passes_tell_what_they_are(rt: HostRuntime) {
-    play(
-        &rt,
-        rt.alloc(),
-        small(4, 7),
-        &[
-            Turn::DeskIsFor(4, 2, 4),
-            Turn::First(Step::Is(0)),
-            Turn::Second(Step::Is(1)),
-            Turn::DeskHas(1, true),
-            Turn::DeskHas(2, false),
-            Turn::DeskFunction(1, Some(3)),
-        ],
-        &[],
-    );
+    play(&rt, rt.alloc(), small(4, 7), &TOLD_OF_SIZES, &[]);
 }
+
+const HOLDING: [Turn; 12] = [
+    Turn::First(Step::Holds(1, false)),
+    Turn::First(Step::Acts(Call::Claim(1), Ok(CLAIMED))),
+    Turn::First(Step::Holds(1, true)),
+    Turn::First(Step::Holds(0, false)),
+    Turn::First(Step::Holds(2, false)),
+    Turn::First(Step::Holds(65535, false)),
+    Turn::Second(Step::Acts(Call::Cancel(1), Ok(Reply::Flag(true)))),
+    Turn::Second(Step::Holds(1, false)),
+    Turn::Meet,
+    Turn::First(Step::Holds(1, true)),
+    Turn::First(Step::Acts(FINISHES, Ok(Reply::Finish(Finished::Late)))),
+    Turn::First(Step::Holds(1, false)),
+];
 
 #[test]
 fn a_claim_is_held_by_its_caller_until_it_finishes(rt: HostRuntime) {
-    play(
-        &rt,
-        rt.alloc(),
-        small(4, 4),
-        &[
-            Turn::First(Step::Holds(1, false)),
-            Turn::First(Step::Acts(Call::Claim(1), Ok(CLAIMED))),
-            Turn::First(Step::Holds(1, true)),
-            Turn::First(Step::Holds(0, false)),
-            Turn::First(Step::Holds(2, false)),
-            Turn::First(Step::Holds(65535, false)),
-            Turn::Second(Step::Acts(Call::Cancel(1), Ok(Reply::Flag(true)))),
-            Turn::Second(Step::Holds(1, false)),
-            Turn::Meet,
-            Turn::First(Step::Holds(1, true)),
-            Turn::First(Step::Acts(FINISHES, Ok(Reply::Finish(Finished::Late)))),
-            Turn::First(Step::Holds(1, false)),
-        ],
-        &[End::Events(3)],
-    );
+    play(&rt, rt.alloc(), small(4, 4), &HOLDING, &[End::Events(3)]);
 }

@@ -1,6 +1,7 @@
 ghost use Rattle.std.specs.Prelude.{◌≡◌, true};
 ghost use Rattle.cf_plan.specs.Plans.{has_place};
 
+use crate::checks::{holds, must};
 use crate::ledger::steps::{Step, plan, take};
 use cf_ledger::{Finish, Held, Ledger, LedgerFault, Misfit, Reply, Stage, StepFault, Taken};
 use cf_model::{Attached, Claimed, Finished};
@@ -8,7 +9,6 @@ use cf_outcome::{Outcome, Value};
 use cf_plan::{Answer, Args, Plan};
 use std::alloc::Global;
 use std::process::Abort;
-use std::test::Fail;
 
 /// The source is given 5.
 const COMPLETE: u64 = 0x0100000100000005;
@@ -68,33 +68,31 @@ const STEPS: [Step; 13] = [
 ];
 
 /// A ledger with so much room.
-fn opened(rt: &impl Abort, alloc: Global, room: u16) -> Result<Ledger, Fail> {
-    let plan = plan(alloc)?;
-    assert!(rt; plan.has_place(room));
-    Ok(Ledger::new(alloc, &plan, room)?)
+fn opened(rt: &impl Abort, alloc: Global, room: u16) -> Ledger {
+    let plan = plan(rt, alloc, room);
+    must(rt, Ledger::new(alloc, &plan, room))
 }
 
 #[test]
-fn words_are_done_and_written(rt: HostRuntime) -> Result<(), Fail> {
-    let mut ledger = opened(&rt, rt.alloc(), 1)?;
+fn words_are_done_and_written(rt: HostRuntime) {
+    let mut ledger = opened(&rt, rt.alloc(), 1);
     take(&rt, rt.alloc(), &mut ledger, &STEPS);
     take(&rt, rt.alloc(), &mut ledger, &AFTER);
-    Ok(())
+    drop(ledger);
 }
 
 /// A ledger of the words of the first test.
-fn made_again(rt: &impl Abort, alloc: Global) -> Result<Ledger, Fail> {
-    let plan = plan(alloc)?;
-    assert!(rt; plan.has_place(3));
-    Ok(Ledger::of_words(alloc, &plan, 3, &WORDS)?)
+fn made_again(rt: &impl Abort, alloc: Global) -> Ledger {
+    let plan = plan(rt, alloc, 3);
+    must(rt, Ledger::of_words(alloc, &plan, 3, &WORDS))
 }
 
 /// The words of a ledger make the same one again.
 #[test]
-fn a_ledger_is_made_of_its_words(rt: HostRuntime) -> Result<(), Fail> {
-    let mut ledger = made_again(&rt, rt.alloc())?;
+fn a_ledger_is_made_of_its_words(rt: HostRuntime) {
+    let mut ledger = made_again(&rt, rt.alloc());
     take(&rt, rt.alloc(), &mut ledger, &AFTER);
-    Ok(())
+    drop(ledger);
 }
 
 /// Words of which one can't be done with room for one stage: the place of the first, and why.
@@ -109,24 +107,20 @@ const MISFITS: [(&[u64], usize, LedgerFault); 4] = [
 fn is_misfit(alloc: Global, plan: &Plan, words: &[u64], misfit: Misfit) -> bool
     requires { has_place plan.now.stages 1 ≡ true }
 {
-    match Ledger::of_words(alloc, plan, 1, words) {
-        Ok(_) => false,
-        Err(found) => found == misfit,
-    }
+    Ledger::of_words(alloc, plan, 1, words).err() == Some(misfit)
 }
 
 #[test]
-fn the_first_misfit_is_told(rt: HostRuntime) -> Result<(), Fail> {
-    let plan = plan(rt.alloc())?;
-    assert!(rt; plan.has_place(1));
+fn the_first_misfit_is_told(rt: HostRuntime) {
+    let plan = plan(&rt, rt.alloc(), 1);
     for (words, place, why) in &MISFITS {
         let misfit = Misfit {
             place: *place,
             why: *why,
         };
-        assert!(rt; is_misfit(rt.alloc(), &plan, words, misfit), "{misfit:?}");
+        holds(&rt, is_misfit(rt.alloc(), &plan, words, misfit), misfit);
     }
-    Ok(())
+    drop(plan);
 }
 
 /// The apply, held, whose function has given 6.
@@ -206,8 +200,8 @@ const BY_STEPS: [Step; 17] = [
 ];
 
 #[test]
-fn a_step_finishes_and_takes(rt: HostRuntime) -> Result<(), Fail> {
-    let mut ledger = opened(&rt, rt.alloc(), 0)?;
+fn a_step_finishes_and_takes(rt: HostRuntime) {
+    let mut ledger = opened(&rt, rt.alloc(), 0);
     take(&rt, rt.alloc(), &mut ledger, &BY_STEPS);
-    Ok(())
+    drop(ledger);
 }

@@ -1,7 +1,12 @@
 //! What is done to a ledger and asked of it, as rows: a call, and what it is answered.
+ghost use Rattle.std.specs.Prelude.{◌≡◌, true};
+ghost use Rattle.cf_plan.specs.Plans.{has_place};
+
+use crate::checks::holds;
+use crate::plans::{SOURCE_AND_APPLY, plan_of};
 use cf_ledger::{Held, Ledger, LedgerFault, Misfit, Reply, Stage, StepFault};
 use cf_outcome::Outcome;
-use cf_plan::{Form, Plan, PlanBuilder, PlanFault};
+use cf_plan::Plan;
 use std::alloc::Global;
 use std::process::Abort;
 
@@ -30,12 +35,13 @@ pub(crate) enum Step {
     NextReady(u16, Option<u16>),
 }
 
-/// The plan of a source, and an apply of it by function 0.
-pub(crate) fn plan(alloc: Global) -> Result<Plan, PlanFault> {
-    let mut builder = PlanBuilder::new(alloc);
-    builder.stage(Form::Source, &[], None)?;
-    builder.stage(Form::Apply, &[0], Some(0))?;
-    builder.build()
+/// The plan of a source, and an apply of it by function 0. It has place for so much room.
+pub(crate) fn plan(rt: &impl Abort, alloc: Global, room: u16) -> Plan
+    ensures { has_place result.stages room ≡ true }
+{
+    let plan = plan_of(rt, alloc, &SOURCE_AND_APPLY);
+    holds(rt, plan.has_place(room), room);
+    plan
 }
 
 /// Whether so much room more has a place, and is there.
@@ -71,6 +77,6 @@ fn is_answered(alloc: Global, ledger: &mut Ledger, step: Step) -> bool {
 /// The ledger takes these steps, and each is answered as it says.
 pub(crate) fn take(rt: &impl Abort, alloc: Global, ledger: &mut Ledger, steps: &[Step]) {
     for (at, step) in steps.iter().enumerate() {
-        assert!(rt; is_answered(alloc, ledger, *step), "step {at}");
+        holds(rt, is_answered(alloc, ledger, *step), ("step", at));
     }
 }

@@ -7,10 +7,25 @@ use std::process::Abort;
 /// A stage: its form, its sources and the number of its function.
 pub(crate) type Row<'a> = (Form, &'a [u16], Option<u16>);
 
+/// A source.
+pub(crate) const SOURCE: [Row<'static>; 1] = [(Form::Source, &[], None)];
+
+/// A source, and a stage that is ready with function 3.
+pub(crate) const SOURCE_AND_SUPPLY: [Row<'static>; 2] = [
+    (Form::Source, &[], None),
+    (Form::Supply, &[], Some(3)),
+];
+
+/// A source, and an apply of it by function 0.
+pub(crate) const SOURCE_AND_APPLY: [Row<'static>; 2] = [
+    (Form::Source, &[], None),
+    (Form::Apply, &[0], Some(0)),
+];
+
 /// The stages of a plan.
 #[derive(Clone, Copy)]
-pub(crate) enum Stages<'a> {
-    These(&'a [Row<'a>]),
+pub(crate) enum Stages {
+    These(&'static [Row<'static>]),
     /// So many supplies, each with the function of its number.
     Supplies(u16),
 }
@@ -34,7 +49,7 @@ pub(crate) fn supplies(rt: &impl Abort, alloc: Global, count: u16) -> Plan {
 }
 
 /// The plan that has these stages.
-pub(crate) fn plan_with(rt: &impl Abort, alloc: Global, stages: Stages<'_>) -> Plan {
+pub(crate) fn plan_with(rt: &impl Abort, alloc: Global, stages: Stages) -> Plan {
     match stages {
         Stages::These(rows) => plan_of(rt, alloc, rows),
         Stages::Supplies(count) => supplies(rt, alloc, count),

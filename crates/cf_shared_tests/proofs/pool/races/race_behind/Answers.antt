@@ -7,7 +7,7 @@ use Rattle.cf_model.specs.Ranges.{EventFits}
 use Rattle.cf_model.specs.States.{start}
 use Rattle.cf_pool.specs.Races.{AreSteps, IsStep}
 use Rattle.cf_pool.proofs.Racing.Begun.{fits_below}
-use Rattle.cf_pool_tests.proofs.races.race_behind.Goals as goal
+use Rattle.cf_shared_tests.proofs.pool.races.race_behind.Goals as goal
 
 pub race-requires-clause-steps : goal.race-requires-clause-steps
 race-requires-clause-steps g c =

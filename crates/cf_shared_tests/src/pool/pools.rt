@@ -5,8 +5,8 @@ ghost use Rattle.cf_plan.specs.Plans.{with_room};
 ghost use Rattle.cf_pool.specs.Races.{AreSteps};
 
 use crate::checks::{holds, must};
-use crate::ends::Ended;
 use crate::plans::{Stages, plan_with};
+use crate::pool::ends::Ended;
 use cf_core::Graph;
 use cf_desk::{Closed, Desk, DeskFault, Pass};
 use cf_model::Event;
@@ -52,8 +52,8 @@ pub(crate) const FUNCTIONS: [Fixed; 4] = [
 
 /// How a desk for workers and their caller is opened.
 #[derive(Clone, Copy)]
-pub(crate) struct Opening<'a> {
-    pub(crate) stages: Stages<'a>,
+pub(crate) struct Opening {
+    pub(crate) stages: Stages,
     pub(crate) workers: u8,
     pub(crate) log: u16,
     /// How many records each pass has room for.
@@ -63,7 +63,7 @@ pub(crate) struct Opening<'a> {
 }
 
 /// A desk over so many supplies, with no room for more stages.
-pub(crate) fn over_supplies(count: u16, workers: u8, log: u16, calls: u16) -> Opening<'static>
+pub(crate) fn over_supplies(count: u16, workers: u8, log: u16, calls: u16) -> Opening
     ensures { result.workers ≡ workers }
 {
     Opening {
@@ -76,10 +76,10 @@ pub(crate) fn over_supplies(count: u16, workers: u8, log: u16, calls: u16) -> Op
 }
 
 /// The desk that is opened so, with its passes.
-pub(crate) fn open(rt: &impl Abort, alloc: Global, opening: Opening<'_>) -> (Desk, Vec<Pass>)
+pub(crate) fn open(rt: &impl Abort, alloc: Global, opening: Opening) -> (Desk, Vec<Pass>)
     requires { opening.workers ≤ 32 }
-    ensures passes { All (IsOf result.0) result.1.items × (vec_len result.1 ≡ opening.entry.workers + 1) }
-    ensures callers { result.0.setting.callers ≡ opening.entry.workers + 1 }
+    ensures passes { All (IsOf result.0) result.1.items × (vec_len result.1 ≡ opening.workers + 1) }
+    ensures callers { result.0.setting.callers ≡ opening.workers + 1 }
 {
     let Opening { log, calls, .. } = opening;
     let callers = opening.workers + 1;
@@ -127,7 +127,7 @@ fn two_passes(rt: &impl Abort, desk: &Desk, mut passes: Vec<Pass>) -> (Pass, Pas
 }
 
 /// The desk that is opened so for one worker, with the passes of the caller and the worker.
-pub(crate) fn open_two(rt: &impl Abort, alloc: Global, opening: Opening<'_>) -> (Desk, Pass, Pass)
+pub(crate) fn open_two(rt: &impl Abort, alloc: Global, opening: Opening) -> (Desk, Pass, Pass)
     requires { opening.workers ≡ 1 }
     ensures passes { IsOf result.0 result.1 × IsOf result.0 result.2 }
     ensures callers { result.0.setting.callers ≡ 2 }
@@ -207,7 +207,7 @@ pub(crate) fn ran<R: Threads + Wait + Sync + Abort, F: StageFn + Sync, G: Gate +
 pub(crate) fn run_over<R: Threads + Wait + Sync + Abort, F: StageFn + Sync, G: Gate + Sync>(
     rt: &R,
     alloc: Global,
-    opening: Opening<'_>,
+    opening: Opening,
     fns: &[F],
     gate: &G,
 ) -> Ended

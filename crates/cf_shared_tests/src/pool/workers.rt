@@ -3,9 +3,9 @@ ghost use Rattle.std.specs.Prelude.{◌≡◌};
 ghost use Rattle.cf_desk.specs.Views.{IsOf};
 
 use crate::checks::holds;
-use crate::ends::{End, FIVE, FOUR, SEVEN, check_ends};
 use crate::plans::{Row, Stages};
-use crate::pools::{FUNCTIONS, Opening, last_of, open, over_supplies, run_over};
+use crate::pool::ends::{End, FIVE, FOUR, SEVEN, check_ends};
+use crate::pool::pools::{FUNCTIONS, Opening, last_of, open, over_supplies, run_over};
 use cf_desk::{Desk, DeskFault, Joined, Pass};
 use cf_model::Event;
 use cf_outcome::Value;
@@ -82,6 +82,13 @@ impl Gate for Together {
     }
 }
 
+const BOTH_DONE: [End; 4] = [
+    End::Fault(None),
+    End::Has(0, FOUR),
+    End::Has(1, FIVE),
+    End::AtLeast(4),
+];
+
 #[test]
 fn two_functions_at_once(rt: HostRuntime) {
     let gate = Together::new(2);
@@ -93,16 +100,7 @@ fn two_functions_at_once(rt: HostRuntime) {
         &gate,
     );
     holds(&rt, gate.have_met(), "gate");
-    check_ends(
-        &rt,
-        ended,
-        &[
-            End::Fault(None),
-            End::Has(0, FOUR),
-            End::Has(1, FIVE),
-            End::AtLeast(4),
-        ],
-    );
+    check_ends(&rt, ended, &BOTH_DONE);
 }
 
 #[test]
@@ -149,7 +147,7 @@ fn a_stopped_worker_leaves_its_claim_open(rt: HostRuntime) {
 const CHAIN: [Row<'static>; 2] = [(Form::Supply, &[], Some(0)), (Form::Apply, &[0], Some(3))];
 
 /// A desk over both, for so many workers.
-fn over_chain(workers: u8, log: u16) -> Opening<'static>
+fn over_chain(workers: u8, log: u16) -> Opening
     ensures { result.workers ≡ workers }
 {
     Opening {
@@ -184,6 +182,7 @@ fn check_chain(rt: &impl Abort, alloc: Global) {
     let (desk, mut passes) = open(rt, alloc, over_chain(0, 9));
     let mut pass = last_of(rt, &desk, &mut passes);
     holds(rt, does_chain(&desk, &mut pass), "chain");
+    drop((desk, passes, pass));
 }
 
 #[test]
@@ -191,16 +190,18 @@ fn one_worker_does_all_that_is_ready(rt: HostRuntime) {
     check_chain(&rt, rt.alloc());
 }
 
+const CHAIN_DONE: [End; 4] = [
+    End::Fault(None),
+    End::Has(0, FOUR),
+    End::Has(1, SEVEN),
+    End::Passes(4),
+];
+
 #[test]
 fn a_run_ends_with_nothing_ready(rt: HostRuntime) {
     check_ends(
         &rt,
         run_over(&rt, rt.alloc(), over_chain(3, 20), &FUNCTIONS, &NoGate),
-        &[
-            End::Fault(None),
-            End::Has(0, FOUR),
-            End::Has(1, SEVEN),
-            End::Passes(4),
-        ],
+        &CHAIN_DONE,
     );
 }

@@ -2,9 +2,9 @@
 ghost use Rattle.std.specs.Prelude.{◌≡◌, ◌<◌, ◌≤◌, replicate};
 
 use crate::checks::{holds, must, same};
-use crate::ends::{FIVE, FOUR, NINE, SIX, THREE, check_outcomes};
 use crate::plans::{Row, plan_of, sources};
-use crate::pools::raced;
+use crate::pool::ends::{FIVE, FOUR, NINE, SIX, THREE, check_outcomes};
+use crate::pool::pools::raced;
 use cf_core::Graph;
 use cf_model::Event;
 use cf_outcome::Value;
@@ -22,7 +22,7 @@ struct Sample {
 }
 
 impl StageFn for Sample {
-    ghost use Rattle.cf_pool_tests.specs.Samples.{sampled};
+    ghost use Rattle.cf_shared_tests.specs.Samples.{sampled};
 
     ghost meaning = { λ f args. sampled f.gives args };
 
@@ -78,8 +78,8 @@ fn race_alone<R: Threads + Wait + Sync + Abort>(
 fn check_alone<R: Threads + Wait + Sync + Abort>(rt: &R, alloc: Global, workers: u8)
     requires { (0 < workers) × (workers ≤ 32) }
 {
-    let mut graph = race_alone(rt, alloc, plan_of(rt, alloc, &SUPPLIES), workers);
-    check_outcomes(rt, &mut graph, &[FOUR, FIVE, NINE], workers);
+    let graph = race_alone(rt, alloc, plan_of(rt, alloc, &SUPPLIES), workers);
+    check_outcomes(rt, graph, &[FOUR, FIVE, NINE], workers);
 }
 
 #[test]
@@ -109,8 +109,8 @@ fn race_on<R: Threads + Wait + Sync + Abort>(rt: &R, alloc: Global, plan: Plan) 
 
 #[test]
 fn the_first_of_two_steps_counts(rt: HostRuntime) {
-    let mut graph = race_on(&rt, rt.alloc(), plan_of(&rt, rt.alloc(), &SOURCES));
-    check_outcomes(&rt, &mut graph, &[THREE, SIX, NINE], 2);
+    let graph = race_on(&rt, rt.alloc(), plan_of(&rt, rt.alloc(), &SOURCES));
+    check_outcomes(&rt, graph, &[THREE, SIX, NINE], 2);
 }
 
 /// Attaches the sum of stages 0 and 1, and one stage more than there is room for, completes both, and then races.
@@ -146,8 +146,8 @@ fn race_growing<R: Threads + Wait + Sync + Abort>(
 fn check_growing<R: Threads + Wait + Sync + Abort>(rt: &R, alloc: Global, workers: u8)
     requires { (0 < workers) × (workers ≤ 32) }
 {
-    let mut graph = race_growing(rt, alloc, sources(rt, alloc, 2), workers);
-    check_outcomes(rt, &mut graph, &[THREE, SIX, NINE], workers);
+    let graph = race_growing(rt, alloc, sources(rt, alloc, 2), workers);
+    check_outcomes(rt, graph, &[THREE, SIX, NINE], workers);
 }
 
 #[test]

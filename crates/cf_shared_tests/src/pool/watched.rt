@@ -3,9 +3,9 @@ ghost use Rattle.std.specs.Prelude.{◌<◌, ◌≤◌};
 ghost use Rattle.cf_desk.specs.Views.{IsOf};
 
 use crate::checks::{holds, must};
-use crate::ends::Ended;
 use crate::plans::supplies;
-use crate::pools::{Opening, last_of, open, over_supplies, raced, run_over};
+use crate::pool::ends::Ended;
+use crate::pool::pools::{Opening, last_of, open, over_supplies, raced, run_over};
 use cf_desk::{Call, Desk, DeskFault, Kept, Pass, Rec};
 use cf_model::{Claimed, Reply};
 use cf_outcome::Value;
@@ -227,7 +227,9 @@ fn worked<F: StageFn, G: Gate>(
 ) -> Option<Done> {
     let (desk, mut passes) = open(rt, alloc, over_supplies(stages, 1, 99, 99));
     let mut pass = last_of(rt, &desk, &mut passes);
-    work_with(&desk, &mut pass, fns, gate)
+    let done = work_with(&desk, &mut pass, fns, gate);
+    drop((desk, passes, pass));
+    done
 }
 
 /// Whether a worker was stopped by nothing, and ran so many functions.
@@ -241,7 +243,9 @@ fn has_run(done: Option<Done>, count: u32) -> bool {
 /// What one worker did over so many supplies, whose gate and functions are watched.
 fn work_watched(rt: &impl Abort, alloc: Global, stages: u16, watch: &Watch) -> Option<Done> {
     let fns = functions(rt, alloc, watch, stages);
-    worked(rt, alloc, stages, &fns, watch)
+    let done = worked(rt, alloc, stages, &fns, watch);
+    drop(fns);
+    done
 }
 
 #[test]
@@ -250,20 +254,23 @@ fn work_calls_each_function_once_after_the_gate(rt: HostRuntime) {
     let done = work_watched(&rt, rt.alloc(), 3, &watch);
     holds(&rt, has_run(done, 3), "functions");
     holds(&rt, watch.saw_each_once() && watch.saw_in_order(3), "gate");
+    drop(watch);
 }
 
 /// What a run over the desk that is opened so came to, whose gate and functions of so many stages are watched.
 fn run_watched<R: Threads + Wait + Sync + Abort>(
     rt: &R,
     alloc: Global,
-    opening: Opening<'_>,
+    opening: Opening,
     stages: u16,
     watch: &Watch,
 ) -> Ended
     requires { (0 < opening.workers) × (opening.workers ≤ 32) }
 {
     let fns = functions(rt, alloc, watch, stages);
-    run_over(rt, alloc, opening, &fns, watch)
+    let ended = run_over(rt, alloc, opening, &fns, watch);
+    drop(fns);
+    ended
 }
 
 /// Each function of a run of so many workers over as many stages is called once, after all of them met at the gate and it
@@ -276,6 +283,7 @@ fn watch_run<R: Threads + Wait + Sync + Abort>(rt: &R, alloc: Global, workers: u
     let opening = over_supplies(stages, workers, 2000, 99);
     let ended = run_watched(rt, alloc, opening, stages, &watch);
     holds(rt, watch.saw_run(&ended, workers), ("workers", workers));
+    drop((ended, watch));
 }
 
 #[test]
@@ -291,6 +299,7 @@ fn a_caller_tells_the_gate_of_its_own_work(rt: HostRuntime) {
     let watch = Watch::new(&rt, rt.alloc(), 2, 1);
     let ended = run_watched(&rt, rt.alloc(), over_supplies(2, 1, 9, 1), 2, &watch);
     holds(&rt, watch.saw_caller(&ended), "caller");
+    drop((ended, watch));
 }
 
 /// Races workers over so many supplies, with functions and a gate that are watched.
@@ -305,7 +314,8 @@ fn race_watched<R: Threads + Wait + Sync + Abort>(
 {
     let fns = functions(rt, alloc, watch, stages);
     let plan = supplies(rt, alloc, stages);
-    raced(rt, alloc, plan, 0, &[], &fns, watch, workers);
+    drop(raced(rt, alloc, plan, 0, &[], &fns, watch, workers));
+    drop(fns);
 }
 
 /// The same as of a run of a race, which keeps no records.
@@ -317,6 +327,7 @@ fn watch_race<R: Threads + Wait + Sync + Abort>(rt: &R, alloc: Global, workers: 
     race_watched(rt, alloc, stages, workers, &watch);
     let saw = watch.saw_each_once() && watch.saw_workers(workers);
     holds(rt, saw, ("workers", workers));
+    drop(watch);
 }
 
 #[test]

@@ -17,7 +17,7 @@ pub(crate) struct Ended {
 
 /// What work came to.
 #[derive(Clone, Copy)]
-pub(crate) enum End<'a> {
+pub(crate) enum End {
     /// A worker was stopped by this, or none was.
     Fault(Option<DeskFault>),
     Did(Done),
@@ -27,7 +27,7 @@ pub(crate) enum End<'a> {
     Events(usize),
     /// At least so many events.
     AtLeast(usize),
-    History(&'a [Event]),
+    History(&'static [Event]),
     /// So many passes were handed in.
     Passes(usize),
     /// Of the first so many stages so many are settled.
@@ -68,7 +68,7 @@ fn settled(graph: &mut Graph, stages: u16) -> u16 {
 }
 
 /// Whether work came to this.
-fn is_so(ended: &mut Ended, end: End<'_>) -> bool {
+fn is_so(ended: &mut Ended, end: End) -> bool {
     match end {
         End::Fault(fault) => ended.fault == fault,
         End::Did(done) => ended.done == Some(done),
@@ -84,16 +84,17 @@ fn is_so(ended: &mut Ended, end: End<'_>) -> bool {
 }
 
 /// Work came to all of this.
-pub(crate) fn check_ends(rt: &impl Abort, mut ended: Ended, ends: &[End<'_>]) {
+pub(crate) fn check_ends(rt: &impl Abort, mut ended: Ended, ends: &[End]) {
     for (at, end) in ends.iter().enumerate() {
         holds(rt, is_so(&mut ended, *end), ("end", at));
     }
+    drop(ended);
 }
 
 /// A graph that so many workers left has these stages, which have these outcomes.
 pub(crate) fn check_outcomes(
     rt: &impl Abort,
-    graph: &mut Graph,
+    mut graph: Graph,
     outcomes: &[Option<Outcome>],
     workers: u8,
 ) {
@@ -103,7 +104,8 @@ pub(crate) fn check_outcomes(
         ("workers", workers),
     );
     for (stage, outcome) in outcomes.iter().enumerate() {
-        let is_so = has_outcome(graph, stage as u16, *outcome);
+        let is_so = has_outcome(&mut graph, stage as u16, *outcome);
         holds(rt, is_so, ("stage", stage, "workers", workers));
     }
+    drop(graph);
 }

@@ -2,7 +2,7 @@ use Rattle.std.proofs.Common.{sym, subst}
 use Rattle.std.specs.List.{All}
 use Rattle.std.proofs.lemmas.List.Elements.{All-take}
 use Rattle.cf_desk.specs.Views.{IsOf}
-use Rattle.cf_pool_tests.proofs.pools.popped.Goals as goal
+use Rattle.cf_shared_tests.proofs.pool.pools.popped.Goals as goal
 
 pub returns-in-Some-clause-rest : goal.returns-in-Some-clause-rest
 returns-in-Some-clause-rest c =

@@ -2,9 +2,9 @@
 ghost use Rattle.std.specs.Prelude.{◌≡◌, ◌≤◌, All, length};
 ghost use Rattle.cf_desk.specs.Views.{IsOf};
 
-use crate::ends::{End, Ended, FOUR, SEVEN, check_ends};
 use crate::plans::Stages;
-use crate::pools::{FUNCTIONS, Opening, ended_two, open, open_two, ran};
+use crate::pool::ends::{End, Ended, FOUR, SEVEN, check_ends};
+use crate::pool::pools::{FUNCTIONS, Opening, ended_two, open, open_two, ran};
 use cf_desk::{Call, Desk, Pass};
 use cf_model::Event;
 use cf_outcome::Value;
@@ -18,7 +18,7 @@ use std::thread;
 use std::thread::Threads;
 
 /// A desk over one supply, with room for three stages more, for so many workers and their caller.
-fn growing(workers: u8) -> Opening<'static>
+fn growing(workers: u8) -> Opening
     ensures { result.workers ≡ workers }
 {
     Opening {
@@ -176,17 +176,15 @@ fn run_attached<R: Threads + Wait + Sync + Abort>(rt: &R, alloc: Global) -> Ende
     ran(rt, desk, passes, &FUNCTIONS, &NoGate, 2)
 }
 
+const ATTACHED_DONE: [End; 5] = [
+    End::Fault(None),
+    End::Has(0, FOUR),
+    End::Has(1, SEVEN),
+    End::Has(2, SEVEN),
+    End::Has(3, SEVEN),
+];
+
 #[test]
 fn a_run_does_what_its_callers_attached(rt: HostRuntime) {
-    check_ends(
-        &rt,
-        run_attached(&rt, rt.alloc()),
-        &[
-            End::Fault(None),
-            End::Has(0, FOUR),
-            End::Has(1, SEVEN),
-            End::Has(2, SEVEN),
-            End::Has(3, SEVEN),
-        ],
-    );
+    check_ends(&rt, run_attached(&rt, rt.alloc()), &ATTACHED_DONE);
 }

@@ -3,7 +3,7 @@ ghost use Rattle.std.specs.Prelude.{◌≡◌, ◌+◌, ◌<◌, ◌≤◌, vec_
 
 use crate::checks::{holds, must};
 use crate::plans::{Row, Stages, plan_of};
-use crate::pools::{Opening, open};
+use crate::pool::pools::{Opening, open};
 use cf_desk::{Call, Kept, Rec};
 use cf_model::{Claimed, Reply};
 use cf_outcome::Value;
@@ -149,6 +149,7 @@ fn check_run<R: Threads + Wait + Sync + Abort>(rt: &R, alloc: Global, workers: u
         panic!(rt; "a fault ended a run of {workers}");
     };
     holds(rt, agree(&left), ("run", workers));
+    drop(left);
 }
 
 /// The same of a race.
@@ -160,6 +161,7 @@ fn check_race<R: Threads + Wait + Sync + Abort>(rt: &R, alloc: Global, workers: 
     let hands = recorders(rt, alloc, workers + 1);
     let left = must(rt, race(rt, alloc, plan, 0, &[], hands, workers));
     holds(rt, agree(&left), ("race", workers));
+    drop(left);
 }
 
 #[test]

@@ -2,9 +2,9 @@
 ghost use Rattle.std.specs.Prelude.{◌≡◌, ◌<◌, ◌≤◌};
 ghost use Rattle.cf_desk.specs.Views.{IsOf};
 
-use crate::attached::{wait_for, work_on};
-use crate::ends::{End, Ended, FOUR, SIX, check_ends};
-use crate::pools::{FUNCTIONS, ended_two, open_two, over_supplies, run_over};
+use crate::pool::attached::{wait_for, work_on};
+use crate::pool::ends::{End, Ended, FOUR, SIX, check_ends};
+use crate::pool::pools::{FUNCTIONS, ended_two, open_two, over_supplies, run_over};
 use cf_desk::{Call, Desk, DeskFault, Pass};
 use cf_model::Event;
 use cf_outcome::Value;
@@ -67,21 +67,25 @@ const THREE: Done = Done {
     late: 0,
 };
 
+const TURNS_DONE: [End; 6] = [
+    End::Fault(Some(DeskFault::PassFull)),
+    End::Did(ONE),
+    End::History(&IN_TURN),
+    End::Has(0, FOUR),
+    End::Has(1, None),
+    End::Has(2, SIX),
+];
+
 #[test]
 fn the_next_does_what_a_full_pass_left(rt: HostRuntime) {
-    check_ends(
-        &rt,
-        work_in_turn(&rt, rt.alloc()),
-        &[
-            End::Fault(Some(DeskFault::PassFull)),
-            End::Did(ONE),
-            End::History(&IN_TURN),
-            End::Has(0, FOUR),
-            End::Has(1, None),
-            End::Has(2, SIX),
-        ],
-    );
+    check_ends(&rt, work_in_turn(&rt, rt.alloc()), &TURNS_DONE);
 }
+
+const FULL_LOG: [End; 3] = [
+    End::Fault(Some(DeskFault::LogFull)),
+    End::Events(3),
+    End::IsReady(true),
+];
 
 /// A log of three words stops so many workers over four supplies.
 fn check_full_log<R: Threads + Wait + Sync + Abort>(rt: &R, alloc: Global, workers: u8)
@@ -91,11 +95,7 @@ fn check_full_log<R: Threads + Wait + Sync + Abort>(rt: &R, alloc: Global, worke
     check_ends(
         rt,
         run_over(rt, alloc, opening, &FUNCTIONS, &NoGate),
-        &[
-            End::Fault(Some(DeskFault::LogFull)),
-            End::Events(3),
-            End::IsReady(true),
-        ],
+        &FULL_LOG,
     );
 }
 
@@ -191,16 +191,14 @@ fn stopped_beside<R: Threads + Sync + Abort>(rt: &R, alloc: Global) -> Ended {
     ended_two(rt, alloc, desk, first, second, fault, done)
 }
 
+const BESIDE_DONE: [End; 4] = [
+    End::Fault(Some(DeskFault::PassFull)),
+    End::Did(THREE),
+    End::SettledAtLeast(4, 3),
+    End::IsReady(false),
+];
+
 #[test]
 fn another_goes_on_beside_a_stopped_worker(rt: HostRuntime) {
-    check_ends(
-        &rt,
-        stopped_beside(&rt, rt.alloc()),
-        &[
-            End::Fault(Some(DeskFault::PassFull)),
-            End::Did(THREE),
-            End::SettledAtLeast(4, 3),
-            End::IsReady(false),
-        ],
-    );
+    check_ends(&rt, stopped_beside(&rt, rt.alloc()), &BESIDE_DONE);
 }
