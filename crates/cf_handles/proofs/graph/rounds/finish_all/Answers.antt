@@ -1,6 +1,5 @@
-use Rattle.std.proofs.Common.{rules, ◌≡◌, ◌<◌, ◌≤◌, ℕ, length, take, refl, arith}
+use Rattle.std.proofs.Common.{rules, ◌<◌, ℕ, length, take, refl, arith}
 use Rattle.cf_handles.specs.Rounds.{finished_all, finished_task}
-use Rattle.cf_handles.specs.Tasks.{held_by}
 use Rattle.cf_handles.specs.declared.values.task.CfTask.{CfTask}
 use Rattle.cf_handles.proofs.Rounds.{each_task, finished_next, given_next, kept_next, plan_next, there_at}
 use Rattle.cf_handles.proofs.graph.rounds.finish_all.Goals as goal

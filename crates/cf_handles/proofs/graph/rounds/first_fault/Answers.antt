@@ -1,4 +1,4 @@
-use Rattle.std.proofs.Common.{◌<◌, ◌≤◌, length, ap, sym, ◌∙◌, arith}
+use Rattle.std.proofs.Common.{ap, sym, ◌∙◌, arith}
 use Rattle.cf_handles.specs.Rounds.{fault_of}
 use Rattle.cf_handles.proofs.Rounds.{first_fault, may_all, may_more, no_fault}
 use Rattle.cf_handles.proofs.graph.rounds.first_fault.Goals as goal
