@@ -1,7 +1,8 @@
 //! How a test says what it wants: each call ends the test where that doesn't hold. The same in line is a way out, and dear to prove.
 ghost use Rattle.std.specs.Prelude.{◌≡◌, IsTrue, Ok};
 
-use std::fmt::Debug;
+use std::alloc::Global;
+use std::fmt::{Debug, Display};
 use std::process::Abort;
 
 /// Both are alike.
@@ -24,6 +25,12 @@ pub(crate) fn holds<N: Debug + Drop>(rt: &impl Abort, is_so: bool, name: N)
     ensures { IsTrue is_so }
 {
     assert!(rt; is_so, "{name:?}");
+}
+
+/// Whether this is shown so.
+pub(crate) fn is_shown<T: Display>(rt: &impl Abort, alloc: Global, said: &T, text: &str) -> bool {
+    let shown = must(rt, format!(in alloc; "{said}"));
+    shown.as_str() == text
 }
 
 /// What was answered, which is no error.

@@ -2,7 +2,7 @@
 use crate::checks::{holds, must};
 use cf_model::{Ask, Event};
 use cf_outcome::{Cause, Outcome, Value};
-use cf_plan::{Answer, Args, Limit, LimitKind, Plan, PlanFault, StageFn};
+use cf_plan::{Answer, Args, Limit, LimitKind, PlanFault, StageFn};
 use cf_reading::{Func, MAX_BYTES, Part, ReadingFault, Script, Step, read_input, read_script};
 use std::alloc::Global;
 use std::io;
@@ -273,42 +273,52 @@ fn refuses_for_what_is_wrong(rt: HostRuntime) {
     }
 }
 
-/// Whether a plan has two stages and one limit.
-fn is_limited(plan: &Plan) -> bool {
-    let limit = Limit {
-        stage: 1,
-        at: 9,
-        kind: LimitKind::Timeout,
-    };
-    plan.stages() == 2 && plan.limits() == [limit].as_slice()
-}
-
-/// Whether these are a complete, work and a question.
-fn are_read(steps: &[Step]) -> bool {
-    let (who, stage, value) = (0, 0, Value::Int(3));
-    let asked = [
-        Step::Does(Event::Complete { who, stage, value }),
-        Step::Work,
-        Step::Asks(Ask::Now(1, Value::Nil)),
-    ];
-    steps == asked.as_slice()
-}
-
 const SCRIPT: &str =
     "{\"cf\":1,\"stages\":[{\"form\":\"source\"},{\"form\":\"apply\",\"of\":[0],\"fn\":{\"add\":5}}],\
 \"limits\":[{\"stage\":1,\"at\":9,\"kind\":\"timeout\"}],\"steps\":[[\"complete\",0,3],[\"work\"],[\"now\",1]]}";
 
-/// Whether that script is read.
-fn is_read(script: Script) -> bool {
-    let (plan, room, functions, steps) = script.into_parts();
-    room == 0
-        && is_limited(&plan)
-        && functions.as_slice() == [Func::Add(5)].as_slice()
-        && are_read(steps.as_slice())
+/// What a script is read as: so many stages, these limits, so much room, these functions and these steps.
+#[derive(Clone, Copy)]
+pub(crate) struct Parts {
+    pub(crate) stages: u16,
+    pub(crate) limits: &'static [Limit],
+    pub(crate) room: u16,
+    pub(crate) functions: &'static [Func],
+    pub(crate) steps: &'static [Step],
 }
+
+/// Whether a script is read as that.
+pub(crate) fn is_read(script: Script, parts: Parts) -> bool {
+    let (plan, room, functions, steps) = script.into_parts();
+    plan.stages() == parts.stages
+        && plan.limits() == parts.limits
+        && room == parts.room
+        && functions.as_slice() == parts.functions
+        && steps.as_slice() == parts.steps
+}
+
+const PARTS: Parts = Parts {
+    stages: 2,
+    limits: &[Limit {
+        stage: 1,
+        at: 9,
+        kind: LimitKind::Timeout,
+    }],
+    room: 0,
+    functions: &[Func::Add(5)],
+    steps: &[
+        Step::Does(Event::Complete {
+            who: 0,
+            stage: 0,
+            value: Value::Int(3),
+        }),
+        Step::Work,
+        Step::Asks(Ask::Now(1, Value::Nil)),
+    ],
+};
 
 #[test]
 fn reads_a_script(rt: HostRuntime) {
     let script = must(&rt, read_script(rt.alloc(), SCRIPT.as_bytes()));
-    assert!(rt; is_read(script));
+    assert!(rt; is_read(script, PARTS));
 }

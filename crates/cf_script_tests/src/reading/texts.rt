@@ -1,20 +1,15 @@
 //! The text of each part of a script, and of each reason why bytes are none.
-use crate::checks::{holds, must};
+use crate::checks::{holds, is_shown};
 use cf_plan::PlanFault;
 use cf_reading::{Part, ReadingFault};
 use std::alloc::Global;
 use std::fmt::Display;
 use std::process::Abort;
 
-/// Whether this is written so.
-fn is_written<T: Display>(rt: &impl Abort, alloc: Global, said: &T, text: &str) -> bool {
-    must(rt, format!(in alloc; "{said}")).as_str() == text
-}
-
 /// Each of these is written so.
 fn check<T: Display>(rt: &impl Abort, alloc: Global, rows: &[(T, &str)]) {
     for (said, text) in rows {
-        holds(rt, is_written(rt, alloc, said, text), text);
+        holds(rt, is_shown(rt, alloc, said, text), text);
     }
 }
 

@@ -1,5 +1,5 @@
 //! The line of each fault.
-use crate::checks::{must, same};
+use crate::checks::{holds, is_shown};
 use cf_script::{Part, PlanFault, ScriptFault};
 use std::process::Abort;
 
@@ -81,14 +81,9 @@ const REFUSALS: [Row; 9] = [
     ),
 ];
 
-fn check_line(rt: &(impl Abort + AllocGlobal), fault: ScriptFault, wanted: &str) {
-    let line = must(rt, format!(in rt.alloc(); "{fault}"));
-    same(rt, line.as_str(), wanted);
-}
-
 fn check_lines(rt: &(impl Abort + AllocGlobal), rows: &[Row]) {
-    for row in rows {
-        check_line(rt, row.0, row.1);
+    for (fault, line) in rows {
+        holds(rt, is_shown(rt, rt.alloc(), fault, line), line);
     }
 }
 

@@ -155,6 +155,7 @@ fn check_gate(rt: &(impl Abort + Threads + Wait + Sync + AllocGlobal), script: &
     };
     race_before(rt, script, &gate, workers);
     check_told(rt, &gate, workers);
+    drop(gate);
 }
 
 #[test]
@@ -255,7 +256,9 @@ fn race_pairs(
         hands,
         workers,
     );
-    holds(rt, raced.is_ok(), (workers, "workers"));
+    let is_raced = raced.is_ok();
+    drop(raced);
+    holds(rt, is_raced, (workers, "workers"));
 }
 
 /// Each function was called once, and none before the gate was told.
@@ -281,6 +284,8 @@ fn check_calls(rt: &(impl Abort + Threads + Wait + Sync + AllocGlobal), workers:
     let functions = functions_of(rt, rt.alloc(), &calls);
     race_pairs(rt, &functions, &calls, workers);
     check_called(rt, &calls, workers);
+    drop(functions);
+    drop(calls);
 }
 
 #[test]
