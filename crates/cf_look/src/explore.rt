@@ -1,5 +1,6 @@
 //! The search of all orders in which callers' steps can come.
 use crate::args::Exploring;
+use crate::input::json_in;
 use anyhow::{Result, anyhow};
 use cf_explore::{Found, Search, Witness};
 use cf_orders::{
@@ -56,9 +57,9 @@ fn explore_text<R: Print + Eprint + AllocGlobal + Clock + Files>(
     text: &[u8],
     asked: &Exploring,
 ) -> Result<u8> {
-    match Json::from_slice(rt.alloc(), text) {
-        Ok(json) => explore_json(rt, &json, asked),
-        Err(_) => refuse(rt, &"fault 2 not json"),
+    match json_in(rt.alloc(), text)? {
+        Some(json) => explore_json(rt, &json, asked),
+        None => refuse(rt, &"fault 2 not json"),
     }
 }
 

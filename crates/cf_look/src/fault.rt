@@ -16,6 +16,9 @@ pub(crate) enum Unreadable {
     Member(&'static str),
     #[error("{0}: has to be an array")]
     List(&'static str),
+    /// A name of an element of a list, and the path to it behind the element's number.
+    #[error("{0}[{1}]{2}: has to be a text of at most 64 characters")]
+    Name(&'static str, usize, &'static str),
     /// An element of a list, and what stands behind its number: the rest of the path, and what has to be there.
     #[error("{0}[{1}]{2}")]
     Element(&'static str, usize, &'static str),

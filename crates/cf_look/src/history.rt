@@ -3,6 +3,7 @@ ghost use Rattle.std.specs.Prelude.{◌≡◌, IfErr, IfOk, false, true};
 ghost use Rattle.cf_plan.specs.Plans.{has_place};
 
 use crate::fault::Unreadable;
+use crate::input::json_in;
 use crate::texts::{is_unknown, now, reply, settled};
 use anyhow::Result;
 use cf_event::decode;
@@ -66,10 +67,7 @@ pub(crate) fn check_room(plan: &Plan, room: u16) -> Result<(), Unreadable>
 
 /// The JSON of these bytes.
 fn json_of(alloc: Global, bytes: &[u8]) -> Result<Json> {
-    match Json::from_slice(alloc, bytes) {
-        Ok(json) => Ok(json),
-        Err(_) => Err(Unreadable::Json.into()),
-    }
+    Ok(json_in(alloc, bytes)?.ok_or(Unreadable::Json)?)
 }
 
 /// What sessions say, with the plan and the room for it.

@@ -32,6 +32,7 @@ mod args;
 mod explore;
 mod fault;
 mod history;
+mod input;
 mod named;
 mod page;
 mod people;
@@ -45,6 +46,7 @@ use cf_explain::Verdict as Said;
 use cf_history::Verdict;
 use explore::{explore_one, fault_of, is_question};
 use history::judge;
+use input::json_in;
 use page::{ReadInput, Shown, read_in, text_of, write_refusal};
 use script::{Drawn, draw, explain_script, script_in};
 use serde_json::Value as Json;
@@ -114,8 +116,8 @@ fn explain_one<R: Input + Print + AllocGlobal>(rt: &R) -> Result<u8> {
         println!(rt; "unreadable: standard input")?;
         return Ok(UNREADABLE);
     };
-    match Json::from_slice(rt.alloc(), bytes.as_slice()) {
-        Ok(json) if is_question(&json) => explain_question(rt, &json),
+    match json_in(rt.alloc(), bytes.as_slice())? {
+        Some(json) if is_question(&json) => explain_question(rt, &json),
         _ => Ok(status_of_script(explain_script(rt, bytes.as_slice())?)),
     }
 }

@@ -1,4 +1,5 @@
 //! The names of the stages that lines on a script are of.
+use crate::input::json_in;
 use crate::people::people_in;
 use anyhow::Result;
 use cf_explain::{Area, Place};
@@ -16,13 +17,13 @@ pub(crate) struct Named {
 
 impl Named {
     /// Of these bytes. Of what is no JSON, and where a name is none, there are no names.
-    pub(crate) fn of(alloc: Global, bytes: &[u8]) -> Named {
-        let json = Json::from_slice(alloc, bytes).unwrap_or(Json::Null);
+    pub(crate) fn of(alloc: Global, bytes: &[u8]) -> Result<Named> {
+        let json = json_in(alloc, bytes)?.unwrap_or(Json::Null);
         let names = match people_in(alloc, &json) {
             Ok(people) => people.names,
             Err(_) => Vec::new(alloc),
         };
-        Named { json, names }
+        Ok(Named { json, names })
     }
 
     /// A line that begins with this place, with the name of the stage that the place is of behind it, if that has one.

@@ -1,6 +1,7 @@
 //! Pages, traces and spans of an account or a script.
 use crate::args::Shape;
 use crate::history::{Account, account_of, check_room, verdict_on};
+use crate::input::json_in;
 use crate::people::{fill_people, people_in};
 use crate::show::write_verdict;
 use anyhow::Result;
@@ -33,12 +34,11 @@ pub(crate) enum ReadInput {
 
 /// The account or the script of these bytes.
 pub(crate) fn read_in(alloc: Global, bytes: &[u8]) -> Result<ReadInput> {
-    match Json::from_slice(alloc, bytes) {
-        Ok(json) if json.get("plan").is_some() => Ok(ReadInput::Shown(shown_account(
+    match json_in(alloc, bytes)? {
+        Some(json) if json.get("plan").is_some() => Ok(ReadInput::Shown(shown_account(
             alloc, &json,
         )?)),
-        Ok(json) => read_in_script(alloc, bytes, Some(&json)),
-        Err(_) => read_in_script(alloc, bytes, None),
+        json => read_in_script(alloc, bytes, json.as_ref()),
     }
 }
 

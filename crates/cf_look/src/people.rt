@@ -62,11 +62,7 @@ fn add_title(title: &mut String, json: &Json, none: &str) -> Result<()> {
 fn add_names(alloc: Global, names: &mut Vec<String>, stages: Option<&Json>) -> Result<()> {
     for (k, stage) in items(stages).iter().enumerate() {
         let name = name_of(stage.get("name"));
-        let name = name.ok_or(Unreadable::Element(
-            "stages",
-            k,
-            ".name: has to be a text of at most 64 characters",
-        ))?;
+        let name = name.ok_or(Unreadable::Name("stages", k, ".name"))?;
         names.push(String::from_str(alloc, name)?)?;
     }
     Ok(())
@@ -75,11 +71,7 @@ fn add_names(alloc: Global, names: &mut Vec<String>, stages: Option<&Json>) -> R
 /// Puts the names of a list in their places, and behind the others: an empty one leaves the stage its own.
 fn put_listed(alloc: Global, names: &mut Vec<String>, said: Option<&Json>) -> Result<()> {
     for (k, said) in listed(said, "names")?.iter().enumerate() {
-        let name = name_of(Some(said)).ok_or(Unreadable::Element(
-            "names",
-            k,
-            ": has to be a text of at most 64 characters",
-        ))?;
+        let name = name_of(Some(said)).ok_or(Unreadable::Name("names", k, ""))?;
         put(alloc, names, k, name)?;
     }
     Ok(())
@@ -122,11 +114,7 @@ fn add_attached(alloc: Global, names: &mut Vec<String>, json: &Json) -> Result<(
     for (k, step) in items(json.get("steps")).iter().enumerate() {
         if step.get(0usize).and_then(Json::as_str) == Some("attach") {
             let name = name_of(step.pointer("/1/name"));
-            let name = name.ok_or(Unreadable::Element(
-                "steps",
-                k,
-                "[1].name: has to be a text of at most 64 characters",
-            ))?;
+            let name = name.ok_or(Unreadable::Name("steps", k, "[1].name"))?;
             names.push(String::from_str(alloc, name)?)?;
         }
     }

@@ -1,4 +1,5 @@
 //! What is said of a script, and how it is drawn.
+use crate::input::json_in;
 use crate::named::Named;
 use crate::people::people_in;
 use anyhow::Result;
@@ -6,7 +7,6 @@ use cf_explain::{Explanation, Place, Remark, Verdict, explain};
 use cf_picture::draw_script;
 use cf_reading::MAX_BYTES;
 use cf_text::ScriptFault;
-use serde_json::Value as Json;
 use std::alloc::{AllocError, Global};
 use std::fmt::Display;
 use std::io;
@@ -69,9 +69,9 @@ fn write_drawn<R: Print + Eprint>(
 
 /// The names of the stages of a script; of what is no JSON there are none.
 fn names_in(alloc: Global, bytes: &[u8]) -> Result<Vec<String>> {
-    match Json::from_slice(alloc, bytes) {
-        Ok(json) => Ok(people_in(alloc, &json)?.names),
-        Err(_) => Ok(Vec::new(alloc)),
+    match json_in(alloc, bytes)? {
+        Some(json) => Ok(people_in(alloc, &json)?.names),
+        None => Ok(Vec::new(alloc)),
     }
 }
 
@@ -79,7 +79,7 @@ fn names_in(alloc: Global, bytes: &[u8]) -> Result<Vec<String>> {
 /// with which `cf run` would refuse it, and where it sits.
 pub(crate) fn explain_script<R: Print + AllocGlobal>(rt: &R, bytes: &[u8]) -> Result<Verdict> {
     let said = explain(rt.alloc(), bytes)?;
-    let named = Named::of(rt.alloc(), bytes);
+    let named = Named::of(rt.alloc(), bytes)?;
     write_explanation(rt, &named, &said)
 }
 

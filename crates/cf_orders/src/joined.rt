@@ -1,5 +1,6 @@
 //! A question as a script: its callers' steps, one list behind another.
 use crate::fault::{QuestionFault, Spot};
+use cf_reading::MAX_STEPS;
 use serde_json::Value as Json;
 use std::alloc::{AllocError, Global};
 
@@ -20,9 +21,6 @@ pub(crate) struct StepText {
     /// How often it looks at most, where it is a join.
     pub(crate) most: Option<u16>,
 }
-
-/// A caller has at most so many steps, as a script.
-const MAX_STEPS: usize = 20_000;
 
 impl QuestionText {
     /// The script with all these steps.
