@@ -23,7 +23,7 @@ PROOFS = {
     "cf_command": 59, "cf_model": 55, "cf_event": 52, "cf_outcome": 52, "cf_text": 50, "cf_bits": 21, "cf_expr": 17, "cf_covers": 15,
 }  # fmt: skip
 TESTS = {
-    "cf_graph_tests": 461, "cf_shared_tests": 347, "cf_pool_tests": 286, "cf_script_tests": 211, "cf_bits": 36,
+    "cf_graph_tests": 461, "cf_shared_tests": 598, "cf_script_tests": 211, "cf_bits": 36,
 }  # fmt: skip
 OF_TESTS = 5  # to prove a crate that holds tests alone
 CALLERS = 120  # seconds, for the rows that are left when rt ci ends
