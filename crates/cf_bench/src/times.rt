@@ -22,6 +22,7 @@ pub(crate) fn measured<R, W: Work<R>>(
     measure(rt, &mut times, rounds, parts, work)
 }
 
+/// Adds to the times what so many rounds took, and answers their best and their median.
 fn measure<R, W: Work<R>>(
     rt: &R,
     times: &mut Times,

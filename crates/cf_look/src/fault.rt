@@ -11,7 +11,7 @@ pub(crate) enum Unreadable {
     NoPlan(ReadingFault),
     #[error("plan: room")]
     Room,
-    /// A member, and where it is there what is wrong with it.
+    /// A member that isn't there or isn't right. Of some it says behind the path what it has to be.
     #[error("{0}")]
     Member(&'static str),
     #[error("{0}: has to be an array")]

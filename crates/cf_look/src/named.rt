@@ -16,7 +16,7 @@ pub(crate) struct Named {
 }
 
 impl Named {
-    /// Of these bytes. Of what is no JSON, and where a name is none, there are no names.
+    /// Of these bytes. There are no names of what is no JSON, and where one is none or memory for them was refused.
     pub(crate) fn of(alloc: Global, bytes: &[u8]) -> Result<Named> {
         let json = json_in(alloc, bytes)?.unwrap_or(Json::Null);
         let names = match people_in(alloc, &json) {

@@ -157,6 +157,7 @@ fn roomy(alloc: Global) -> Result<Numbers, Want> {
     }
 }
 
+/// What becomes of a copy of a plan that is used so, or that memory was refused for it.
 fn of_copy(alloc: Global, copy: Result<Plan, PlanFault>, with: Use) -> Result<Numbers, Want> {
     match copy {
         Ok(plan) => of_use(alloc, plan, with),
@@ -164,6 +165,7 @@ fn of_copy(alloc: Global, copy: Result<Plan, PlanFault>, with: Use) -> Result<Nu
     }
 }
 
+/// What a plan becomes that is used so, as numbers.
 fn of_use(alloc: Global, plan: Plan, with: Use) -> Result<Numbers, Want> {
     match with {
         Use::Nothing => of_plan(Ok(plan), 0),

@@ -106,6 +106,7 @@ fn opened(alloc: Global, plan: &Plan, row: &Row) -> Result<(Desk, Vec<Pass>), Wa
     }
 }
 
+/// A row's desk and its two passes.
 fn opened_of(alloc: Global, plan: Plan, row: &Row) -> Result<(Desk, Vec<Pass>), Want>
     ensures all { IfOk result (λ r. All (IsOf r.0) r.1.items) }
     ensures count { IfOk result (λ r. vec_len r.1 ≡ r.0.setting.callers) }

@@ -9,6 +9,8 @@ use cf_plan::{Answer, Args, Form, Limit, LimitKind, Plan, PlanBuilder, PlanFault
 use std::alloc::Global;
 use std::process::Abort;
 
+const ONE_SOURCE: [Row<'static>; 1] = [SOURCE];
+
 const SOURCE_AND_APPLY: [Row<'static>; 2] = [SOURCE, (Form::Apply, &[0], Some(0))];
 
 const APPLIED: [Step; 16] = [
@@ -173,7 +175,7 @@ const LIMITS: [Limit; 2] = [
 
 #[test]
 fn fires_limits_in_order(rt: HostRuntime) {
-    let plan = limited(&rt, rt.alloc(), &SOURCE_AND_APPLY[..1], &LIMITS);
+    let plan = limited(&rt, rt.alloc(), &ONE_SOURCE, &LIMITS);
     play_on(&rt, rt.alloc(), plan, &FIRED);
 }
 

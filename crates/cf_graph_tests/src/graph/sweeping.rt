@@ -32,7 +32,7 @@ fn ends(rt: &impl Abort, sweep: Sweep, steps: &[Step]) {
     play_in(rt, sweep.end(), steps);
 }
 
-/// Two applies and a compose, each ready in turn, and a source that is never settled.
+/// Three applies and a compose behind a source, each ready in turn, and a source that is never settled.
 const ROWS: [Row<'static>; 6] = [
     SOURCE,
     (Form::Apply, &[0], Some(7)),
