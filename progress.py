@@ -8,6 +8,7 @@ table counts as OTHER.
 import os
 import re
 import select
+import shutil
 import subprocess
 import time
 from pathlib import Path
@@ -17,15 +18,16 @@ from crates import TOP, own
 
 OTHER = 100
 PROOFS = {
-    "cf_look": 643, "cf_explain": 373, "cf_orders": 321, "cf_bench": 290, "cf_page": 280, "cf_core": 279, "cf_stress": 279,
-    "cf_handles": 278, "cf_refused": 267, "cf_explore": 234, "cf_reading": 218, "cf_pool": 189, "cf_plan": 174, "cf_desk": 163,
-    "cf_c": 161, "cf_plain": 140, "cf_history": 131, "cf_ledger": 114, "cf": 101, "cf_script": 100, "cf_picture": 93, "cf_example": 78,
-    "cf_command": 59, "cf_model": 55, "cf_event": 52, "cf_outcome": 52, "cf_text": 50, "cf_bits": 21, "cf_expr": 17, "cf_covers": 15,
+    "cf_look": 603, "cf_explain": 421, "cf_orders": 363, "cf_handles": 360, "cf_page": 330, "cf_core": 306, "cf_bench": 290,
+    "cf_stress": 269, "cf_explore": 257, "cf_reading": 242, "cf_refused": 211, "cf_pool": 202, "cf_plan": 164, "cf_desk": 157,
+    "cf": 146, "cf_script": 138, "cf_plain": 134, "cf_example": 132, "cf_c": 131, "cf_history": 129, "cf_picture": 124,
+    "cf_ledger": 93, "cf_command": 83, "cf_outcome": 76, "cf_event": 68, "cf_model": 55, "cf_text": 54, "cf_bits": 20,
+    "cf_covers": 16, "cf_expr": 16,
 }  # fmt: skip
 TESTS = {
-    "cf_graph_tests": 461, "cf_shared_tests": 598, "cf_script_tests": 211, "cf_bits": 36,
+    "cf_shared_tests": 517, "cf_graph_tests": 491, "cf_script_tests": 205, "cf_bits": 41,
 }  # fmt: skip
-OF_TESTS = 5  # to prove a crate that holds tests alone
+OF_TESTS = 9  # to prove a crate that holds tests alone
 CALLERS = 120  # seconds, for the rows that are left when rt ci ends
 EVERY = 30  # seconds from one line to the next
 AMPLE = 4 << 30  # bytes of memory for each processor, with which no check waits for memory
@@ -46,6 +48,14 @@ def at_once(memory: int) -> int:
     except (OSError, ValueError):
         pass  # no control group, or no limit in it
     return max(1, min(len(os.sched_getaffinity(0)), free // memory))
+
+
+def keeps_proofs() -> bool:
+    """Whether rt kept a proof of an earlier run on this machine. Else all is to be proved, and there is work for each processor to the end.
+    Then rt is told how many there are: by itself it leaves one idle where it reckons that memory won't do, some 6 GB for a check that
+    takes 2. Where little is left it isn't, since it gives a proof those that are idle."""
+    kit = Path(os.path.realpath(shutil.which("rt") or "rt")).parent.parent
+    return any(kit.parent.glob("rattle-kept/proof-*"))
 
 
 def lines_of(pipe: IO[bytes]) -> Iterator[Optional[str]]:
@@ -141,9 +151,9 @@ def run_gate(tell: Callable[[str], object]) -> int:
     gate, began = Gate(), time.monotonic()
     told = began
     environment = dict(os.environ)
-    if at_once(AMPLE) == len(os.sched_getaffinity(0)):
-        # (rt leaves a processor idle where it reckons that memory won't do: some 6 GB for a check that takes 2)
-        environment.setdefault("RT_JOBS", str(at_once(AMPLE)))
+    jobs = at_once(AMPLE)
+    if jobs == len(os.sched_getaffinity(0)) and not keeps_proofs():
+        environment.setdefault("RT_JOBS", str(jobs))
     with subprocess.Popen(["rt", "ci"], cwd=str(TOP), env=environment, stdout=subprocess.PIPE) as running:
         try:
             for line in lines_of(running.stdout):
