@@ -1,5 +1,6 @@
 //! The shapes of graphs that are measured.
-use cf_plan::{Form, Plan, PlanBuilder, PlanFault};
+use cf_forms::Form;
+use cf_plan::{Plan, PlanBuilder, PlanFault};
 use std::alloc::Global;
 use std::fmt;
 use std::io::Error;

@@ -4,9 +4,9 @@ ghost use Rattle.cf_bench.specs.Answers.{number_of, one_more, sum_of};
 
 use crate::shape::{Shape, sources_of};
 use cf_core::Graph;
+use cf_forms::{Answer, Args, Each, StageFn};
 use cf_model::Claimed;
 use cf_outcome::{Cause, Outcome, Value};
-use cf_plan::{Answer, Args, Each, StageFn};
 
 /// The caller that does all the work.
 const WORKER: u8 = 0;

@@ -4,13 +4,14 @@ ghost use Rattle.cf_handles.specs.Building.{AddsLimit, AddsStage, Builds, IsNewB
 ghost use Rattle.cf_handles.specs.Plans.{form_of, function_of};
 
 use crate::handle::{ask, tell};
+use cf_forms::Form;
 use cf_handles::code::plan_code;
 use cf_handles::handle::object::Object;
 use cf_handles::handle::{CfHandle, fill};
 use cf_handles::plan::{add_limit, add_stage, build, kind_of};
 use cf_handles::values::CfValue;
 use cf_handles::values::attaching::function_of;
-use cf_plan::{Form, PlanBuilder};
+use cf_plan::PlanBuilder;
 use std::alloc::Global;
 
 /// Puts an empty plan behind an empty handle, with room for so many stages and edges.

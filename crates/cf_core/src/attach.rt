@@ -1,15 +1,15 @@
 //! What a stage takes when it is attached: what its sources hold then, in argument order.
 ghost use Rattle.std.specs.Prelude.{◌≡◌, ◌<◌, All, is_some, length, map};
 ghost use Rattle.std.specs.List.{list_any};
-ghost use Rattle.cf_plan.specs.Forms.{first_there, follows};
+ghost use Rattle.cf_forms.specs.Forms.{first_there, follows};
 ghost use Rattle.cf_core.specs.Keeping.Attaching.{attached_kept, takes_now};
 ghost use Rattle.cf_core.specs.Keeping.Treatment.{dated_in, outcome_part};
 
 use crate::cells::Cells;
 use crate::kept::KeptStage;
 use crate::treat::{all_settled, due_both, joint_outcome, keep, outcome_below};
+use cf_forms::{Args, Due, Form, due_one, starts};
 use cf_outcome::Outcome;
-use cf_plan::{Args, Due, Form, due_one, starts};
 
 /// Whether the stage takes something: it starts by itself, or one of its sources is settled.
 pub fn takes_now(kept: &Cells, form: Form, sources: &[u16]) -> bool

@@ -2,9 +2,9 @@
 ghost use Rattle.std.specs.Prelude.{◌≡◌, IfNone, IfSome, Some, is_some, true};
 ghost use Rattle.cf_outcome.specs.declared.outcome.Outcome.TheVariants.{Value as Gives};
 ghost use Rattle.cf_outcome.specs.Outcomes.{is_exceptional};
-ghost use Rattle.cf_plan.specs.declared.forms.Args.TheVariants.{Got, None as NoArgs, One};
-ghost use Rattle.cf_plan.specs.declared.forms.Due.TheVariants.{Needs};
-ghost use Rattle.cf_plan.specs.Forms.{due_one};
+ghost use Rattle.cf_forms.specs.declared.forms.Args.TheVariants.{Got, None as NoArgs, One};
+ghost use Rattle.cf_forms.specs.declared.forms.Due.TheVariants.{Needs};
+ghost use Rattle.cf_forms.specs.Forms.{due_one};
 ghost use Rattle.cf_model.specs.declared.stage.Stage.TheVariants.{Claimed, Linked, Pending, Ready, Settled};
 ghost use Rattle.cf_model.specs.States.{is_ready, outcome_of};
 ghost use Rattle.cf_core.specs.Keeping.Cells.{kept_of, outcome_in, value_in};
@@ -12,9 +12,9 @@ ghost use Rattle.cf_core.specs.Keeping.Treatment.{due_kept};
 ghost use Rattle.cf_core.specs.Keeping.Sound.{is_waiting};
 
 use crate::kept::KeptStage;
+use cf_forms::{Args, Form};
 use cf_model::Stage;
 use cf_outcome::{Cause, Outcome, Value};
-use cf_plan::{Args, Form};
 
 /// Which state a stage is in, and what it is ready with.
 #[derive(Clone, Copy)]

@@ -1,8 +1,8 @@
 //! What is kept of the stages of a graph.
 ghost use Rattle.std.specs.Prelude.{◌≡◌, ℕ, ◌+◌, ◌<◌, ◌≤◌, ◌∷◌, ◌++◌, [], IfNone, IfOk, IfSome, Some, is_some, length, replicate, slice_set, true};
 ghost use Rattle.cf_outcome.specs.declared.outcome.Outcome.TheVariants.{Value as Gives};
-ghost use Rattle.cf_plan.specs.declared.forms.Due.TheVariants.{Needs};
-ghost use Rattle.cf_plan.specs.Forms.{due_of_first};
+ghost use Rattle.cf_forms.specs.declared.forms.Due.TheVariants.{Needs};
+ghost use Rattle.cf_forms.specs.Forms.{due_of_first};
 ghost use Rattle.cf_model.specs.declared.stage.Stage.TheVariants.{Pending, Ready, Settled};
 ghost use Rattle.cf_model.specs.States.{is_ready, outcome_of};
 ghost use Rattle.cf_core.specs.Keeping.Cells.{blank};
@@ -13,9 +13,9 @@ ghost use Rattle.cf_core.specs.Keeping.Starts.{untreated};
 
 use crate::cell::{Cell, Detail, Kind};
 use crate::kept::KeptStage;
+use cf_forms::{Args, Form};
 use cf_model::Stage;
 use cf_outcome::{Outcome, Value};
-use cf_plan::{Args, Form};
 use std::alloc::{AllocError, Global};
 use std::marker::Model;
 

@@ -12,7 +12,7 @@ mod working;
 
 ghost use Rattle.std.specs.Prelude.{◌≡◌, ◌+◌, ◌<◌, ◌≤◌, ◌↔◌, IfOk, IsTrue, None, length, nat_lt, replicate, true, vec_capacity};
 ghost use Rattle.cf_outcome.specs.Outcomes.{now_of};
-ghost use Rattle.cf_plan.specs.Plans.{IsGrowing, function_at, has_place, opening_of, with_room};
+ghost use Rattle.cf_forms.specs.Plans.{IsGrowing, function_at, has_place, opening_of, with_room};
 ghost use Rattle.cf_model.specs.States.{lowest_ready_of, outcome_at, start};
 ghost use Rattle.cf_model.specs.Graphs.{NoneLeftFor, NoneLeftUpTo, most_turns};
 
@@ -77,7 +77,7 @@ impl Model for Graph {
 impl Graph {
     /// The graph of a plan, at its start. It takes all the memory that the graph will ever need, and fails only where there
     /// is none.
-    #[tactic(auto, using(cf_plan::proofs::PlanLemmas::place_for_none))]
+    #[tactic(auto, using(cf_forms::proofs::PlanLemmas::place_for_none))]
     pub fn new(alloc: Global, plan: Plan) -> Result<Graph, GraphFault>
         ensures start { IfOk result (λ graph. graph.state ≡ start plan) }
         ensures turns { IfOk result (λ graph. graph.turns ≡ 0) }

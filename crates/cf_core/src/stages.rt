@@ -4,9 +4,9 @@ mod restarting;
 mod sweeping;
 
 ghost use Rattle.std.specs.Prelude.{◌≡◌, ℕ, ◌+◌, ◌<◌, ◌≤◌, [], All, IfNone, IfOk, IfSome, List, None, Some, drop, false, length, option_and_then, position, replicate, slice_get, slice_set, true, vec_capacity, if◌then◌else◌};
-ghost use Rattle.cf_plan.specs.declared.forms.Landing.TheVariants.{Links as LinksTo};
-ghost use Rattle.cf_plan.specs.Forms.{composes, starts};
-ghost use Rattle.cf_plan.specs.Plans.{dependents_of, form_at, sources_at};
+ghost use Rattle.cf_forms.specs.declared.forms.Landing.TheVariants.{Links as LinksTo};
+ghost use Rattle.cf_forms.specs.Forms.{composes, starts};
+ghost use Rattle.cf_forms.specs.Plans.{dependents_of, form_at, sources_at};
 ghost use Rattle.cf_model.specs.declared.stage.Stage.TheVariants.{Claimed, Linked, Pending, Settled};
 ghost use Rattle.cf_model.specs.Graphs.{MovesAlone, NoneLeftFor, NoneLeftUpTo, NoneReady, rank, stage_in};
 ghost use Rattle.cf_model.specs.declared.stage.Stage.{Stage};
@@ -27,9 +27,10 @@ use crate::links::Links;
 use crate::mark::{mark_attached_dependents, mark_each, mark_linked};
 use crate::treat::treat;
 use cf_bits::BitSet;
+use cf_forms::{Form, Landing, composes, starts};
 use cf_model::Stage;
 use cf_outcome::{Outcome, wrap};
-use cf_plan::{Form, GrowingPlan, Landing, Plan, composes, starts};
+use cf_plan::{GrowingPlan, Plan};
 use std::alloc::{AllocError, Global};
 
 /// The stages of a plan: what is kept of each, which of them are marked for treatment, which are ready, which are linked

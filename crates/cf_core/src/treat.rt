@@ -2,8 +2,8 @@
 ghost use Rattle.std.specs.Prelude.{◌≡◌, ℕ, ◌<◌, ◌∷◌, [], All, IfNone, IfSome, Option, Some, is_some, length, map, slice_set};
 ghost use Rattle.std.specs.List.{list_all};
 ghost use Rattle.cf_outcome.specs.declared.outcome.Outcome.TheVariants.{Value as Gives};
-ghost use Rattle.cf_plan.specs.declared.forms.Due.TheVariants.{Needs};
-ghost use Rattle.cf_plan.specs.Forms.{first_fault, due_of_both};
+ghost use Rattle.cf_forms.specs.declared.forms.Due.TheVariants.{Needs};
+ghost use Rattle.cf_forms.specs.Forms.{first_fault, due_of_both};
 ghost use Rattle.cf_model.specs.declared.stage.Stage.TheVariants.{Linked, Pending, Ready};
 ghost use Rattle.cf_core.specs.Keeping.Sound.{kept_at};
 ghost use Rattle.cf_core.specs.Keeping.Treatment.{dated_in, due_kept, earlier, earliest, late_due, latest, linked_kept, outcome_part, treated};
@@ -11,9 +11,9 @@ ghost use Rattle.cf_core.specs.Keeping.Offers.{takes_values, two_values};
 
 use crate::cells::Cells;
 use crate::kept::KeptStage;
+use cf_forms::{Args, Due, Form, due_one, due_two, is_decided_by_first};
 use cf_model::Stage;
 use cf_outcome::{Outcome, Value, is_exceptional, wrap};
-use cf_plan::{Args, Due, Form, due_one, due_two, is_decided_by_first};
 
 /// Treats stage `m`, which waits, by its form and its sources, and writes what becomes of it part by part.
 #[inline(always)]

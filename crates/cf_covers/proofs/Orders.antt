@@ -1,7 +1,7 @@
 -- Orders with one move more, and the situations to which they lead.
 use Rattle.std.proofs.Common.{◌≡◌, ℕ, suc, ◌+◌, Some, None, Option, List, [], ◌∷◌, ◌++◌, length, ap, arith, refl, ◌∙◌, subst}
 use Rattle.std.specs.Prelude.{Contains}
-use Rattle.cf_plan.specs.Meanings.{Meanings}
+use Rattle.cf_forms.specs.Meanings.{Meanings}
 use Rattle.cf_model.specs.declared.events.Event.{Event}
 use Rattle.cf_explore.specs.declared.step.Move.{Move}
 use Rattle.cf_explore.specs.Programs.{Programmed, Situated, start_of}

@@ -5,7 +5,7 @@ use Rattle.std.specs.List.{All, filter}
 use Rattle.std.proofs.Math.Nat.{eq-or-lt_of_le}
 use Rattle.std.proofs.lemmas.List.{length-set}
 use Rattle.std.proofs.lemmas.List.Elements.{All-head, All-tail}
-use Rattle.cf_plan.specs.Meanings.{Meanings}
+use Rattle.cf_forms.specs.Meanings.{Meanings}
 use Rattle.cf_model.specs.declared.asks.Ask.{Ask}
 use Rattle.cf_model.specs.declared.asks.Told.{Told}
 use Rattle.cf_model.specs.declared.events.Event.{Event}
@@ -29,7 +29,7 @@ use Rattle.cf_explore.specs.Programs.{Programmed, Situated, hand_at, place_at, s
 use Rattle.cf_explore.specs.Moves.{carried_out, event_of, moved, moves, onward, step_event}
 use Rattle.cf_explore.specs.Orders.{AreMoves, led}
 use Rattle.cf_covers.specs.Tellings.{AreWork, IsToldBy, IsToldIn, TellsEach, and_event, but_vain, came_before, events_by, step_for}
-use Rattle.cf_plan.proofs.ListLemmas.{slice_get-push}
+use Rattle.cf_forms.proofs.ListLemmas.{slice_get-push}
 use Rattle.cf_covers.proofs.Lists.{same-rest}
 use Rattle.cf_covers.proofs.Orders.{events-push, led-push, moves-push}
 use Rattle.cf_covers.proofs.Callers.{IsNextDid, IsPast, at-done, but_vain-took, caller-took, calling-is, event-is, may-step, mine, moved-step, next-did, next-step, onward-other, onward-self, order-later, other-number, same_number, taken-done}

@@ -1,7 +1,7 @@
 -- That a search of all orders covers what callers of a desk were told.
 use Rattle.std.specs.Prelude.{◌≡◌, ℕ, ◌<◌, ◌++◌, true, false, Option, Some, None, List, Contains, map, slice_get}
-use Rattle.cf_plan.specs.Meanings.{Meanings}
-use Rattle.cf_plan.specs.Plans.{Planned}
+use Rattle.cf_forms.specs.Meanings.{Meanings}
+use Rattle.cf_forms.specs.Plans.{Planned}
 use Rattle.cf_model.specs.declared.events.Event.{Event}
 use Rattle.cf_model.specs.States.{outcome_of, start}
 use Rattle.cf_model.specs.Events.{state_after}

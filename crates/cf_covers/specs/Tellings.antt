@@ -1,7 +1,7 @@
 -- Programs whose callers make the calls that callers were told of, and orders that tell the same.
 use Rattle.std.specs.Prelude.{◌≡◌, ℕ, ◌+◌, ◌-◌, ◌<◌, ◌++◌, ◌∷◌, [], ◌&&◌, Bool, true, false, not, Option, Some, None, List, Contains, if◌then◌else◌, length, map, nat_le, slice_get, take}
-use Rattle.cf_plan.specs.Meanings.{Meanings, stage_answer}
-use Rattle.cf_plan.specs.Plans.{Planned}
+use Rattle.cf_forms.specs.Meanings.{Meanings, stage_answer}
+use Rattle.cf_forms.specs.Plans.{Planned}
 use Rattle.cf_model.specs.declared.events.Event.{Event}
 use Rattle.cf_model.specs.declared.events.Event.TheVariants as kinds
 use Rattle.cf_model.specs.declared.events.Reply.{Reply}

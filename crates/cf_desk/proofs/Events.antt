@@ -1,7 +1,7 @@
 -- Events of a desk, on a plan that grows.
 use Rattle.std.proofs.Common.{◌≡◌, ℕ, zero, suc, ◌<◌, ◌≤◌, Bool, true, false, Some, List, [], ◌∷◌, ◌++◌, length, length-append, take, slice_get, All, refl, ap, ◌∙◌, subst, arith}
 use Rattle.std.proofs.lemmas.List.Elements.{All-head, All-tail}
-use Rattle.cf_plan.specs.Plans.{PlannedStage}
+use Rattle.cf_forms.specs.Plans.{PlannedStage}
 use Rattle.cf_model.specs.declared.asks.Ask.{Ask}
 use Rattle.cf_model.specs.declared.asks.Ask.TheVariants.{Now as AsksNow, Outcome as AsksOutcome}
 use Rattle.cf_model.specs.declared.events.Event.{Event}
@@ -9,13 +9,13 @@ use Rattle.cf_model.specs.declared.events.Event.TheVariants.{Complete as Complet
 use Rattle.cf_model.specs.States.{State}
 use Rattle.cf_model.specs.Events.{state_after}
 use Rattle.cf_model.specs.Ranges.{AskFits, EventFits}
-use Rattle.cf_plan.specs.declared.forms.Of.{Of}
-use Rattle.cf_plan.specs.declared.forms.Of.TheVariants.{None as NoSource, One, Two}
+use Rattle.cf_forms.specs.declared.forms.Of.{Of}
+use Rattle.cf_forms.specs.declared.forms.Of.TheVariants.{None as NoSource, One, Two}
 use Rattle.cf_event.specs.Words.{first_of, second_of}
 use Rattle.cf_desk.specs.Faults.{EventNames}
 use Rattle.cf_model.proofs.Histories.{state_after-append}
 use Rattle.cf_model.proofs.Shape.{state_after-grows}
-use Rattle.cf_plan.specs.Plans.{sources_of}
+use Rattle.cf_forms.specs.Plans.{sources_of}
 use Rattle.std.proofs.lemmas.List.Elements.{All-weaker}
 
 pub names_more : (n m : ℕ) (e : Event) → n ≤ m → EventNames n e → EventNames m e

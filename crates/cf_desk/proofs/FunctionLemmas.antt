@@ -3,8 +3,8 @@ use Rattle.std.proofs.Common.{◌≡◌, ℕ, ◌+◌, ◌<◌, max, List, [], �
 use Rattle.std.proofs.lemmas.Option.{slice_get-get_or}
 use Rattle.std.specs.Prelude.{None}
 use Rattle.std.specs.Option.{option_map_or}
-use Rattle.cf_plan.specs.declared.forms.Form.TheVariants.{Source}
-use Rattle.cf_plan.specs.Plans.{PlannedStage, function_at}
+use Rattle.cf_forms.specs.declared.forms.Form.TheVariants.{Source}
+use Rattle.cf_forms.specs.Plans.{PlannedStage, function_at}
 use Rattle.cf_desk.specs.Functions.{function_above, function_bound}
 
 -- with the bound of the stages before, that of the rest gives that of all

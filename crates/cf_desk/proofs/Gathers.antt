@@ -1,5 +1,5 @@
 -- Passes that are taken one after another.
-use Rattle.cf_plan.specs.Plans.{Planned}
+use Rattle.cf_forms.specs.Plans.{Planned}
 use Rattle.std.proofs.Common.{◌≡◌, ℕ, Bool, true, false, leb, leb-true, leb-false, max, ◌<◌, ◌≤◌, inl, inr, ⊎_elim, length, arith, List, [], ◌∷◌, ◌++◌, map, All, sym, refl, ap, ◌∙◌, subst, Option, Some, None}
 use Rattle.std.specs.Prelude.{MatchOption, unwrap_or}
 use mathlib.Core.List.{map-append}

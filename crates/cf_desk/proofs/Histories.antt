@@ -1,6 +1,6 @@
 -- What one history shows.
-use Rattle.cf_plan.specs.Plans.{IsBuilt, Planned}
-use Rattle.cf_plan.proofs.ListLemmas.{slice_get-seam}
+use Rattle.cf_forms.specs.Plans.{IsBuilt, Planned}
+use Rattle.cf_forms.proofs.ListLemmas.{slice_get-seam}
 use Rattle.std.proofs.Common.{◌≡◌, ℕ, zero, suc, ◌-◌, ◌≤◌, ◌<◌, Bool, true, false, cond, eqb, List, [], ◌∷◌, ◌++◌, map, length, take, slice_get, All, sym, refl, ap, ◌∙◌, subst, append_assoc, length-append, arith}
 use Rattle.std.specs.List.{filter}
 use Rattle.std.proofs.lemmas.List.Elements.{All-nil, All-cons, All-head, All-tail}

@@ -1,5 +1,5 @@
 -- Records of a pass that fit a list of events.
-use Rattle.cf_plan.specs.Plans.{Planned}
+use Rattle.cf_forms.specs.Plans.{Planned}
 use Rattle.std.proofs.Common.{◌≡◌, ℕ, ◌+◌, List, [], ◌∷◌, ◌++◌, length, sym, refl, subst}
 use mathlib.Core.List.{map-append}
 use Rattle.cf_model.specs.declared.asks.Ask.{Ask}

@@ -1,6 +1,6 @@
 -- When a fault is told.
 use Rattle.std.specs.Prelude.{◌≡◌, ℕ, ◌<◌, ◌≤◌, ◌⊎◌, true, false, is_some, unwrap_or, length, List, All}
-use Rattle.cf_plan.specs.Plans.{PlannedStage, fits_form, has_place, sources_of}
+use Rattle.cf_forms.specs.Plans.{PlannedStage, fits_form, has_place, sources_of}
 use Rattle.cf_model.specs.declared.asks.Ask.{Ask}
 use Rattle.cf_model.specs.declared.events.Event.{Event}
 use Rattle.cf_model.specs.declared.events.Event.TheVariants.{Attach as Attaches}

@@ -1,6 +1,6 @@
 -- How many functions a plan needs.
 use Rattle.std.specs.Prelude.{ℕ, ◌+◌, max, Option, Some, None, List, [], ◌∷◌}
-use Rattle.cf_plan.specs.Plans.{PlannedStage}
+use Rattle.cf_forms.specs.Plans.{PlannedStage}
 
 -- the least number that a function, if there is one, is below
 abbrev pub function_above : Option ℕ → ℕ

@@ -1,5 +1,5 @@
 -- What a closed desk keeps of its passes, and what it tells of all of them.
-use Rattle.cf_plan.specs.Plans.{Planned}
+use Rattle.cf_forms.specs.Plans.{Planned}
 use Rattle.std.specs.Prelude.{◌≡◌, ℕ, List, map}
 use Rattle.std.specs.List.{All, Contains}
 use Rattle.cf_desk.specs.declared.calls.Kept.{Kept as KeptPass}

@@ -2,8 +2,8 @@
 use Rattle.std.specs.Prelude.{◌≡◌, ℕ, ◌-◌, ◌<◌, ◌≤◌, Some, List, length, map, slice_get}
 use Rattle.std.specs.List.{All}
 use Rattle.cf_outcome.specs.declared.outcome.Outcome.{Outcome}
-use Rattle.cf_plan.specs.Plans.{IsBuilt, Planned}
-use Rattle.cf_plan.specs.Meanings.{Meanings}
+use Rattle.cf_forms.specs.Plans.{IsBuilt, Planned}
+use Rattle.cf_forms.specs.Meanings.{Meanings}
 use Rattle.cf_model.specs.States.{State, claim_at, outcome_at, start}
 use Rattle.cf_model.specs.declared.events.Event.{Event}
 use Rattle.cf_model.specs.Events.{state_at}

@@ -1,6 +1,6 @@
 -- The records of a pass, as records of its caller.
 use Rattle.std.specs.Prelude.{ℕ, List, map}
-use Rattle.cf_plan.specs.Plans.{Planned}
+use Rattle.cf_forms.specs.Plans.{Planned}
 use Rattle.cf_model.specs.declared.events.Event.{Event}
 use Rattle.cf_event.specs.declared.record.Record.{Record}
 use Rattle.cf_event.specs.declared.record.Record.TheVariants.{Did as DidSo, Saw as SawSo}

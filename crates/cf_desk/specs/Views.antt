@@ -1,5 +1,5 @@
 -- What contracts see of a pass and of a desk.
-use Rattle.cf_plan.specs.Plans.{Planned, plan_of}
+use Rattle.cf_forms.specs.Plans.{Planned, plan_of}
 use Rattle.std.specs.Prelude.{◌≡◌, ◌<◌, ◌≤◌, ◌+◌, Option, Some, None, ◌⊎◌, length, map, ℕ, List, [], ◌∷◌, ◌++◌}
 use Rattle.atomic_table.specs.Seated.{TableId}
 use Rattle.cf_outcome.specs.declared.outcome.Outcome.{Outcome}

@@ -5,7 +5,7 @@ mod reading;
 mod steps;
 
 ghost use Rattle.std.specs.Prelude.{◌≡◌, ◌≢◌, ◌<◌, ◌≤◌, ◌+◌, ◌-◌, ◌↔◌, All, IfErr, IfOk, IsTrue, MatchOption, [], length, true, vec_capacity, vec_len};
-ghost use Rattle.cf_plan.specs.Plans.{function_at, has_place, with_room};
+ghost use Rattle.cf_forms.specs.Plans.{function_at, has_place, with_room};
 ghost use Rattle.cf_model.specs.States.{start};
 ghost use Rattle.cf_desk.specs.declared.faults.OpenFault.TheVariants.{NoMemory};
 ghost use Rattle.cf_desk.specs.Faults.{AreCounts, IsDueToGrow, IsDueToOpen};

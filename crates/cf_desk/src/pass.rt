@@ -1,7 +1,7 @@
 //! A caller's pass: its seat at the row, and what it has seen.
 ghost use Rattle.std.specs.Prelude.{◌≡◌, ◌<◌, ◌≤◌, ◌+◌, ◌↔◌, IfSome, IsTrue, length};
 ghost use Rattle.std.specs.Bool.{OnTrue};
-ghost use Rattle.cf_plan.specs.Plans.{function_at};
+ghost use Rattle.cf_forms.specs.Plans.{function_at};
 ghost use Rattle.cf_model.specs.States.{lowest_ready_of, outcome_at};
 ghost use Rattle.cf_model.specs.Calls.{event_by};
 ghost use Rattle.cf_desk.specs.Faults.{AsksStage, IsFitting, IsOnStage};
@@ -13,9 +13,9 @@ use crate::row::SeatView;
 use atomic_table::Seat;
 use cf_core::Graph;
 use cf_event::{LAST_FUNCTION, is_function};
+use cf_forms::fits_form;
 use cf_model::{Ask, Call, Told};
 use cf_outcome::Outcome;
-use cf_plan::fits_form;
 use std::marker::Model;
 
 /// A caller's seat and what it has seen. It moves between threads by ownership.

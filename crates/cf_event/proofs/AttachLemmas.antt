@@ -2,13 +2,14 @@
 use Rattle.std.proofs.Common.{◌≡◌, ℕ, ◌/◌, ◌%◌, ◌^◌, ◌<◌, ◌≤◌, Bool, true, false, Option, Some, None, refl, subst, arith}
 use Rattle.std.specs.Prelude.{is_some, not, ◌==◌, ◌&&◌, ◌||◌, if◌then◌else◌, option_and_then, slice_get, unwrap_or}
 use Rattle.std.proofs.lemmas.Grind.{common_steps}
+use Rattle.std.proofs.lemmas.Bool.{and_parts}
 use Rattle.std.proofs.lemmas.Bool.Decides.{nat_tests}
-use Rattle.cf_plan.specs.declared.forms.Form.{Form}
-use Rattle.cf_plan.specs.declared.forms.Of.{Of}
-use Rattle.cf_plan.specs.declared.forms.Of.TheVariants.{None as NoSource, One, Two}
-use Rattle.cf_plan.specs.Naming.{form_number, forms}
-use Rattle.cf_plan.specs.Plans.{calls_function, fits_count, fits_form}
-use Rattle.cf_plan.proofs.NamingLemmas.{form_back, number_few, number_is}
+use Rattle.cf_forms.specs.declared.forms.Form.{Form}
+use Rattle.cf_forms.specs.declared.forms.Of.{Of}
+use Rattle.cf_forms.specs.declared.forms.Of.TheVariants.{None as NoSource, One, Two}
+use Rattle.cf_forms.specs.Naming.{form_number, forms}
+use Rattle.cf_forms.specs.Plans.{calls_function, fits_count, fits_form}
+use Rattle.cf_forms.proofs.NamingLemmas.{form_back, number_few, number_is}
 use Rattle.cf_model.specs.declared.events.Event.{Event}
 use Rattle.cf_model.specs.declared.events.Event.TheVariants.{Attach as Attaches}
 use Rattle.cf_event.specs.Words.{IsEvent, attach_low, count_of, first_of, second_of, word_of, word_with}
@@ -65,17 +66,13 @@ and_then_is : {A B : Type 0} (x : Option A) (f : A → Option B) (z : B) → opt
 and_then_is None f z e = cc
 and_then_is (Some y) f z e = (y, refl, e)
 
-both : (a b : Bool) → (a && b) ≡ true → (a ≡ true) × (b ≡ true)
-both true b e = (refl, e)
-both false b e = cc
-
 attach_of_is : (who : ℕ) (form : Form) (of : Of) (n : ℕ) (e : Event) → attach_of who form of n ≡ Some e →
     (function : Option ℕ) × (Attaches who form of function ≡ e) × (unwrap_or function 0 ≡ n) × (fits_form form (count_of of) (is_some function) ≡ true)
 attach_of_is who form of n e h =
     chosen (fits_form form (count_of of) true) (Some (Attaches who form of (Some n))) _ e
     (λ fits is. (Some n, cc, refl, fits)) (λ other.
     chosen (fits_form form (count_of of) false && n == 0) (Some (Attaches who form of None)) None e
-    (λ k is. (let parts = both (fits_form form (count_of of) false) (n == 0) k in
+    (λ k is. (let parts = and_parts (fits_form form (count_of of) false) (n == 0) k in
     let nothing = parts.1 in
     let absent : 0 ≡ n = grind (arith, nat_tests) in
     (None, cc, absent, parts.0))) (λ k is. absurd cc)) h

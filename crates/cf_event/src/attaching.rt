@@ -1,12 +1,12 @@
 //! The fields of the word of an event that attaches a stage.
 ghost use Rattle.std.specs.Prelude.{◌≡◌, ◌<◌, ◌≤◌, ◌↔◌, IsTrue, is_some, slice_get, true, unwrap_or};
-ghost use Rattle.cf_plan.specs.Plans.{fits_form};
+ghost use Rattle.cf_forms.specs.Plans.{fits_form};
 ghost use Rattle.cf_event.specs.Words.{attach_low, count_of, first_of, second_of};
 ghost use Rattle.cf_event.specs.Events.{IsFunctionBelow};
 ghost use Rattle.cf_event.specs.Decoding.{attach_of, attach_with, of_with};
 
+use cf_forms::{Form, Of, fits_form};
 use cf_model::Event;
-use cf_plan::{Form, Of, fits_form};
 
 /// The greatest function's number that a word has room for.
 pub const LAST_FUNCTION: u16 = 4095;

@@ -5,9 +5,9 @@ ghost use Rattle.cf_event.specs.Words.{IsEvent, answer_low, answer_tag, value_lo
 ghost use Rattle.cf_event.specs.Decoding.{answer_with, event_of, event_with, value_with};
 
 use crate::attaching::{attach_low, attach_with, count_of, first_of, is_stage, second_of};
+use cf_forms::Answer;
 use cf_model::Event;
 use cf_outcome::Value;
-use cf_plan::Answer;
 
 /// The greatest caller that a word has room for.
 pub const LAST_CALLER: u8 = 63;

@@ -5,8 +5,8 @@
 ghost use Rattle.std.specs.Prelude.{◌≡◌, ℕ, ◌<◌, ◌≤◌, ◌++◌, ◌∷◌, [], All, IfOk, IsOkAnd, Some, length, map, true};
 ghost use Rattle.std.specs.List.{Contains};
 ghost use Rattle.cf_outcome.specs.declared.outcome.Outcome.{Outcome};
-ghost use Rattle.cf_plan.specs.Meanings.{Meanings};
-ghost use Rattle.cf_plan.specs.Plans.{IsBuilt, has_place, with_room};
+ghost use Rattle.cf_forms.specs.Meanings.{Meanings};
+ghost use Rattle.cf_forms.specs.Plans.{IsBuilt, has_place, with_room};
 ghost use Rattle.cf_model.specs.Calls.{who_of};
 ghost use Rattle.cf_model.specs.Events.{state_at, state_after};
 ghost use Rattle.cf_model.specs.Laws.{grants_of};

@@ -13,12 +13,13 @@ ghost use Rattle.std.specs.Prelude.{◌≡◌, All, IfOk, map};
 ghost use Rattle.cf_event.specs.Histories.{IsOneHistory};
 ghost use Rattle.cf_desk.specs.Keepings.{caller_kept};
 ghost use Rattle.cf_desk.specs.Laws.{Shows};
-ghost use Rattle.cf_plan.specs.Plans.{with_room};
+ghost use Rattle.cf_forms.specs.Plans.{with_room};
 
 use cf_desk::{Call, Closed, Desk, DeskFault, Pass};
+use cf_forms::{Form, Of};
 use cf_model::Ask;
 use cf_outcome::Value;
-use cf_plan::{Form, Of, Plan};
+use cf_plan::Plan;
 pub use fault::Fault;
 use std::alloc::Global;
 

@@ -7,8 +7,9 @@ ghost use Rattle.cf_explain.specs.Sights.{attached_to, bit_of, claimed_at, claim
 
 use crate::place::{Area, Place};
 use crate::remark::{Idle, Remark};
+use cf_forms::Limit;
 use cf_model::Event;
-use cf_plan::{Limit, Plan};
+use cf_plan::Plan;
 use cf_reading::{Script, Step};
 use std::alloc::{AllocError, Global};
 

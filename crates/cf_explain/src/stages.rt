@@ -8,7 +8,7 @@ use crate::reason::Reason;
 use crate::refusing::{Finding, wrong_at};
 use crate::vocabulary::Words;
 use crate::wanted::Wanted;
-use cf_plan::{Form, fits_form};
+use cf_forms::{Form, fits_form};
 use serde_json::Value as Json;
 use std::alloc::{AllocError, Global};
 

@@ -1,7 +1,7 @@
 //! The words that may stand in a script, in one table for each place, and the nearest known one to a word.
 use crate::steps::STEPS;
 use crate::wanted::Wanted;
-use cf_plan::Form;
+use cf_forms::Form;
 use std::alloc::{AllocError, Global};
 use std::fmt;
 use strsim::levenshtein;

@@ -8,12 +8,12 @@ use Rattle.std.proofs.lemmas.List.Sums.{sum_by_push, sum_by-set, get_or-le-sum_b
 use Rattle.cf_explore.specs.declared.layer.Entry.{Entry}
 use Rattle.cf_explore.specs.declared.trail.Trace.{Trace}
 use Rattle.cf_explore.specs.declared.step.Move.{Move}
-use Rattle.cf_plan.specs.Meanings.{Meanings}
+use Rattle.cf_forms.specs.Meanings.{Meanings}
 use Rattle.cf_explore.specs.Programs.{Programmed, Situated}
 use Rattle.cf_explore.specs.Moves.{moved, moves}
 use Rattle.cf_explore.specs.Layers.{IsAdded, IsLed, KeepsLed, LeadsTo, counted, more, weigh, weight}
 use Rattle.cf_explore.proofs.Counting.{counted-merge}
-use Rattle.cf_plan.proofs.ListLemmas.{slice_get-seam}
+use Rattle.cf_forms.proofs.ListLemmas.{slice_get-seam}
 use Rattle.cf_explore.proofs.Trails.{all_led-longer, leads-longer}
 
 pub added-weighs : (f : Situated → ℕ) (old new : List Entry) (s : Situated) (orders number : ℕ) (is : Bool) →

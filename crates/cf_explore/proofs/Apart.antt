@@ -4,7 +4,7 @@ use Rattle.std.specs.Prelude.{◌⊎◌, slice_get}
 use Rattle.std.proofs.Math.Nat.{eq-or-lt_of_le}
 use Rattle.std.proofs.lemmas.Option.{none-some, same_Some}
 use Rattle.cf_outcome.specs.declared.outcome.Outcome.{Outcome}
-use Rattle.cf_plan.proofs.ListLemmas.{slice_get-push}
+use Rattle.cf_forms.proofs.ListLemmas.{slice_get-push}
 use Rattle.cf_explore.specs.declared.found.End.{End}
 use Rattle.cf_explore.specs.Found.{AreApart, AreOthers, HasOutcomes}
 

@@ -2,7 +2,7 @@
 use Rattle.std.proofs.Common.{◌≡◌, ℕ, ◌+◌, List, [], ◌∷◌, ◌++◌, Some, None, length, ap, arith, refl, sym, ◌∙◌, suc, subst}
 use Rattle.std.specs.Prelude.{Contains, reverse, slice_get}
 use Rattle.std.proofs.lemmas.List.{reverse-append}
-use Rattle.cf_plan.specs.Meanings.{Meanings}
+use Rattle.cf_forms.specs.Meanings.{Meanings}
 use Rattle.cf_explore.specs.declared.step.Move.{Move}
 use Rattle.cf_explore.specs.declared.trail.Trace.{Trace}
 use Rattle.cf_explore.specs.Programs.{Programmed, Situated}

@@ -2,8 +2,8 @@
 use Rattle.std.proofs.Common.{ℕ, List, ◌++◌, All, zero, suc}
 use Rattle.cf_explore.specs.declared.layer.Entry.{Entry}
 use Rattle.cf_explore.specs.declared.trail.Trace.{Trace}
-use Rattle.cf_plan.specs.Meanings.{Meanings}
-use Rattle.cf_plan.proofs.ListLemmas.{slice_get-longer}
+use Rattle.cf_forms.specs.Meanings.{Meanings}
+use Rattle.cf_forms.proofs.ListLemmas.{slice_get-longer}
 use Rattle.cf_explore.specs.Programs.{Programmed, Situated}
 use Rattle.cf_explore.specs.Layers.{IsLed, LeadsTo}
 

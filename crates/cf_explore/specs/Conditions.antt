@@ -12,7 +12,7 @@ use Rattle.cf_outcome.specs.declared.outcome.Cause.TheVariants as causes
 use Rattle.cf_outcome.specs.declared.outcome.Outcome.{Outcome}
 use Rattle.cf_outcome.specs.declared.outcome.Outcome.TheVariants.{Value as Gives, Fault}
 use Rattle.cf_outcome.specs.Outcomes.{is_cancelled, is_exceptional}
-use Rattle.cf_plan.specs.Plans.{function_at}
+use Rattle.cf_forms.specs.Plans.{function_at}
 use Rattle.cf_model.specs.States.{outcome_at}
 use Rattle.cf_explore.specs.declared.condition.Is.{Is}
 use Rattle.cf_explore.specs.declared.condition.Is.TheVariants as is

@@ -8,7 +8,7 @@ use Rattle.cf_explore.specs.declared.found.Witness.{Witness}
 use Rattle.cf_explore.specs.declared.found.Found.{Found}
 use Rattle.cf_explore.specs.declared.search.Search.{Search}
 use Rattle.cf_explore.specs.declared.trail.Trace.{Trace}
-use Rattle.cf_plan.specs.Meanings.{Meanings}
+use Rattle.cf_forms.specs.Meanings.{Meanings}
 use Rattle.cf_explore.specs.Programs.{Programmed, Situated}
 use Rattle.cf_explore.specs.Situations.{outcomes_of}
 use Rattle.cf_explore.specs.Moves.{is_end}

@@ -3,7 +3,7 @@ use Rattle.std.specs.Prelude.{◌≡◌, ℕ, ◌+◌, ◌-◌, ◌*◌, ◌^◌
 use Rattle.std.proofs.Common.{zero, suc}
 use Rattle.cf_explore.specs.declared.layer.Entry.{Entry}
 use Rattle.cf_explore.specs.declared.trail.Trace.{Trace}
-use Rattle.cf_plan.specs.Meanings.{Meanings}
+use Rattle.cf_forms.specs.Meanings.{Meanings}
 use Rattle.cf_explore.specs.Programs.{Programmed, Situated, start_of}
 use Rattle.cf_explore.specs.Moves.{moved, moves}
 use Rattle.cf_explore.specs.Orders.{after, next}

@@ -3,7 +3,7 @@ use Rattle.std.specs.Prelude.{◌≡◌, ℕ, List, [], ◌∷◌, ◌++◌, Con
 use Rattle.std.proofs.Common.{zero, suc}
 use Rattle.std.specs.List.{filter}
 use Rattle.cf_explore.specs.declared.step.Move.{Move}
-use Rattle.cf_plan.specs.Meanings.{Meanings}
+use Rattle.cf_forms.specs.Meanings.{Meanings}
 use Rattle.cf_explore.specs.Programs.{Programmed, Situated, start_of}
 use Rattle.cf_explore.specs.Moves.{is_end, moved, moves}
 

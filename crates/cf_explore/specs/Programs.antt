@@ -1,6 +1,6 @@
 -- Programs, and the situations that they come to.
 use Rattle.std.specs.Prelude.{ℕ, Bool, false, List, Option, length, replicate, slice_get, unwrap_or, option_and_then}
-use Rattle.cf_plan.specs.Plans.{Planned}
+use Rattle.cf_forms.specs.Plans.{Planned}
 use Rattle.cf_model.specs.States.{State, start}
 use Rattle.cf_explore.specs.declared.step.Step.{Step}
 use Rattle.cf_explore.specs.declared.step.Place.{Place}

@@ -1,9 +1,9 @@
 //! A number for each situation, for looking it up. Equal situations have equal numbers; no clause needs it.
 use crate::situation::Situation;
 use crate::step::Hand;
+use cf_forms::{Answer, Args};
 use cf_model::Stage;
 use cf_outcome::{Cause, Outcome, Value};
-use cf_plan::{Answer, Args};
 
 /// One number more.
 fn mix(hash: u64, x: u64) -> u64 {

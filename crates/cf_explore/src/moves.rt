@@ -1,8 +1,8 @@
 //! Which moves there are in a situation, and where each leads.
 ghost use Rattle.std.specs.Prelude.{◌≡◌, ◌+◌, ◌++◌, ◌≤◌, ◌<◌, IfOk, if◌then◌else◌, length, nat_lt, true, unwrap_or};
 ghost use Rattle.std.specs.Option.{option_map_or};
-ghost use Rattle.cf_plan.specs.Meanings.{meanings_of};
-ghost use Rattle.cf_plan.specs.Plans.{function_at};
+ghost use Rattle.cf_forms.specs.Meanings.{meanings_of};
+ghost use Rattle.cf_forms.specs.Plans.{function_at};
 ghost use Rattle.cf_explore.specs.Programs.{hand_at, step_of};
 ghost use Rattle.cf_explore.specs.Moves.{call_by, caller_moves, claim_answer, claim_by, claim_moves, claims_by, call_event, claim_event, clock_moves, event_of, finish_by, finish_by_hand, finish_event, is_end, moved, moves, moves_by_hand, own_moves, step_event, step_moves, stepped, tick_moves, worker_moves};
 
@@ -10,10 +10,10 @@ use crate::program::Program;
 use crate::situation::Situation;
 use crate::situation::changes::{next_moment, put_called, put_hand};
 use crate::step::{Hand, Move, Step};
+use cf_forms::{Answer, Args, Limit, StageFn};
 use cf_model::{Call, Event, Stage, event_by};
 use cf_outcome::Value;
 use cf_plain::Plain;
-use cf_plan::{Answer, Args, Limit, StageFn};
 use std::alloc::{AllocError, Global};
 
 impl Program {

@@ -1,6 +1,6 @@
 //! Orders, read back.
 ghost use Rattle.std.specs.Prelude.{IfOk};
-ghost use Rattle.cf_plan.specs.Meanings.{Meanings};
+ghost use Rattle.cf_forms.specs.Meanings.{Meanings};
 ghost use Rattle.cf_explore.specs.Programs.{Programmed, Situated};
 ghost use Rattle.cf_explore.specs.Layers.{LeadsTo};
 ghost use Rattle.cf_explore.specs.Orders.{IsOrder};

@@ -1,6 +1,6 @@
 //! What is searched.
 ghost use Rattle.std.specs.Prelude.{◌≡◌, ◌+◌, ◌<◌, ◌≤◌, true, IfOk, is_some, length, slice_get};
-ghost use Rattle.cf_plan.specs.Plans.{has_place, with_room};
+ghost use Rattle.cf_forms.specs.Plans.{has_place, with_room};
 ghost use Rattle.cf_explore.specs.Programs.{place_at, start_of, step_of};
 
 use crate::situation::Situation;
@@ -61,7 +61,7 @@ pub struct Program {
 
 impl Model for Program {
     ghost use Rattle.std.specs.Prelude.{◌≡◌, ◌+◌, ◌≤◌, true, length};
-    ghost use Rattle.cf_plan.specs.Plans.{has_place, with_room};
+    ghost use Rattle.cf_forms.specs.Plans.{has_place, with_room};
     ghost use Rattle.cf_explore.specs.Programs.{Programmed};
 
     ghost Value = { Programmed };

@@ -1,6 +1,6 @@
 //! The search, layer by layer.
 ghost use Rattle.std.specs.Prelude.{◌≡◌, ◌+◌, ◌*◌, ◌<◌, ◌≤◌, ℕ, Contains, IfNone, IfOk, IfSome, None, false, length, replicate, true, vec_len};
-ghost use Rattle.cf_plan.specs.Meanings.{Meanings, meanings_of};
+ghost use Rattle.cf_forms.specs.Meanings.{Meanings, meanings_of};
 ghost use Rattle.cf_explore.specs.Programs.{Situated};
 ghost use Rattle.cf_explore.specs.Moves.{moved, moves};
 ghost use Rattle.cf_explore.specs.Layers.{IsLonger, IsNext, IsSpread, KeepsLed, LeadsOn, counted, weigh};
@@ -12,7 +12,7 @@ use crate::layer::{Entry, Layer};
 use crate::program::Program;
 use crate::step::Move;
 use crate::trail::Trace;
-use cf_plan::StageFn;
+use cf_forms::StageFn;
 use std::alloc::{AllocError, Global};
 
 /// A search that goes on layer by layer. `found` is true of all orders that were seen so far.

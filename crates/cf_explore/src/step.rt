@@ -1,7 +1,7 @@
 //! What a caller does, and in which moves.
 
+use cf_forms::{Answer, Args};
 use cf_model::{Ask, Call};
-use cf_plan::{Answer, Args};
 
 /// One step of a caller.
 #[derive(Clone, Copy, Debug, Drop, PartialEq, Eq)]

@@ -3,9 +3,9 @@ use Rattle.std.proofs.Common.{◌≡◌, ℕ, ◌+◌, ◌∷◌, ◌++◌, [], 
 use Rattle.std.specs.Prelude.{slice_get, unwrap_or}
 use Rattle.std.proofs.lemmas.Option.{slice_get_within}
 use Rattle.cf_outcome.specs.declared.outcome.Outcome.{Outcome}
-use Rattle.cf_plan.specs.Meanings.{Meanings}
-use Rattle.cf_plan.specs.Plans.{PlannedStage, HasLowerSources}
-use Rattle.cf_plan.proofs.ListLemmas.{slice_get-front, slice_get-longer, slice_get-push, slice_get-seam}
+use Rattle.cf_forms.specs.Meanings.{Meanings}
+use Rattle.cf_forms.specs.Plans.{PlannedStage, HasLowerSources}
+use Rattle.cf_forms.proofs.ListLemmas.{slice_get-front, slice_get-longer, slice_get-push, slice_get-seam}
 use Rattle.cf_model.specs.declared.stage.Stage.TheVariants.{Pending}
 use Rattle.cf_model.specs.declared.events.Event.{Event}
 use Rattle.cf_model.specs.States.{State, outcome_at}

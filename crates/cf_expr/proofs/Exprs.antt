@@ -5,14 +5,14 @@ use Rattle.std.specs.Option.{option_map}
 use Rattle.std.proofs.lemmas.List.Elements.{All-head, All-tail}
 use Rattle.cf_outcome.specs.declared.outcome.Outcome.{Outcome}
 use Rattle.cf_outcome.specs.Outcomes.{wrap}
-use Rattle.cf_plan.specs.declared.forms.Due.{Due}
-use Rattle.cf_plan.specs.declared.forms.Due.TheVariants.{Waits, Settles, Needs}
-use Rattle.cf_plan.specs.declared.forms.Landing.{Landing}
-use Rattle.cf_plan.specs.declared.forms.Landing.TheVariants.{Settles as Lands, Links}
-use Rattle.cf_plan.specs.Forms.{follows, landing}
-use Rattle.cf_plan.specs.Plans.{PlannedStage, HasLowerSources}
-use Rattle.cf_plan.proofs.PlanLemmas.{lower_at}
-use Rattle.cf_plan.specs.Meanings.{Meanings}
+use Rattle.cf_forms.specs.declared.forms.Due.{Due}
+use Rattle.cf_forms.specs.declared.forms.Due.TheVariants.{Waits, Settles, Needs}
+use Rattle.cf_forms.specs.declared.forms.Landing.{Landing}
+use Rattle.cf_forms.specs.declared.forms.Landing.TheVariants.{Settles as Lands, Links}
+use Rattle.cf_forms.specs.Forms.{follows, landing}
+use Rattle.cf_forms.specs.Plans.{PlannedStage, HasLowerSources}
+use Rattle.cf_forms.proofs.PlanLemmas.{lower_at}
+use Rattle.cf_forms.specs.Meanings.{Meanings}
 use Rattle.cf_model.proofs.Stable.{landing-lower}
 use Rattle.cf_expr.specs.Expressions.{is_source, stage_expr, due_expr, landing_expr, expr_in, exprs_from}
 use Rattle.cf_expr.proofs.Forms.{first_same}

@@ -10,14 +10,14 @@ use Rattle.cf_outcome.specs.declared.outcome.Outcome.{Outcome}
 use Rattle.cf_outcome.specs.declared.outcome.Outcome.TheVariants.{Value as Gives, Fault}
 use Rattle.cf_outcome.specs.declared.outcome.Cause.TheVariants.{Thrown, Cancelled}
 use Rattle.cf_outcome.specs.Outcomes.{wrap}
-use Rattle.cf_plan.specs.declared.forms.Form.TheVariants.{Source}
-use Rattle.cf_plan.specs.declared.forms.Args.{Args}
-use Rattle.cf_plan.specs.declared.forms.Answer.{Answer}
-use Rattle.cf_plan.specs.declared.forms.Due.TheVariants.{Waits, Needs}
-use Rattle.cf_plan.specs.declared.limits.Limit.{Limit}
-use Rattle.cf_plan.specs.Forms.{follows, landing}
-use Rattle.cf_plan.specs.Meanings.{Meanings, stage_answer}
-use Rattle.cf_plan.specs.Plans.{Planned, PlannedStage, attached_stage, form_at, sources_at, fits_count}
+use Rattle.cf_forms.specs.declared.forms.Form.TheVariants.{Source}
+use Rattle.cf_forms.specs.declared.forms.Args.{Args}
+use Rattle.cf_forms.specs.declared.forms.Answer.{Answer}
+use Rattle.cf_forms.specs.declared.forms.Due.TheVariants.{Waits, Needs}
+use Rattle.cf_forms.specs.declared.limits.Limit.{Limit}
+use Rattle.cf_forms.specs.Forms.{follows, landing}
+use Rattle.cf_forms.specs.Meanings.{Meanings, stage_answer}
+use Rattle.cf_forms.specs.Plans.{Planned, PlannedStage, attached_stage, form_at, sources_at, fits_count}
 use Rattle.cf_model.specs.declared.stage.Stage.{Stage}
 use Rattle.cf_model.specs.declared.stage.Stage.TheVariants.{Pending, Ready, Claimed, Linked, Settled}
 use Rattle.cf_model.specs.declared.replies.Finished.TheVariants.{Won, NotYours}
@@ -30,7 +30,7 @@ use Rattle.cf_model.specs.declared.events.Reply.TheVariants.{Claim as ToldClaim}
 use Rattle.cf_model.specs.Events.{answered, state_after, settled_by, claimed_by, finished_by, firing, due_limits, source_outcome}
 use Rattle.cf_model.proofs.Shape.{answered-grows, length-new_states}
 use Rattle.cf_model.proofs.Stable.{landing-lower}
-use Rattle.cf_plan.specs.Plans.{IsBuilt}
+use Rattle.cf_forms.specs.Plans.{IsBuilt}
 use Rattle.cf_expr.specs.Expressions.{named_for, first_named, landing_expr, due_expr, is_source, expr}
 use Rattle.cf_expr.specs.Histories.{Grants, is_plain_form, IsPlainPlan, granted_with, IsPlainEvent, IsPlain, nothing_granted, is_at_rest, IsQuiet}
 use Rattle.cf_expr.specs.Laws.{QuietIsExpression}

@@ -5,17 +5,17 @@ use Rattle.std.specs.Option.{option_map}
 use Rattle.std.proofs.lemmas.List.{length-map}
 use Rattle.cf_outcome.specs.declared.outcome.Outcome.{Outcome}
 use Rattle.cf_outcome.specs.Outcomes.{wrap}
-use Rattle.cf_plan.specs.declared.forms.Args.{Args}
-use Rattle.cf_plan.specs.declared.forms.Due.{Due}
-use Rattle.cf_plan.specs.declared.forms.Due.TheVariants.{Waits, Settles, Needs}
-use Rattle.cf_plan.specs.Forms.{follows}
-use Rattle.cf_plan.specs.Plans.{PlannedStage, HasLowerSources, fits_count}
-use Rattle.cf_plan.proofs.PlanLemmas.{lower_at}
+use Rattle.cf_forms.specs.declared.forms.Args.{Args}
+use Rattle.cf_forms.specs.declared.forms.Due.{Due}
+use Rattle.cf_forms.specs.declared.forms.Due.TheVariants.{Waits, Settles, Needs}
+use Rattle.cf_forms.specs.Forms.{follows}
+use Rattle.cf_forms.specs.Plans.{PlannedStage, HasLowerSources, fits_count}
+use Rattle.cf_forms.proofs.PlanLemmas.{lower_at}
 use Rattle.cf_model.specs.declared.stage.Stage.{Stage}
 use Rattle.cf_model.specs.declared.stage.Stage.TheVariants.{Pending, Ready, Claimed, Linked, Settled}
 use Rattle.cf_model.specs.States.{outcome_of, outcome_in, due_state, linked_state, next_of, new_states}
 use Rattle.cf_expr.proofs.Stagewise.{new_states_by_stage}
-use Rattle.cf_plan.specs.Meanings.{Meanings}
+use Rattle.cf_forms.specs.Meanings.{Meanings}
 use Rattle.cf_expr.specs.Expressions.{stage_expr, due_expr}
 use Rattle.cf_expr.specs.Histories.{is_plain_form}
 use Rattle.cf_expr.proofs.Forms.{all_there, sources_same, no_source}

@@ -1,12 +1,12 @@
 -- The new states, stage by stage.
 use Rattle.std.proofs.Common.{◌≡◌, ℕ, ◌<◌, ◌∷◌, [], List, All, Some, arith, ap, ◌∙◌, refl, take, map}
 use Rattle.std.proofs.lemmas.List.Elements.{All-head, All-tail}
-use Rattle.cf_plan.specs.declared.forms.Form.{Form}
-use Rattle.cf_plan.proofs.PlanLemmas.{lower_at}
+use Rattle.cf_forms.specs.declared.forms.Form.{Form}
+use Rattle.cf_forms.proofs.PlanLemmas.{lower_at}
 use Rattle.cf_model.specs.declared.stage.Stage.{Stage}
 use Rattle.cf_model.specs.declared.stage.Stage.TheVariants.{Pending, Ready, Claimed, Linked, Settled}
 use Rattle.cf_model.specs.States.{outcome_in, due_state, linked_state, next_of, new_states}
-use Rattle.cf_plan.specs.Forms.{follows}
+use Rattle.cf_forms.specs.Forms.{follows}
 use Rattle.cf_model.proofs.StateLemmas.{new_states-at, outcome_in-take}
 use Rattle.cf_expr.specs.Stagewise.{NewStatesByStage}
 

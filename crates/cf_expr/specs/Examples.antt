@@ -3,16 +3,16 @@ use Rattle.std.specs.Prelude.{◌≡◌, ◌≢◌, ◌==◌, length, true, Some
 use Rattle.cf_outcome.specs.declared.outcome.Value.TheVariants.{Nil}
 use Rattle.cf_outcome.specs.declared.outcome.Outcome.TheVariants.{Fault}
 use Rattle.cf_outcome.specs.declared.outcome.Cause.TheVariants.{Thrown}
-use Rattle.cf_plan.specs.declared.forms.Form.TheVariants.{Source, Apply, Compose, RunEither}
-use Rattle.cf_plan.specs.declared.forms.Answer.TheVariants.{Throw, Link}
-use Rattle.cf_plan.specs.declared.forms.Of.TheVariants.{None as NoSource, One}
-use Rattle.cf_plan.specs.declared.limits.LimitKind.TheVariants.{Timeout}
-use Rattle.cf_plan.specs.Plans.{Planned, IsBuilt, plan_of, with_room}
+use Rattle.cf_forms.specs.declared.forms.Form.TheVariants.{Source, Apply, Compose, RunEither}
+use Rattle.cf_forms.specs.declared.forms.Answer.TheVariants.{Throw, Link}
+use Rattle.cf_forms.specs.declared.forms.Of.TheVariants.{None as NoSource, One}
+use Rattle.cf_forms.specs.declared.limits.LimitKind.TheVariants.{Timeout}
+use Rattle.cf_forms.specs.Plans.{Planned, IsBuilt, plan_of, with_room}
 use Rattle.cf_model.specs.declared.events.Event.{Event}
 use Rattle.cf_model.specs.declared.events.Event.TheVariants.{Complete as Completes, Fail as Fails, Claim as Claims, Finish as Finishes, Tick as Ticks, Attach as Attaches}
 use Rattle.cf_model.specs.States.{start, outcome_at}
 use Rattle.cf_model.specs.Events.{state_after}
-use Rattle.cf_plan.specs.Meanings.{Meanings}
+use Rattle.cf_forms.specs.Meanings.{Meanings}
 use Rattle.cf_expr.specs.Expressions.{expr}
 use Rattle.cf_expr.specs.Histories.{IsPlain, IsPlainPlan, IsQuiet, nothing_granted}
 

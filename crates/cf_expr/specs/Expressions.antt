@@ -6,16 +6,16 @@ use Rattle.cf_outcome.specs.declared.outcome.Outcome.{Outcome}
 use Rattle.cf_outcome.specs.declared.outcome.Outcome.TheVariants.{Value as Gives, Fault}
 use Rattle.cf_outcome.specs.declared.outcome.Cause.TheVariants.{Thrown, Cancelled}
 use Rattle.cf_outcome.specs.Outcomes.{wrap}
-use Rattle.cf_plan.specs.declared.forms.Form.{Form}
-use Rattle.cf_plan.specs.declared.forms.Form.TheVariants.{Source}
-use Rattle.cf_plan.specs.declared.forms.Args.{Args}
-use Rattle.cf_plan.specs.declared.forms.Due.{Due}
-use Rattle.cf_plan.specs.declared.forms.Due.TheVariants.{Waits, Settles, Needs}
-use Rattle.cf_plan.specs.declared.forms.Landing.{Landing}
-use Rattle.cf_plan.specs.declared.forms.Landing.TheVariants.{Settles as Lands, Links}
-use Rattle.cf_plan.specs.Forms.{follows, landing}
-use Rattle.cf_plan.specs.Meanings.{Meanings}
-use Rattle.cf_plan.specs.Plans.{Planned, PlannedStage}
+use Rattle.cf_forms.specs.declared.forms.Form.{Form}
+use Rattle.cf_forms.specs.declared.forms.Form.TheVariants.{Source}
+use Rattle.cf_forms.specs.declared.forms.Args.{Args}
+use Rattle.cf_forms.specs.declared.forms.Due.{Due}
+use Rattle.cf_forms.specs.declared.forms.Due.TheVariants.{Waits, Settles, Needs}
+use Rattle.cf_forms.specs.declared.forms.Landing.{Landing}
+use Rattle.cf_forms.specs.declared.forms.Landing.TheVariants.{Settles as Lands, Links}
+use Rattle.cf_forms.specs.Forms.{follows, landing}
+use Rattle.cf_forms.specs.Meanings.{Meanings}
+use Rattle.cf_forms.specs.Plans.{Planned, PlannedStage}
 use Rattle.cf_model.specs.declared.events.Event.{Event}
 use Rattle.cf_model.specs.declared.events.Event.TheVariants.{Complete as Completes, Fail as Fails, Cancel as Cancels}
 

@@ -1,11 +1,11 @@
 -- Plain histories, whose outcomes the expressions tell, and quiet states.
 use Rattle.std.specs.Prelude.{◌≡◌, ℕ, length, ◌<◌, ◌==◌, ◌&&◌, Bool, true, false, Option, Some, None, List, [], ◌∷◌, if◌then◌else◌, All}
-use Rattle.cf_plan.specs.declared.forms.Form.{Form}
-use Rattle.cf_plan.specs.declared.forms.Form.TheVariants.{Source, ApplyEither, AcceptEither, RunEither, AnyOf}
-use Rattle.cf_plan.specs.declared.forms.Args.{Args}
-use Rattle.cf_plan.specs.declared.limits.Limit.{Limit}
-use Rattle.cf_plan.specs.Meanings.{Meanings, stage_answer}
-use Rattle.cf_plan.specs.Plans.{Planned, PlannedStage, form_at}
+use Rattle.cf_forms.specs.declared.forms.Form.{Form}
+use Rattle.cf_forms.specs.declared.forms.Form.TheVariants.{Source, ApplyEither, AcceptEither, RunEither, AnyOf}
+use Rattle.cf_forms.specs.declared.forms.Args.{Args}
+use Rattle.cf_forms.specs.declared.limits.Limit.{Limit}
+use Rattle.cf_forms.specs.Meanings.{Meanings, stage_answer}
+use Rattle.cf_forms.specs.Plans.{Planned, PlannedStage, form_at}
 use Rattle.cf_model.specs.declared.stage.Stage.{Stage}
 use Rattle.cf_model.specs.declared.stage.Stage.TheVariants.{Ready, Claimed}
 use Rattle.cf_model.specs.declared.replies.Claimed.TheVariants.{Granted}

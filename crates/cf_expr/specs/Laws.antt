@@ -1,10 +1,10 @@
 -- The laws of plain histories.
 use Rattle.std.specs.Prelude.{◌≡◌, ℕ, ◌<◌, List, ◌++◌, length}
-use Rattle.cf_plan.specs.Plans.{Planned, IsBuilt}
+use Rattle.cf_forms.specs.Plans.{Planned, IsBuilt}
 use Rattle.cf_model.specs.declared.events.Event.{Event}
 use Rattle.cf_model.specs.States.{State, start, outcome_at}
 use Rattle.cf_model.specs.Events.{state_after}
-use Rattle.cf_plan.specs.Meanings.{Meanings}
+use Rattle.cf_forms.specs.Meanings.{Meanings}
 use Rattle.cf_expr.specs.Expressions.{expr}
 use Rattle.cf_expr.specs.Histories.{Grants, IsPlain, IsPlainPlan, IsQuiet, grants_after, nothing_granted, without_work}
 

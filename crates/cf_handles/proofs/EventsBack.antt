@@ -4,15 +4,15 @@ use Rattle.std.specs.Prelude.{IfOk, unwrap_or}
 use Rattle.std.proofs.lemmas.Bool.{lt-ltb}
 use Rattle.cf_outcome.specs.declared.outcome.Value.{Value}
 use Rattle.cf_outcome.specs.declared.outcome.Value.TheVariants.{Nil, Int}
-use Rattle.cf_plan.specs.declared.forms.Answer.{Answer}
-use Rattle.cf_plan.specs.declared.forms.Answer.TheVariants.{Give, Throw, Link}
-use Rattle.cf_plan.specs.declared.forms.Form.{Form}
-use Rattle.cf_plan.specs.declared.forms.Of.{Of}
-use Rattle.cf_plan.specs.declared.forms.Of.TheVariants.{None as NoSource, One, Two}
+use Rattle.cf_forms.specs.declared.forms.Answer.{Answer}
+use Rattle.cf_forms.specs.declared.forms.Answer.TheVariants.{Give, Throw, Link}
+use Rattle.cf_forms.specs.declared.forms.Form.{Form}
+use Rattle.cf_forms.specs.declared.forms.Of.{Of}
+use Rattle.cf_forms.specs.declared.forms.Of.TheVariants.{None as NoSource, One, Two}
 use Rattle.cf_model.specs.declared.events.Event.{Event}
 use Rattle.cf_model.specs.declared.events.Event.TheVariants.{Complete as Completes, Fail as Fails, Cancel as Cancels, Claim as Claims, Finish as Finishes, Tick as Ticks, Attach as Attaches}
 use Rattle.cf_event.specs.Words.{IsEvent, count_of, first_of, second_of}
-use Rattle.cf_plan.proofs.NamingLemmas.{form_back}
+use Rattle.cf_forms.proofs.NamingLemmas.{form_back}
 use Rattle.cf_handles.specs.Answers.{HandleGives}
 use Rattle.cf_handles.specs.Plans.{as_function, event_with, function_of, parts_with, sources_with}
 use Rattle.cf_handles.specs.Values.{answer_of, as_answer, as_value, value_of}

@@ -3,7 +3,7 @@ use Rattle.std.proofs.Common.{◌≡◌, ℕ, ◌+◌, ◌<◌, ◌≤◌, List,
 use Rattle.std.proofs.lemmas.List.{take_more}
 use Rattle.cf_outcome.specs.declared.outcome.Value.{Value}
 use Rattle.cf_outcome.specs.declared.outcome.Outcome.TheVariants.{Value as Gives}
-use Rattle.cf_plan.specs.Plans.{PlannedStage}
+use Rattle.cf_forms.specs.Plans.{PlannedStage}
 use Rattle.cf_model.specs.declared.events.Event.{Event}
 use Rattle.cf_model.specs.Events.{answered, settling, state_after}
 use Rattle.cf_model.specs.States.{State}

@@ -13,7 +13,7 @@ use Rattle.cf_model.specs.States.{State, claim_at}
 use Rattle.cf_core.proofs.Keeping.Marking.{get-set_same}
 use Rattle.cf_model.proofs.Shape.{answered-frame}
 use Rattle.cf_model.proofs.StateLemmas.{slice_get-set_other}
-use Rattle.cf_plan.specs.Plans.{Planned}
+use Rattle.cf_forms.specs.Plans.{Planned}
 use Rattle.cf_ledger.specs.declared.step.Held.{Held}
 use Rattle.cf_handles.specs.Rounds.{AreClaimed, AreFinished, IsFirstFault, IsThere, MayFinish, Rounds, claimed_times, fault_of, finish_left, finished_all, finished_task, round_told}
 use Rattle.cf_handles.specs.Tasks.{held_by}

@@ -1,6 +1,6 @@
 -- The stage that a step takes is there, and is granted.
 use Rattle.std.proofs.Common.{◌≡◌, ℕ, ◌<◌, ◌≢◌, Some, length, ap, ◌∙◌}
-use Rattle.cf_plan.specs.declared.forms.Args.{Args}
+use Rattle.cf_forms.specs.declared.forms.Args.{Args}
 use Rattle.cf_model.specs.declared.replies.Claimed.{Claimed}
 use Rattle.cf_model.specs.declared.replies.Claimed.TheVariants.{Granted}
 use Rattle.cf_model.specs.Events.{claiming}

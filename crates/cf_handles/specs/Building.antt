@@ -2,11 +2,12 @@
 use Rattle.std.specs.Prelude.{◌≡◌, ℕ, ◌≤◌, ◌⊎◌, ◌==◌, true, false, Option, Some, None, Result, Ok, Err, List, [], IfNone, IfSome, IsOk, IsOkUnless, length, if◌then◌else◌}
 use Rattle.cf_plan.specs.declared.faults.PlanFault.{PlanFault}
 use Rattle.cf_plan.specs.declared.faults.PlanFault.TheVariants as plan
-use Rattle.cf_plan.specs.declared.forms.Form.{Form}
-use Rattle.cf_plan.specs.declared.limits.LimitKind.{LimitKind}
-use Rattle.cf_plan.specs.declared.limits.LimitKind.TheVariants.{Timeout, Give}
+use Rattle.cf_forms.specs.declared.forms.Form.{Form}
+use Rattle.cf_forms.specs.declared.limits.LimitKind.{LimitKind}
+use Rattle.cf_forms.specs.declared.limits.LimitKind.TheVariants.{Timeout, Give}
 use Rattle.cf_plan.specs.Drafts.{Draft, HasRoom, KeepsRoom, no_draft}
-use Rattle.cf_plan.specs.Plans.{Planned, PlannedStage, edges_of, has_place, limit_fault, plan_of, stage_fault, with_limit, with_room, with_stage}
+use Rattle.cf_forms.specs.Plans.{Planned, PlannedStage, edges_of, has_place, plan_of, with_limit, with_room, with_stage}
+use Rattle.cf_plan.specs.Faults.{limit_fault, stage_fault}
 use Rattle.cf_model.specs.States.{start}
 use Rattle.cf_handles.specs.Codes.{number_of, plan_code}
 use Rattle.cf_handles.specs.Graphs.{IsStarted}

@@ -1,8 +1,8 @@
 -- What a caller of a desk is given to do, a stage at a time, and a row of stages that it completes.
 use Rattle.std.specs.Prelude.{◌≡◌, ◌≢◌, ◌⊎◌, ℕ, ◌<◌, ◌≤◌, Option, Some, None, Result, Ok, Err, List, [], ◌∷◌, length, slice_get, take}
 use Rattle.std.specs.Arc.{arc_value}
-use Rattle.cf_plan.specs.declared.forms.Args.{Args}
-use Rattle.cf_plan.specs.Plans.{function_at}
+use Rattle.cf_forms.specs.declared.forms.Args.{Args}
+use Rattle.cf_forms.specs.Plans.{function_at}
 use Rattle.cf_model.specs.declared.events.Reply.{Reply}
 use Rattle.cf_model.specs.declared.events.Reply.TheVariants.{Claim as ToldClaim, Finish as ToldFinish}
 use Rattle.cf_model.specs.declared.replies.Claimed.TheVariants.{Granted}

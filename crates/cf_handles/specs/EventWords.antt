@@ -1,11 +1,11 @@
 -- Events as C has them, and their words.
 use Rattle.std.specs.Prelude.{◌≡◌, ℕ, ◌<◌, Option, Some, None, Result, Ok, Err, ◌==◌, if◌then◌else◌}
 use Rattle.cf_outcome.specs.declared.outcome.Value.TheVariants.{Nil}
-use Rattle.cf_plan.specs.declared.forms.Answer.TheVariants.{Give}
+use Rattle.cf_forms.specs.declared.forms.Answer.TheVariants.{Give}
 use Rattle.cf_model.specs.declared.events.Event.{Event}
 use Rattle.cf_model.specs.declared.events.Event.TheVariants.{Complete as Completes, Fail as Fails, Cancel as Cancels, Claim as Claims, Finish as Finishes, Tick as Ticks, Attach as Attaches}
 use Rattle.cf_event.specs.Decoding.{event_of as event_of_word}
-use Rattle.cf_plan.specs.Naming.{form_number}
+use Rattle.cf_forms.specs.Naming.{form_number}
 use Rattle.cf_event.specs.Words.{IsEvent, count_of, first_of, second_of, word_of}
 use Rattle.cf_handles.specs.Answers.{HandleGives}
 use Rattle.cf_handles.specs.Plans.{as_function, event_with, form_of, parts_with, sources_with}

@@ -2,7 +2,7 @@
 use Rattle.std.specs.Prelude.{◌≡◌, ℕ, Option, Some, None, List, eqb, length, nat_lt, option_map, slice_get, if◌then◌else◌}
 use Rattle.std.specs.List.{All, find}
 use Rattle.cf_outcome.specs.declared.outcome.Value.TheVariants.{Nil}
-use Rattle.cf_plan.specs.declared.forms.Args.TheVariants.{None as NoArgs}
+use Rattle.cf_forms.specs.declared.forms.Args.TheVariants.{None as NoArgs}
 use Rattle.cf_model.specs.declared.asks.Ask.{Ask}
 use Rattle.cf_model.specs.declared.asks.Ask.TheVariants.{Now as AsksNow, Outcome as AsksOutcome}
 use Rattle.cf_model.specs.declared.asks.Told.{Told}

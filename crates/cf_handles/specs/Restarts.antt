@@ -1,6 +1,6 @@
 -- How a graph starts again with stages that are given, and the plan that it was opened of.
 use Rattle.std.specs.Prelude.{◌≡◌, ℕ, ◌<◌, Result, Ok, Err, List, All, length, map}
-use Rattle.cf_plan.specs.Plans.{opening_of, reopened}
+use Rattle.cf_forms.specs.Plans.{opening_of, reopened}
 use Rattle.cf_model.specs.declared.events.Event.{Event}
 use Rattle.cf_model.specs.declared.events.Event.TheVariants.{Complete as Completes}
 use Rattle.cf_model.specs.Events.{state_after}

@@ -1,7 +1,7 @@
 -- A round of several tasks of one caller of a graph.
 use Rattle.std.specs.Prelude.{◌≡◌, ◌⊎◌, ℕ, suc, zero, ◌<◌, ◌==◌, false, Option, Some, None, Result, Ok, Err, List, [], ◌∷◌, All, length, nat_lt, slice_get, take, if◌then◌else◌}
 use Rattle.std.specs.Option.{option_map, option_map_or}
-use Rattle.cf_plan.specs.Plans.{function_at}
+use Rattle.cf_forms.specs.Plans.{function_at}
 use Rattle.cf_model.specs.declared.replies.Claimed.{Claimed}
 use Rattle.cf_model.specs.declared.replies.Claimed.TheVariants.{Granted}
 use Rattle.cf_model.specs.Events.{claiming, finishing}

@@ -8,10 +8,10 @@ use Rattle.cf_outcome.specs.declared.outcome.Outcome.{Outcome}
 use Rattle.cf_outcome.specs.declared.outcome.Outcome.TheVariants.{Value as Gives, Fault}
 use Rattle.cf_outcome.specs.declared.now.Now.{Now}
 use Rattle.cf_outcome.specs.declared.now.Now.TheVariants.{Absent, Got, Completion, Cancellation}
-use Rattle.cf_plan.specs.declared.forms.Answer.{Answer}
-use Rattle.cf_plan.specs.declared.forms.Answer.TheVariants.{Give, Throw, Link}
-use Rattle.cf_plan.specs.declared.forms.Args.{Args}
-use Rattle.cf_plan.specs.declared.forms.Args.TheVariants.{None as NoArgs, One, Two, Got as GotOutcome}
+use Rattle.cf_forms.specs.declared.forms.Answer.{Answer}
+use Rattle.cf_forms.specs.declared.forms.Answer.TheVariants.{Give, Throw, Link}
+use Rattle.cf_forms.specs.declared.forms.Args.{Args}
+use Rattle.cf_forms.specs.declared.forms.Args.TheVariants.{None as NoArgs, One, Two, Got as GotOutcome}
 use Rattle.cf_handles.specs.declared.values.CfAnswer.{CfAnswer}
 use Rattle.cf_handles.specs.declared.values.CfArgs.{CfArgs}
 use Rattle.cf_handles.specs.declared.values.CfNow.{CfNow}

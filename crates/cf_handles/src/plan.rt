@@ -5,7 +5,8 @@ ghost use Rattle.cf_handles.specs.Building.{AddsLimit, AddsStage, Builds, kind_o
 use crate::code::{Code, plan_code};
 use crate::handle::object::{Object, hold};
 use crate::values::{CfValue, value_of};
-use cf_plan::{Form, LimitKind, PlanBuilder};
+use cf_forms::{Form, LimitKind};
+use cf_plan::PlanBuilder;
 use std::alloc::Global;
 use std::mem;
 

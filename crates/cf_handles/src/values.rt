@@ -1,6 +1,6 @@
 //! Values, outcomes, arguments, answers and replies as C has them. An unknown `kind` is read as the last one.
 ghost use Rattle.std.specs.Prelude.{◌≡◌};
-ghost use Rattle.cf_plan.specs.declared.forms.Args.TheVariants.{None as NoArgs};
+ghost use Rattle.cf_forms.specs.declared.forms.Args.TheVariants.{None as NoArgs};
 ghost use Rattle.cf_handles.specs.Replies.{as_reply, finish_number, reply_with};
 ghost use Rattle.cf_handles.specs.Values.{answer_of, answer_with, args_with, as_answer, as_args, as_fault, as_now, as_outcome, as_value, cause_of, no_fault, outcome_of, value_of};
 
@@ -9,9 +9,9 @@ pub mod event;
 pub mod stage;
 pub mod task;
 
+use cf_forms::{Answer, Args};
 use cf_model::{Attached, Claimed, Finished, Reply, Ticked};
 use cf_outcome::{Cause, Now, Outcome, Value};
-use cf_plan::{Answer, Args};
 
 /// A value: nothing (kind 0), or a number.
 #[repr(C)]

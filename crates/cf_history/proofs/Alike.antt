@@ -7,7 +7,7 @@ use Rattle.std.specs.List.{Contains, filter}
 use Rattle.std.proofs.lemmas.List.{drop-drop}
 use Rattle.std.proofs.lemmas.List.Elements.{All-nil, All-cons, All-head, All-tail}
 use Rattle.std.proofs.lemmas.Option.{none-some, slice_get_within}
-use Rattle.cf_plan.specs.Plans.{Planned}
+use Rattle.cf_forms.specs.Plans.{Planned}
 use Rattle.cf_model.specs.declared.events.Event.{Event}
 use Rattle.cf_model.specs.States.{State, start}
 use Rattle.cf_model.specs.Events.{answered, state_at, told}

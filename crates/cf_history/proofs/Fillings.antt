@@ -4,7 +4,7 @@ use Rattle.std.specs.Prelude.{Some, eqb, false, ◌↔◌}
 use Rattle.std.specs.List.{AllZip}
 use Rattle.std.proofs.lemmas.Option.{none-some}
 use Rattle.std.proofs.lemmas.List.Elements.{All-nil, All-cons, All-head, All-tail, All-weaker, All-filter, All-same}
-use Rattle.cf_plan.specs.Plans.{Planned}
+use Rattle.cf_forms.specs.Plans.{Planned}
 use Rattle.cf_model.specs.declared.events.Event.{Event}
 use Rattle.cf_model.specs.declared.events.Reply.{Reply}
 use Rattle.cf_model.specs.declared.events.Reply.TheVariants.{Flag}

@@ -3,7 +3,7 @@ use Rattle.std.proofs.Common.{◌≡◌, ℕ, zero, suc, ◌+◌, ◌-◌, ◌<�
 use Rattle.std.specs.List.{filter}
 use Rattle.std.proofs.lemmas.Option.{none-some}
 use Rattle.std.proofs.lemmas.Bool.{eq-eqb, eqb-true}
-use Rattle.cf_plan.specs.Plans.{Planned}
+use Rattle.cf_forms.specs.Plans.{Planned}
 use Rattle.cf_model.specs.declared.events.Event.{Event}
 use Rattle.cf_model.specs.States.{State, start}
 use Rattle.cf_model.specs.Events.{answered, state_after, state_at}

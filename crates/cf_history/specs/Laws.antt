@@ -1,7 +1,7 @@
 -- Which histories fit, and which verdict is told.
 use Rattle.std.specs.Prelude.{◌≡◌, ℕ, Some, List, length, map, slice_get}
 use Rattle.std.specs.List.{Contains}
-use Rattle.cf_plan.specs.Plans.{Planned}
+use Rattle.cf_forms.specs.Plans.{Planned}
 use Rattle.cf_model.specs.declared.events.Event.{Event}
 use Rattle.cf_model.specs.States.{start}
 use Rattle.cf_model.specs.Events.{state_after}

@@ -1,6 +1,6 @@
 //! The verdict over a whole history.
 ghost use Rattle.std.specs.Prelude.{◌≡◌, ◌+◌, ◌↔◌, IfNone, IfOk, MatchOption, Some, length, true};
-ghost use Rattle.cf_plan.specs.Plans.{has_place, with_room};
+ghost use Rattle.cf_forms.specs.Plans.{has_place, with_room};
 ghost use Rattle.cf_model.specs.States.{start};
 ghost use Rattle.cf_model.specs.Events.{state_after};
 ghost use Rattle.cf_model.specs.Ranges.{EventsFit};

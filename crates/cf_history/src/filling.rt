@@ -1,6 +1,6 @@
 //! The replies that nobody knows, by the sequential graph.
 ghost use Rattle.std.specs.Prelude.{◌≡◌, ◌↔◌, [], All, IfOk, IsTrue, false, get_or, length, map, true};
-ghost use Rattle.cf_plan.specs.Plans.{has_place, with_room};
+ghost use Rattle.cf_forms.specs.Plans.{has_place, with_room};
 ghost use Rattle.cf_model.specs.Ranges.{EventsFit};
 ghost use Rattle.cf_model.specs.States.{start};
 ghost use Rattle.cf_model.specs.declared.events.Reply.TheVariants.{Flag};

@@ -1,6 +1,6 @@
 -- What a contract sees of a ledger, and what a word does to it.
 use Rattle.std.specs.Prelude.{◌≡◌, ℕ, ◌+◌, ◌<◌, zero, suc, Bool, true, Some, None, List, [], ◌∷◌, ◌++◌, length, map, position, take}
-use Rattle.cf_plan.specs.Plans.{Planned, has_place}
+use Rattle.cf_forms.specs.Plans.{Planned, has_place}
 use Rattle.cf_model.specs.States.{State, start}
 use Rattle.cf_model.specs.declared.events.Event.{Event}
 use Rattle.cf_model.specs.declared.events.Event.TheVariants.{Attach as Attaches}

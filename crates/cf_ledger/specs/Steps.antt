@@ -1,6 +1,6 @@
 -- One step of a caller of a ledger: it finishes what it holds, and takes the next ready stage.
 use Rattle.std.specs.Prelude.{◌≡◌, ◌≢◌, ℕ, ◌<◌, ◌≤◌, Bool, true, false, Option, Some, None, length}
-use Rattle.cf_plan.specs.Plans.{function_at}
+use Rattle.cf_forms.specs.Plans.{function_at}
 use Rattle.cf_model.specs.declared.events.Event.TheVariants.{Claim as Claims, Finish as Finishes'}
 use Rattle.cf_model.specs.declared.events.Reply.TheVariants.{Claim as ToldClaim, Finish as ToldFinish}
 use Rattle.cf_model.specs.declared.replies.Claimed.TheVariants.{Granted}

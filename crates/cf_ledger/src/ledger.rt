@@ -1,6 +1,6 @@
 //! The ledger.
 ghost use Rattle.std.specs.Prelude.{◌≡◌, ◌+◌, ◌≢◌, ◌<◌, ◌≤◌, ◌↔◌, [], IfErr, IfNone, IfOk, IfSome, IsTrue, None, OnErr, OnOk, false, length, map, get_or, replicate, take, true};
-ghost use Rattle.cf_plan.specs.Plans.{function_at, has_place, reopened, with_room};
+ghost use Rattle.cf_forms.specs.Plans.{function_at, has_place, reopened, with_room};
 ghost use Rattle.cf_model.specs.Graphs.{NoneReady, stage_in};
 ghost use Rattle.cf_model.specs.States.{claim_at, is_ready, lowest_ready_of, outcome_at, start};
 ghost use Rattle.cf_event.specs.Words.{word_of};
@@ -43,7 +43,7 @@ impl Model for Ledger {
 
     ghost Value = { Ledger };
 
-    ghost use Rattle.cf_plan.specs.Plans.{with_room};
+    ghost use Rattle.cf_forms.specs.Plans.{with_room};
     ghost use Rattle.cf_event.specs.Decoding.{decoded};
     ghost use Rattle.cf_ledger.specs.Ledgers.{IsKept};
 
@@ -297,7 +297,7 @@ impl Ledger {
     }
 
     /// Whether its plan has place for so many stages more.
-    #[tactic(auto, using(cf_plan::proofs::PlanLemmas::place_is, crate::proofs::Growth::no_place))]
+    #[tactic(auto, using(cf_forms::proofs::PlanLemmas::place_is, crate::proofs::Growth::no_place))]
     pub fn has_place(&self, more: u16) -> bool
         ensures { result ≡ has_place self.now.plan.stages (self.now.plan.room + more) }
     {
@@ -307,7 +307,7 @@ impl Ledger {
 
     /// Makes room for so many stages more, by doing all words again. It fails only where there is no memory, and then all is as
     /// it was.
-    #[tactic(auto, using(cf_plan::proofs::PlanLemmas::place_is))]
+    #[tactic(auto, using(cf_forms::proofs::PlanLemmas::place_is))]
     pub fn grow(&mut self, alloc: Global, more: u16) -> Result<(), LedgerFault>
         requires place { has_place self.old.plan.stages (self.old.plan.room + more) ≡ true }
         ensures grown { OnOk result (self.new ≡ with_more self.old more) }
@@ -357,7 +357,7 @@ fn worked_out(graph: Graph) -> Graph
 }
 
 /// A flag for each stage that there may ever be.
-#[tactic(auto, using(cf_plan::proofs::PlanLemmas::place_is))]
+#[tactic(auto, using(cf_forms::proofs::PlanLemmas::place_is))]
 fn flags_of(alloc: Global, plan: &Plan, room: u16) -> Result<BitSet, AllocError>
     requires place { has_place plan.now.stages room ≡ true }
     ensures { IfOk result (λ flags. flags ≡ replicate (length plan.now.stages + room) false) }

@@ -1,5 +1,5 @@
 //! What a caller holds, and what a step gives it.
-use cf_plan::{Answer, Args};
+use cf_forms::{Answer, Args};
 
 /// A stage that a caller has claimed, and what the stage's function answered.
 #[derive(Clone, Copy, Debug, PartialEq, Eq)]

@@ -2,7 +2,7 @@
 //!
 //! Room for the word and for the stages that it changes was found before, so nothing here is refused.
 ghost use Rattle.std.specs.Prelude.{◌≡◌, ◌+◌, ◌*◌, ◌<◌, ◌≤◌, Some, length, vec_capacity};
-ghost use Rattle.cf_plan.specs.Plans.{with_room};
+ghost use Rattle.cf_forms.specs.Plans.{with_room};
 ghost use Rattle.cf_model.specs.Events.{answered};
 ghost use Rattle.cf_model.specs.States.{claim_at};
 ghost use Rattle.cf_event.specs.Words.{word_of};

@@ -1,6 +1,6 @@
 //! A history as JSON.
 ghost use Rattle.std.specs.Prelude.{◌≡◌, IfErr, IfOk, false, true};
-ghost use Rattle.cf_plan.specs.Plans.{has_place};
+ghost use Rattle.cf_forms.specs.Plans.{has_place};
 
 use crate::fault::Unreadable;
 use crate::input::json_in;

@@ -1,7 +1,7 @@
 //! What the texts of replies and outcomes mean: those of a script's report.
+use cf_forms::Args;
 use cf_model::{Attached, Claimed, Finished, Reply, Ticked};
 use cf_outcome::{Cause, Now, Outcome, Value};
-use cf_plan::Args;
 
 /// The word in this place, empty where there is none.
 fn word<'a>(words: &[&'a str], i: usize) -> &'a str {

@@ -1,7 +1,7 @@
 -- Limits that fire one after another.
 use Rattle.std.proofs.Common.{◌≡◌, ◌∙◌, ap, Option, None, ◌<◌, ◌+◌, ◌-◌, ℕ, ◌∷◌, [], List, Bool, cond, Some, zero, suc, arith, sym, refl, subst, take, drop}
 use Rattle.std.specs.Prelude.{slice_get}
-use Rattle.cf_plan.specs.declared.limits.Limit.{Limit}
+use Rattle.cf_forms.specs.declared.limits.Limit.{Limit}
 use Rattle.cf_model.specs.States.{State, outcome_at}
 use Rattle.cf_outcome.specs.declared.outcome.Outcome.{Outcome}
 use Rattle.cf_model.specs.Events.{settled_by, settling, firing, limit_outcome}

@@ -2,10 +2,10 @@
 use Rattle.std.proofs.Common.{◌≡◌, ℕ, ◌+◌, ◌-◌, ◌<◌, ◌∷◌, ◌++◌, [], List, Bool, true, false, Option, length, length-append, zero, suc, take, arith, ap, refl, sym, ◌∙◌, subst}
 use Rattle.std.specs.Prelude.{All, is_some}
 use Rattle.std.proofs.Math.Seq.{take-append_seam}
-use Rattle.cf_plan.specs.declared.forms.Form.{Form}
-use Rattle.cf_plan.specs.declared.forms.Of.{Of}
-use Rattle.cf_plan.specs.declared.limits.Limit.{Limit}
-use Rattle.cf_plan.specs.Plans.{IsGrowing, Planned, PlannedStage, attached_stage, fits_form, reopened, sources_of, with_room}
+use Rattle.cf_forms.specs.declared.forms.Form.{Form}
+use Rattle.cf_forms.specs.declared.forms.Of.{Of}
+use Rattle.cf_forms.specs.declared.limits.Limit.{Limit}
+use Rattle.cf_forms.specs.Plans.{IsGrowing, Planned, PlannedStage, attached_stage, fits_form, reopened, sources_of, with_room}
 use Rattle.cf_model.specs.declared.events.Event.{Event}
 use Rattle.cf_model.specs.declared.events.Event.TheVariants.{Complete as Completes, Fail as Fails, Cancel as Cancels, Claim as Claims, Finish as Finishes, Tick as Ticks, Attach as Attaches}
 use Rattle.cf_model.specs.States.{State, start}
@@ -14,7 +14,7 @@ use Rattle.cf_model.specs.Events.{answered, attached_by, state_after}
 use Rattle.cf_model.specs.Ranges.{EventFits}
 use Rattle.cf_model.specs.Growth.{GrownAreGrowing, GrownReopenAsTheyWere}
 use Rattle.cf_model.proofs.Shape.{answered-frame, state_after-grows}
-use Rattle.cf_plan.proofs.GrowingLemmas.{growing-and_stage}
+use Rattle.cf_forms.proofs.PlanLemmas.{growing-and_stage}
 
 attached-growing : (room : ℕ) (s : State) (form : Form) (of : Of) (function : Option ℕ) → s.plan.room ≡ room → IsGrowing s.plan → fits_form form (length (sources_of of)) (is_some function) ≡ true →
     All (λ j. j < length s.plan.stages) (sources_of of) → IsGrowing ((attached_by room s (attached_stage form of function)).1.plan)

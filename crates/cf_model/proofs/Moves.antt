@@ -5,18 +5,18 @@ use Rattle.std.proofs.lemmas.Bool.Decides.{nat_tests}
 use Rattle.std.specs.Option.{option_map_or}
 use Rattle.cf_model.specs.declared.replies.Finished.TheVariants.{NotYours}
 use Rattle.cf_model.specs.declared.replies.Ticked.TheVariants.{Fired, Past}
-use Rattle.cf_plan.specs.declared.forms.Form.{Form}
+use Rattle.cf_forms.specs.declared.forms.Form.{Form}
 use Rattle.cf_outcome.specs.declared.outcome.Outcome.{Outcome}
 use Rattle.cf_outcome.specs.declared.outcome.Outcome.TheVariants.{Value as Gives, Fault}
 use Rattle.cf_outcome.specs.declared.outcome.Cause.TheVariants.{Thrown, Cancelled}
 use Rattle.cf_outcome.specs.Outcomes.{wrap}
-use Rattle.cf_plan.specs.declared.forms.Args.{Args}
-use Rattle.cf_plan.specs.declared.forms.Answer.{Answer}
-use Rattle.cf_plan.specs.declared.forms.Landing.{Landing}
-use Rattle.cf_plan.specs.declared.forms.Landing.TheVariants.{Settles as Lands, Links}
-use Rattle.cf_plan.specs.declared.limits.Limit.{Limit}
-use Rattle.cf_plan.specs.Forms.{landing}
-use Rattle.cf_plan.specs.Plans.{PlannedStage, attached_stage, form_at}
+use Rattle.cf_forms.specs.declared.forms.Args.{Args}
+use Rattle.cf_forms.specs.declared.forms.Answer.{Answer}
+use Rattle.cf_forms.specs.declared.forms.Landing.{Landing}
+use Rattle.cf_forms.specs.declared.forms.Landing.TheVariants.{Settles as Lands, Links}
+use Rattle.cf_forms.specs.declared.limits.Limit.{Limit}
+use Rattle.cf_forms.specs.Forms.{landing}
+use Rattle.cf_forms.specs.Plans.{PlannedStage, attached_stage, form_at}
 use Rattle.cf_model.proofs.StateLemmas.{slice_get-set_other}
 use Rattle.cf_model.specs.declared.stage.Stage.{Stage}
 use Rattle.cf_model.specs.declared.stage.Stage.TheVariants.{Pending, Ready, Claimed, Linked, Settled}

@@ -2,12 +2,12 @@
 use Rattle.std.proofs.Common.{◌≡◌, ◌≢◌, ℕ, zero, suc, ◌+◌, ◌⊎◌, inl, inr, Bool, true, false, cond, Option, Some, None, List, [], ◌∷◌, ◌++◌, length, set, replicate, refl, ap, ◌∙◌, arith}
 use Rattle.std.specs.Prelude.{slice_get, unwrap_or, nat_lt}
 use Rattle.cf_outcome.specs.declared.outcome.Outcome.{Outcome}
-use Rattle.cf_plan.specs.declared.forms.Answer.{Answer}
-use Rattle.cf_plan.specs.declared.forms.Landing.{Landing}
-use Rattle.cf_plan.specs.declared.forms.Landing.TheVariants.{Settles as Lands, Links}
-use Rattle.cf_plan.specs.declared.limits.Limit.{Limit}
-use Rattle.cf_plan.specs.Forms.{landing}
-use Rattle.cf_plan.specs.Plans.{form_at}
+use Rattle.cf_forms.specs.declared.forms.Answer.{Answer}
+use Rattle.cf_forms.specs.declared.forms.Landing.{Landing}
+use Rattle.cf_forms.specs.declared.forms.Landing.TheVariants.{Settles as Lands, Links}
+use Rattle.cf_forms.specs.declared.limits.Limit.{Limit}
+use Rattle.cf_forms.specs.Forms.{landing}
+use Rattle.cf_forms.specs.Plans.{form_at}
 use Rattle.cf_model.specs.declared.replies.Ticked.TheVariants.{Fired, Past}
 use Rattle.cf_model.specs.declared.events.Event.TheVariants.{Tick as Ticks}
 use Rattle.cf_model.specs.States.{State, outcome_at}

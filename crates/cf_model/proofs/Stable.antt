@@ -6,14 +6,14 @@ use Rattle.cf_outcome.specs.declared.outcome.Outcome.{Outcome}
 use Rattle.cf_outcome.specs.declared.outcome.Outcome.TheVariants.{Value as Gives, Fault}
 use Rattle.cf_outcome.specs.declared.outcome.Cause.TheVariants.{Thrown, Cancelled}
 use Rattle.cf_outcome.specs.Outcomes.{wrap}
-use Rattle.cf_plan.specs.declared.forms.Answer.{Answer}
-use Rattle.cf_plan.specs.declared.forms.Form.{Form}
-use Rattle.cf_plan.specs.declared.forms.Form.TheVariants.{WhenComplete}
-use Rattle.cf_plan.specs.declared.forms.Landing.{Landing}
-use Rattle.cf_plan.specs.declared.forms.Landing.TheVariants.{Settles as Lands, Links}
-use Rattle.cf_plan.specs.declared.limits.Limit.{Limit}
-use Rattle.cf_plan.specs.Forms.{bad_answer, composes, kept_value, landing}
-use Rattle.cf_plan.specs.Plans.{PlannedStage, attached_stage, form_at}
+use Rattle.cf_forms.specs.declared.forms.Answer.{Answer}
+use Rattle.cf_forms.specs.declared.forms.Form.{Form}
+use Rattle.cf_forms.specs.declared.forms.Form.TheVariants.{WhenComplete}
+use Rattle.cf_forms.specs.declared.forms.Landing.{Landing}
+use Rattle.cf_forms.specs.declared.forms.Landing.TheVariants.{Settles as Lands, Links}
+use Rattle.cf_forms.specs.declared.limits.Limit.{Limit}
+use Rattle.cf_forms.specs.Forms.{bad_answer, composes, kept_value, landing}
+use Rattle.cf_forms.specs.Plans.{PlannedStage, attached_stage, form_at}
 use Rattle.cf_model.specs.declared.stage.Stage.{Stage}
 use Rattle.cf_model.specs.declared.stage.Stage.TheVariants.{Pending, Ready, Claimed, Linked, Settled}
 use Rattle.cf_model.specs.declared.replies.Finished.TheVariants.{NotYours}
@@ -23,9 +23,9 @@ use Rattle.cf_model.specs.declared.events.Event.TheVariants.{Complete as Complet
 use Rattle.cf_model.specs.States.{State, after, stages_after, outcome_in, outcome_at, stage_at, claim_at, new_states}
 use Rattle.cf_model.specs.Events.{answered, state_after, settled_by, settling, cancelled_by, claimed_by, finished_by, landed, linked_to, firing, due_limits, limit_outcome, source_outcome, attached_by, attaching}
 use Rattle.cf_model.proofs.Moves.{there}
-use Rattle.cf_plan.specs.declared.forms.Args.{Args}
+use Rattle.cf_forms.specs.declared.forms.Args.{Args}
 use borrow.Author.Tests.{ltb-true}
-use Rattle.cf_plan.specs.declared.forms.Answer.TheVariants.{Give, Throw, Link}
+use Rattle.cf_forms.specs.declared.forms.Answer.TheVariants.{Give, Throw, Link}
 
 -- A fact about the stages of a plan that each kind of change keeps.
 pub record IsStable (P : List PlannedStage → List Stage → Type 0) : Type 0 where

@@ -4,11 +4,11 @@ use Rattle.std.specs.Prelude.{slice_get}
 use Rattle.std.proofs.lemmas.Option.{slice_get-get_or}
 use Rattle.cf_outcome.specs.declared.outcome.Outcome.{Outcome}
 use Rattle.cf_outcome.specs.declared.outcome.Outcome.TheVariants.{Value as Gives, Fault}
-use Rattle.cf_plan.specs.declared.forms.Due.TheVariants.{Waits}
-use Rattle.cf_plan.specs.declared.forms.Form.{Form}
-use Rattle.cf_plan.specs.declared.forms.Form.TheVariants.{Handle, WhenComplete, Exceptionally, AnyOf, ExceptionallyCompose}
-use Rattle.cf_plan.specs.Forms.{due_one}
-use Rattle.cf_plan.specs.Plans.{PlannedStage, form_at, sources_at}
+use Rattle.cf_forms.specs.declared.forms.Due.TheVariants.{Waits}
+use Rattle.cf_forms.specs.declared.forms.Form.{Form}
+use Rattle.cf_forms.specs.declared.forms.Form.TheVariants.{Handle, WhenComplete, Exceptionally, AnyOf, ExceptionallyCompose}
+use Rattle.cf_forms.specs.Forms.{due_one}
+use Rattle.cf_forms.specs.Plans.{PlannedStage, form_at, sources_at}
 use Rattle.cf_model.specs.declared.stage.Stage.{Stage}
 use Rattle.cf_model.specs.declared.stage.Stage.TheVariants.{Settled}
 use Rattle.cf_model.specs.States.{State, after, next_of, new_states, outcome_at, outcome_in, stages_after}

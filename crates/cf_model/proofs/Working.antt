@@ -1,7 +1,7 @@
 -- Work ends with nothing ready, and keeps the plan.
 use Rattle.std.proofs.Common.{◌≡◌, ℕ, ◌+◌, ◌<◌, ◌≤◌, Option, Some, None, zero, suc, length, arith, ap, sym, subst, ◌∙◌, refl}
 use Rattle.std.proofs.lemmas.List.Sums.{count_by-le-length}
-use Rattle.cf_plan.specs.Meanings.{Meanings, stage_answer}
+use Rattle.cf_forms.specs.Meanings.{Meanings, stage_answer}
 use Rattle.cf_model.specs.declared.replies.Claimed.TheVariants as claims
 use Rattle.cf_model.specs.declared.events.Event.TheVariants.{Claim as Claims, Finish as Finishes}
 use Rattle.cf_model.specs.declared.events.Reply.{Reply}

@@ -1,10 +1,10 @@
 -- Which functions work calls: that of each stage that it works on, once, and no other.
 use Rattle.std.specs.Prelude.{◌≡◌, ◌≢◌, ℕ, List, [], ◌∷◌, Some, length, unwrap_or}
 use Rattle.std.specs.List.{AllPairs}
-use Rattle.cf_plan.specs.declared.forms.Args.{Args}
-use Rattle.cf_plan.specs.declared.forms.Answer.{Answer}
-use Rattle.cf_plan.specs.Meanings.{Meanings}
-use Rattle.cf_plan.specs.Plans.{function_at}
+use Rattle.cf_forms.specs.declared.forms.Args.{Args}
+use Rattle.cf_forms.specs.declared.forms.Answer.{Answer}
+use Rattle.cf_forms.specs.Meanings.{Meanings}
+use Rattle.cf_forms.specs.Plans.{function_at}
 use Rattle.cf_model.specs.declared.replies.Claimed.TheVariants.{Granted}
 use Rattle.cf_model.specs.declared.events.Event.TheVariants.{Claim as Claims, Finish as Finishes}
 use Rattle.cf_model.specs.declared.events.Reply.TheVariants.{Claim as ToldClaim}

@@ -1,6 +1,6 @@
 -- Laws of how plans grow.
 use Rattle.std.specs.Prelude.{◌≡◌, ℕ, ◌+◌, ◌++◌, false, length, List, All}
-use Rattle.cf_plan.specs.Plans.{IsGrowing, Planned, PlannedStage, reopened, with_room}
+use Rattle.cf_forms.specs.Plans.{IsGrowing, Planned, PlannedStage, reopened, with_room}
 use Rattle.cf_model.specs.States.{State, start}
 use Rattle.cf_model.specs.declared.events.Event.{Event}
 use Rattle.cf_model.specs.Calls.{is_attach}

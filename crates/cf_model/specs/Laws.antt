@@ -2,9 +2,9 @@
 use Rattle.std.specs.Prelude.{◌≡◌, ℕ, ◌+◌, ◌<◌, ◌≤◌, ◌==◌, Bool, true, false, length, None, Some, List, [], ◌∷◌, if◌then◌else◌, All, slice_get}
 use Rattle.cf_outcome.specs.declared.outcome.Outcome.{Outcome}
 use Rattle.cf_model.specs.declared.replies.Claimed.TheVariants.{Granted}
-use Rattle.cf_plan.specs.declared.forms.Args.{Args}
-use Rattle.cf_plan.specs.Forms.{is_decided_by_first}
-use Rattle.cf_plan.specs.Plans.{Planned, IsBuilt, form_at, sources_at}
+use Rattle.cf_forms.specs.declared.forms.Args.{Args}
+use Rattle.cf_forms.specs.Forms.{is_decided_by_first}
+use Rattle.cf_forms.specs.Plans.{Planned, IsBuilt, form_at, sources_at}
 use Rattle.cf_model.specs.declared.stage.Stage.{Stage}
 use Rattle.cf_model.specs.declared.stage.Stage.TheVariants.{Linked, Pending}
 use Rattle.cf_model.specs.States.{State, is_ready, new_states, outcome_at, stage_at, start}

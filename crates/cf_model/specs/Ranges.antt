@@ -1,7 +1,7 @@
 -- Which stages events and questions may name.
 use Rattle.std.specs.Prelude.{◌≡◌, ℕ, ◌<◌, Bool, true, ◌&&◌, is_some, length, nat_lt, List, [], ◌∷◌, All}
 use Rattle.std.specs.List.{list_all}
-use Rattle.cf_plan.specs.Plans.{fits_form, sources_of}
+use Rattle.cf_forms.specs.Plans.{fits_form, sources_of}
 use Rattle.cf_model.specs.declared.asks.Ask.{Ask}
 use Rattle.cf_model.specs.declared.asks.Ask.TheVariants.{Now as AsksNow, Outcome as AsksOutcome}
 use Rattle.cf_model.specs.declared.events.Event.{Event}

@@ -2,11 +2,11 @@
 use Rattle.std.specs.Prelude.{ℕ, Bool, true, false, position, Option, Some, None, List, [], ◌∷◌, ◌++◌, length, map, replicate, slice_get, slice_set, unwrap_or, option_and_then}
 use Rattle.cf_outcome.specs.declared.outcome.Outcome.{Outcome}
 use Rattle.cf_outcome.specs.Outcomes.{wrap}
-use Rattle.cf_plan.specs.declared.forms.Form.{Form}
-use Rattle.cf_plan.specs.declared.forms.Due.{Due}
-use Rattle.cf_plan.specs.declared.forms.Due.TheVariants.{Waits, Settles, Needs}
-use Rattle.cf_plan.specs.Forms.{follows}
-use Rattle.cf_plan.specs.Plans.{Planned, PlannedStage, and_stage}
+use Rattle.cf_forms.specs.declared.forms.Form.{Form}
+use Rattle.cf_forms.specs.declared.forms.Due.{Due}
+use Rattle.cf_forms.specs.declared.forms.Due.TheVariants.{Waits, Settles, Needs}
+use Rattle.cf_forms.specs.Forms.{follows}
+use Rattle.cf_forms.specs.Plans.{Planned, PlannedStage, and_stage}
 use Rattle.cf_model.specs.declared.stage.Stage.{Stage}
 use Rattle.cf_model.specs.declared.stage.Stage.TheVariants.{Pending, Ready, Linked, Settled}
 

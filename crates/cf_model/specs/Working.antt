@@ -1,7 +1,7 @@
 -- Work: the functions of ready stages are called, the lowest stage first.
 use Rattle.std.specs.Prelude.{ℕ, ◌+◌, zero, suc, length}
 use Rattle.std.specs.Option.{option_map_or}
-use Rattle.cf_plan.specs.Meanings.{Meanings, stage_answer}
+use Rattle.cf_forms.specs.Meanings.{Meanings, stage_answer}
 use Rattle.cf_model.specs.States.{State, lowest_ready_of}
 use Rattle.cf_model.specs.declared.replies.Claimed.TheVariants.{Granted}
 use Rattle.cf_model.specs.declared.events.Event.TheVariants.{Claim as Claims, Finish as Finishes}

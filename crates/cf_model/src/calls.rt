@@ -3,8 +3,8 @@ ghost use Rattle.std.specs.Prelude.{◌≡◌};
 ghost use Rattle.cf_model.specs.Calls.{as_call, event_by};
 
 use crate::events::Event;
+use cf_forms::{Answer, Form, Of};
 use cf_outcome::Value;
-use cf_plan::{Answer, Form, Of};
 
 /// One changing call of a caller.
 #[derive(Clone, Copy, Debug, Drop, PartialEq, Eq)]

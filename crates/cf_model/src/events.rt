@@ -4,8 +4,8 @@ ghost use Rattle.cf_model.specs.Calls.{who_of};
 ghost use Rattle.cf_model.specs.Ranges.{EventFits, fits};
 
 use crate::replies::{Attached, Claimed, Finished, Ticked};
+use cf_forms::{Answer, Form, Of, fits_form};
 use cf_outcome::Value;
-use cf_plan::{Answer, Form, Of, fits_form};
 
 /// One changing call of one caller.
 #[derive(Clone, Copy, Debug, PartialEq, Eq)]

@@ -1,6 +1,6 @@
 //! A question.
 ghost use Rattle.std.specs.Prelude.{◌≡◌, true};
-ghost use Rattle.cf_plan.specs.Plans.{has_place};
+ghost use Rattle.cf_forms.specs.Plans.{has_place};
 
 use crate::joined::StepText;
 use cf_explore::{Condition, Program};

@@ -1,6 +1,6 @@
 //! The reading of a question.
 ghost use Rattle.std.specs.Prelude.{◌≡◌, true};
-ghost use Rattle.cf_plan.specs.Plans.{has_place};
+ghost use Rattle.cf_forms.specs.Plans.{has_place};
 
 use crate::facts::{Conditions, Scope, read_asked};
 use crate::fault::{QuestionFault, Spot};

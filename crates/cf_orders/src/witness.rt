@@ -4,9 +4,9 @@ use crate::question::Question;
 use cf_core::Graph;
 use cf_event::{encode, is_event};
 use cf_explore::{Found, Move, Situation, Step, Witness};
+use cf_forms::Answer;
 use cf_model::{Ask, Event, Reply, Told};
 use cf_outcome::{Outcome, Value};
-use cf_plan::Answer;
 use cf_text::{write_did, write_saw, write_settled};
 use std::alloc::{AllocError, Global};
 

@@ -1,7 +1,8 @@
 //! What is noted of each stage while the events are done.
+use cf_forms::{Answer, Form, Of};
 use cf_model::{Attached, Claimed, Event, Finished, Reply};
 use cf_outcome::Outcome;
-use cf_plan::{Answer, Form, Of, Plan};
+use cf_plan::Plan;
 use std::alloc::{AllocError, Global};
 
 /// A stage.

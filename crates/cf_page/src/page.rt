@@ -6,7 +6,7 @@ use crate::saying::write_bare_name;
 use crate::scene::Scene;
 use crate::template::{HEAD, TAIL};
 use crate::text::Text;
-use cf_plan::{Limit, LimitKind};
+use cf_forms::{Limit, LimitKind};
 use std::alloc::{AllocError, Global};
 
 /// The page of a scene: one file of HTML that loads nothing. It fails only where there is no memory.

@@ -2,9 +2,9 @@
 use crate::noting::Notes;
 use crate::people::People;
 use crate::text::Text;
+use cf_forms::{Answer, Args};
 use cf_model::{Attached, Claimed, Event, Finished, Reply, Ticked};
 use cf_outcome::{Cause, Outcome, Value};
-use cf_plan::{Answer, Args};
 
 /// Adds who does what, and what comes of it.
 pub(crate) fn write_event(

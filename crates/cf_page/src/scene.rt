@@ -1,6 +1,6 @@
 //! A scene: the events of a history done again, and told.
 ghost use Rattle.std.specs.Prelude.{◌≡◌, true};
-ghost use Rattle.cf_plan.specs.Plans.{has_place};
+ghost use Rattle.cf_forms.specs.Plans.{has_place};
 
 use crate::changes::write_change;
 use crate::layout::{Size, lay_out};

@@ -1,11 +1,12 @@
 //! A script as a history.
 ghost use Rattle.std.specs.Prelude.{◌≡◌, true};
-ghost use Rattle.cf_plan.specs.Plans.{has_place};
+ghost use Rattle.cf_forms.specs.Plans.{has_place};
 
 use cf_event::{encode, is_event};
+use cf_forms::StageFn;
 use cf_ledger::{Held, Ledger, LedgerFault, Step as Done, StepFault, Taken};
 use cf_model::Event;
-use cf_plan::{MAX_STAGES, Plan, StageFn};
+use cf_plan::{MAX_STAGES, Plan};
 use cf_reading::{Func, Step, WORKER};
 use std::alloc::{AllocError, Global};
 

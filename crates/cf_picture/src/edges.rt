@@ -1,6 +1,6 @@
 //! Edges to a stage: from its sources, and from the stages that it may take its outcome from.
 use crate::kinds::is_ordered;
-use cf_plan::{Form, composes};
+use cf_forms::{Form, composes};
 use cf_reading::Func;
 use std::alloc::AllocError;
 

@@ -1,5 +1,5 @@
 //! The shapes by which a picture shows the kinds of forms.
-use cf_plan::Form;
+use cf_forms::Form;
 
 /// The shape of a form's stages: an ellipse is settled from outside; a box has a function that is called with nothing or
 /// with the value of one source; a hexagon's function is told a fault too; a trapezium waits for all its sources; the first

@@ -1,5 +1,5 @@
 //! Limits, as notes beside their stages.
-use cf_plan::{Limit, LimitKind};
+use cf_forms::{Limit, LimitKind};
 use std::alloc::AllocError;
 
 /// Adds a note for each limit, in firing order.

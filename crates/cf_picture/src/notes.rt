@@ -2,8 +2,8 @@
 ghost use Rattle.std.specs.Prelude.{◌≡◌, IfOk, replicate, slice_set};
 ghost use Rattle.cf_picture.specs.Fates.{linked_by, no_note, note_at, noted};
 
+use cf_forms::Answer;
 use cf_model::{Claimed, Event, Finished, Reply};
-use cf_plan::Answer;
 use std::alloc::{AllocError, Global};
 
 /// What the steps did to the claim of a stage, which is granted once at most.

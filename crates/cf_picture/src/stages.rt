@@ -8,8 +8,9 @@ use crate::kinds::shape_of;
 use crate::names::write_name;
 use crate::notes::Notes;
 use cf_core::Graph;
+use cf_forms::{Form, Of};
 use cf_model::Event;
-use cf_plan::{Form, Of, Plan};
+use cf_plan::Plan;
 use cf_reading::{Func, Step};
 use std::alloc::AllocError;
 

@@ -3,13 +3,13 @@ use Rattle.std.proofs.Common.{◌≡◌, ℕ, ◌+◌, ◌<◌, ◌∷◌, ◌++
 use Rattle.std.specs.Prelude.{is_some}
 use Rattle.std.proofs.Math.Seq.{drop-append_seam, take-append_seam}
 use Rattle.std.proofs.lemmas.List.{take_all}
-use Rattle.cf_plan.specs.declared.forms.Form.{Form}
-use Rattle.cf_plan.specs.declared.forms.Of.{Of}
-use Rattle.cf_plan.specs.declared.limits.Limit.{Limit}
-use Rattle.cf_plan.specs.Plans.{Planned, PlannedStage, and_stage, attached_stage, fits_form, form_at, function_at, plan_of, sources_at, sources_of}
+use Rattle.cf_forms.specs.declared.forms.Form.{Form}
+use Rattle.cf_forms.specs.declared.forms.Of.{Of}
+use Rattle.cf_forms.specs.declared.limits.Limit.{Limit}
+use Rattle.cf_forms.specs.Plans.{Planned, PlannedStage, and_stage, attached_stage, fits_form, form_at, function_at, plan_of, sources_at, sources_of}
 use Rattle.cf_model.specs.declared.stage.Stage.{Stage}
 use Rattle.cf_model.specs.declared.stage.Stage.TheVariants.{Pending}
-use Rattle.cf_plan.proofs.GrowingLemmas.{growing-and_stage}
+use Rattle.cf_forms.proofs.PlanLemmas.{growing-and_stage}
 use Rattle.cf_plain.specs.Plains.{IsInStep, grown}
 
 -- one more of a plan's stages

@@ -1,6 +1,6 @@
 -- The plain graph.
 use Rattle.std.specs.Prelude.{◌≡◌, ◌≤◌, ◌++◌, ℕ, Option, List, length}
-use Rattle.cf_plan.specs.Plans.{IsGrowing, Planned, PlannedStage}
+use Rattle.cf_forms.specs.Plans.{IsGrowing, Planned, PlannedStage}
 use Rattle.cf_model.specs.declared.stage.Stage.{Stage}
 
 -- the plan of an opening once these stages are attached, with room for so many more

@@ -1,11 +1,11 @@
 //! What a stage takes from its sources.
 ghost use Rattle.std.specs.Prelude.{◌≡◌, is_some, if◌then◌else◌};
 ghost use Rattle.std.specs.List.{list_all};
-ghost use Rattle.cf_plan.specs.declared.forms.Due.TheVariants.{Waits, Settles};
-ghost use Rattle.cf_plan.specs.Forms.{due_of_both, due_of_first, first_fault, first_there, follows};
+ghost use Rattle.cf_forms.specs.declared.forms.Due.TheVariants.{Waits, Settles};
+ghost use Rattle.cf_forms.specs.Forms.{due_of_both, due_of_first, first_fault, first_there, follows};
 
+use cf_forms::{Args, Due, Form, due_one, due_two};
 use cf_outcome::{Outcome, Value, is_exceptional, wrap};
-use cf_plan::{Args, Due, Form, due_one, due_two};
 
 /// What a stage of this form does when its sources have these outcomes, or none.
 pub fn follows(form: Form, outcomes: &[Option<Outcome>]) -> Due

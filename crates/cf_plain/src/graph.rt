@@ -5,15 +5,16 @@ mod changes;
 mod limits;
 
 ghost use Rattle.std.specs.Prelude.{◌≡◌, ◌<◌, ◌≤◌, ◌↔◌, IfOk, IsTrue, None, is_some, length, map, position, replicate, slice_get, true};
-ghost use Rattle.cf_plan.specs.Plans.{function_at, has_place, with_room};
+ghost use Rattle.cf_forms.specs.Plans.{function_at, has_place, with_room};
 ghost use Rattle.cf_model.specs.declared.stage.Stage.TheVariants.{Pending};
 ghost use Rattle.cf_model.specs.States.{is_ready, lowest_ready_of, outcome_at, outcome_of, stage_at, start};
 
 use crate::plan::PlainPlan;
 use crate::stages::{new_stages, outcome};
+use cf_forms::Limit;
 use cf_model::Stage;
 use cf_outcome::Outcome;
-use cf_plan::{Limit, Plan};
+use cf_plan::Plan;
 use std::alloc::{AllocError, Global};
 use std::marker::Model;
 

@@ -1,8 +1,9 @@
 //! A plan that grows: the one that it was opened with, and a list of the stages that were attached.
 ghost use Rattle.std.specs.Prelude.{◌≡◌, ◌<◌, ◌↔◌, All, IfOk, IsTrue, OnErr, is_some, length, true};
-ghost use Rattle.cf_plan.specs.Plans.{IsGrowing, and_stage, attached_stage, fits_form, form_at, function_at, has_place, sources_at, sources_of, with_room};
+ghost use Rattle.cf_forms.specs.Plans.{IsGrowing, and_stage, attached_stage, fits_form, form_at, function_at, has_place, sources_at, sources_of, with_room};
 
-use cf_plan::{Form, Limit, Of, Plan};
+use cf_forms::{Form, Limit, Of};
+use cf_plan::Plan;
 use std::alloc::{AllocError, Global};
 use std::marker::Model;
 
@@ -15,7 +16,7 @@ pub(crate) struct PlainStage {
 }
 
 impl Model for PlainStage {
-    ghost use Rattle.cf_plan.specs.Plans.{PlannedStage};
+    ghost use Rattle.cf_forms.specs.Plans.{PlannedStage};
 
     ghost Value = { PlannedStage };
 
@@ -32,11 +33,11 @@ pub struct PlainPlan {
 }
 
 impl Model for PlainPlan {
-    ghost use Rattle.cf_plan.specs.Plans.{Planned};
+    ghost use Rattle.cf_forms.specs.Plans.{Planned};
 
     ghost Value = { Planned };
 
-    ghost use Rattle.cf_plan.specs.Plans.{IsGrowing};
+    ghost use Rattle.cf_forms.specs.Plans.{IsGrowing};
     ghost use Rattle.cf_plain.specs.Plains.{grown};
 
     ghost view = { λ p. grown p.opening p.attached.items p.room };

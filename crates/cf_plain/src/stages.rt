@@ -1,12 +1,12 @@
 //! What all stages become by what their sources give.
-ghost use Rattle.std.specs.Prelude.{◌≡◌, ◌<◌, [], All, IfOk, length, map};
+ghost use Rattle.std.specs.Prelude.{◌≡◌, [], IfOk, length, map};
 ghost use Rattle.cf_model.specs.States.{due_state, new_states, next_of, outcome_in, outcome_of};
 
 use crate::forms::follows;
 use crate::plan::PlainPlan;
+use cf_forms::{Due, Form};
 use cf_model::Stage;
 use cf_outcome::{Outcome, wrap};
-use cf_plan::{Due, Form};
 use std::alloc::{AllocError, Global};
 
 /// The new states of all stages, made one after another. It fails only where there is no memory.
@@ -40,7 +40,6 @@ fn next(
     sources: &[u16],
     stage: Stage,
 ) -> Result<Stage, AllocError>
-    requires { All (λ j. j < length below.now) sources.now }
     ensures { IfOk result (λ new. new ≡ next_of below.now form sources.now stage) }
 {
     match stage {
@@ -73,7 +72,6 @@ fn outcomes_of(
     below: &[Stage],
     sources: &[u16],
 ) -> Result<Vec<Option<Outcome>>, AllocError>
-    requires { All (λ j. j < length below.now) sources.now }
     ensures { IfOk result (λ outcomes. outcomes.items ≡ map (outcome_in below.now) sources.now) }
 {
     let mut outcomes = Vec::new(alloc);

@@ -7,7 +7,7 @@ use Rattle.std.proofs.lemmas.List.Elements.{All-nil, All-head, All-tail, All-app
 use Rattle.std.proofs.lemmas.List.Sums.{sum_by-append, sum_by-cons}
 use Rattle.std.proofs.lemmas.List.Concat.{length-flat_map}
 use Rattle.std.proofs.lemmas.Bool.{cases_eq, cases_lt, eq-eqb, ne_eqb}
-use Rattle.cf_plan.specs.Plans.{PlannedStage, HasLowerSources, IsRising, dependents_from, dependents_of, edges_of, mentions, sources_at}
+use Rattle.cf_forms.specs.Plans.{PlannedStage, HasLowerSources, IsRising, dependents_from, dependents_of, edges_of, mentions, sources_at}
 use Rattle.cf_plan.specs.Rows.{all_sources}
 
 -- how often one number is i

@@ -1,22 +1,20 @@
 -- A plan with one more stage attached.
-use Rattle.std.proofs.Common.{◌≡◌, ℕ, ◌+◌, ◌-◌, ◌*◌, ◌<◌, ◌≤◌, ◌∷◌, ◌++◌, [], List, All, Bool, true, false, Option, length, suc, zero, arith, ap, sym, ◌∙◌, subst, refl, map, replicate, append_assoc, append-nil, length-append, zero-add}
-use Rattle.std.specs.Prelude.{is_some, not, ◌==◌, ◌||◌, ◌&&◌, reverse}
+use Rattle.std.proofs.Common.{◌≡◌, ℕ, ◌+◌, ◌-◌, ◌*◌, ◌<◌, ◌≤◌, ◌∷◌, ◌++◌, [], List, All, true, Option, length, suc, zero, arith, ap, sym, ◌∙◌, subst, refl, map, replicate, append_assoc, append-nil, length-append, zero-add}
+use Rattle.std.specs.Prelude.{is_some, ◌==◌, reverse}
 use Rattle.std.proofs.lemmas.List.{get_or-replicate, length-map, length-replicate, length-reverse, map-append, replicate-append-replicate, reverse-append, reverse-reverse}
 use Rattle.std.proofs.lemmas.List.Elements.{All-head, All-nil, All-push, All-tail}
-use Rattle.std.specs.List.{sum_by}
-use Rattle.std.proofs.lemmas.List.Sums.{sum_by-append, sum_by-cons, count_by-le-length}
-use Rattle.cf_plan.specs.declared.forms.Form.{Form}
-use Rattle.cf_plan.specs.declared.forms.Of.{Of}
-use Rattle.cf_plan.specs.declared.forms.Of.TheVariants.{None as NoSource, One, Two}
+use Rattle.std.proofs.lemmas.List.Sums.{sum_by-append, count_by-le-length}
+use Rattle.cf_forms.specs.declared.forms.Form.{Form}
+use Rattle.cf_forms.specs.declared.forms.Of.{Of}
 use Rattle.cf_plan.specs.declared.growing.AttachedRow.{AttachedRow}
 use Rattle.cf_plan.specs.declared.attached_lists.Cell.{Cell}
 use Rattle.cf_plan.specs.declared.attached_lists.Head.{Head}
 use Rattle.cf_plan.specs.Growing.{AreGrowing, attached_of, grown_of, attached_dependents_of}
-use Rattle.cf_plan.specs.Plans.{HasLowerSources, IsBuilt, IsGrowing, Planned, PlannedStage, and_stage, attached_stage, calls_function, dependents_from, dependents_of, edges_of, fits_count, fits_form, mentions, plan_of, sources_of, with_stage}
+use Rattle.cf_forms.specs.Plans.{HasLowerSources, IsBuilt, Planned, PlannedStage, attached_stage, dependents_from, dependents_of, edges_of, fits_form, mentions, plan_of, sources_of, with_stage}
 use Rattle.cf_plan.specs.Rows.{all_sources}
 use Rattle.cf_plan.specs.AttachedLists.{AreAttachedLists, IsAttachedList, head_at, list_of}
 use Rattle.cf_plan.proofs.DependentLemmas.{dependents_above, dependents_below, dependents_from-append, dependents_there, length-dependents_from, mentions-cons, one_where}
-use Rattle.cf_plan.proofs.PlanLemmas.{IsBuilt-with_stage, MayAdd}
+use Rattle.cf_forms.proofs.PlanLemmas.{IsBuilt-as, IsBuilt-with_stage, few_sources, may_attach}
 use Rattle.cf_plan.proofs.AttachedListLemmas.{AreAttachedLists-same, count_is}
 use Rattle.std.proofs.lemmas.List.Concat.{length-flat_map}
 
@@ -87,49 +85,6 @@ none_between i n (x ∷ xs) above below past =
 
 pub dependents_past : (stages : List PlannedStage) (i : ℕ) → HasLowerSources 0 stages → length stages ≤ i → [] ≡ dependents_of stages i
 dependents_past stages i h past = none_between i (length stages) (dependents_of stages i) (dependents_above 0 stages i h) (dependents_there stages i) past
-
--- ---- the plan
-
--- what is built depends on the stages and limits alone
-pub IsBuilt-as : (p q : Planned) → p.stages ≡ q.stages → p.limits ≡ q.limits → IsBuilt p → IsBuilt q
-IsBuilt-as p q stages limits h =
-    let whole : IsBuilt (plan_of p.stages p.limits) =
-    record { few_stages = h.few_stages; few_edges = h.few_edges; few_limits = h.few_limits; lower = h.lower; fitting = h.fitting; called = h.called; named = h.named; in_order = h.in_order } in
-    let is : IsBuilt (plan_of q.stages q.limits) =
-    subst (λ xs. IsBuilt (plan_of xs q.limits)) stages (subst (λ ls. IsBuilt (plan_of p.stages ls)) limits whole) in
-    record { few_stages = is.few_stages; few_edges = is.few_edges; few_limits = is.few_limits; lower = is.lower; fitting = is.fitting; called = is.called; named = is.named; in_order = is.in_order }
-
--- a stage that fits its form
-pub fits_form-count : (form : Form) (n : ℕ) (b : Bool) → fits_form form n b ≡ true → fits_count form n ≡ true
-fits_form-count form n b h = first (fits_count form n) (b || not (calls_function form)) (not b || calls_function form) h
-  where
-    first : (x y z : Bool) → (x && y && z) ≡ true → x ≡ true
-    first true y z e = refl
-    first false y z e = cc
-
-pub fits_form-called : (form : Form) (n : ℕ) (b : Bool) → fits_form form n b ≡ true → b ≡ calls_function form
-fits_form-called form n b h = both (fits_count form n) b (calls_function form) h
-  where
-    both : (x b called : Bool) → (x && (b || not called) && (not b || called)) ≡ true → b ≡ called
-    both true true true e = refl
-    both true false false e = refl
-    both true true false e = cc
-    both true false true e = cc
-    both false b called e = cc
-
--- a stage of at most two sources, for which there is room, may be added
-pub may_attach : (plan : Planned) (new : PlannedStage) → IsGrowing plan → 0 < plan.room → length new.sources ≤ 2 → fits_form new.form (length new.sources) (is_some new.function) ≡ true →
-    All (λ j. j < length plan.stages) new.sources → MayAdd (length plan.stages) (edges_of plan.stages) new
-may_attach plan new h room short fits lower =
-    let stages = h.few_stages in
-    let edges = h.few_edges in
-    record {
-      room = omega arith;
-      lower = lower;
-      few = omega arith;
-      fitting = fits_form-count new.form (length new.sources) (is_some new.function) fits;
-      called = fits_form-called new.form (length new.sources) (is_some new.function) fits;
-    }
 
 -- ---- the rows and lists
 
@@ -208,18 +163,13 @@ AreGrowing-attach opening rows row heads new_heads cells new_cells room row_room
       lists = lists;
     }
 
-sources_few : (of : Of) → length (sources_of of) ≤ 2
-sources_few NoSource = omega arith
-sources_few (One a) = omega arith
-sources_few (Two a b) = omega arith
-
 pub AreGrowing-attached : (opening : Planned) (rows : List AttachedRow) (row : AttachedRow) (form : Form) (of : Of) (function : Option ℕ) (heads new_heads : List Head) (cells new_cells : List Cell) (room row_room cell_room : ℕ) →
     AreGrowing opening rows heads cells room row_room cell_room → 0 < room → attached_of row ≡ attached_stage form of function → row.count ≡ length (sources_of of) →
     fits_form form (length (sources_of of)) (is_some function) ≡ true → All (λ j. j < length (opening.stages ++ map attached_of rows)) (sources_of of) →
     length new_heads ≡ length heads → length new_cells ≡ length cells + length (sources_of of) → AreAttachedLists new_heads new_cells (attached_dependents_of opening (rows ++ row ∷ [])) →
     AreGrowing opening (rows ++ row ∷ []) new_heads new_cells (room - 1) row_room cell_room
 AreGrowing-attached opening rows row form of function heads new_heads cells new_cells room row_room cell_room h some is count fits lower all_heads all_cells lists =
-    let few = sources_few of in
+    let few = few_sources of in
     let Fits : PlannedStage → Type 0 = λ s. fits_form s.form (length s.sources) (is_some s.function) ≡ true in
     let Lower : PlannedStage → Type 0 = λ s. All (λ j. j < length (opening.stages ++ map attached_of rows)) s.sources in
     let Few : PlannedStage → Type 0 = λ s. length s.sources ≤ 2 in
@@ -284,31 +234,3 @@ pub short_list : (opening : Planned) (rows : List AttachedRow) (heads : List Hea
     i < length heads → (head_at heads i).count ≤ 16384
 short_list opening rows heads cells room row_room cell_room i h there =
     omega (arith, count_is heads cells (attached_dependents_of opening rows) i h.lists there, attached_few opening rows i h.growing.built.few_edges)
-
--- an attached stage has at most two sources
-pub few_sources : (of : Of) → length (sources_of of) ≤ 2
-few_sources NoSource = omega arith
-few_sources (One a) = omega arith
-few_sources (Two a b) = omega arith
-
--- a plan that grows still does with the stage
-pub growing-and_stage : (plan : Planned) (form : Form) (of : Of) (function : Option ℕ) → IsGrowing plan → 0 < plan.room → fits_form form (length (sources_of of)) (is_some function) ≡ true →
-    All (λ j. j < length plan.stages) (sources_of of) → IsGrowing (and_stage plan (attached_stage form of function))
-growing-and_stage plan form of function h room fits lower =
-    let new = attached_stage form of function in
-    let few = few_sources of in
-    let may = may_attach plan new h room few fits lower in
-    let longer = length-append plan.stages (new ∷ []) in
-    let one : length (new ∷ []) ≡ 1 = refl in
-    let edges = sum_by-append (λ (s : PlannedStage). length s.sources) plan.stages (new ∷ []) in
-    let one_edge = sum_by-cons (λ (s : PlannedStage). length s.sources) new [] in
-    let no_edge : sum_by (λ (s : PlannedStage). length s.sources) [] ≡ 0 = refl in
-    let opened = h.opened in
-    let stages = h.few_stages in
-    let all_edges = h.few_edges in
-    record {
-      built = IsBuilt-as (with_stage plan new) (and_stage plan new) refl refl (IsBuilt-with_stage plan new h.built may);
-      opened = omega (arith, longer, one, opened);
-      few_stages = omega (arith, longer, one, stages);
-      few_edges = omega (arith, edges, one_edge, no_edge, few, all_edges);
-    }

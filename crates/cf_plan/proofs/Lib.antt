@@ -1,5 +1,4 @@
-pub mod ListLemmas
-pub mod PlanLemmas
+pub mod FaultLemmas
 pub mod LimitLemmas
 pub mod RowLemmas
 pub mod DependentLemmas
@@ -8,4 +7,3 @@ pub mod FillingRows
 pub mod AttachedListLemmas
 pub mod GrowingLemmas
 pub mod StartLemmas
-pub mod NamingLemmas

@@ -4,8 +4,8 @@ use Rattle.std.specs.Prelude.{slice_index_or, if◌then◌else◌}
 use Rattle.std.proofs.lemmas.List.{length-map}
 use Rattle.std.proofs.lemmas.List.Elements.{All-cons, All-nil}
 use Rattle.cf_plan.specs.declared.rows.Row.{Row}
-use Rattle.cf_plan.specs.Forms.{starts}
-use Rattle.cf_plan.specs.Plans.{IsRising, PlannedStage, starts_from, starts_of}
+use Rattle.cf_forms.specs.Forms.{starts}
+use Rattle.cf_forms.specs.Plans.{IsRising, PlannedStage, starts_from, starts_of}
 use Rattle.cf_plan.specs.Rows.{stage_of, stages_of}
 use Rattle.cf_plan.proofs.FillingRows.{count_before, take_split}
 

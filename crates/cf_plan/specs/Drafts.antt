@@ -1,6 +1,6 @@
 -- A plan that is being built, and the room that there is for it.
 use Rattle.std.specs.Prelude.{ℕ, ◌+◌, ◌<◌, ◌≤◌, [], length}
-use Rattle.cf_plan.specs.Plans.{Planned, edges_of, plan_of}
+use Rattle.cf_forms.specs.Plans.{Planned, edges_of, plan_of}
 
 -- for how many stages, edges and limits there is memory, those that are there included
 pub record Room : Type 0 where

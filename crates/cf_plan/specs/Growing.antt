@@ -3,7 +3,7 @@ use Rattle.std.specs.Prelude.{◌≡◌, ℕ, ◌+◌, ◌*◌, ◌<◌, ◌≤�
 use Rattle.cf_plan.specs.declared.growing.AttachedRow.{AttachedRow}
 use Rattle.cf_plan.specs.declared.attached_lists.Cell.{Cell}
 use Rattle.cf_plan.specs.declared.attached_lists.Head.{Head}
-use Rattle.cf_plan.specs.Plans.{IsGrowing, Planned, PlannedStage, dependents_from, edges_of, plan_of}
+use Rattle.cf_forms.specs.Plans.{IsGrowing, Planned, PlannedStage, dependents_from, edges_of, plan_of}
 use Rattle.cf_plan.specs.AttachedLists.{AreAttachedLists}
 
 -- the stage that a row stands for

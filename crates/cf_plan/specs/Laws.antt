@@ -1,7 +1,7 @@
 -- Laws of dependents, over any list of stages.
 use Rattle.std.specs.Prelude.{◌≡◌, ℕ, ◌<◌, List, length, All}
 use Rattle.std.specs.List.{range_with_len, sum_by}
-use Rattle.cf_plan.specs.Plans.{HasLowerSources, IsRising, PlannedStage, dependents_of, edges_of, mentions, sources_at}
+use Rattle.cf_forms.specs.Plans.{HasLowerSources, IsRising, PlannedStage, dependents_of, edges_of, mentions, sources_at}
 
 -- stage k stands among the dependents of stage i as often as its sources name stage i
 abbrev pub DependentsAreConverse : Type 0

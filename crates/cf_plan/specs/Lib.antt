@@ -1,9 +1,6 @@
 pub mod Drafts
-pub mod Forms
+pub mod Faults
 pub mod Growing
 pub mod Laws
-pub mod Meanings
-pub mod Naming
-pub mod Plans
 pub mod Rows
 pub mod AttachedLists

@@ -1,9 +1,9 @@
 -- How a plan is kept: a row for each stage, the sources of all stages one after another, and so the dependents.
 use Rattle.std.specs.Prelude.{◌≡◌, ℕ, ◌+◌, ◌<◌, ◌≤◌, List, length, map, slice_index, slice_range, take, All}
 use Rattle.std.specs.List.{flat_map, sum}
-use Rattle.cf_plan.specs.declared.limits.Limit.{Limit}
+use Rattle.cf_forms.specs.declared.limits.Limit.{Limit}
 use Rattle.cf_plan.specs.declared.rows.Row.{Row}
-use Rattle.cf_plan.specs.Plans.{IsBuilt, Planned, PlannedStage, dependents_of, edges_of, mentions, plan_of}
+use Rattle.cf_forms.specs.Plans.{IsBuilt, Planned, PlannedStage, dependents_of, edges_of, mentions, plan_of}
 
 -- the stage that a row stands for
 abbrev pub stage_of : List ℕ → Row → PlannedStage

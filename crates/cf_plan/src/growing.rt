@@ -1,12 +1,11 @@
 //! Plans to which stages are attached.
 ghost use Rattle.std.specs.Prelude.{◌≡◌, ℕ, ◌+◌, ◌*◌, ◌<◌, ◌≤◌, ◌++◌, true, All, IfOk, is_some, length, reverse};
 ghost use Rattle.cf_plan.specs.Growing.{attached_of};
-ghost use Rattle.cf_plan.specs.Plans.{AreBelow, IsGrowing, and_stage, attached_stage, dependents_of, edges_of, fits_form, form_at, function_at, has_place, opening_of, reopened, sources_at, sources_of, with_room};
+ghost use Rattle.cf_forms.specs.Plans.{AreBelow, IsGrowing, and_stage, attached_stage, dependents_of, edges_of, fits_form, form_at, function_at, has_place, opening_of, reopened, sources_at, sources_of, with_room};
 
 use crate::attached_lists::{AttachedDependents, AttachedLists};
-use crate::forms::{Form, Of};
-use crate::limits::Limit;
 use crate::plan::Plan;
+use cf_forms::{Form, Limit, Of};
 use std::alloc::{AllocError, Global};
 use std::marker::Model;
 
@@ -34,7 +33,7 @@ pub struct GrowingPlan {
 }
 
 impl Model for GrowingPlan {
-    ghost use Rattle.cf_plan.specs.Plans.{Planned};
+    ghost use Rattle.cf_forms.specs.Plans.{Planned};
 
     ghost Value = { Planned };
 

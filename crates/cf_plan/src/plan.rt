@@ -1,15 +1,14 @@
 //! Plans, and what is asked of them.
 ghost use Rattle.std.specs.Prelude.{◌≡◌, ℕ, ◌<◌, ◌≤◌, All, IfOk, IsOkUnless, length};
-ghost use Rattle.cf_plan.specs.Plans.{IsBuilt, IsRising, dependents_of, edges_of, form_at, function_at, has_place, mentions, plan_of, sources_at, starts_of};
+ghost use Rattle.cf_forms.specs.Plans.{IsBuilt, IsRising, dependents_of, edges_of, form_at, function_at, has_place, mentions, plan_of, sources_at, starts_of};
 ghost use Rattle.cf_plan.specs.Rows.{ArePlanned, planned_of};
 
 use crate::builder::{MAX_EDGES, MAX_STAGES};
 use crate::dependents::Dependents;
 use crate::faults::PlanFault;
-use crate::forms::Form;
-use crate::limits::Limit;
 use crate::rows::Row;
 use crate::starting::starts_of;
+use cf_forms::{Form, Limit};
 use std::alloc::{AllocError, Global};
 use std::marker::Model;
 use std::sync::Arc;
@@ -25,12 +24,12 @@ struct Blocks {
 }
 
 impl Model for Blocks {
-    ghost use Rattle.cf_plan.specs.Plans.{Planned};
+    ghost use Rattle.cf_forms.specs.Plans.{Planned};
 
     ghost Value = { Planned };
 
     ghost use Rattle.std.specs.Prelude.{◌≡◌};
-    ghost use Rattle.cf_plan.specs.Plans.{starts_of};
+    ghost use Rattle.cf_forms.specs.Plans.{starts_of};
     ghost use Rattle.cf_plan.specs.Rows.{AreDependents, ArePlanned, planned_of, stages_of};
 
     ghost view = { λ p. planned_of p.rows.items p.sources.items p.limits.items };
@@ -49,7 +48,7 @@ pub struct Plan {
 
 impl Model for Plan {
     ghost use Rattle.std.specs.Arc.{arc_value};
-    ghost use Rattle.cf_plan.specs.Plans.{IsBuilt, Planned};
+    ghost use Rattle.cf_forms.specs.Plans.{IsBuilt, Planned};
 
     ghost Value = { Planned };
 

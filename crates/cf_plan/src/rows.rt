@@ -1,5 +1,5 @@
 //! How the stages of a plan are kept.
-use crate::forms::Form;
+use cf_forms::Form;
 
 /// One stage. Its sources are those from `first` up to `end` of the plan's one block of sources, in which the sources
 /// of all stages stand one after another.

@@ -1,11 +1,11 @@
 //! Which stages have something to take from the start on.
 ghost use Rattle.std.specs.Prelude.{◌≡◌, ◌≤◌, IfOk, length};
-ghost use Rattle.cf_plan.specs.Forms.{starts};
-ghost use Rattle.cf_plan.specs.Plans.{starts_of};
+ghost use Rattle.cf_forms.specs.Forms.{starts};
+ghost use Rattle.cf_forms.specs.Plans.{starts_of};
 ghost use Rattle.cf_plan.specs.Rows.{AreRows, stages_of};
 
-use crate::forms::Form;
 use crate::rows::Row;
+use cf_forms::starts;
 use std::alloc::{AllocError, Global};
 
 /// The stages of these rows that start, in rising order. Where there are none it takes no memory.
@@ -26,16 +26,4 @@ pub(crate) fn starts_of(
         }
     }
     Ok(found)
-}
-
-/// Whether a stage of this form with these sources has something to take from the start on, when nothing has settled: a
-/// supply or runAsync, or an allOf without sources.
-pub fn starts(form: Form, of: &[u16]) -> bool
-    ensures { result ≡ starts form of.now }
-{
-    match form {
-        Form::Supply | Form::RunAsync => true,
-        Form::AllOf => of.is_empty(),
-        _ => false,
-    }
 }

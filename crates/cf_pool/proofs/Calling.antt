@@ -2,12 +2,12 @@
 use Rattle.std.proofs.Common.{◌≡◌, ℕ, ◌+◌, ◌<◌, ◌≤◌, Option, Some, None, List, [], ◌∷◌, ◌++◌, length, cond, sym, refl, ap, ◌∙◌, subst, append-nil, append_assoc, arith}
 use Rattle.std.specs.Prelude.{◌==◌}
 use Rattle.std.proofs.lemmas.List.{append_cancel_left}
-use Rattle.cf_plan.specs.declared.forms.Answer.{Answer}
-use Rattle.cf_plan.specs.declared.forms.Args.{Args}
-use Rattle.cf_plan.specs.Meanings.{Meanings, meanings_of}
+use Rattle.cf_forms.specs.declared.forms.Answer.{Answer}
+use Rattle.cf_forms.specs.declared.forms.Args.{Args}
+use Rattle.cf_forms.specs.Meanings.{Meanings, meanings_of}
 use Rattle.std.proofs.lemmas.List.Elements.{All-head, All-nil, All-weaker}
 use Rattle.std.specs.List.{All}
-use Rattle.cf_plan.specs.Plans.{Planned, PlannedStage}
+use Rattle.cf_forms.specs.Plans.{Planned, PlannedStage}
 use Rattle.cf_model.specs.declared.events.Reply.{Reply}
 use Rattle.cf_model.specs.States.{State}
 use Rattle.cf_model.specs.Growth.{Grows}

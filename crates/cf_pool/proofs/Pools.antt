@@ -18,7 +18,7 @@ use Rattle.cf_desk.proofs.Passes.{none_new}
 use Rattle.cf_pool.specs.declared.pool.Met.{Met}
 use Rattle.cf_pool.specs.declared.pool.Worked.{Worked}
 use Rattle.cf_pool.specs.Runs.{EndsIf, IsFirst, IsWorkedBy, SeesMore, Stop, first_with, lower_of, stop_of}
-use Rattle.cf_plan.specs.Meanings.{Meanings}
+use Rattle.cf_forms.specs.Meanings.{Meanings}
 use Rattle.cf_model.specs.Calling.{CallsOf}
 use Rattle.cf_pool.specs.Calling.{TellsOf}
 

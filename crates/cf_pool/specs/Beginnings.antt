@@ -10,7 +10,7 @@ use Rattle.cf_event.specs.Events.{own}
 use Rattle.cf_desk.specs.Records.{dids}
 use Rattle.cf_desk.specs.Views.{Desk, IsOf, Pass}
 use Rattle.cf_pool.specs.declared.pool.Left.{Left}
-use Rattle.cf_plan.specs.Meanings.{Meanings}
+use Rattle.cf_forms.specs.Meanings.{Meanings}
 use Rattle.cf_model.specs.Calling.{CallsOf}
 use Rattle.cf_pool.specs.Calling.{TellsOf}
 use Rattle.cf_pool.specs.Closings.{HadThreads, HaveCalled}

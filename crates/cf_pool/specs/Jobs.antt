@@ -1,13 +1,13 @@
 -- What one job of a worker adds: a claim, and the finish where the claim is granted.
 use Rattle.std.specs.Prelude.{◌≡◌, ℕ, ◌+◌, ◌<◌, ◌≤◌, true, false, Option, Some, None, List, ◌++◌, length}
-use Rattle.cf_plan.specs.declared.forms.Args.{Args}
+use Rattle.cf_forms.specs.declared.forms.Args.{Args}
 use Rattle.cf_model.specs.declared.events.Event.{Event}
 use Rattle.cf_model.specs.declared.events.Reply.{Reply}
 use Rattle.cf_model.specs.declared.events.Reply.TheVariants.{Claim as ToldClaim}
 use Rattle.cf_model.specs.declared.replies.Claimed.TheVariants.{Granted}
 use Rattle.cf_model.specs.Claims.{is_claimable}
 use Rattle.cf_model.specs.States.{stage_at}
-use Rattle.cf_plan.specs.Meanings.{Meanings}
+use Rattle.cf_forms.specs.Meanings.{Meanings}
 use Rattle.cf_desk.specs.declared.calls.Rec.{Rec}
 use Rattle.cf_desk.specs.declared.faults.DeskFault.{DeskFault}
 use Rattle.cf_desk.specs.Views.{Desk, Pass, IsSamePass, state_of}

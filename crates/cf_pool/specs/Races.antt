@@ -1,6 +1,6 @@
 -- What a race does and leaves.
 use Rattle.std.specs.Prelude.{◌≡◌, ℕ, ◌+◌, ◌*◌, ◌<◌, ◌≤◌, true, Some, List, [], ◌∷◌, ◌++◌, length}
-use Rattle.cf_plan.specs.Plans.{Planned, IsBuilt}
+use Rattle.cf_forms.specs.Plans.{Planned, IsBuilt}
 use Rattle.std.specs.List.{All}
 use Rattle.cf_model.specs.declared.events.Event.{Event}
 use Rattle.cf_model.specs.declared.events.Event.TheVariants.{Claim as Claims, Finish as Finishes}
@@ -9,10 +9,10 @@ use Rattle.cf_model.specs.Events.{answered, state_after}
 use Rattle.cf_model.specs.Calls.{is_from_outside, who_of}
 use Rattle.cf_model.specs.Ranges.{EventsFit}
 use Rattle.cf_desk.specs.Faults.{AttachFits}
-use Rattle.cf_plan.specs.declared.forms.Args.{Args}
+use Rattle.cf_forms.specs.declared.forms.Args.{Args}
 use Rattle.cf_pool.specs.declared.races.RaceFault.{RaceFault}
 use Rattle.cf_pool.specs.declared.races.RaceFault.TheVariants.{Size, NoMemory}
-use Rattle.cf_plan.specs.Meanings.{Meanings, stage_answer}
+use Rattle.cf_forms.specs.Meanings.{Meanings, stage_answer}
 use Rattle.cf_expr.specs.Expressions.{expr}
 use Rattle.cf_expr.specs.Histories.{Grants, IsPlain, IsPlainPlan, IsQuiet, grants_after, granted_with, nothing_granted}
 

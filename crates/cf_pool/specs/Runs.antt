@@ -1,7 +1,7 @@
 -- What a run of workers is told by each of them.
 use Rattle.std.specs.Prelude.{◌≡◌, ℕ, ◌<◌, nat_lt, Bool, true, false, Option, Some, None, MatchOption, List, ◌∷◌}
 use Rattle.std.specs.List.{All, AllZip, Contains, list_any}
-use Rattle.cf_plan.specs.Meanings.{Meanings}
+use Rattle.cf_forms.specs.Meanings.{Meanings}
 use Rattle.cf_desk.specs.declared.faults.DeskFault.{DeskFault}
 use Rattle.cf_desk.specs.Log.{Catches}
 use Rattle.cf_desk.specs.Views.{Pass, IsSamePass, Desk, state_of}

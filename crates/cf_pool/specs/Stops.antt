@@ -1,7 +1,7 @@
 -- Why a worker stops: a call that it made was refused.
 use Rattle.std.specs.Prelude.{◌≡◌, ℕ, Some, None}
 use Rattle.cf_model.specs.States.{lowest_ready_of}
-use Rattle.cf_plan.specs.Meanings.{Meanings, stage_answer}
+use Rattle.cf_forms.specs.Meanings.{Meanings, stage_answer}
 use Rattle.cf_model.specs.declared.calls.Call.{Call}
 use Rattle.cf_model.specs.declared.calls.Call.TheVariants.{Claim, Finish}
 use Rattle.cf_desk.specs.declared.faults.DeskFault.{DeskFault}

@@ -1,11 +1,11 @@
 -- What a worker adds to its pass.
 use Rattle.std.specs.Prelude.{◌≡◌, ℕ, ◌+◌, ◌<◌, ◌≤◌, ◌==◌, Option, Some, None, List, [], ◌∷◌, ◌++◌, length, if◌then◌else◌}
-use Rattle.cf_plan.specs.declared.forms.Args.{Args}
-use Rattle.cf_plan.specs.Plans.{Planned}
+use Rattle.cf_forms.specs.declared.forms.Args.{Args}
+use Rattle.cf_forms.specs.Plans.{Planned}
 use Rattle.cf_model.specs.declared.events.Event.{Event}
 use Rattle.cf_model.specs.declared.events.Reply.TheVariants.{Claim as ToldClaim}
 use Rattle.cf_model.specs.declared.replies.Claimed.TheVariants.{Granted}
-use Rattle.cf_plan.specs.Meanings.{Meanings, stage_answer}
+use Rattle.cf_forms.specs.Meanings.{Meanings, stage_answer}
 use Rattle.cf_model.specs.declared.calls.Call.TheVariants.{Claim, Finish}
 use Rattle.cf_desk.specs.declared.calls.Rec.{Rec}
 use Rattle.cf_desk.specs.declared.calls.Rec.TheVariants.{Did}

@@ -4,7 +4,7 @@ mod beginning;
 mod sizes;
 
 ghost use Rattle.std.specs.Prelude.{◌≡◌, ◌+◌, ◌<◌, ◌≤◌, IfErr, IfOk, length, true, vec_len};
-ghost use Rattle.cf_plan.specs.Plans.{has_place, with_room};
+ghost use Rattle.cf_forms.specs.Plans.{has_place, with_room};
 ghost use Rattle.cf_pool.specs.Calling.{MeanAlike, first_meanings};
 ghost use Rattle.cf_pool.specs.Beginnings.{HaveCalledInRace};
 ghost use Rattle.cf_pool.specs.Closings.{IsForRoom};
@@ -45,7 +45,7 @@ impl From<AllocError> for RaceFault {
 /// `hands` has the worker of caller 0 and then those of the others, whose functions mean the same. It leaves the desk,
 /// closed, and the workers, each of which has called its functions for the claims that its pass was granted, once each,
 /// and never else.
-#[tactic(auto, using(cf_plan::proofs::PlanLemmas::place_is))]
+#[tactic(auto, using(cf_forms::proofs::PlanLemmas::place_is))]
 pub fn race<R: Threads + Wait + Sync, W: Worker + Send + Drop>(
     rt: &R,
     alloc: Global,

@@ -8,16 +8,16 @@ ghost use Rattle.cf_desk.specs.Views.{Acts, Follows, IsOf, IsSamePass, state_of}
 ghost use Rattle.cf_pool.specs.Calling.{Calls, CallsOnce, RunsStage};
 ghost use Rattle.cf_pool.specs.Counting.{EndedWith, late_by, won_by};
 ghost use Rattle.cf_pool.specs.Jobs.{AddsWork, DoesJob, StopsJob, granted_by};
-ghost use Rattle.cf_plan.specs.Meanings.{stage_answer};
-ghost use Rattle.cf_plan.specs.Plans.{function_at};
+ghost use Rattle.cf_forms.specs.Meanings.{stage_answer};
+ghost use Rattle.cf_forms.specs.Plans.{function_at};
 ghost use Rattle.cf_pool.specs.Stops.{MeetsFault, Stops};
 ghost use Rattle.cf_pool.specs.Waits.{Idles, Waits};
 ghost use Rattle.cf_pool.specs.Works.{Owed, Works};
 
 use crate::workers::Worker;
 use cf_desk::{Call, Desk, DeskFault, Pass};
+use cf_forms::{Answer, Args};
 use cf_model::{Claimed, Finished, Reply};
-use cf_plan::{Answer, Args};
 
 /// What a worker counted.
 #[derive(Clone, Copy, Debug, Drop, PartialEq, Eq)]

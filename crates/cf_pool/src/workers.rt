@@ -1,13 +1,13 @@
 //! What a worker works with: functions and a gate, with one memory.
 ghost use Rattle.std.specs.Prelude.{◌≡◌, ◌<◌, ℕ, IfOk, vec_len};
 ghost use Rattle.std.proofs.Common.{ap};
-ghost use Rattle.cf_plan.specs.declared.forms.Answer.{Answer};
-ghost use Rattle.cf_plan.specs.declared.forms.Args.{Args};
-ghost use Rattle.cf_plan.specs.Meanings.{Meanings, meanings_of};
+ghost use Rattle.cf_forms.specs.declared.forms.Answer.{Answer};
+ghost use Rattle.cf_forms.specs.declared.forms.Args.{Args};
+ghost use Rattle.cf_forms.specs.Meanings.{Meanings, meanings_of};
 ghost use Rattle.cf_pool.specs.Calling.{MeanAlike, first_meanings};
 
 use crate::gate::Gate;
-use cf_plan::{Answer, Args, Each, Functions, StageFn};
+use cf_forms::{Answer, Args, Each, Functions, StageFn};
 use std::alloc::{AllocError, Global};
 
 /// The functions of stages and a gate, with one memory, which a call and the gate may change. So a worker may count and

@@ -6,8 +6,9 @@ use Rattle.std.proofs.lemmas.List.Elements.{All-nil}
 use Rattle.serde_json.specs.Data.{Data, Items, no_items, item}
 use Rattle.serde_json.specs.Find.{get, as_array, as_object}
 use Rattle.cf_plan.specs.declared.faults.PlanFault.{PlanFault}
-use Rattle.cf_plan.specs.declared.limits.Limit.{Limit}
-use Rattle.cf_plan.specs.Plans.{Planned, PlannedStage, edges_of, has_place, stage_fault, limit_fault, with_stage, with_limit}
+use Rattle.cf_forms.specs.declared.limits.Limit.{Limit}
+use Rattle.cf_forms.specs.Plans.{Planned, PlannedStage, edges_of, has_place, with_stage, with_limit}
+use Rattle.cf_plan.specs.Faults.{stage_fault, limit_fault}
 use Rattle.cf_reading.specs.declared.fault.Part.TheVariants as parts
 use Rattle.cf_reading.specs.declared.fault.ReadingFault.{ReadingFault}
 use Rattle.cf_reading.specs.declared.fault.ReadingFault.TheVariants as faults

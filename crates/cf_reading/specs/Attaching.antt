@@ -3,10 +3,10 @@ use Rattle.std.specs.Prelude.{◌==◌, ◌&&◌, ℕ, List, length, Bool, true,
 use Rattle.std.specs.Option.{option_map_or}
 use Rattle.serde_json.specs.Data.{Data}
 use Rattle.serde_json.specs.Find.{at, get, as_array}
-use Rattle.cf_plan.specs.declared.forms.Form.{Form}
-use Rattle.cf_plan.specs.declared.forms.Of.{Of}
-use Rattle.cf_plan.specs.declared.forms.Of.TheVariants.{None as NoSource, One, Two}
-use Rattle.cf_plan.specs.Plans.{fits_form, sources_of}
+use Rattle.cf_forms.specs.declared.forms.Form.{Form}
+use Rattle.cf_forms.specs.declared.forms.Of.{Of}
+use Rattle.cf_forms.specs.declared.forms.Of.TheVariants.{None as NoSource, One, Two}
+use Rattle.cf_forms.specs.Plans.{fits_form, sources_of}
 use Rattle.cf_model.specs.declared.events.Event.TheVariants.{Attach as Attaches}
 use Rattle.cf_reading.specs.declared.func.Func.{Func}
 use Rattle.cf_reading.specs.declared.script.Step.{Step}

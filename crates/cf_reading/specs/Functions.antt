@@ -7,10 +7,10 @@ use Rattle.cf_outcome.specs.declared.outcome.Value.TheVariants.{Nil, Int}
 use Rattle.cf_outcome.specs.declared.outcome.Cause.{Cause}
 use Rattle.cf_outcome.specs.declared.outcome.Cause.TheVariants.{Thrown}
 use Rattle.cf_outcome.specs.declared.outcome.Outcome.TheVariants.{Value as Gives, Fault}
-use Rattle.cf_plan.specs.declared.forms.Args.{Args}
-use Rattle.cf_plan.specs.declared.forms.Args.TheVariants.{One, Two, Got}
-use Rattle.cf_plan.specs.declared.forms.Answer.{Answer}
-use Rattle.cf_plan.specs.declared.forms.Answer.TheVariants.{Give, Throw, Link}
+use Rattle.cf_forms.specs.declared.forms.Args.{Args}
+use Rattle.cf_forms.specs.declared.forms.Args.TheVariants.{One, Two, Got}
+use Rattle.cf_forms.specs.declared.forms.Answer.{Answer}
+use Rattle.cf_forms.specs.declared.forms.Answer.TheVariants.{Give, Throw, Link}
 use Rattle.cf_reading.specs.declared.func.Func.{Func}
 use Rattle.cf_reading.specs.declared.func.Func.TheVariants as funcs
 

@@ -3,10 +3,11 @@ use Rattle.std.specs.Prelude.{ℕ, List, length, Option, Some, None, option_map,
 use Rattle.std.specs.Str.{bytes_eq}
 use Rattle.serde_json.specs.Data.{Data}
 use Rattle.serde_json.specs.Find.{get, as_str}
-use Rattle.cf_plan.specs.declared.limits.Limit.{Limit}
-use Rattle.cf_plan.specs.declared.limits.LimitKind.{LimitKind}
-use Rattle.cf_plan.specs.declared.limits.LimitKind.TheVariants.{Timeout, Give}
-use Rattle.cf_plan.specs.Plans.{Planned, limit_fault, with_limit}
+use Rattle.cf_forms.specs.declared.limits.Limit.{Limit}
+use Rattle.cf_forms.specs.declared.limits.LimitKind.{LimitKind}
+use Rattle.cf_forms.specs.declared.limits.LimitKind.TheVariants.{Timeout, Give}
+use Rattle.cf_forms.specs.Plans.{Planned, with_limit}
+use Rattle.cf_plan.specs.Faults.{limit_fault}
 use Rattle.cf_reading.specs.declared.fault.Part.TheVariants as parts
 use Rattle.cf_reading.specs.declared.fault.ReadingFault.{ReadingFault}
 use Rattle.cf_reading.specs.declared.fault.ReadingFault.TheVariants as faults

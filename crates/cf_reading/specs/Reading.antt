@@ -9,7 +9,7 @@ use Rattle.cf_reading.specs.declared.fault.ReadingFault.{ReadingFault}
 use Rattle.cf_reading.specs.declared.fault.ReadingFault.TheVariants as faults
 use Rattle.cf_reading.specs.declared.purpose.Purpose.{Purpose}
 use Rattle.cf_reading.specs.declared.purpose.Purpose.TheVariants.{Run, Race}
-use Rattle.cf_plan.specs.Plans.{Planned, has_place, with_room}
+use Rattle.cf_forms.specs.Plans.{Planned, has_place, with_room}
 use Rattle.cf_reading.specs.declared.func.Func.{Func}
 use Rattle.cf_reading.specs.declared.version.Version.{Version}
 use Rattle.cf_reading.specs.Scripts.{Script, extent_of}

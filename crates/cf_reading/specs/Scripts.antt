@@ -1,6 +1,6 @@
 -- Scripts: a plan, room for stages that are attached to it later, a list of functions, and a list of steps.
 use Rattle.std.specs.Prelude.{◌≡◌, ℕ, zero, suc, ◌+◌, ◌<◌, ◌≤◌, List, [], ◌∷◌, length, true, IfSome, All, if◌then◌else◌}
-use Rattle.cf_plan.specs.Plans.{Planned, PlannedStage, has_place, with_room}
+use Rattle.cf_forms.specs.Plans.{Planned, PlannedStage, has_place, with_room}
 use Rattle.cf_model.specs.declared.events.Event.TheVariants.{Attach as Attaches}
 use Rattle.cf_model.specs.Calls.{is_attach}
 use Rattle.cf_model.specs.Ranges.{EventFits, AskFits}

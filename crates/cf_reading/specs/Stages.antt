@@ -2,10 +2,11 @@
 use Rattle.std.specs.Prelude.{ℕ, List, [], ◌∷◌, ◌++◌, length, Option, Some, None, option_map, option_and_then, Result, Ok, codes}
 use Rattle.serde_json.specs.Data.{Data}
 use Rattle.serde_json.specs.Find.{get, as_str, as_array}
-use Rattle.cf_plan.specs.declared.forms.Form.{Form}
-use Rattle.cf_plan.specs.declared.forms.Form.TheVariants.{ExceptionallyCompose}
-use Rattle.cf_plan.specs.Naming.{form_named}
-use Rattle.cf_plan.specs.Plans.{Planned, PlannedStage, edges_of, plan_of, stage_fault, with_stage}
+use Rattle.cf_forms.specs.declared.forms.Form.{Form}
+use Rattle.cf_forms.specs.declared.forms.Form.TheVariants.{ExceptionallyCompose}
+use Rattle.cf_forms.specs.Naming.{form_named}
+use Rattle.cf_forms.specs.Plans.{Planned, PlannedStage, edges_of, plan_of, with_stage}
+use Rattle.cf_plan.specs.Faults.{stage_fault}
 use Rattle.cf_reading.specs.declared.fault.Part.TheVariants as parts
 use Rattle.cf_reading.specs.declared.fault.ReadingFault.{ReadingFault}
 use Rattle.cf_reading.specs.declared.fault.ReadingFault.TheVariants as faults

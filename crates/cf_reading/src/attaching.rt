@@ -1,7 +1,7 @@
 //! The step that attaches a stage.
 ghost use Rattle.std.specs.Prelude.{◌≡◌, ◌<◌, ℕ, ◌≤◌, All, IfSome, length, option_map};
 ghost use Rattle.serde_json.specs.View.{view};
-ghost use Rattle.cf_plan.specs.Plans.{sources_of};
+ghost use Rattle.cf_forms.specs.Plans.{sources_of};
 ghost use Rattle.cf_reading.specs.Attaching.{attach_said, attaching, can_attach, few_sources, few_sources_said};
 ghost use Rattle.cf_reading.specs.ReadingProgress.{FitsNext};
 
@@ -12,8 +12,8 @@ use crate::parts::len;
 use crate::script::Step;
 use crate::step_parsers::stage_in;
 use crate::version::Version;
+use cf_forms::{Form, Of, fits_form};
 use cf_model::Event;
-use cf_plan::{Form, Of, fits_form};
 use serde_json::Value as Json;
 
 /// The stages that an array names, at most two.

@@ -4,7 +4,7 @@ ghost use Rattle.serde_json.specs.View.{view};
 ghost use Rattle.cf_reading.specs.Stages.{form_in, form_of};
 
 use crate::version::Version;
-use cf_plan::Form;
+use cf_forms::Form;
 use serde_json::Value as Json;
 
 /// The form, if scripts of this version have it: `exceptionallyCompose` came with version 2.

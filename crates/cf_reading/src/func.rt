@@ -2,8 +2,8 @@
 ghost use Rattle.std.specs.Prelude.{◌≡◌};
 ghost use Rattle.cf_reading.specs.Functions.{first_argument, number_of, quotient, sum_of, thrown_again};
 
+use cf_forms::{Answer, Args, StageFn};
 use cf_outcome::{Cause, Outcome, Value};
-use cf_plan::{Answer, Args, StageFn};
 
 /// The function of a stage, as a script writes it.
 ///

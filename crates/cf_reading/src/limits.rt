@@ -7,7 +7,8 @@ ghost use Rattle.cf_reading.specs.Limits.{kind_named, kind_of, limit_next, numbe
 use crate::fault::{Part, ReadingFault};
 use crate::parts::{large, small, value};
 use crate::refused::plan_limit;
-use cf_plan::{LimitKind, PlanBuilder};
+use cf_forms::LimitKind;
+use cf_plan::PlanBuilder;
 use serde_json::Value as Json;
 
 /// The kind with this name, whose value may stand beside it.

@@ -4,7 +4,7 @@ ghost use Rattle.serde_json.specs.View.{items_view, view};
 ghost use Rattle.cf_reading.specs.Checks.{ReadingGives};
 ghost use Rattle.cf_reading.specs.Scripts.{FunctionFits};
 ghost use Rattle.cf_reading.specs.Purposes.{IsForRace, IsTaken};
-ghost use Rattle.cf_plan.specs.Plans.{has_place};
+ghost use Rattle.cf_forms.specs.Plans.{has_place};
 ghost use Rattle.cf_reading.specs.Reading.{drafted_of, items_said, race_reading, reading, reading_for, script_of, script_said};
 
 use crate::draft::Draft;

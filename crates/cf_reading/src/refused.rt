@@ -1,12 +1,13 @@
 //! What the builder of plans accepts and refuses, as a script is told.
 ghost use Rattle.std.specs.Prelude.{◌≡◌, OnErr, OnOk};
-ghost use Rattle.cf_plan.specs.Plans.{with_stage};
+ghost use Rattle.cf_forms.specs.Plans.{with_stage};
 ghost use Rattle.cf_reading.specs.Checks.{ReadingGives, refusal_told};
 ghost use Rattle.cf_reading.specs.Limits.{limited};
 ghost use Rattle.cf_reading.specs.Stages.{staged};
 
 use crate::fault::ReadingFault;
-use cf_plan::{Form, LimitKind, PlanBuilder, PlanFault};
+use cf_forms::{Form, LimitKind};
+use cf_plan::{PlanBuilder, PlanFault};
 
 /// What a refusal at this position is told as.
 fn told(refusal: PlanFault, k: u32) -> ReadingFault

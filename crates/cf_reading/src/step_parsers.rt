@@ -6,9 +6,9 @@ ghost use Rattle.cf_reading.specs.Steps.{NamesWithin, answer_at, answer_named, a
 
 use crate::parts::{caller, large, large_in, len, member, small, small_in, value, value_in};
 use crate::script::Step;
+use cf_forms::Answer;
 use cf_model::{Ask, Event};
 use cf_outcome::Value;
-use cf_plan::Answer;
 use serde_json::Value as Json;
 
 /// The stage in place `i`, if the plan has it.

@@ -3,9 +3,10 @@ use crate::answers::show_told;
 use crate::graphs::Four;
 use cf_core::Graph;
 use cf_event::{decode, encode, is_event};
+use cf_forms::{Answer, Each, Form, Of};
 use cf_model::{Event, Reply};
 use cf_outcome::Value;
-use cf_plan::{Answer, Each, Form, Of, Plan};
+use cf_plan::Plan;
 use std::alloc::Global;
 use std::io;
 

@@ -3,8 +3,8 @@ ghost use Rattle.std.specs.Prelude.{◌≡◌};
 
 use crate::answers::Numbers;
 use cf_core::Graph;
+use cf_forms::{Answer, Args, Each, Form, Of, StageFn};
 use cf_outcome::Value;
-use cf_plan::{Answer, Args, Each, Form, Of, StageFn};
 
 /// The function of all stages: it gives 4.
 #[derive(Clone, Copy)]
@@ -13,7 +13,7 @@ pub(crate) struct Four;
 impl StageFn for Four {
     ghost use Rattle.std.specs.Prelude.{pos};
     ghost use Rattle.cf_outcome.specs.declared.outcome.Value.TheVariants.{Int};
-    ghost use Rattle.cf_plan.specs.declared.forms.Answer.TheVariants.{Give};
+    ghost use Rattle.cf_forms.specs.declared.forms.Answer.TheVariants.{Give};
 
     ghost meaning = { λ _ _. Give (Int (pos 4)) };
 

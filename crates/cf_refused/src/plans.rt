@@ -1,5 +1,6 @@
 //! Plans of a few stages.
-use cf_plan::{Form, Plan, PlanBuilder, PlanFault};
+use cf_forms::Form;
+use cf_plan::{Plan, PlanBuilder, PlanFault};
 use std::alloc::Global;
 
 /// A stage: its form, its sources, and the number of its function, if it has one.

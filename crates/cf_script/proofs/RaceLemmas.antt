@@ -2,8 +2,8 @@
 use Rattle.std.proofs.Common.{◌≡◌, ◌+◌, ◌++◌, ℕ, suc, ◌<◌, List, [], ◌∷◌, length, Option, Some, None, All, ◌≤◌, true, refl, ap, subst, sym, ◌∙◌, arith}
 use Rattle.std.proofs.lemmas.List.Elements.{All-nil, All-cons, All-head, All-tail}
 use Rattle.cf_outcome.specs.declared.outcome.Outcome.{Outcome}
-use Rattle.cf_plan.specs.Meanings.{meanings_of}
-use Rattle.cf_plan.specs.Plans.{Planned, PlannedStage}
+use Rattle.cf_forms.specs.Meanings.{meanings_of}
+use Rattle.cf_forms.specs.Plans.{Planned, PlannedStage}
 use Rattle.cf_model.specs.declared.events.Event.{Event}
 use Rattle.cf_model.specs.declared.events.Event.TheVariants.{Complete as Completes, Fail as Fails, Cancel as Cancels, Claim as Claims, Finish as Finishes, Tick as Ticks, Attach as Attaches}
 use Rattle.cf_model.specs.Calls.{is_from_outside}

@@ -1,8 +1,8 @@
 -- How steps attach stages, and how lines follow one another.
 use Rattle.std.proofs.Common.{None, ◌≡◌, ℕ, ◌+◌, ◌-◌, ◌<◌, zero, suc, List, [], ◌∷◌, ◌++◌, length, length-append, drop, get_or, sym, ap, subst, ◌∙◌, append_assoc, add-one, arith, refl}
 use Rattle.std.proofs.Math.Seq.{drop-cons}
-use Rattle.cf_plan.specs.declared.forms.Form.TheVariants.{Source}
-use Rattle.cf_plan.specs.Plans.{Planned, PlannedStage, attached_stage, with_room}
+use Rattle.cf_forms.specs.declared.forms.Form.TheVariants.{Source}
+use Rattle.cf_forms.specs.Plans.{Planned, PlannedStage, attached_stage, with_room}
 use Rattle.cf_model.specs.declared.events.Event.TheVariants.{Complete as Completes, Fail as Fails, Cancel as Cancels, Claim as Claims, Finish as Finishes, Tick as Ticks, Attach as Attaches}
 use Rattle.cf_model.specs.States.{State, outcome_at, start}
 use Rattle.cf_model.specs.Events.{attached_by}

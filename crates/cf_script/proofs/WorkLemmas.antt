@@ -1,6 +1,6 @@
 -- Work ends with nothing ready, and keeps the plan.
 use Rattle.std.proofs.Common.{List}
-use Rattle.cf_plan.specs.Meanings.{meanings_of}
+use Rattle.cf_forms.specs.Meanings.{meanings_of}
 use Rattle.cf_model.specs.States.{State}
 use Rattle.cf_model.specs.Growth.{SameShape}
 use Rattle.cf_model.proofs.Working as core

@@ -2,7 +2,7 @@
 use Rattle.std.specs.Prelude.{ℕ, ◌+◌, List, [], ◌∷◌, ◌++◌, Option, codes}
 use Rattle.std.specs.Fmt.{decimal}
 use Rattle.cf_outcome.specs.declared.outcome.Outcome.{Outcome}
-use Rattle.cf_plan.specs.Plans.{PlannedStage}
+use Rattle.cf_forms.specs.Plans.{PlannedStage}
 use Rattle.cf_model.specs.States.{State, outcome_at, start}
 use Rattle.cf_model.specs.Events.{answered, told}
 use Rattle.cf_reading.specs.declared.func.Func.{Func}

@@ -1,6 +1,6 @@
 -- The work of a script: caller 63 works by the functions that the script gives its stages.
 use Rattle.std.specs.Prelude.{ℕ, List}
-use Rattle.cf_plan.specs.Meanings.{meanings_of}
+use Rattle.cf_forms.specs.Meanings.{meanings_of}
 use Rattle.cf_model.specs.States.{State}
 use Rattle.cf_model.specs.Working.{worked as worked_by}
 use Rattle.cf_reading.specs.declared.func.Func.{Func}

@@ -5,8 +5,8 @@ ghost use Rattle.cf_script.specs.Reports.{after_step, answer_text, step_answer};
 ghost use Rattle.cf_script.specs.Working.{worked};
 
 use cf_core::Graph;
+use cf_forms::Each;
 use cf_model::{Reply, Told};
-use cf_plan::Each;
 use cf_reading::{Func, Step, WORKER};
 use cf_text::{write_reply, write_told};
 use std::alloc::AllocError;

@@ -1,6 +1,7 @@
 //! Plans of a few stages from rows, and of many alike.
 use crate::checks::must;
-use cf_plan::{Form, Plan, PlanBuilder};
+use cf_forms::Form;
+use cf_plan::{Plan, PlanBuilder};
 use std::alloc::Global;
 use std::process::Abort;
 

@@ -3,8 +3,8 @@ use crate::hands::{Asked, Refusal};
 use crate::texts::write_stage;
 use cf_core::Graph;
 use cf_desk::{Call, Closed, Kept, Rec};
+use cf_forms::{Answer, Form, Of};
 use cf_model::{Ask, Event, Reply, Told};
-use cf_plan::{Answer, Form, Of};
 use cf_text::{write_reply, write_told};
 use std::alloc::AllocError;
 

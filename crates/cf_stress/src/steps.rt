@@ -1,7 +1,7 @@
 //! The steps that callers do.
 use cf_desk::Call;
+use cf_forms::{Answer, Form, Of};
 use cf_model::Ask;
-use cf_plan::{Answer, Form, Of};
 use cf_reading::{large, small, value};
 use serde_json::Value as Json;
 use std::alloc::Global;

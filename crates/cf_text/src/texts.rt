@@ -2,9 +2,9 @@
 ghost use Rattle.std.specs.Prelude.{◌≡◌, ◌++◌, OnOk, string_bytes};
 ghost use Rattle.cf_text.specs.Texts.{attached_text, claimed_text, finished_text, flag_text, reply_text, settled_text, ticked_text, told_text};
 
+use cf_forms::Args;
 use cf_model::{Attached, Claimed, Finished, Reply, Ticked, Told};
 use cf_outcome::Outcome;
-use cf_plan::Args;
 use std::alloc::AllocError;
 
 /// Adds the text of what an event is answered.

@@ -6,12 +6,12 @@ use Rattle.std.proofs.lemmas.Bool.Decides.{nat_tests}
 use Rattle.std.proofs.lemmas.List.{map-append}
 use Rattle.std.proofs.lemmas.List.Elements.{All-head, All-tail}
 use Rattle.std.proofs.lemmas.List.Sums.{sum_by-cons, sum_by-append}
-use Rattle.cf_plan.specs.declared.forms.Due.{Due}
-use Rattle.cf_plan.specs.declared.forms.Due.TheVariants.{Waits, Settles, Needs}
-use Rattle.cf_plan.specs.Plans.{PlannedStage, HasLowerSources, dependents_of, edges_of, form_at, mentions}
+use Rattle.cf_forms.specs.declared.forms.Due.{Due}
+use Rattle.cf_forms.specs.declared.forms.Due.TheVariants.{Waits, Settles, Needs}
+use Rattle.cf_forms.specs.Plans.{PlannedStage, HasLowerSources, dependents_of, edges_of, form_at, mentions}
 use Rattle.cf_plan.specs.Rows.{all_sources}
-use Rattle.cf_plan.proofs.ListLemmas.{slice_get-front, slice_get-push, slice_get-seam}
-use Rattle.cf_plan.proofs.PlanLemmas.{HasLowerSources-push}
+use Rattle.cf_forms.proofs.ListLemmas.{slice_get-front, slice_get-push, slice_get-seam}
+use Rattle.cf_forms.proofs.PlanLemmas.{HasLowerSources-push}
 use Rattle.cf_plan.proofs.DependentLemmas.{length-dependents_from, mentions-append, mentions_none, all_sources_below}
 use Rattle.cf_model.specs.declared.stage.Stage.{Stage}
 use Rattle.cf_model.specs.declared.stage.Stage.TheVariants.{Pending, Ready, Claimed, Linked, Settled}

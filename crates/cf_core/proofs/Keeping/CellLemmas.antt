@@ -4,8 +4,8 @@ use Rattle.std.specs.Prelude.{IfNone, option_and_then, slice_get}
 use Rattle.std.specs.Option.{option_map}
 use Rattle.std.proofs.lemmas.List.{length-map, map-set}
 use Rattle.cf_outcome.specs.declared.outcome.Outcome.{Outcome}
-use Rattle.cf_plan.specs.declared.forms.Form.{Form}
-use Rattle.cf_plan.specs.Forms.{due_of_first, due_one}
+use Rattle.cf_forms.specs.declared.forms.Form.{Form}
+use Rattle.cf_forms.specs.Forms.{due_of_first, due_one}
 use Rattle.cf_model.specs.declared.stage.Stage.TheVariants.{Pending}
 use Rattle.cf_core.specs.declared.kept.KeptStage.{KeptStage}
 use Rattle.cf_core.specs.declared.cell.Cell.{Cell}

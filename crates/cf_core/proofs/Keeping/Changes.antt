@@ -3,9 +3,9 @@ use Rattle.std.proofs.Common.{◌≡◌, ◌≢◌, ℕ, ◌<◌, ◌≤◌, ◌
 use Rattle.std.specs.Prelude.{slice_get, position, unwrap_or}
 use Rattle.std.proofs.lemmas.Bool.Decides.{eqb_tells}
 use Rattle.cf_outcome.specs.declared.outcome.Outcome.{Outcome}
-use Rattle.cf_plan.specs.declared.forms.Due.{Due}
-use Rattle.cf_plan.specs.declared.forms.Due.TheVariants.{Waits, Settles, Needs}
-use Rattle.cf_plan.specs.Plans.{PlannedStage}
+use Rattle.cf_forms.specs.declared.forms.Due.{Due}
+use Rattle.cf_forms.specs.declared.forms.Due.TheVariants.{Waits, Settles, Needs}
+use Rattle.cf_forms.specs.Plans.{PlannedStage}
 use Rattle.cf_model.specs.declared.stage.Stage.{Stage}
 use Rattle.cf_model.specs.declared.stage.Stage.TheVariants.{Pending, Ready, Claimed, Linked, Settled}
 use Rattle.cf_model.specs.States.{is_ready, outcome_of}
@@ -42,12 +42,6 @@ stage_other kept d new i ne =
 
 pub alone_none : (d : ℕ) (stages : List Stage) → MovesAlone d stages stages
 alone_none d stages = record { others = λ i ne. refl; onward = omega arith; stays = λ e. refl }
-
-pub alone_same : (d : ℕ) (s t : Stages) → t ≡ s → MovesAlone d (stages_of s.kept.items) (stages_of t.kept.items)
-alone_same d s t same = subst (λ (x : Stages). MovesAlone d (stages_of s.kept.items) (stages_of x.kept.items)) (sym same) (alone_none d (stages_of s.kept.items))
-
-pub alone_after : (d : ℕ) (s t u : Stages) → t ≡ s → MovesAlone d (stages_of t.kept.items) (stages_of u.kept.items) → MovesAlone d (stages_of s.kept.items) (stages_of u.kept.items)
-alone_after d s t u same h = subst (λ (x : Stages). MovesAlone d (stages_of x.kept.items) (stages_of u.kept.items)) same h
 
 -- a stage that is written is the only one that moves
 pub alone_written : (kept : List KeptStage) (d : ℕ) (new : KeptStage) → d < length kept → rank ((kept_at kept d).stage) ≤ rank new.stage →

@@ -3,7 +3,7 @@ use Rattle.std.proofs.Common.{◌≡◌, ℕ, ◌+◌, ◌<◌, ◌≤◌, ◌�
 use Rattle.std.specs.Prelude.{slice_get, count_by, ◌==◌}
 use Rattle.std.proofs.lemmas.Bool.Decides.{eqb_tells, nat_tests}
 use Rattle.std.proofs.lemmas.List.Sums.{sum_by-cons}
-use Rattle.cf_plan.specs.Plans.{mentions}
+use Rattle.cf_forms.specs.Plans.{mentions}
 use Rattle.cf_model.proofs.StateLemmas.{slice_get-set_other}
 use Rattle.cf_core.specs.declared.kept.KeptStage.{KeptStage}
 use Rattle.cf_core.specs.Keeping.Sound.{is_waiting, kept_at, mark_one, mark_all}

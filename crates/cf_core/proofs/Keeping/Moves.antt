@@ -5,9 +5,9 @@ use Rattle.std.specs.Option.{option_map}
 use Rattle.std.proofs.lemmas.Bool.Decides.{eqb_tells}
 use Rattle.std.proofs.lemmas.List.Elements.{All-head, All-tail, All-cons, All-nil, All-set}
 use Rattle.cf_outcome.specs.declared.outcome.Outcome.{Outcome}
-use Rattle.cf_plan.specs.declared.forms.Args.{Args}
-use Rattle.cf_plan.specs.Forms.{composes}
-use Rattle.cf_plan.specs.Plans.{PlannedStage, form_at, dependents_of}
+use Rattle.cf_forms.specs.declared.forms.Args.{Args}
+use Rattle.cf_forms.specs.Forms.{composes}
+use Rattle.cf_forms.specs.Plans.{PlannedStage, form_at, dependents_of}
 use Rattle.cf_model.specs.declared.stage.Stage.TheVariants.{Ready, Claimed, Linked, Settled}
 use Rattle.cf_model.specs.States.{outcome_of, outcome_in, new_states}
 use Rattle.cf_model.proofs.StateLemmas.{slice_get-set_other}

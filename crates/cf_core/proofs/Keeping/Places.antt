@@ -2,11 +2,11 @@
 use Rattle.std.proofs.Common.{◌≡◌, ℕ, ◌+◌, ◌<◌, ◌∷◌, [], List, Bool, true, false, Some, None, length, suc, zero, arith, ap, sym, ◌∙◌, refl, set, get_or, inl, inr}
 use Rattle.std.specs.Prelude.{slice_get, position, unwrap_or, option_and_then}
 use Rattle.std.specs.Option.{option_map}
-use Rattle.cf_plan.specs.declared.forms.Args.{Args}
+use Rattle.cf_forms.specs.declared.forms.Args.{Args}
 use Rattle.std.proofs.lemmas.Bool.Decides.{eqb_tells}
 use Rattle.std.proofs.lemmas.List.Quantifiers.{position-Some}
 use Rattle.std.proofs.lemmas.Option.{slice_get-get_or}
-use Rattle.cf_plan.specs.Plans.{PlannedStage}
+use Rattle.cf_forms.specs.Plans.{PlannedStage}
 use Rattle.cf_model.specs.declared.stage.Stage.{Stage}
 use Rattle.cf_model.specs.declared.stage.Stage.TheVariants.{Pending, Ready, Claimed, Linked, Settled}
 use Rattle.cf_model.specs.States.{is_ready, outcome_of}

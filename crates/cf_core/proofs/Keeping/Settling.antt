@@ -1,13 +1,13 @@
 -- Settling late leads to what settling at once does.
 use Rattle.std.proofs.Common.{◌≡◌, ℕ, ◌+◌, ◌≤◌, ◌∷◌, ◌++◌, [], List, Option, Some, None, suc, zero, arith, ap, sym, ◌∙◌, subst, refl, set, map, inl, inr, ◌≢◌}
-use Rattle.cf_plan.specs.declared.forms.Due.{Due}
-use Rattle.cf_plan.specs.declared.forms.Due.TheVariants.{Waits, Settles, Needs}
-use Rattle.cf_plan.specs.Forms.{follows}
+use Rattle.cf_forms.specs.declared.forms.Due.{Due}
+use Rattle.cf_forms.specs.declared.forms.Due.TheVariants.{Waits, Settles, Needs}
+use Rattle.cf_forms.specs.Forms.{follows}
 use Rattle.cf_core.proofs.Keeping.Dues.{Grows, ListGrows, Stays, Moves, due_grows}
 use Rattle.std.proofs.lemmas.List.{map-append, map-set}
 use Rattle.std.specs.Option.{option_map}
 use Rattle.cf_outcome.specs.declared.outcome.Outcome.{Outcome}
-use Rattle.cf_plan.specs.Plans.{PlannedStage}
+use Rattle.cf_forms.specs.Plans.{PlannedStage}
 use Rattle.cf_model.specs.declared.stage.Stage.{Stage}
 use Rattle.cf_model.specs.declared.stage.Stage.TheVariants.{Pending, Ready, Claimed, Linked, Settled}
 use Rattle.cf_model.specs.States.{outcome_of, outcome_in, due_state, next_of, new_states}

@@ -8,9 +8,9 @@ use Rattle.std.proofs.lemmas.List.{map-set}
 use Rattle.std.proofs.lemmas.List.Elements.{All-head, All-tail, All-cons, All-nil, All-set}
 use Rattle.cf_outcome.specs.declared.outcome.Outcome.{Outcome}
 use Rattle.std.specs.Option.{option_map_or}
-use Rattle.cf_plan.specs.declared.forms.Due.{Due}
-use Rattle.cf_plan.specs.declared.forms.Due.TheVariants.{Waits as IsWaits, Settles, Needs}
-use Rattle.cf_plan.specs.Plans.{PlannedStage, dependents_of, form_at, mentions, sources_at}
+use Rattle.cf_forms.specs.declared.forms.Due.{Due}
+use Rattle.cf_forms.specs.declared.forms.Due.TheVariants.{Waits as IsWaits, Settles, Needs}
+use Rattle.cf_forms.specs.Plans.{PlannedStage, dependents_of, form_at, mentions, sources_at}
 use Rattle.cf_plan.proofs.DependentLemmas.{dependents_converse}
 use Rattle.cf_model.specs.declared.stage.Stage.{Stage}
 use Rattle.cf_model.specs.declared.stage.Stage.TheVariants.{Pending, Ready, Claimed, Linked, Settled}

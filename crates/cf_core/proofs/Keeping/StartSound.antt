@@ -7,12 +7,12 @@ use Rattle.std.proofs.lemmas.List.{length-replicate, length-take}
 use Rattle.std.proofs.lemmas.List.Elements.{All-nil, All-replicate}
 use Rattle.std.proofs.lemmas.List.Sums.{sum_by-cons}
 use Rattle.cf_outcome.specs.declared.outcome.Outcome.{Outcome}
-use Rattle.cf_plan.specs.declared.forms.Form.{Form}
-use Rattle.cf_plan.specs.declared.forms.Form.TheVariants.{Source, Supply, RunAsync, Apply, Accept, ThenRun, Combine, AcceptBoth, RunBoth, ApplyEither, AcceptEither, RunEither, Compose, Handle, WhenComplete, Exceptionally, AllOf, AnyOf, ExceptionallyCompose}
-use Rattle.cf_plan.specs.declared.forms.Due.{Due}
-use Rattle.cf_plan.specs.declared.forms.Due.TheVariants.{Waits}
-use Rattle.cf_plan.specs.Forms.{due_of_both, due_of_first, starts}
-use Rattle.cf_plan.specs.Plans.{starts_from, starts_of, PlannedStage, HasLowerSources, dependents_of, edges_of, form_at, sources_at}
+use Rattle.cf_forms.specs.declared.forms.Form.{Form}
+use Rattle.cf_forms.specs.declared.forms.Form.TheVariants.{Source, Supply, RunAsync, Apply, Accept, ThenRun, Combine, AcceptBoth, RunBoth, ApplyEither, AcceptEither, RunEither, Compose, Handle, WhenComplete, Exceptionally, AllOf, AnyOf, ExceptionallyCompose}
+use Rattle.cf_forms.specs.declared.forms.Due.{Due}
+use Rattle.cf_forms.specs.declared.forms.Due.TheVariants.{Waits}
+use Rattle.cf_forms.specs.Forms.{due_of_both, due_of_first, starts}
+use Rattle.cf_forms.specs.Plans.{starts_from, starts_of, PlannedStage, HasLowerSources, dependents_of, edges_of, form_at, sources_at}
 use Rattle.cf_plan.proofs.DependentLemmas.{all_dependents}
 use Rattle.cf_model.specs.States.{is_ready}
 use Rattle.cf_model.proofs.StateLemmas.{form_at-within, sources_at-within, slice_get-set_other}

@@ -4,12 +4,12 @@ use Rattle.std.specs.Prelude.{IfNone, IfSome, option_and_then, slice_get, positi
 use Rattle.std.proofs.lemmas.Bool.Decides.{eqb_tells}
 use Rattle.std.proofs.lemmas.List.Elements.{All-head, All-tail, All-cons, All-nil}
 use Rattle.std.proofs.lemmas.List.Quantifiers.{position-Some}
-use Rattle.std.proofs.lemmas.Option.{slice_get-get_or}
+use Rattle.std.proofs.lemmas.Option.{slice_get-get_or, slice_get_within}
 use Rattle.cf_bits.proofs.Positions.{position_is, position_is_none}
 use Rattle.cf_outcome.specs.declared.outcome.Outcome.{Outcome}
-use Rattle.cf_plan.specs.declared.forms.Args.{Args}
-use Rattle.cf_plan.specs.Forms.{composes}
-use Rattle.cf_plan.specs.Plans.{PlannedStage, dependents_of, form_at}
+use Rattle.cf_forms.specs.declared.forms.Args.{Args}
+use Rattle.cf_forms.specs.Forms.{composes}
+use Rattle.cf_forms.specs.Plans.{PlannedStage, dependents_of, form_at}
 use Rattle.cf_plan.proofs.DependentLemmas.{dependents_above}
 use Rattle.cf_model.specs.declared.stage.Stage.{Stage}
 use Rattle.cf_model.specs.declared.stage.Stage.TheVariants.{Pending, Ready, Claimed, Linked, Settled}
@@ -38,11 +38,6 @@ use Rattle.cf_core.proofs.Keeping.Sums.{StepsUpTo-at, kept_there}
 use Rattle.cf_core.proofs.Keeping.Writes.{linking_is_alone}
 
 -- ---- flags
-
-in_there : (flags : List Bool) (i : ℕ) (b : Bool) → slice_get flags i ≡ Some b → i < length flags
-in_there [] i b e = cc
-in_there (x ∷ flags) zero b e = omega arith
-in_there (x ∷ flags) (suc i) b e = let l = in_there flags i b e in omega arith
 
 -- one that isn't set, behind others that aren't
 one_more : (flags : List Bool) (m : ℕ) → AreTreated m flags → slice_get flags m ≡ Some false → AreTreated (m + 1) flags

@@ -5,12 +5,12 @@ use Rattle.std.specs.Option.{option_map}
 use Rattle.std.proofs.lemmas.Bool.Decides.{eqb_tells}
 use Rattle.std.proofs.lemmas.List.Elements.{All-head, All-tail}
 use Rattle.cf_outcome.specs.declared.outcome.Outcome.{Outcome}
-use Rattle.cf_plan.specs.declared.forms.Form.{Form}
-use Rattle.cf_plan.specs.declared.forms.Due.{Due}
-use Rattle.cf_plan.specs.declared.forms.Due.TheVariants.{Waits as IsWaits, Settles, Needs}
-use Rattle.cf_plan.specs.Forms.{follows, due_of_first, is_decided_by_first}
-use Rattle.cf_plan.specs.Plans.{PlannedStage, HasLowerSources, dependents_of, mentions}
-use Rattle.cf_plan.proofs.PlanLemmas.{lower_at}
+use Rattle.cf_forms.specs.declared.forms.Form.{Form}
+use Rattle.cf_forms.specs.declared.forms.Due.{Due}
+use Rattle.cf_forms.specs.declared.forms.Due.TheVariants.{Waits as IsWaits, Settles, Needs}
+use Rattle.cf_forms.specs.Forms.{follows, due_of_first, is_decided_by_first}
+use Rattle.cf_forms.specs.Plans.{PlannedStage, HasLowerSources, dependents_of, mentions}
+use Rattle.cf_forms.proofs.PlanLemmas.{lower_at}
 use Rattle.cf_model.specs.declared.stage.Stage.{Stage}
 use Rattle.cf_model.specs.declared.stage.Stage.TheVariants.{Pending, Ready, Claimed, Linked, Settled}
 use Rattle.cf_model.specs.States.{outcome_of}

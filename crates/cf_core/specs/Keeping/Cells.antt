@@ -6,7 +6,7 @@ use Rattle.cf_outcome.specs.declared.outcome.Value.TheVariants as values
 use Rattle.cf_outcome.specs.declared.outcome.Cause.TheVariants as causes
 use Rattle.cf_outcome.specs.declared.outcome.Outcome.{Outcome}
 use Rattle.cf_outcome.specs.declared.outcome.Outcome.TheVariants as outcomes
-use Rattle.cf_plan.specs.declared.forms.Args.TheVariants as arguments
+use Rattle.cf_forms.specs.declared.forms.Args.TheVariants as arguments
 use Rattle.cf_model.specs.declared.stage.Stage.{Stage}
 use Rattle.cf_model.specs.declared.stage.Stage.TheVariants as stages
 use Rattle.cf_core.specs.declared.kept.KeptStage.{KeptStage}

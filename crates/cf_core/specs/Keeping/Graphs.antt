@@ -1,6 +1,6 @@
 -- How a graph keeps its state.
 use Rattle.std.specs.Prelude.{◌≡◌, ◌≤◌, ◌+◌, ℕ, Option, Some, List, length, slice_get, true}
-use Rattle.cf_plan.specs.Plans.{IsGrowing, Planned}
+use Rattle.cf_forms.specs.Plans.{IsGrowing, Planned}
 use Rattle.cf_core.specs.declared.kept.KeptStage.{KeptStage}
 use Rattle.cf_core.specs.declared.stages.Stages.{Stages}
 use Rattle.cf_core.specs.Keeping.Sound.{is_taken, kept_at}

@@ -1,9 +1,9 @@
 -- What becomes of the stages when a ready one is claimed, its function called, and the stage finished at once.
 use Rattle.std.specs.Prelude.{◌≡◌, ℕ, List, None, Option, Some, option_and_then, position, slice_get, slice_set, unwrap_or}
-use Rattle.cf_plan.specs.declared.forms.Args.{Args}
-use Rattle.cf_plan.specs.declared.forms.Answer.{Answer}
-use Rattle.cf_plan.specs.Forms.{landing}
-use Rattle.cf_plan.specs.Plans.{PlannedStage, form_at, function_at, sources_at}
+use Rattle.cf_forms.specs.declared.forms.Args.{Args}
+use Rattle.cf_forms.specs.declared.forms.Answer.{Answer}
+use Rattle.cf_forms.specs.Forms.{landing}
+use Rattle.cf_forms.specs.Plans.{PlannedStage, form_at, function_at, sources_at}
 use Rattle.cf_model.specs.declared.stage.Stage.{Stage}
 use Rattle.cf_model.specs.declared.stage.Stage.TheVariants.{Claimed, Ready}
 use Rattle.cf_model.specs.Calling.{CallsOf, RunsOnce}

@@ -1,9 +1,9 @@
 -- What is kept of the stages, while some of them wait for treatment.
 use Rattle.std.specs.Prelude.{◌≡◌, ℕ, ◌+◌, ◌*◌, ◌<◌, ◌≤◌, Bool, true, false, None, Some, List, [], ◌∷◌, length, map, slice_get, slice_set, unwrap_or, if◌then◌else◌, count_by, position, All, Contains, MatchOption, ◌≢◌}
 use Rattle.std.specs.List.{sum_by}
-use Rattle.cf_plan.specs.declared.forms.Form.{Form}
-use Rattle.cf_plan.specs.Forms.{composes}
-use Rattle.cf_plan.specs.Plans.{PlannedStage, HasLowerSources, dependents_of, edges_of, form_at}
+use Rattle.cf_forms.specs.declared.forms.Form.{Form}
+use Rattle.cf_forms.specs.Forms.{composes}
+use Rattle.cf_forms.specs.Plans.{PlannedStage, HasLowerSources, dependents_of, edges_of, form_at}
 use Rattle.cf_model.specs.declared.stage.Stage.{Stage}
 use Rattle.cf_model.specs.declared.stage.Stage.TheVariants.{Pending, Claimed, Linked, Settled}
 use Rattle.cf_model.specs.States.{is_ready}

@@ -1,7 +1,7 @@
 -- Stages at the start, where nothing has settled yet.
 use Rattle.std.specs.Prelude.{◌≡◌, ℕ, ◌+◌, Bool, true, List, [], ◌∷◌, replicate, slice_set, if◌then◌else◌}
-use Rattle.cf_plan.specs.Forms.{starts}
-use Rattle.cf_plan.specs.Plans.{PlannedStage}
+use Rattle.cf_forms.specs.Forms.{starts}
+use Rattle.cf_forms.specs.Plans.{PlannedStage}
 use Rattle.cf_model.specs.declared.stage.Stage.TheVariants.{Pending}
 use Rattle.cf_model.specs.States.{new_states}
 use Rattle.cf_core.specs.declared.kept.KeptStage.{KeptStage}

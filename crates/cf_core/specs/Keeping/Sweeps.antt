@@ -1,7 +1,7 @@
 -- A sweep: all stages are treated and served in rising number, without a look at the marks.
 use Rattle.std.specs.Prelude.{◌≡◌, ◌+◌, ℕ, if◌then◌else◌, Bool, true, false, List, [], ◌∷◌, None, Option, length, slice_set}
-use Rattle.cf_plan.specs.Plans.{PlannedStage}
-use Rattle.cf_plan.specs.declared.forms.Args.{Args}
+use Rattle.cf_forms.specs.Plans.{PlannedStage}
+use Rattle.cf_forms.specs.declared.forms.Args.{Args}
 use Rattle.cf_model.specs.declared.stage.Stage.{Stage}
 use Rattle.cf_model.specs.declared.stage.Stage.TheVariants.{Ready}
 use Rattle.cf_core.specs.declared.kept.KeptStage.{KeptStage}

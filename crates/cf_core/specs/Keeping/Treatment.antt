@@ -3,11 +3,11 @@ use Rattle.std.specs.Prelude.{◌≡◌, ℕ, ◌+◌, ◌≤◌, Option, Some, 
 use Rattle.std.specs.Option.{option_map, option_map_or}
 use Rattle.cf_outcome.specs.declared.outcome.Outcome.{Outcome}
 use Rattle.cf_outcome.specs.Outcomes.{wrap}
-use Rattle.cf_plan.specs.declared.forms.Form.{Form}
-use Rattle.cf_plan.specs.declared.forms.Due.{Due}
-use Rattle.cf_plan.specs.declared.forms.Due.TheVariants.{Waits, Settles, Needs}
-use Rattle.cf_plan.specs.Forms.{follows, due_of_first, is_decided_by_first}
-use Rattle.cf_plan.specs.Plans.{PlannedStage}
+use Rattle.cf_forms.specs.declared.forms.Form.{Form}
+use Rattle.cf_forms.specs.declared.forms.Due.{Due}
+use Rattle.cf_forms.specs.declared.forms.Due.TheVariants.{Waits, Settles, Needs}
+use Rattle.cf_forms.specs.Forms.{follows, due_of_first, is_decided_by_first}
+use Rattle.cf_forms.specs.Plans.{PlannedStage}
 use Rattle.cf_model.specs.declared.stage.Stage.{Stage}
 use Rattle.cf_model.specs.declared.stage.Stage.TheVariants.{Pending, Ready, Linked, Settled}
 use Rattle.cf_model.specs.States.{outcome_of, outcome_in, new_states}

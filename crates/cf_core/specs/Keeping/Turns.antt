@@ -1,6 +1,6 @@
 -- Turns: each treats one stage and leaves the others as they are.
 use Rattle.std.specs.Prelude.{◌≡◌, ℕ, ◌+◌, ◌<◌, ◌≤◌, List, [], ◌∷◌, length, slice_set, true, All}
-use Rattle.cf_plan.specs.Plans.{PlannedStage, form_at, function_at, sources_at}
+use Rattle.cf_forms.specs.Plans.{PlannedStage, form_at, function_at, sources_at}
 use Rattle.cf_model.specs.States.{is_ready}
 use Rattle.cf_core.specs.declared.kept.KeptStage.{KeptStage}
 use Rattle.cf_core.specs.declared.stages.Stages.{Stages}

@@ -1,6 +1,6 @@
 -- A write to a stage that neither had nor gets an outcome.
 use Rattle.std.specs.Prelude.{◌≡◌, ℕ, ◌<◌, None, List, [], slice_set}
-use Rattle.cf_plan.specs.Plans.{PlannedStage}
+use Rattle.cf_forms.specs.Plans.{PlannedStage}
 use Rattle.cf_model.specs.declared.stage.Stage.TheVariants.{Claimed, Linked}
 use Rattle.cf_model.specs.States.{outcome_in}
 use Rattle.cf_core.specs.declared.kept.KeptStage.{KeptStage}

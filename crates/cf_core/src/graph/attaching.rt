@@ -1,12 +1,12 @@
 //! The call by which a graph grows.
 ghost use Rattle.std.specs.Prelude.{◌≡◌, ◌<◌, ◌≤◌, All, is_some, length, true};
-ghost use Rattle.cf_plan.specs.Plans.{attached_stage, fits_form, sources_of};
+ghost use Rattle.cf_forms.specs.Plans.{attached_stage, fits_form, sources_of};
 ghost use Rattle.cf_model.specs.Events.{attaching};
 ghost use Rattle.cf_model.specs.Graphs.{MovesOnly, RestsAttaching, most_turns};
 
 use crate::graph::Graph;
+use cf_forms::{Form, Of};
 use cf_model::Attached;
-use cf_plan::{Form, Of};
 
 impl Graph {
     /// Attaches a stage to others, in a step of its own, if there is room for one. It takes at once what its sources hold:

@@ -1,8 +1,8 @@
 //! The calls by which a caller takes a stage's function and hands in its answer.
 ghost use Rattle.std.specs.Prelude.{◌≡◌, ℕ, ◌+◌, ◌<◌, ◌≤◌, ◌==◌, None, false, length, option_and_then, slice_get, unwrap_or};
 ghost use Rattle.std.specs.Option.{option_map_or};
-ghost use Rattle.cf_plan.specs.Forms.{landing};
-ghost use Rattle.cf_plan.specs.Plans.{form_at, sources_at};
+ghost use Rattle.cf_forms.specs.Forms.{landing};
+ghost use Rattle.cf_forms.specs.Plans.{form_at, sources_at};
 ghost use Rattle.cf_model.specs.States.{State, is_ready, outcome_in};
 ghost use Rattle.cf_model.specs.Events.{claimed_by, claiming, finishing};
 ghost use Rattle.cf_core.specs.Keeping.SoundStages.{settled_view_of};
@@ -11,8 +11,9 @@ ghost use Rattle.cf_model.specs.Graphs.{MovesOnly, RestsUpTo, most_turns};
 
 use crate::graph::Graph;
 use crate::stages::Stages;
+use cf_forms::{Answer, Form, Landing, landing};
 use cf_model::{Claimed, Finished, Stage};
-use cf_plan::{Answer, Form, GrowingPlan, Landing, landing};
+use cf_plan::GrowingPlan;
 
 impl Graph {
     /// Hands a ready stage's arguments to a caller, whose claim is open from then until its first finish of the stage, also

@@ -11,7 +11,8 @@ ghost use Rattle.cf_core.specs.Keeping.Lending.{StopsAt, served_by};
 use crate::graph::Graph;
 use crate::graph::sweeping::land_next;
 use crate::stages::Stages;
-use cf_plan::{Answer, Args, GrowingPlan};
+use cf_forms::{Answer, Args};
+use cf_plan::GrowingPlan;
 use std::marker::Model;
 
 /// Where a sweep stops: the lowest ready stage, its function, and what that is to be called with.

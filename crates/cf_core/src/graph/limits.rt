@@ -5,9 +5,9 @@ ghost use Rattle.cf_model.specs.Events.{due_limits, firing, limit_outcome, settl
 ghost use Rattle.cf_model.specs.Graphs.{MovesOnly, RestsForLimits, RestsUpTo, most_turns};
 
 use crate::graph::Graph;
+use cf_forms::{Limit, LimitKind};
 use cf_model::Ticked;
 use cf_outcome::{Cause, Outcome};
-use cf_plan::{Limit, LimitKind};
 
 impl Graph {
     /// Lets it be moment `now`, unless it was later already. Each limit with a moment up to then that wasn't used before is

@@ -1,6 +1,6 @@
 //! The call by which a graph starts again.
 ghost use Rattle.std.specs.Prelude.{◌≡◌, ◌≤◌, None, length, replicate, vec_capacity};
-ghost use Rattle.cf_plan.specs.Plans.{reopened};
+ghost use Rattle.cf_forms.specs.Plans.{reopened};
 ghost use Rattle.cf_model.specs.States.{start};
 
 use crate::graph::Graph;

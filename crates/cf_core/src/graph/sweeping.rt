@@ -1,9 +1,9 @@
 //! Work on all stages in one sweep.
 ghost use Rattle.std.specs.Prelude.{◌≡◌, ℕ, ◌+◌, ◌<◌, ◌≤◌, IfSome, None, Option, length, option_and_then, position, slice_get, slice_set, true, vec_capacity};
 ghost use Rattle.cf_outcome.specs.declared.outcome.Outcome.TheVariants.{Value as Gives};
-ghost use Rattle.cf_plan.specs.declared.forms.Landing.TheVariants.{Links as LinksTo, Settles};
-ghost use Rattle.cf_plan.specs.Forms.{composes, landing};
-ghost use Rattle.cf_plan.specs.Plans.{form_at, sources_at};
+ghost use Rattle.cf_forms.specs.declared.forms.Landing.TheVariants.{Links as LinksTo, Settles};
+ghost use Rattle.cf_forms.specs.Forms.{composes, landing};
+ghost use Rattle.cf_forms.specs.Plans.{form_at, sources_at};
 ghost use Rattle.cf_model.specs.declared.stage.Stage.TheVariants.{Claimed as IsClaimed};
 ghost use Rattle.cf_model.specs.Calling.{Runs};
 ghost use Rattle.cf_model.specs.States.{is_ready, lowest_ready_of, outcome_in};
@@ -19,8 +19,9 @@ use crate::graph::Graph;
 use crate::graph::claims::landing_of;
 use crate::graph::working::answer_of;
 use crate::stages::Stages;
+use cf_forms::{Answer, Args, Form, Functions, Landing};
 use cf_outcome::{Outcome, Value, wrap};
-use cf_plan::{Answer, Args, Form, Functions, GrowingPlan, Landing};
+use cf_plan::GrowingPlan;
 
 impl Graph {
     /// Works for a caller until no stage is ready, in one sweep over all stages.

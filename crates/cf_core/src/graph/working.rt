@@ -1,9 +1,9 @@
 //! Work: the functions of ready stages are called.
 ghost use Rattle.std.specs.Prelude.{◌≡◌, ℕ, ◌+◌, ◌<◌, ◌≤◌, None, Some, length, position, slice_set, true, unwrap_or};
-ghost use Rattle.cf_plan.specs.declared.forms.Landing.TheVariants.{Links as LinksTo};
-ghost use Rattle.cf_plan.specs.Forms.{composes};
-ghost use Rattle.cf_plan.specs.Meanings.{Meanings};
-ghost use Rattle.cf_plan.specs.Plans.{form_at, function_at};
+ghost use Rattle.cf_forms.specs.declared.forms.Landing.TheVariants.{Links as LinksTo};
+ghost use Rattle.cf_forms.specs.Forms.{composes};
+ghost use Rattle.cf_forms.specs.Meanings.{Meanings};
+ghost use Rattle.cf_forms.specs.Plans.{form_at, function_at};
 ghost use Rattle.cf_model.specs.declared.stage.Stage.TheVariants.{Claimed as IsClaimed};
 ghost use Rattle.cf_model.specs.Calling.{AreStateless, Runs};
 ghost use Rattle.cf_model.specs.Graphs.{most_turns};
@@ -17,8 +17,9 @@ ghost use Rattle.cf_core.specs.Keeping.SoundStages.{AreSound, SameRoom, settled_
 use crate::graph::Graph;
 use crate::graph::claims::landing_of;
 use crate::stages::Stages;
+use cf_forms::{Answer, Args, Functions, Landing};
 use cf_model::Stage;
-use cf_plan::{Answer, Args, Functions, GrowingPlan, Landing};
+use cf_plan::GrowingPlan;
 
 impl Graph {
     /// Works for a caller until no stage is ready: the lowest ready stage is claimed, its function called once with the

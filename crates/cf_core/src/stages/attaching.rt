@@ -1,6 +1,6 @@
 //! The attaching of a stage.
 ghost use Rattle.std.specs.Prelude.{◌≡◌, ℕ, ◌+◌, ◌<◌, ◌≤◌, ◌∷◌, ◌++◌, [], All, Option, false, length, if◌then◌else◌};
-ghost use Rattle.cf_plan.specs.Plans.{attached_stage, edges_of, sources_of};
+ghost use Rattle.cf_forms.specs.Plans.{attached_stage, edges_of, sources_of};
 ghost use Rattle.cf_model.specs.declared.stage.Stage.TheVariants.{Pending};
 ghost use Rattle.cf_model.specs.Graphs.{MovesAlone};
 ghost use Rattle.cf_model.specs.States.{is_ready, new_states};
@@ -12,8 +12,9 @@ ghost use Rattle.cf_core.specs.Keeping.SoundStages.{AreSound, SameRoom, settled_
 use crate::attach::{attached, takes_now};
 use crate::kept::KeptStage;
 use crate::stages::Stages;
+use cf_forms::{Form, Of};
 use cf_model::Stage;
-use cf_plan::{Form, GrowingPlan, Of};
+use cf_plan::GrowingPlan;
 
 impl Stages {
     /// Attaches a stage behind all others, in a step of its own. No stage waits for treatment.

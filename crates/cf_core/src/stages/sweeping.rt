@@ -5,8 +5,8 @@
 //! neither the marks nor the ready stages are written: at its end there are none.
 ghost use Rattle.std.specs.Prelude.{◌≡◌, ◌+◌, ◌<◌, ◌≤◌, [], IfNone, IfSome, None, length, position, slice_set, true};
 ghost use Rattle.cf_outcome.specs.declared.outcome.Outcome.TheVariants.{Value as Gives};
-ghost use Rattle.cf_plan.specs.Forms.{composes};
-ghost use Rattle.cf_plan.specs.Plans.{form_at};
+ghost use Rattle.cf_forms.specs.Forms.{composes};
+ghost use Rattle.cf_forms.specs.Plans.{form_at};
 ghost use Rattle.cf_model.specs.declared.stage.Stage.TheVariants.{Linked, Ready, Settled};
 ghost use Rattle.cf_model.specs.States.{is_ready, new_states, outcome_of};
 ghost use Rattle.cf_core.specs.Keeping.Sound.{StayTaken, StayTakenBut, is_waiting, kept_at, links_after};
@@ -16,9 +16,10 @@ ghost use Rattle.cf_core.specs.Keeping.Sweeps.{AreSwept, IsReadyWith, turns_afte
 use crate::kept::KeptStage;
 use crate::stages::Stages;
 use crate::treat::offer;
+use cf_forms::Args;
 use cf_model::Stage;
 use cf_outcome::{Outcome, Value};
-use cf_plan::{Args, GrowingPlan};
+use cf_plan::GrowingPlan;
 
 impl Stages {
     /// Treats the next stage of a sweep, and says with what its function is to be called, if it is ready then. It is

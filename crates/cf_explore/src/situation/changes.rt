@@ -9,9 +9,9 @@ ghost use Rattle.cf_explore.specs.Moves.{calling, claim_answer, claim_by, finish
 
 use crate::situation::Situation;
 use crate::step::{Hand, Place};
+use cf_forms::Answer;
 use cf_model::{Attached, Call, Claimed, Reply, event_by};
 use cf_plain::Plain;
-use cf_plan::Answer;
 use std::alloc::{AllocError, Global};
 
 impl Situation {

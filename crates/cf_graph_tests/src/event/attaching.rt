@@ -5,9 +5,10 @@ use crate::checks::{holds, must, same, same_at};
 use crate::event::words::is_word;
 use cf_core::Graph;
 use cf_event::{Event, Reply, apply, decode, encode, is_event, replay};
+use cf_forms::{Args, Form, Of, fits_form};
 use cf_model::{Attached, Claimed};
 use cf_outcome::{Outcome, Value};
-use cf_plan::{Args, Form, Of, PlanBuilder, fits_form};
+use cf_plan::PlanBuilder;
 use std::alloc::Global;
 use std::process::Abort;
 

@@ -2,9 +2,10 @@
 use crate::checks::{holds, must, same, same_at};
 use cf_core::Graph;
 use cf_event::{Event, Reply, apply, decode, encode, is_event, replay};
+use cf_forms::{Answer, Args, Form, Of};
 use cf_model::{Claimed, Ticked};
 use cf_outcome::Value;
-use cf_plan::{Answer, Args, Form, Of, Plan, PlanBuilder};
+use cf_plan::{Plan, PlanBuilder};
 use std::alloc::Global;
 use std::process::Abort;
 

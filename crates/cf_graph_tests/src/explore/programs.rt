@@ -3,7 +3,8 @@ ghost use Rattle.std.specs.Prelude.{◌≡◌};
 
 use crate::checks::{holds, must};
 use cf_explore::{Caller, Program, Step};
-use cf_plan::{Answer, Args, Form, Limit, Plan, PlanBuilder, StageFn};
+use cf_forms::{Answer, Args, Form, Limit, StageFn};
+use cf_plan::{Plan, PlanBuilder};
 use std::alloc::Global;
 use std::process::Abort;
 

@@ -2,9 +2,9 @@
 use crate::checks::{must, same_at};
 use crate::explore::programs::{Rows, functions_of, program};
 use cf_explore::{Condition, Fact, Found, How, Step, When};
+use cf_forms::{Answer, Form, Limit, LimitKind};
 use cf_model::{Ask, Call};
 use cf_outcome::Value;
-use cf_plan::{Answer, Form, Limit, LimitKind};
 use std::alloc::Global;
 use std::process::Abort;
 

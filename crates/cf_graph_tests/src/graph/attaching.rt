@@ -3,9 +3,10 @@ use crate::checks::{holds, same};
 use crate::graph::plans::{Row, SOURCE, plan_of};
 use crate::graph::steps::{Step, play_growing, play_in, with_room};
 use cf_core::{Graph, GraphFault};
+use cf_forms::{Answer, Args, Form, Of};
 use cf_model::{Attached, Claimed, Finished};
 use cf_outcome::{Cause, Outcome, Value};
-use cf_plan::{Answer, Args, Form, Of, Plan};
+use cf_plan::Plan;
 use std::alloc::Global;
 use std::process::Abort;
 

@@ -5,8 +5,8 @@ use crate::checks::{holds, must, same};
 use crate::graph::plans::{Row, SOURCE};
 use crate::graph::steps::{Step, graph_of, take};
 use cf_core::Graph;
+use cf_forms::{Answer, Args, Closure, Form, Functions};
 use cf_outcome::Value;
-use cf_plan::{Answer, Args, Closure, Form, Functions};
 use std::alloc::Global;
 use std::process::Abort;
 

@@ -3,9 +3,10 @@ use crate::checks::{must, same};
 use crate::graph::plans::{Row, SOURCE, limited, longest_chain, plan_of, plan_or_fault, supplies};
 use crate::graph::steps::{Step, graph_in, play, play_in, play_on, take};
 use cf_core::{Graph, GraphFault};
+use cf_forms::{Answer, Args, Form, Limit, LimitKind};
 use cf_model::{Claimed, Finished, Ticked};
 use cf_outcome::{Cause, Now, Outcome, Value};
-use cf_plan::{Answer, Args, Form, Limit, LimitKind, Plan, PlanBuilder, PlanFault};
+use cf_plan::{Plan, PlanBuilder, PlanFault};
 use std::alloc::Global;
 use std::process::Abort;
 

@@ -1,6 +1,7 @@
 //! Plans of a few stages from rows, and the long ones.
 use crate::checks::must;
-use cf_plan::{Form, Limit, Plan, PlanBuilder, PlanFault};
+use cf_forms::{Form, Limit};
+use cf_plan::{Plan, PlanBuilder, PlanFault};
 use std::alloc::Global;
 use std::process::Abort;
 

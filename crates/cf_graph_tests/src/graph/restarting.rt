@@ -2,9 +2,10 @@
 use crate::graph::plans::{Row, SOURCE, limited, supplies};
 use crate::graph::steps::{Step, graph_in, play, take, with_room};
 use cf_core::Graph;
+use cf_forms::{Answer, Args, Form, Limit, LimitKind, Of};
 use cf_model::{Attached, Claimed, Finished, Ticked};
 use cf_outcome::Cause;
-use cf_plan::{Answer, Args, Form, Limit, LimitKind, Of, Plan};
+use cf_plan::Plan;
 use std::alloc::Global;
 use std::process::Abort;
 

@@ -3,9 +3,10 @@
 use crate::checks::{holds, must};
 use crate::graph::plans::{Row, plan_of};
 use cf_core::Graph;
+use cf_forms::{Answer, Args, Form, Of, fits_form};
 use cf_model::{Attached, Claimed, Event, Finished, Reply, Ticked};
 use cf_outcome::{Cause, Now, Outcome, Value};
-use cf_plan::{Answer, Args, Form, Of, Plan, fits_form};
+use cf_plan::Plan;
 use std::alloc::Global;
 use std::process::Abort;
 

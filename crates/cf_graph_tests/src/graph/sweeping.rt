@@ -3,8 +3,8 @@ use crate::checks::holds;
 use crate::graph::plans::{Row, SOURCE};
 use crate::graph::steps::{Step, graph_of, play_in, take};
 use cf_core::{Stop, Sweep};
+use cf_forms::{Answer, Args, Form};
 use cf_outcome::{Cause, Value};
-use cf_plan::{Answer, Args, Form};
 use std::process::Abort;
 
 /// Whether a sweep stops at these places, one after another, and at none behind them, where each function answers so.

@@ -3,9 +3,9 @@ use crate::checks::same;
 use crate::graph::plans::{Row, SOURCE, longest_chain};
 use crate::graph::steps::{Step, graph_in, graph_of, take};
 use cf_core::Graph;
+use cf_forms::{Answer, Args, Each, Form, StageFn};
 use cf_model::{Claimed, Finished};
 use cf_outcome::{Cause, Outcome, Value};
-use cf_plan::{Answer, Args, Each, Form, StageFn};
 use std::alloc::Global;
 use std::process::Abort;
 

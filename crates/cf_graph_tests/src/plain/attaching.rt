@@ -1,15 +1,16 @@
 //! Graphs to which stages are attached between the calls.
 ghost use Rattle.std.specs.Prelude.{◌<◌, ◌≡◌, true};
-ghost use Rattle.cf_plan.specs.Plans.{has_place};
+ghost use Rattle.cf_forms.specs.Plans.{has_place};
 
 use crate::checks::{holds, must, same};
 use crate::plain::both::{Both, answer, assert_alike, nudge};
 use crate::plain::calls::{call_of, caller_of, finishing};
 use crate::plain::plans::{New, PAIRS, larger_plan, new_of, numbers_of, pair_of, two_sources};
 use cf_core::Graph;
+use cf_forms::Of;
 use cf_model::{Attached, Event, Reply};
 use cf_plain::Plain;
-use cf_plan::{Of, Plan};
+use cf_plan::Plan;
 use rand_core::Rng;
 use std::alloc::Global;
 use std::process::Abort;

@@ -1,7 +1,7 @@
 //! Calls that are made by numbers.
+use cf_forms::Answer;
 use cf_model::Event;
 use cf_outcome::Value;
-use cf_plan::Answer;
 
 /// Completes, fails or cancels a stage, or lets it be a moment, by the upper bits of a number.
 fn settling(who: u8, stage: u16, x: u32) -> Event {

@@ -1,7 +1,8 @@
 //! Plans that are made by rule, small ones of each choice of forms and sources, and larger ones by random numbers.
 use crate::checks::must;
+use cf_forms::{Form, LimitKind, Of};
 use cf_outcome::Value;
-use cf_plan::{Form, LimitKind, Of, Plan, PlanBuilder, PlanFault};
+use cf_plan::{Plan, PlanBuilder, PlanFault};
 use rand_core::{Rng, SeedableRng};
 use rand_pcg::Pcg32;
 use std::alloc::Global;

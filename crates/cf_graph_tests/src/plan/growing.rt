@@ -1,7 +1,8 @@
 //! Plans to which stages are attached, beside plans that were built whole.
 use crate::checks::{holds, must, same};
 use crate::plan::rows::are_same;
-use cf_plan::{Form, GrowingPlan, LimitKind, MAX_STAGES, Of, Plan, PlanBuilder, fits_form};
+use cf_forms::{Form, LimitKind, Of, fits_form};
+use cf_plan::{GrowingPlan, MAX_STAGES, Plan, PlanBuilder};
 use std::alloc::{AllocError, Global};
 use std::process::Abort;
 

@@ -1,6 +1,6 @@
 //! The numbers and the names of forms, which forms' functions answer with a stage, and which the first settled source decides.
 use crate::checks::holds;
-use cf_plan::{Form, composes, is_decided_by_first};
+use cf_forms::{Form, composes, is_decided_by_first};
 
 /// Each form with its number, its name, and whether its function answers with a stage.
 const FORMS: [(u8, Form, &str, bool); 19] = [

@@ -1,6 +1,7 @@
 //! Which sources a plan has, and for how much room it has place.
 use crate::checks::{must, same};
-use cf_plan::{Form, Of, Plan, PlanBuilder};
+use cf_forms::{Form, Of};
+use cf_plan::{Plan, PlanBuilder};
 use std::alloc::Global;
 use std::process::Abort;
 

@@ -1,8 +1,9 @@
 //! Plans of every kind of size, and what is refused.
 use crate::checks::{holds, is_shown, must, same};
 use crate::plan::rows::{Ask, Step, check, check_after, check_both, check_built, take, taken};
+use cf_forms::{Form, Limit, LimitKind};
 use cf_outcome::{Value, WriteFault};
-use cf_plan::{Form, Limit, LimitKind, MAX_EDGES, Plan, PlanBuilder, PlanFault};
+use cf_plan::{MAX_EDGES, Plan, PlanBuilder, PlanFault};
 use std::alloc::Global;
 use std::process::Abort;
 

@@ -1,6 +1,7 @@
 //! What is done to a builder, and what a plan is asked, as rows that tests take.
 use crate::checks::{holds, must};
-use cf_plan::{Form, Limit, LimitKind, Plan, PlanBuilder, PlanFault};
+use cf_forms::{Form, Limit, LimitKind};
+use cf_plan::{Plan, PlanBuilder, PlanFault};
 use std::alloc::Global;
 use std::process::Abort;
 

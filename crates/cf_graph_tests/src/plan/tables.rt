@@ -2,10 +2,11 @@
 ghost use Rattle.std.specs.Prelude.{◌≡◌};
 
 use crate::checks::{holds, same};
-use cf_outcome::{Cause, Outcome, Value};
-use cf_plan::{
-    Answer, Args, Due, Form, Landing, Of, StageFn, due_one, due_two, fits_form, landing,
+use cf_forms::{
+    Answer, Args, Due, Form, Landing, Of, StageFn, calls_function, due_one, due_two, fits_form,
+    landing, takes_count,
 };
+use cf_outcome::{Cause, Outcome, Value};
 
 const RAW: Outcome = Outcome::Fault {
     cause: Cause::TimedOut,
@@ -44,7 +45,7 @@ struct Fixed {
 }
 
 impl StageFn for Fixed {
-    ghost use Rattle.cf_plan.specs.declared.forms.Answer.TheVariants.{Give};
+    ghost use Rattle.cf_forms.specs.declared.forms.Answer.TheVariants.{Give};
 
     ghost meaning = { λ f args. Give f.value };
 
@@ -219,5 +220,8 @@ fn stages_fit_their_form(rt: HostRuntime) {
             fits_form(*form, of.count(), *has_function) == *fits,
             form,
         );
+        let by_parts = takes_count(*form, of.count() as usize)
+            && calls_function(*form) == *has_function;
+        holds(&rt, by_parts == *fits, form);
     }
 }

@@ -1,7 +1,7 @@
 //! How desks are opened.
 ghost use Rattle.std.specs.Prelude.{◌≡◌, ◌≤◌, ◌↔◌, All, IfErr, IfOk, IsTrue, length, true, vec_len};
 ghost use Rattle.std.specs.Arc.{arc_value};
-ghost use Rattle.cf_plan.specs.Plans.{has_place};
+ghost use Rattle.cf_forms.specs.Plans.{has_place};
 ghost use Rattle.cf_desk.specs.Faults.{AreCounts};
 ghost use Rattle.cf_desk.specs.Functions.{function_bound};
 ghost use Rattle.cf_desk.specs.Views.{opened};

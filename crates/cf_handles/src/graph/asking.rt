@@ -7,9 +7,9 @@ ghost use Rattle.cf_handles.specs.Graphs.{GraphAnswers, Asked, GraphRefuses, Res
 use crate::code::Code;
 use crate::handle::object::Object;
 use crate::values::{CfNow, CfOutcome, CfReply, as_now, as_outcome, as_reply};
+use cf_forms::fits_form;
 use cf_model::Event;
 use cf_outcome::Value;
-use cf_plan::fits_form;
 
 /// Hands a graph an event, unless there is a reason why there is none.
 #[inline(always)]

@@ -5,8 +5,8 @@ ghost use Rattle.cf_handles.specs.Plans.{as_function, attach_event, event_with, 
 
 use crate::code::Code;
 use cf_desk::Call;
+use cf_forms::{Form, Of};
 use cf_model::Event;
-use cf_plan::{Form, Of};
 
 /// A function's number, or none where it is above 65,535.
 #[inline(always)]

@@ -7,9 +7,9 @@ use crate::code::Code;
 use crate::values::attaching::{as_function, event_with, parts_with, sources_with};
 use crate::values::{CfAnswer, CfValue, answer_of, as_answer, as_value, value_of};
 use cf_event::{decode, encode, is_event};
+use cf_forms::{Answer, Form, Of};
 use cf_model::Event;
 use cf_outcome::Value;
-use cf_plan::{Answer, Form, Of};
 
 /// A changing call of a caller: complete (0), fail (1), cancel (2), claim (3), finish (4), tick (5), attach (6).
 ///

@@ -4,9 +4,9 @@ ghost use Rattle.cf_handles.specs.Tasks.{finished_as, held_by, holding, number_o
 
 use crate::code::Code;
 use crate::values::{CfAnswer, CfArgs, answer_of, as_args, finish_number};
+use cf_forms::Args;
 use cf_ledger::Held;
 use cf_model::Finished;
-use cf_plan::Args;
 
 /// What a caller holds: nothing (`held` is 0), or a stage, with the number and the arguments of its function, and a place for
 /// what that answers. `finished` is what the last finish was answered: won (0), also where nothing was held, or late (1).

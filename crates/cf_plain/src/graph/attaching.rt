@@ -1,12 +1,12 @@
 //! The call by which the graph grows.
 ghost use Rattle.std.specs.Prelude.{◌≡◌, ◌<◌, true, All, IfOk, is_some, length};
-ghost use Rattle.cf_plan.specs.Plans.{attached_stage, fits_form, sources_of};
+ghost use Rattle.cf_forms.specs.Plans.{attached_stage, fits_form, sources_of};
 ghost use Rattle.cf_model.specs.States.{appended};
 ghost use Rattle.cf_model.specs.Events.{attaching};
 
 use crate::graph::Plain;
+use cf_forms::{Form, Of};
 use cf_model::{Attached, Stage};
-use cf_plan::{Form, Of};
 use std::alloc::{AllocError, Global};
 
 impl Plain {

@@ -6,9 +6,9 @@ ghost use Rattle.cf_model.specs.Events.{cancelling, claiming, finishing, landed,
 
 use crate::graph::Plain;
 use crate::stages::{new_stages, outcome_in};
+use cf_forms::{Answer, Landing, landing};
 use cf_model::{Claimed, Finished, Stage};
 use cf_outcome::{Cause, Outcome, is_cancelled, wrap};
-use cf_plan::{Answer, Landing, landing};
 use std::alloc::{AllocError, Global};
 
 impl Plain {

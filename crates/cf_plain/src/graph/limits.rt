@@ -4,9 +4,9 @@ ghost use Rattle.std.specs.List.{prefix_len};
 ghost use Rattle.cf_model.specs.Events.{due_limits, firing, limit_outcome, settling, ticking};
 
 use crate::graph::Plain;
+use cf_forms::{Limit, LimitKind};
 use cf_model::Ticked;
 use cf_outcome::{Cause, Outcome};
-use cf_plan::{Limit, LimitKind};
 use std::alloc::{AllocError, Global};
 
 impl Plain {

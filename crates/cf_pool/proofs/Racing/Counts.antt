@@ -4,7 +4,7 @@ use Rattle.std.specs.List.{All}
 use Rattle.std.proofs.lemmas.Bool.{eqb-true, eqb-false}
 use Rattle.std.proofs.lemmas.Bool.Decides.{nat_tests}
 use Rattle.std.proofs.lemmas.List.Elements.{All-head, All-tail}
-use Rattle.cf_plan.specs.Plans.{Planned}
+use Rattle.cf_forms.specs.Plans.{Planned}
 use Rattle.cf_model.specs.declared.replies.Claimed.{Claimed}
 use Rattle.cf_model.specs.declared.replies.Claimed.TheVariants.{Granted, Settled, Taken, NotReady}
 use Rattle.cf_model.specs.declared.events.Event.{Event}
@@ -16,7 +16,7 @@ use Rattle.cf_model.specs.Events.{answered, claiming, state_after}
 use Rattle.cf_model.proofs.Claimable.{answered-claimable, claiming-claimable}
 use Rattle.cf_model.proofs.Shape.{answered-shape}
 use Rattle.cf_model.specs.Calls.{as_call, who_of}
-use Rattle.cf_plan.specs.Meanings.{Meanings}
+use Rattle.cf_forms.specs.Meanings.{Meanings}
 use Rattle.cf_model.specs.declared.calls.Call.TheVariants.{Complete, Fail, Cancel, Claim, Finish, Tick, Attach}
 use Rattle.cf_desk.specs.declared.calls.Rec.{Rec}
 use Rattle.cf_desk.specs.declared.calls.Rec.TheVariants.{Did, Saw}

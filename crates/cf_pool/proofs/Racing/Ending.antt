@@ -3,10 +3,10 @@ use Rattle.std.proofs.Common.{◌≡◌, ◌≢◌, ℕ, ◌+◌, ◌<◌, ◌�
 use Rattle.std.specs.List.{All, AllZip}
 use Rattle.std.proofs.lemmas.Bool.{eqb-false, cases_lt}
 use Rattle.std.proofs.lemmas.List.Elements.{All-head, All-tail, All-weaker}
-use Rattle.cf_plan.specs.Plans.{Planned}
+use Rattle.cf_forms.specs.Plans.{Planned}
 use Rattle.cf_model.specs.declared.events.Event.{Event}
 use Rattle.cf_model.specs.Calls.{who_of}
-use Rattle.cf_plan.specs.Meanings.{Meanings}
+use Rattle.cf_forms.specs.Meanings.{Meanings}
 use Rattle.cf_desk.specs.declared.row.DeskConfig.{DeskConfig}
 use Rattle.cf_desk.specs.Keepings.{IsKeptFit, pass_did}
 use Rattle.cf_desk.specs.Laws.{call_of}

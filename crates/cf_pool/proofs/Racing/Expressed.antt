@@ -5,8 +5,8 @@ use Rattle.cf_model.specs.declared.events.Event.{Event}
 use Rattle.cf_model.specs.declared.events.Event.TheVariants.{Complete as Completes, Fail as Fails, Cancel as Cancels, Claim as Claims, Finish as Finishes, Tick as Ticks, Attach as Attaches}
 use Rattle.cf_model.specs.States.{State, start, outcome_at}
 use Rattle.cf_model.specs.Events.{answered, state_after}
-use Rattle.cf_plan.specs.Meanings.{Meanings, stage_answer}
-use Rattle.cf_plan.specs.Plans.{IsBuilt, Planned}
+use Rattle.cf_forms.specs.Meanings.{Meanings, stage_answer}
+use Rattle.cf_forms.specs.Plans.{IsBuilt, Planned}
 use Rattle.cf_expr.specs.Expressions.{expr}
 use Rattle.cf_expr.specs.Histories.{Grants, IsPlain, IsPlainEvent, IsPlainPlan, IsQuiet, grants_after, granted_with, is_work, nothing_granted}
 use Rattle.cf_expr.proofs.Parts.{plain_append, without_work-append, work_keeps_expressions}

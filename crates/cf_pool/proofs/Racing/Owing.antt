@@ -3,9 +3,9 @@ use Rattle.std.proofs.Common.{◌≡◌, ◌≢◌, ℕ, suc, ◌<◌, ◌==◌,
 use Rattle.std.specs.Prelude.{◌&&◌}
 use Rattle.std.proofs.lemmas.Bool.{eqb-true, eqb-false}
 use Rattle.std.proofs.lemmas.Bool.Decides.{nat_tests}
-use Rattle.cf_plan.specs.declared.forms.Args.{Args}
-use Rattle.cf_plan.specs.declared.forms.Answer.{Answer}
-use Rattle.cf_plan.specs.Plans.{Planned}
+use Rattle.cf_forms.specs.declared.forms.Args.{Args}
+use Rattle.cf_forms.specs.declared.forms.Answer.{Answer}
+use Rattle.cf_forms.specs.Plans.{Planned}
 use Rattle.cf_model.specs.declared.replies.Claimed.TheVariants.{Granted, Settled, Taken, NotReady}
 use Rattle.cf_model.specs.declared.events.Event.{Event}
 use Rattle.cf_model.specs.declared.events.Event.TheVariants.{Complete as Completes, Fail as Fails, Cancel as Cancels, Claim as Claims, Finish as Finishes, Tick as Ticks, Attach as Attaches}
@@ -15,7 +15,7 @@ use Rattle.cf_model.specs.States.{State}
 use Rattle.cf_model.specs.Calls.{as_call, is_attach, who_of}
 use Rattle.cf_model.specs.Events.{answered, state_after}
 use Rattle.cf_model.proofs.Shape.{answered-shape}
-use Rattle.cf_plan.specs.Meanings.{Meanings, stage_answer}
+use Rattle.cf_forms.specs.Meanings.{Meanings, stage_answer}
 use Rattle.cf_expr.specs.Histories.{Grants, granted_with}
 use Rattle.cf_expr.proofs.Parts.{granted_with-other}
 use Rattle.cf_desk.specs.declared.calls.Rec.{Rec}

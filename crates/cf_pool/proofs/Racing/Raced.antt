@@ -7,8 +7,8 @@ use Rattle.std.proofs.lemmas.List.{length-take-le, length-replicate}
 use Rattle.std.proofs.lemmas.List.Sums.{count_by-le-length}
 use Rattle.std.proofs.Math.Seq.{take-length}
 use Rattle.std.proofs.lemmas.List.Elements.{All-cons, All-head, All-tail, All-weaker, All-contains}
-use Rattle.cf_plan.specs.Plans.{Planned, PlannedStage, IsBuilt, IsGrowing, edges_of, plan_of, with_room}
-use Rattle.cf_plan.proofs.GrowingLemmas.{IsBuilt-as}
+use Rattle.cf_forms.specs.Plans.{Planned, PlannedStage, IsBuilt, IsGrowing, edges_of, plan_of, with_room}
+use Rattle.cf_forms.proofs.PlanLemmas.{IsBuilt-as}
 use Rattle.cf_model.specs.declared.events.Event.{Event}
 use Rattle.cf_model.specs.declared.stage.Stage.TheVariants.{Pending}
 use Rattle.cf_model.specs.States.{State, start, stage_at}
@@ -19,7 +19,7 @@ use Rattle.cf_model.proofs.Histories.{state_after-append}
 use Rattle.cf_model.proofs.LowestReady.{lowest_ready-none}
 use Rattle.cf_model.proofs.Growing.{grown_growing}
 use Rattle.cf_model.proofs.Shape.{length-new_states, state_after-grows}
-use Rattle.cf_plan.specs.Meanings.{Meanings}
+use Rattle.cf_forms.specs.Meanings.{Meanings}
 use Rattle.cf_expr.specs.Histories.{grants_after, nothing_granted}
 use Rattle.cf_desk.specs.declared.calls.Kept.{Kept}
 use Rattle.cf_desk.specs.declared.faults.DeskFault.{DeskFault}

@@ -1,6 +1,6 @@
 //! How a race begins: caller 0 does the steps, and then it meets each other caller.
 ghost use Rattle.std.specs.Prelude.{◌≡◌, ◌+◌, ◌<◌, ◌≤◌, All, IfOk, length, vec_len};
-ghost use Rattle.cf_plan.specs.Plans.{with_room};
+ghost use Rattle.cf_forms.specs.Plans.{with_room};
 ghost use Rattle.cf_desk.specs.Views.{IsOf};
 ghost use Rattle.cf_pool.specs.Beginnings.{HasDoneSteps, HasTaken, HaveBegun, IsApart, IsIdle};
 ghost use Rattle.cf_pool.specs.Races.{IsStep, race_functions};

@@ -1,9 +1,10 @@
 //! Scripts of version 2: room, and steps that attach stages.
 use crate::checks::{holds, must};
 use crate::reading::reading::{Parts, is_read};
+use cf_forms::{Form, Of};
 use cf_model::{Ask, Event};
 use cf_outcome::Value;
-use cf_plan::{Form, Of, PlanFault};
+use cf_plan::PlanFault;
 use cf_reading::{Func, Part, ReadingFault, Script, Step, read_race, read_script};
 use std::alloc::Global;
 use std::process::Abort;

@@ -1,8 +1,9 @@
 //! What scripts are read as, what is refused, and the ten functions.
 use crate::checks::{holds, must};
+use cf_forms::{Answer, Args, Limit, LimitKind, StageFn};
 use cf_model::{Ask, Event};
 use cf_outcome::{Cause, Outcome, Value};
-use cf_plan::{Answer, Args, Limit, LimitKind, PlanFault, StageFn};
+use cf_plan::PlanFault;
 use cf_reading::{Func, MAX_BYTES, Part, ReadingFault, Script, Step, read_input, read_script};
 use std::alloc::Global;
 use std::io;

@@ -1,10 +1,11 @@
 //! What a gate is told in a race, and when functions are called.
 ghost use Rattle.std.specs.Prelude.{◌≡◌, ◌<◌, ◌≤◌, true};
-ghost use Rattle.cf_plan.specs.Plans.{has_place};
+ghost use Rattle.cf_forms.specs.Plans.{has_place};
 
 use crate::checks::{holds, must, same, same_at};
+use cf_forms::{Answer, Args, Form, StageFn};
 use cf_outcome::Value;
-use cf_plan::{Answer, Args, Form, Plan, PlanBuilder, StageFn};
+use cf_plan::{Plan, PlanBuilder};
 use cf_pool::{race, share};
 use cf_script::{Gate, race_script};
 use std::alloc::Global;
@@ -191,7 +192,7 @@ struct Counted<'a> {
 
 impl StageFn for Counted<'_> {
     ghost use Rattle.cf_outcome.specs.declared.outcome.Value.TheVariants.{Nil};
-    ghost use Rattle.cf_plan.specs.declared.forms.Answer.TheVariants.{Give};
+    ghost use Rattle.cf_forms.specs.declared.forms.Answer.TheVariants.{Give};
 
     ghost meaning = { λ f args. Give Nil };
 

@@ -5,9 +5,10 @@ use crate::checks::{holds, must, same};
 use crate::desk::desks::{last_of, open_desk};
 use crate::plans::{SOURCE_AND_SUPPLY, plan_of};
 use cf_desk::{Call, Closed, Desk, DeskFault, OpenFault, Pass};
+use cf_forms::Form;
 use cf_model::Event;
 use cf_outcome::Value;
-use cf_plan::{Form, Plan, PlanBuilder};
+use cf_plan::{Plan, PlanBuilder};
 use std::alloc::Global;
 use std::process::Abort;
 

@@ -4,9 +4,9 @@ use crate::desk::ends::{End, check_ends};
 use crate::plans::{SOURCE_AND_APPLY, plan_of};
 use cf_desk::{Ask, Call, Closed, Rec, Told};
 use cf_example::take_turns;
+use cf_forms::{Form, Of};
 use cf_model::{Attached, Event, Reply};
 use cf_outcome::{Outcome, Value};
-use cf_plan::{Form, Of};
 use std::alloc::Global;
 use std::process::Abort;
 

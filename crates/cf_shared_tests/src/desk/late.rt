@@ -5,9 +5,9 @@ use crate::desk::ends::End;
 use crate::desk::steps::{Step, Turn, play};
 use crate::plans::Row;
 use cf_desk::{Ask, Call, CloseFault, DeskFault, OpenFault, Told};
+use cf_forms::Form;
 use cf_model::Reply;
 use cf_outcome::{Outcome, Value};
-use cf_plan::Form;
 
 /// A source and three stages, each of which follows the one before.
 const CHAIN: [Row<'static>; 4] = [

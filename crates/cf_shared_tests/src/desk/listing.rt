@@ -3,9 +3,10 @@ ghost use Rattle.std.specs.Prelude.{◌≡◌, All, length};
 
 use cf_core::Graph;
 use cf_desk::{Call, Desk, Pass};
+use cf_forms::{Answer, Args, Form};
 use cf_model::{Claimed, Finished};
 use cf_outcome::{Outcome, Value};
-use cf_plan::{Answer, Args, Form, Plan, PlanBuilder, PlanFault};
+use cf_plan::{Plan, PlanBuilder, PlanFault};
 use std::alloc::Global;
 use std::test::Fail;
 use std::thread;

@@ -6,8 +6,9 @@ use crate::desk::desks::{last_of, open_growing};
 use crate::desk::growing::ATTACHES;
 use crate::plans::{SOURCE, plan_of};
 use cf_desk::{Closed, Desk, OpenFault, Pass};
+use cf_forms::Form;
 use cf_model::{Attached, Reply};
-use cf_plan::{Form, Plan, PlanBuilder};
+use cf_plan::{Plan, PlanBuilder};
 use std::alloc::Global;
 use std::process::Abort;
 

@@ -3,9 +3,9 @@ use crate::desk::desks::small;
 use crate::desk::ends::End;
 use crate::desk::steps::{Step, Turn, play};
 use cf_desk::{Ask, Call, DeskFault, Joined, Rec, Told};
+use cf_forms::{Answer, Args};
 use cf_model::{Claimed, Event, Finished, Reply, Ticked};
 use cf_outcome::{Now, Outcome, Value};
-use cf_plan::{Answer, Args};
 
 const SETTLED: Outcome = Outcome::Value(Value::Int(5));
 

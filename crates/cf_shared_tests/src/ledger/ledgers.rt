@@ -1,12 +1,13 @@
 ghost use Rattle.std.specs.Prelude.{◌≡◌, true};
-ghost use Rattle.cf_plan.specs.Plans.{has_place};
+ghost use Rattle.cf_forms.specs.Plans.{has_place};
 
 use crate::checks::{holds, must};
 use crate::ledger::steps::{Step, plan, take};
+use cf_forms::{Answer, Args};
 use cf_ledger::{Finish, Held, Ledger, LedgerFault, Misfit, Reply, Stage, StepFault, Taken};
 use cf_model::{Attached, Claimed, Finished};
 use cf_outcome::{Outcome, Value};
-use cf_plan::{Answer, Args, Plan};
+use cf_plan::Plan;
 use std::alloc::Global;
 use std::process::Abort;
 

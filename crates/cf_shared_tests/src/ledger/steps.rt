@@ -1,6 +1,6 @@
 //! What is done to a ledger and asked of it, as rows: a call, and what it is answered.
 ghost use Rattle.std.specs.Prelude.{◌≡◌, true};
-ghost use Rattle.cf_plan.specs.Plans.{has_place};
+ghost use Rattle.cf_forms.specs.Plans.{has_place};
 
 use crate::checks::holds;
 use crate::plans::{SOURCE_AND_APPLY, plan_of};

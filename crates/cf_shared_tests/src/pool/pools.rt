@@ -1,7 +1,7 @@
 //! Desks for workers, and runs and races over them.
 ghost use Rattle.std.specs.Prelude.{◌≡◌, ◌+◌, ◌<◌, ◌≤◌, All, IfOk, vec_len};
 ghost use Rattle.cf_desk.specs.Views.{IsOf};
-ghost use Rattle.cf_plan.specs.Plans.{with_room};
+ghost use Rattle.cf_forms.specs.Plans.{with_room};
 ghost use Rattle.cf_pool.specs.Races.{AreSteps};
 
 use crate::checks::{holds, must};
@@ -9,9 +9,10 @@ use crate::plans::{Stages, plan_with};
 use crate::pool::ends::Ended;
 use cf_core::Graph;
 use cf_desk::{Closed, Desk, DeskFault, Pass};
+use cf_forms::{Answer, Args, StageFn};
 use cf_model::Event;
 use cf_outcome::Value;
-use cf_plan::{Answer, Args, Plan, StageFn};
+use cf_plan::Plan;
 use cf_pool::{Done, Gate, Left, PoolFault, race, run, share};
 use std::alloc::Global;
 use std::process::Abort;
@@ -25,7 +26,7 @@ pub(crate) struct Fixed {
 }
 
 impl StageFn for Fixed {
-    ghost use Rattle.cf_plan.specs.declared.forms.Answer.TheVariants.{Give};
+    ghost use Rattle.cf_forms.specs.declared.forms.Answer.TheVariants.{Give};
 
     ghost meaning = { λ f args. Give f.value };
 

@@ -5,9 +5,9 @@ use crate::checks::{holds, must};
 use crate::plans::{Row, Stages, plan_of};
 use crate::pool::pools::{Opening, open};
 use cf_desk::{Call, Kept, Rec};
+use cf_forms::{Answer, Args, Form, Functions};
 use cf_model::{Claimed, Reply};
 use cf_outcome::Value;
-use cf_plan::{Answer, Args, Form, Functions};
 use cf_pool::{Left, Worker, race, run};
 use std::alloc::Global;
 use std::process::Abort;
@@ -37,7 +37,7 @@ impl Recorder {
 }
 
 impl Functions for Recorder {
-    ghost use Rattle.cf_plan.specs.declared.forms.Answer.TheVariants.{Give};
+    ghost use Rattle.cf_forms.specs.declared.forms.Answer.TheVariants.{Give};
     ghost use Rattle.cf_outcome.specs.declared.outcome.Value.TheVariants.{Nil};
 
     ghost calls = { λ m number args answer n. answer ≡ Give Nil };
@@ -53,7 +53,7 @@ impl Functions for Recorder {
 
 impl Worker for Recorder {
     ghost use Rattle.std.proofs.Common.{refl};
-    ghost use Rattle.cf_plan.specs.declared.forms.Answer.TheVariants.{Give};
+    ghost use Rattle.cf_forms.specs.declared.forms.Answer.TheVariants.{Give};
     ghost use Rattle.cf_outcome.specs.declared.outcome.Value.TheVariants.{Nil};
 
     ghost meanings = { λ m number args. Give Nil };

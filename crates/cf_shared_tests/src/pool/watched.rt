@@ -7,9 +7,9 @@ use crate::plans::supplies;
 use crate::pool::ends::Ended;
 use crate::pool::pools::{Opening, last_of, open, over_supplies, raced, run_over};
 use cf_desk::{Call, Desk, DeskFault, Kept, Pass, Rec};
+use cf_forms::{Answer, Args, StageFn};
 use cf_model::{Claimed, Reply};
 use cf_outcome::Value;
-use cf_plan::{Answer, Args, StageFn};
 use cf_pool::{Done, Gate, Shared, work};
 use std::alloc::Global;
 use std::process::Abort;
@@ -177,7 +177,7 @@ struct Watched<'a> {
 }
 
 impl<'a> StageFn for Watched<'a> {
-    ghost use Rattle.cf_plan.specs.declared.forms.Answer.TheVariants.{Give};
+    ghost use Rattle.cf_forms.specs.declared.forms.Answer.TheVariants.{Give};
     ghost use Rattle.cf_outcome.specs.declared.outcome.Value.TheVariants.{Nil};
 
     ghost meaning = { λ f args. Give Nil };

@@ -1,5 +1,5 @@
 use Rattle.std.proofs.Common.{◌≡◌, drop, map}
-use Rattle.cf_plan.specs.Forms.{first_there}
+use Rattle.cf_forms.specs.Forms.{first_there}
 use Rattle.cf_core.specs.Keeping.Treatment.{dated_in, outcome_part}
 use Rattle.cf_core.proofs.attach.first_there.Given as goal
 

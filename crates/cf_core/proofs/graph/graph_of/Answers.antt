@@ -1,6 +1,6 @@
 use Rattle.std.proofs.Common.{◌∙◌, None, ap, arith, length, subst, sym}
 use Rattle.std.proofs.lemmas.List.{length-replicate}
-use Rattle.cf_plan.specs.Plans.{Planned}
+use Rattle.cf_forms.specs.Plans.{Planned}
 use Rattle.cf_core.specs.Keeping.Graphs.{AreClaimed}
 use Rattle.cf_core.proofs.Keeping.GraphLemmas.{no_claims}
 use Rattle.cf_core.proofs.graph.graph_of.Goals as goal

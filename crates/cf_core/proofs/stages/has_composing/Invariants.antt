@@ -1,6 +1,6 @@
 use Rattle.std.proofs.Common.{◌≡◌, ℕ, ◌<◌, false}
-use Rattle.cf_plan.specs.Forms.{composes}
-use Rattle.cf_plan.specs.Plans.{form_at}
+use Rattle.cf_forms.specs.Forms.{composes}
+use Rattle.cf_forms.specs.Plans.{form_at}
 use Rattle.cf_core.proofs.stages.has_composing.Given as goal
 
 -- none of the stages that were looked at composes

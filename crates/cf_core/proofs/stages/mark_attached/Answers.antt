@@ -1,7 +1,7 @@
 use Rattle.std.proofs.Common.{◌≡◌, ◌∙◌, ◌+◌, ap, arith, drop, length}
 use Rattle.std.specs.Prelude.{if◌then◌else◌, slice_set, true}
-use Rattle.cf_plan.specs.Plans.{form_at, sources_at}
-use Rattle.cf_plan.specs.Forms.{starts}
+use Rattle.cf_forms.specs.Plans.{form_at, sources_at}
+use Rattle.cf_forms.specs.Forms.{starts}
 use Rattle.cf_core.specs.Keeping.Starts.{mark_starts}
 use Rattle.cf_core.proofs.Keeping.StartSound.{mark_starts-step}
 use Rattle.cf_core.proofs.Keeping.Marking.{length-mark_one}

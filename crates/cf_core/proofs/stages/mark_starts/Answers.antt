@@ -1,5 +1,5 @@
 use Rattle.std.proofs.Common.{◌∙◌, ap, arith, drop}
-use Rattle.cf_plan.specs.Plans.{Planned, starts_of}
+use Rattle.cf_forms.specs.Plans.{Planned, starts_of}
 use Rattle.cf_core.specs.Keeping.Starts.{mark_starts, mark_those}
 use Rattle.cf_core.proofs.Keeping.StartSound.{mark_starts-opened, opened_within}
 use Rattle.cf_core.proofs.stages.mark_starts.Goals as goal

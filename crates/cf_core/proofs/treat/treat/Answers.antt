@@ -1,5 +1,5 @@
 use Rattle.std.proofs.Common.{◌∙◌, ap, refl, sym}
-use Rattle.cf_plan.specs.Plans.{PlannedStage}
+use Rattle.cf_forms.specs.Plans.{PlannedStage}
 use Rattle.cf_core.specs.Keeping.Treatment.{treated}
 use Rattle.cf_core.specs.Keeping.Sound.{is_waiting, kept_at}
 use Rattle.cf_core.proofs.Keeping.Places.{idle_stage, same_put, treated_idle}

@@ -1,5 +1,5 @@
 use Rattle.std.proofs.Common.{◌≡◌, ◌<◌, ◌+◌, ◌++◌, ◌∷◌, [], ℕ, List, ap, arith, is_some, length, map, rules, suc, take, ◌∙◌}
-use Rattle.cf_plan.specs.Plans.{function_at}
+use Rattle.cf_forms.specs.Plans.{function_at}
 use Rattle.cf_explain.specs.declared.idle.StageSoFar.{StageSoFar}
 use Rattle.cf_explain.specs.Sights.{known_of, untouched}
 use Rattle.cf_explain.proofs.Remarking.{known_more}

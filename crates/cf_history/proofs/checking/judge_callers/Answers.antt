@@ -1,6 +1,6 @@
 use Rattle.std.proofs.Common.{arith, refl}
 use Rattle.std.proofs.lemmas.Option.{slice_get_read}
-use Rattle.cf_plan.specs.Plans.{with_room}
+use Rattle.cf_forms.specs.Plans.{with_room}
 use Rattle.cf_model.specs.States.{start}
 use Rattle.cf_history.specs.Callers.{IsJudged}
 use Rattle.cf_history.specs.Verdicts.{ComesTo}

@@ -1,5 +1,5 @@
 use Rattle.std.proofs.Common.{take}
-use Rattle.cf_plan.specs.Plans.{with_room}
+use Rattle.cf_forms.specs.Plans.{with_room}
 use Rattle.cf_model.specs.States.{start}
 use Rattle.cf_history.specs.Histories.{AllRight}
 use Rattle.cf_history.proofs.checking.judge_callers.Given as goal

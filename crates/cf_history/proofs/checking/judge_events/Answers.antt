@@ -1,6 +1,6 @@
 use Rattle.std.proofs.Common.{length, ap, ◌∙◌, subst}
 use Rattle.std.specs.Prelude.{MatchOption}
-use Rattle.cf_plan.specs.Plans.{with_room}
+use Rattle.cf_forms.specs.Plans.{with_room}
 use Rattle.cf_model.specs.States.{State, start}
 use Rattle.cf_model.specs.Events.{state_after}
 use Rattle.cf_history.specs.Histories.{AllRight, AreWordsOf, said}

@@ -1,4 +1,4 @@
-use Rattle.cf_plan.specs.Plans.{with_room}
+use Rattle.cf_forms.specs.Plans.{with_room}
 use Rattle.cf_history.proofs.Told.{told_shared}
 use Rattle.cf_history.proofs.filling.check_shared.Goals as goal
 

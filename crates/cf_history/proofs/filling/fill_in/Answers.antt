@@ -1,4 +1,4 @@
-use Rattle.cf_plan.specs.Plans.{with_room}
+use Rattle.cf_forms.specs.Plans.{with_room}
 use Rattle.cf_history.proofs.Fillings.{fits_as_any}
 use Rattle.cf_history.proofs.filling.fill_in.Goals as goal
 

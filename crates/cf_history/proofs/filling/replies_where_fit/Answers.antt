@@ -1,4 +1,4 @@
-use Rattle.cf_plan.specs.Plans.{with_room}
+use Rattle.cf_forms.specs.Plans.{with_room}
 use Rattle.cf_model.specs.States.{start}
 use Rattle.cf_event.proofs.Events.{events_fit}
 use Rattle.cf_history.proofs.filling.replies_where_fit.Goals as goal

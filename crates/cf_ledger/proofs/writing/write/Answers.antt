@@ -1,5 +1,5 @@
 use Rattle.std.proofs.Common.{◌∙◌, subst, sym}
-use Rattle.cf_plan.specs.Plans.{with_room}
+use Rattle.cf_forms.specs.Plans.{with_room}
 use Rattle.cf_ledger.specs.Ledgers.{Does, IsKept, ledger_of}
 use Rattle.cf_ledger.proofs.Words.{does_push, kept_push}
 use Rattle.cf_ledger.proofs.writing.write.Goals as goal

@@ -1,5 +1,5 @@
 use Rattle.std.proofs.Common.{◌≡◌, drop}
-use Rattle.cf_plan.specs.Forms.{first_there}
+use Rattle.cf_forms.specs.Forms.{first_there}
 use Rattle.cf_plain.proofs.forms.by_first.Given as goal
 
 -- what is left decides

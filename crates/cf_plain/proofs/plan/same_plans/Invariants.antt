@@ -1,5 +1,5 @@
 use Rattle.std.proofs.Common.{◌≡◌, take, length}
-use Rattle.cf_plan.specs.Plans.{plan_of}
+use Rattle.cf_forms.specs.Plans.{plan_of}
 use Rattle.cf_plain.proofs.plan.same_plans.Given as goal
 
 -- they have the same stages so far

@@ -1,6 +1,6 @@
 use Rattle.std.proofs.Common.{◌≡◌, ◌<◌, ◌∙◌, ◌∷◌, length, length-append, get_or, ap, arith, None, []}
-use Rattle.cf_plan.specs.declared.forms.Form.TheVariants.{Source}
-use Rattle.cf_plan.specs.Plans.{PlannedStage}
+use Rattle.cf_forms.specs.declared.forms.Form.TheVariants.{Source}
+use Rattle.cf_forms.specs.Plans.{PlannedStage}
 use Rattle.cf_model.specs.declared.stage.Stage.TheVariants.{Pending}
 use Rattle.cf_model.specs.States.{next_of}
 use Rattle.cf_model.proofs.StateLemmas.{form_at-within, sources_at-within}

@@ -1,5 +1,5 @@
 use Rattle.std.proofs.Common.{◌≡◌, take}
-use Rattle.cf_plan.specs.Plans.{starts_of}
+use Rattle.cf_forms.specs.Plans.{starts_of}
 use Rattle.cf_plan.specs.Rows.{stages_of}
 use Rattle.cf_plan.proofs.starting.starts_of.Given as goal
 

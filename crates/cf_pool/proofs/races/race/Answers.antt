@@ -1,6 +1,6 @@
 use Rattle.std.proofs.Common.{◌+◌, ◌*◌, ◌∙◌, ap, length, ℕ}
-use Rattle.cf_plan.specs.Plans.{with_room}
-use Rattle.cf_plan.proofs.PlanLemmas.{place_is}
+use Rattle.cf_forms.specs.Plans.{with_room}
+use Rattle.cf_forms.proofs.PlanLemmas.{place_is}
 use Rattle.cf_pool.specs.Races.{log_words}
 use Rattle.cf_pool.proofs.Racing.Raced.{IsSized, growing-with_room, only_for_room, raced}
 use Rattle.cf_pool.proofs.races.race.Given.{Over}

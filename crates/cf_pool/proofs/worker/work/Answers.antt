@@ -1,5 +1,5 @@
 use Rattle.std.proofs.Common.{◌≡◌, ◌∙◌, None, arith, refl, rules, subst}
-use Rattle.cf_plan.specs.Meanings.{Meanings}
+use Rattle.cf_forms.specs.Meanings.{Meanings}
 use Rattle.cf_desk.specs.declared.faults.DeskFault.{DeskFault}
 use Rattle.cf_desk.specs.Views.{Desk, Pass}
 use Rattle.cf_pool.specs.Jobs.{AddsWork, DoesJob, StopsJob}

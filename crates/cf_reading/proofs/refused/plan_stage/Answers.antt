@@ -1,5 +1,6 @@
 use Rattle.std.proofs.Common.{length, sym, subst, ap, ◌∙◌}
-use Rattle.cf_plan.specs.Plans.{PlannedStage, stage_fault, edges_of, with_stage}
+use Rattle.cf_forms.specs.Plans.{PlannedStage, edges_of, with_stage}
+use Rattle.cf_plan.specs.Faults.{stage_fault}
 use Rattle.cf_reading.specs.Checks.{Fails, planned_unless, refusal_told}
 use Rattle.cf_reading.proofs.Refusals.{refused}
 use Rattle.cf_reading.proofs.refused.plan_stage.Goals as goal

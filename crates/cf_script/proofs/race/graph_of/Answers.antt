@@ -1,7 +1,7 @@
 use Rattle.std.proofs.Common.{arith, rules, ℕ, true, ◌≡◌, ◌+◌, ◌∙◌, ap, length, subst, sym, ◌≤◌, ◌<◌}
 use Rattle.cf_model.specs.Graphs.{Graph}
-use Rattle.cf_plan.specs.Meanings.{meanings_of}
-use Rattle.cf_plan.specs.Plans.{Planned, has_place, with_room}
+use Rattle.cf_forms.specs.Meanings.{meanings_of}
+use Rattle.cf_forms.specs.Plans.{Planned, has_place, with_room}
 use Rattle.cf_pool.specs.Races.{AreSteps, IsRaced, log_words}
 use Rattle.cf_reading.specs.Functions.{func_answer}
 use Rattle.cf_reading.specs.Scripts.{opening}

@@ -1,5 +1,5 @@
 use Rattle.std.proofs.Common.{◌<◌, arith}
-use Rattle.cf_plan.specs.Plans.{sources_of}
+use Rattle.cf_forms.specs.Plans.{sources_of}
 use Rattle.cf_core.proofs.Keeping.GraphLemmas.{attach_in_step}
 use Rattle.cf_core.proofs.Keeping.Resting.{attaches_resting}
 use Rattle.cf_core.proofs.graph.Graph.attach.Goals as goal

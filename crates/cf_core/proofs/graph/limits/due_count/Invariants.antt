@@ -1,7 +1,7 @@
 use Rattle.std.proofs.Common.{◌≡◌, ◌+◌, drop}
 use Rattle.std.specs.Prelude.{nat_le}
 use Rattle.std.specs.List.{prefix_len}
-use Rattle.cf_plan.specs.declared.limits.Limit.{Limit}
+use Rattle.cf_forms.specs.declared.limits.Limit.{Limit}
 use Rattle.cf_core.proofs.graph.limits.due_count.Given as goal
 
 -- those so far, and those that follow, are all of them

@@ -1,8 +1,8 @@
 use Rattle.std.proofs.Common.{◌∙◌, ap, set, sym}
 use Rattle.std.specs.Prelude.{option_and_then, slice_get}
 use Rattle.cf_outcome.specs.declared.outcome.Outcome.TheVariants.{Value as Gives}
-use Rattle.cf_plan.specs.Forms.{landing}
-use Rattle.cf_plan.specs.Plans.{form_at, sources_at}
+use Rattle.cf_forms.specs.Forms.{landing}
+use Rattle.cf_forms.specs.Plans.{form_at, sources_at}
 use Rattle.cf_model.specs.declared.stage.Stage.TheVariants.{Claimed}
 use Rattle.cf_model.specs.States.{is_ready, outcome_in}
 use Rattle.cf_model.proofs.Stable.{landing-lower}

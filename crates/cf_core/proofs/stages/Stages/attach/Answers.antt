@@ -1,11 +1,11 @@
 use Rattle.std.proofs.Common.{ℕ, ◌∙◌, ◌+◌, ◌++◌, ◌∷◌, [], ap, arith, false, length, refl, subst, sym, cond}
-use Rattle.cf_plan.specs.Plans.{attached_stage, sources_of}
+use Rattle.cf_forms.specs.Plans.{attached_stage, sources_of}
 use Rattle.cf_core.specs.declared.kept.KeptStage.{KeptStage}
 use Rattle.cf_core.specs.declared.stages.Stages.{Stages}
 use Rattle.cf_model.specs.States.{is_ready}
 use Rattle.cf_core.specs.Keeping.Attaching.{due_now, takes_now}
 use Rattle.cf_core.specs.Keeping.Sound.{StayTaken, settled_view}
-use Rattle.cf_plan.proofs.GrowingLemmas.{few_sources}
+use Rattle.cf_forms.proofs.PlanLemmas.{few_sources}
 use Rattle.cf_core.proofs.Keeping.AttachSound.{StayTaken-push, attach_sound}
 use Rattle.cf_core.proofs.Keeping.Attaching.{attaching_is_after}
 use Rattle.cf_core.proofs.Keeping.Lowest.{all_steady}

@@ -1,5 +1,5 @@
 use Rattle.std.proofs.Common.{rules, ◌≡◌, ◌∙◌, ap}
-use Rattle.cf_plan.specs.Plans.{dependents_of, opening_of}
+use Rattle.cf_forms.specs.Plans.{dependents_of, opening_of}
 use Rattle.cf_core.specs.Keeping.Links.{list_at}
 use Rattle.cf_core.specs.Keeping.Sound.{mark_all}
 use Rattle.cf_core.proofs.Keeping.MarkLemmas.{mark_all-both}

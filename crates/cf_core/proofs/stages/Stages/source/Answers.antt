@@ -1,6 +1,6 @@
 use Rattle.std.proofs.Common.{◌≡◌, ◌+◌, ◌<◌, ◌∙◌, Some, ap, arith, sym}
 use Rattle.std.specs.Prelude.{option_and_then, slice_get}
-use Rattle.cf_plan.specs.Plans.{sources_at}
+use Rattle.cf_forms.specs.Plans.{sources_at}
 use Rattle.cf_model.specs.States.{outcome_in}
 use Rattle.cf_core.specs.Keeping.SoundStages.{settled_view_of}
 use Rattle.cf_core.proofs.Keeping.GraphLemmas.{first_all}

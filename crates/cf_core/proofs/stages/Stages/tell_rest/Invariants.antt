@@ -1,5 +1,5 @@
 use Rattle.std.proofs.Common.{◌≡◌, ◌+◌, ◌-◌, ◌≤◌, List, length}
-use Rattle.cf_plan.specs.Plans.{edges_of}
+use Rattle.cf_forms.specs.Plans.{edges_of}
 use Rattle.cf_model.specs.declared.stage.Stage.{Stage}
 use Rattle.cf_core.specs.Keeping.Changes.{HaveMoved}
 use Rattle.cf_core.specs.Keeping.Sound.{StayTaken}

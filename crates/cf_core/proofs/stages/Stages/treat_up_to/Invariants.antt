@@ -1,6 +1,6 @@
 use Rattle.std.proofs.Common.{◌≡◌, ◌+◌, ◌-◌, length}
 use Rattle.std.specs.Prelude.{position}
-use Rattle.cf_plan.specs.Plans.{edges_of}
+use Rattle.cf_forms.specs.Plans.{edges_of}
 use Rattle.cf_model.specs.Graphs.{NoneLeftUpTo}
 use Rattle.cf_core.specs.Keeping.Sound.{StayTaken}
 use Rattle.cf_core.specs.Keeping.Turns.{TurnsUpTo}

@@ -1,5 +1,5 @@
 use Rattle.std.proofs.Common.{◌<◌, ◌≡◌, ◌∙◌, ap, arith, false, length, length-set, refl, set, subst, sym, true}
-use Rattle.cf_plan.specs.Plans.{function_at}
+use Rattle.cf_forms.specs.Plans.{function_at}
 use Rattle.cf_core.specs.declared.kept.KeptStage.{KeptStage}
 use Rattle.cf_model.specs.States.{is_ready}
 use Rattle.cf_core.specs.Keeping.Cells.{KeptStages}

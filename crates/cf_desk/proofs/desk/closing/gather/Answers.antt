@@ -1,4 +1,5 @@
 use Rattle.std.proofs.Common.{List, map, append-nil, ◌≡◌, ◌++◌, ◌∷◌, [], length, refl, sym, ap, ◌∙◌, subst, append_assoc, arith}
+use Rattle.std.proofs.lemmas.List.{nil_from_length}
 use Rattle.std.proofs.lemmas.List.Elements.{All-nil, All-push}
 use Rattle.std.specs.List.{All}
 use Rattle.std.specs.Vec.Iter.{into_iter_items}
@@ -52,17 +53,13 @@ next-init c = record {
   fit = All-nil IsFit;
 }
 
-none_left : (xs : List Pass) → length xs ≡ 0 → xs ≡ []
-none_left [] e = refl
-none_left (x ∷ xs) e = absurd (omega arith)
-
 -- at the end all are done
 all_done : (c : After-drop-rest) → c.next.invariant.done ≡ c.args.passes.items
 all_done c =
     let i = c.next.invariant in
     let none = c.in_default.ensures.cases.0 in
     let ok = c.next.rest.rest.ok.0 in
-    let empty : into_iter_items c.next.rest ≡ [] = none_left (into_iter_items c.next.rest) (omega arith) in
+    let empty : into_iter_items c.next.rest ≡ [] = nil_from_length (into_iter_items c.next.rest) (omega arith) in
     sym (i.parts ∙ ap (λ l. i.done ++ l) empty ∙ append-nil i.done)
 
 pub returns-clause-replica : goal.returns-clause-replica

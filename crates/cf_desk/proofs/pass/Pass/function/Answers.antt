@@ -1,5 +1,5 @@
 use Rattle.std.proofs.Common.{◌<◌, length, sym, ap, ◌∙◌, subst}
-use Rattle.cf_plan.specs.Plans.{function_at}
+use Rattle.cf_forms.specs.Plans.{function_at}
 use Rattle.cf_model.specs.States.{State}
 use Rattle.cf_desk.specs.Views.{Pass, state_of}
 use Rattle.cf_desk.proofs.pass.Pass.function.Goals as goal

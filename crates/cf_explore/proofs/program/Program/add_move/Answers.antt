@@ -1,5 +1,5 @@
 use Rattle.std.proofs.Common.{◌∷◌, [], ap, arith, length, length-append, rules}
-use Rattle.cf_plan.specs.Meanings.{meanings_of}
+use Rattle.cf_forms.specs.Meanings.{meanings_of}
 use Rattle.cf_explore.specs.declared.trail.Trace.{Trace}
 use Rattle.cf_explore.proofs.Adding.{move-weighs, move-led-old, move-led-new}
 use Rattle.cf_explore.proofs.Spreading.{longer-none}

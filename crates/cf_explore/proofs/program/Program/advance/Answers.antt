@@ -1,7 +1,7 @@
 use Rattle.std.proofs.Common.{◌≡◌, ℕ, List, [], ◌∷◌, Option, Some, true, length, refl, inl, inr, sym, ◌∙◌, subst, arith}
 use Rattle.std.specs.Prelude.{◌==◌, IfSome}
 use Rattle.std.proofs.lemmas.Bool.{eqb-true, false≢true, not-true}
-use Rattle.cf_plan.specs.Meanings.{meanings_of}
+use Rattle.cf_forms.specs.Meanings.{meanings_of}
 use Rattle.cf_explore.specs.declared.layer.Entry.{Entry}
 use Rattle.cf_explore.specs.declared.layer.Layer.{Layer}
 use Rattle.cf_explore.specs.Layers.{IsNext, LeadsOn}

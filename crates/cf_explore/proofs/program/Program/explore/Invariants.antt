@@ -1,5 +1,5 @@
 use Rattle.std.specs.Prelude.{◌≡◌, true}
-use Rattle.cf_plan.specs.Meanings.{meanings_of}
+use Rattle.cf_forms.specs.Meanings.{meanings_of}
 use Rattle.cf_explore.specs.Found.{IsOver, IsSearch, IsWithin}
 use Rattle.cf_explore.proofs.program.Program.explore.Given as goal
 

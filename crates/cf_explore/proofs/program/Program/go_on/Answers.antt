@@ -1,6 +1,6 @@
 use Rattle.std.proofs.Common.{arith, rules}
 use Rattle.std.proofs.lemmas.Result.{IfOk-weaker}
-use Rattle.cf_plan.specs.Meanings.{meanings_of}
+use Rattle.cf_forms.specs.Meanings.{meanings_of}
 use Rattle.cf_explore.proofs.Searching.{go-on-keeps}
 use Rattle.cf_explore.proofs.program.Program.go_on.Goals as goal
 

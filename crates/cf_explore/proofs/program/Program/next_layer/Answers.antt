@@ -1,5 +1,5 @@
 use Rattle.std.proofs.Common.{◌≡◌, List, [], arith, sym, subst, true}
-use Rattle.cf_plan.specs.Meanings.{meanings_of}
+use Rattle.cf_forms.specs.Meanings.{meanings_of}
 use Rattle.cf_explore.specs.declared.layer.Entry.{Entry}
 use Rattle.cf_explore.proofs.Spreading.{NextUpTo, longer-both, next-start, next-step, next-end}
 use Rattle.cf_explore.proofs.program.Program.next_layer.Goals as goal

@@ -1,5 +1,5 @@
 use Rattle.std.proofs.Common.{◌≤◌, length, take}
-use Rattle.cf_plan.specs.Meanings.{meanings_of}
+use Rattle.cf_forms.specs.Meanings.{meanings_of}
 use Rattle.cf_explore.proofs.Spreading.{NextUpTo}
 use Rattle.cf_explore.proofs.program.Program.next_layer.Given as goal
 

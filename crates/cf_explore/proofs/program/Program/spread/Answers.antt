@@ -1,6 +1,6 @@
 use Rattle.std.proofs.Common.{◌≡◌, arith, sym}
 use Rattle.std.proofs.lemmas.Bool.{false≢true}
-use Rattle.cf_plan.specs.Meanings.{meanings_of}
+use Rattle.cf_forms.specs.Meanings.{meanings_of}
 use Rattle.cf_explore.specs.Moves.{moves}
 use Rattle.cf_explore.proofs.Spreading.{spread-start, spread-step, spread-end}
 use Rattle.cf_explore.proofs.program.Program.spread.Goals as goal

@@ -1,5 +1,5 @@
 use Rattle.std.proofs.Common.{◌+◌}
-use Rattle.cf_plan.specs.Plans.{with_room}
+use Rattle.cf_forms.specs.Plans.{with_room}
 use Rattle.cf_model.specs.States.{start}
 use Rattle.cf_event.specs.Decoding.{decoded}
 use Rattle.cf_ledger.proofs.Growth.{only_memory, taken_more}

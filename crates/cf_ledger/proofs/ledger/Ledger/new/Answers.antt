@@ -1,7 +1,7 @@
 use Rattle.std.proofs.Common.{◌+◌, ◌∙◌, [], List, ℕ, ap, false, length, refl, rules, subst, sym}
 use Rattle.std.proofs.lemmas.List.{length-replicate}
 use Rattle.std.specs.Prelude.{position}
-use Rattle.cf_plan.specs.Plans.{with_room}
+use Rattle.cf_forms.specs.Plans.{with_room}
 use Rattle.cf_model.specs.States.{State}
 use Rattle.cf_ledger.specs.Ledgers.{IsKept}
 use Rattle.cf_ledger.proofs.Flags.{none_set}

@@ -1,4 +1,4 @@
-use Rattle.cf_plan.specs.Plans.{with_room}
+use Rattle.cf_forms.specs.Plans.{with_room}
 use Rattle.cf_ledger.proofs.Words.{first_behind}
 use Rattle.cf_ledger.proofs.ledger.Ledger.of_words.Goals as goal
 

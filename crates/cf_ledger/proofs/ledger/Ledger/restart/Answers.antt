@@ -2,7 +2,7 @@ use Rattle.std.proofs.Common.{◌≡◌, ◌+◌, ◌∙◌, [], List, ℕ, ap, 
 use Rattle.std.proofs.lemmas.List.{length-replicate}
 use Rattle.std.specs.Prelude.{position}
 use Rattle.cf_event.specs.Decoding.{decoded}
-use Rattle.cf_plan.specs.Plans.{Planned, reopened, with_room}
+use Rattle.cf_forms.specs.Plans.{Planned, reopened, with_room}
 use Rattle.cf_model.specs.States.{State, start}
 use Rattle.cf_model.proofs.Growing.{grown_reopens}
 use Rattle.cf_ledger.specs.Ledgers.{IsKept}

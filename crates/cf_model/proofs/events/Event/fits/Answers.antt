@@ -1,6 +1,6 @@
 use Rattle.std.proofs.Common.{◌≡◌, length, Bool, ℕ, true, sym, subst, ◌∙◌}
 use Rattle.std.specs.Prelude.{is_some}
-use Rattle.cf_plan.specs.Plans.{fits_form, sources_of}
+use Rattle.cf_forms.specs.Plans.{fits_form, sources_of}
 use Rattle.cf_model.specs.declared.events.Event.{Event}
 use Rattle.cf_model.specs.Ranges.{fits}
 use Rattle.cf_model.proofs.Fitting.{attach-fits}

@@ -1,5 +1,5 @@
 use Rattle.std.proofs.Common.{◌<◌, All, length, subst, sym}
-use Rattle.cf_plan.specs.Plans.{sources_of}
+use Rattle.cf_forms.specs.Plans.{sources_of}
 use Rattle.cf_model.specs.States.{State}
 use Rattle.cf_plain.proofs.Attaching.{in_step-attached}
 use Rattle.cf_plain.proofs.graph.Plain.append.Goals as goal

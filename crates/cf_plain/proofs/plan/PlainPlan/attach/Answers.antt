@@ -1,7 +1,7 @@
 use Rattle.std.proofs.Common.{◌∷◌, ◌-◌, [], append_assoc, length, subst, sym}
 use Rattle.std.specs.Prelude.{List}
-use Rattle.cf_plan.specs.Plans.{IsGrowing, Planned, PlannedStage, and_stage, attached_stage}
-use Rattle.cf_plan.proofs.GrowingLemmas.{growing-and_stage}
+use Rattle.cf_forms.specs.Plans.{IsGrowing, Planned, PlannedStage, and_stage, attached_stage}
+use Rattle.cf_forms.proofs.PlanLemmas.{growing-and_stage}
 use Rattle.cf_plain.specs.Plains.{grown}
 use Rattle.cf_plain.proofs.plan.PlainPlan.attach.Goals as goal
 

@@ -1,5 +1,5 @@
 use Rattle.std.proofs.Common.{◌∙◌, ap, rules, sym}
-use Rattle.cf_plan.specs.Plans.{Planned}
+use Rattle.cf_forms.specs.Plans.{Planned}
 use Rattle.cf_plain.proofs.Attaching.{alike_grown, grown_alike}
 use Rattle.cf_plain.proofs.plan.PlainPlan.is_same.Goals as goal
 

@@ -1,9 +1,9 @@
 use Rattle.std.proofs.Common.{◌≡◌, ◌<◌, ◌≤◌, ◌-◌, ◌++◌, Some, ap, arith, length, length-append, refl, zero-add, ◌∙◌}
 use Rattle.std.specs.Prelude.{slice_get}
 use Rattle.std.proofs.lemmas.Option.{slice_get_read}
-use Rattle.cf_plan.specs.Plans.{Planned, PlannedStage}
-use Rattle.cf_plan.proofs.ListLemmas.{slice_get-behind}
-use Rattle.cf_plan.proofs.PlanLemmas.{lower_at}
+use Rattle.cf_forms.specs.Plans.{Planned, PlannedStage}
+use Rattle.cf_forms.proofs.ListLemmas.{slice_get-behind}
+use Rattle.cf_forms.proofs.PlanLemmas.{lower_at}
 use Rattle.cf_plain.proofs.plan.PlainPlan.sources.Goals as goal
 
 pub returns-else-i-opened-clause-lower : goal.returns-else-i-opened-clause-lower

@@ -1,9 +1,9 @@
 use Rattle.std.proofs.Common.{◌≡◌, ◌+◌, ◌<◌, ◌++◌, ◌∙◌, ◌∷◌, [], ℕ, List, All, ap, arith, length, map, refl, subst}
 use Rattle.std.proofs.lemmas.List.Elements.{All-head, All-tail}
-use Rattle.cf_plan.specs.declared.forms.Of.{Of}
+use Rattle.cf_forms.specs.declared.forms.Of.{Of}
 use Rattle.cf_plan.specs.declared.growing.AttachedRow.{AttachedRow}
 use Rattle.cf_plan.specs.Growing.{attached_of, attached_dependents_of}
-use Rattle.cf_plan.specs.Plans.{PlannedStage, sources_of}
+use Rattle.cf_forms.specs.Plans.{PlannedStage, sources_of}
 use Rattle.cf_plan.proofs.GrowingLemmas.{AreGrowing-attached, attached_few, listed, short_list, lists_none, lists_one, lists_two}
 use Rattle.cf_plan.proofs.AttachedListLemmas.{count_is, pushed, pushed_cells, pushed_few, pushed_heads}
 use Rattle.cf_plan.proofs.growing.GrowingPlan.attach.Goals as goal

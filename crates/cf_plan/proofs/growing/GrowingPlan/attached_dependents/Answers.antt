@@ -2,7 +2,7 @@ use Rattle.std.proofs.Common.{◌≡◌, ◌∙◌, ◌++◌, ◌<◌, ℕ, fals
 use Rattle.std.specs.Prelude.{reverse, ◌==◌}
 use Rattle.std.proofs.Math.Seq.{take-append_seam}
 use Rattle.cf_plan.specs.Growing.{attached_of, attached_dependents_of}
-use Rattle.cf_plan.specs.Plans.{dependents_of}
+use Rattle.cf_forms.specs.Plans.{dependents_of}
 use Rattle.cf_plan.proofs.GrowingLemmas.{dependents_split, attached_above, attached_below, listed}
 use Rattle.cf_plan.proofs.growing.GrowingPlan.attached_dependents.Goals as goal
 

@@ -1,7 +1,7 @@
 use Rattle.std.proofs.Common.{◌∙◌, arith, ap, map, sym}
 use Rattle.std.proofs.Math.Seq.{take-append_seam}
 use Rattle.cf_plan.specs.Growing.{attached_of}
-use Rattle.cf_plan.specs.Plans.{dependents_of}
+use Rattle.cf_forms.specs.Plans.{dependents_of}
 use Rattle.cf_plan.proofs.GrowingLemmas.{dependents_past}
 use Rattle.cf_plan.proofs.growing.GrowingPlan.dependents.Goals as goal
 

@@ -1,6 +1,6 @@
 use Rattle.std.proofs.Common.{◌≡◌, ◌+◌, ◌<◌, arith, length}
 use Rattle.cf_plan.proofs.GrowingLemmas.{AreGrowing-start}
-use Rattle.cf_plan.proofs.PlanLemmas.{place_is}
+use Rattle.cf_forms.proofs.PlanLemmas.{place_is}
 use Rattle.cf_plan.proofs.growing.GrowingPlan.new.Goals as goal
 use Rattle.cf_plan.proofs.growing.GrowingPlan.new.Goals.{in-0, in_default}
 

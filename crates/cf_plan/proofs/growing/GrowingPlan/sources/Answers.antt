@@ -4,9 +4,9 @@ use Rattle.std.specs.Option.{option_map}
 use Rattle.std.proofs.lemmas.List.{length-map}
 use Rattle.std.proofs.lemmas.Option.{slice_get_read, slice_get-map}
 use Rattle.cf_plan.specs.Growing.{attached_of}
-use Rattle.cf_plan.specs.Plans.{Planned}
-use Rattle.cf_plan.proofs.ListLemmas.{slice_get-behind}
-use Rattle.cf_plan.proofs.PlanLemmas.{lower_at}
+use Rattle.cf_forms.specs.Plans.{Planned}
+use Rattle.cf_forms.proofs.ListLemmas.{slice_get-behind}
+use Rattle.cf_forms.proofs.PlanLemmas.{lower_at}
 use Rattle.cf_plan.proofs.growing.GrowingPlan.sources.Goals as goal
 
 pub returns-else-i-opened-clause-lower : goal.returns-else-i-opened-clause-lower

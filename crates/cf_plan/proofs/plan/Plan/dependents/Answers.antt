@@ -1,5 +1,5 @@
 use Rattle.std.proofs.Common.{◌≡◌, ℕ, ap, arith, length, subst, ◌∙◌}
-use Rattle.cf_plan.specs.Plans.{Planned, dependents_of, mentions, sources_at}
+use Rattle.cf_forms.specs.Plans.{Planned, dependents_of, mentions, sources_at}
 use Rattle.cf_plan.specs.Rows.{stages_of}
 use Rattle.cf_plan.proofs.DependentLemmas.{dependents_above, dependents_converse, dependents_rising, dependents_there}
 use Rattle.cf_plan.proofs.plan.Plan.dependents.Goals as goal

@@ -1,5 +1,5 @@
 use Rattle.std.proofs.Common.{◌≡◌, ap, arith, length, ◌∙◌}
-use Rattle.cf_plan.specs.Plans.{Planned, starts_of}
+use Rattle.cf_forms.specs.Plans.{Planned, starts_of}
 use Rattle.cf_plan.specs.Rows.{stages_of}
 use Rattle.cf_plan.proofs.StartLemmas.{starts_below, starts_rising}
 use Rattle.cf_plan.proofs.plan.Plan.starts.Goals as goal

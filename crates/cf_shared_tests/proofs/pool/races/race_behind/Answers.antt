@@ -1,7 +1,7 @@
 use Rattle.std.proofs.Common.{arith, refl, sym, subst, length, List, ◌∙◌}
 use Rattle.std.specs.List.{All}
 use Rattle.std.proofs.lemmas.List.Elements.{All-replicate}
-use Rattle.cf_plan.specs.Plans.{with_room}
+use Rattle.cf_forms.specs.Plans.{with_room}
 use Rattle.cf_model.specs.declared.events.Event.{Event}
 use Rattle.cf_model.specs.Ranges.{EventFits}
 use Rattle.cf_model.specs.States.{start}

@@ -1,4 +1,4 @@
-use Rattle.cf_plan.specs.declared.forms.Answer.TheVariants.{Give}
+use Rattle.cf_forms.specs.declared.forms.Answer.TheVariants.{Give}
 use Rattle.cf_outcome.specs.declared.outcome.Value.TheVariants.{Nil}
 use Rattle.cf_shared_tests.proofs.Alike.{alike}
 use Rattle.cf_shared_tests.proofs.pool.recorded.check_race.Goals as goal

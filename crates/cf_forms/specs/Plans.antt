@@ -1,15 +1,13 @@
 -- Plans: the stages in order, each with its form, its sources and its function's number, and the limits.
-use Rattle.std.specs.Prelude.{◌≡◌, ℕ, ◌+◌, ◌-◌, ◌*◌, ◌<◌, ◌≤◌, ◌==◌, if◌then◌else◌, count_by, replicate, Bool, true, false, not, ◌&&◌, ◌||◌, Option, Some, None, is_some, is_none, List, [], ◌∷◌, ◌++◌, length, nat_lt, nat_le, slice_get, take, All}
-use Rattle.std.specs.List.{list_all, sum_by}
+use Rattle.std.specs.Prelude.{◌≡◌, ℕ, ◌+◌, ◌-◌, ◌*◌, ◌<◌, ◌≤◌, ◌==◌, if◌then◌else◌, count_by, replicate, Bool, true, false, not, ◌&&◌, ◌||◌, Option, None, is_some, List, [], ◌∷◌, ◌++◌, length, nat_le, slice_get, take, All}
+use Rattle.std.specs.List.{sum_by}
 use Rattle.std.specs.Option.{option_map_or}
-use Rattle.cf_plan.specs.declared.forms.Form.{Form}
-use Rattle.cf_plan.specs.declared.forms.Form.TheVariants.{Source, Supply, RunAsync, Combine, AcceptBoth, RunBoth, ApplyEither, AcceptEither, RunEither, AllOf, AnyOf}
-use Rattle.cf_plan.specs.declared.forms.Of.{Of}
-use Rattle.cf_plan.specs.declared.forms.Of.TheVariants.{None as NoSource, One, Two}
-use Rattle.cf_plan.specs.declared.faults.PlanFault.{PlanFault}
-use Rattle.cf_plan.specs.declared.faults.PlanFault.TheVariants.{TooManyStages, SourceNotLower, WrongSourceCount, FunctionMissing, FunctionUnwanted, TooManyEdges, NoSuchStage, TooManyLimits}
-use Rattle.cf_plan.specs.declared.limits.Limit.{Limit}
-use Rattle.cf_plan.specs.Forms.{starts}
+use Rattle.cf_forms.specs.declared.forms.Form.{Form}
+use Rattle.cf_forms.specs.declared.forms.Form.TheVariants.{Source, Supply, RunAsync, Combine, AcceptBoth, RunBoth, ApplyEither, AcceptEither, RunEither, AllOf, AnyOf}
+use Rattle.cf_forms.specs.declared.forms.Of.{Of}
+use Rattle.cf_forms.specs.declared.forms.Of.TheVariants.{None as NoSource, One, Two}
+use Rattle.cf_forms.specs.declared.limits.Limit.{Limit}
+use Rattle.cf_forms.specs.Forms.{starts}
 
 -- a stage as it was planned
 pub record PlannedStage : Type 0 where
@@ -108,26 +106,6 @@ AreBelow stages of = All (λ j. j < stages) (sources_of of)
 abbrev pub attached_stage : Form → Of → Option ℕ → PlannedStage
 attached_stage form of function = record { form = form; sources = sources_of of; function = function }
 
--- the fault where the test fails, and else what comes next
-abbrev pub unless : Bool → PlanFault → Option PlanFault → Option PlanFault
-unless true fault next = next
-unless false fault next = Some fault
-
--- a function that is missing or not wanted, or else too many edges
-abbrev pub function_fault : ℕ → PlannedStage → Option PlanFault
-function_fault edges new =
-    unless (is_some new.function || not (calls_function new.form)) FunctionMissing
-    (unless (is_none new.function || calls_function new.form) FunctionUnwanted
-    (unless (nat_le (edges + length new.sources) 16384) TooManyEdges None))
-
--- the first reason why such a stage can't be added after so many stages with so many edges, if there is one
-abbrev pub stage_fault : ℕ → ℕ → PlannedStage → Option PlanFault
-stage_fault stages edges new =
-    unless (nat_lt stages 4096) TooManyStages
-    (unless (fits_count new.form (length new.sources)) WrongSourceCount
-    (unless (list_all (λ j. nat_lt j stages) new.sources) SourceNotLower
-    (function_fault edges new)))
-
 -- the plan built with one more stage
 abbrev pub with_stage : Planned → PlannedStage → Planned
 with_stage plan new = plan_of (plan.stages ++ new ∷ []) plan.limits
@@ -156,12 +134,6 @@ starts_of stages = starts_from 0 stages
 abbrev pub IsRising : List ℕ → Type 0
 IsRising [] = Unit {0}
 IsRising (x ∷ xs) = All (λ later. x ≤ later) xs × IsRising xs
-
--- the first reason why a limit of this stage can't be added, if there is one
-abbrev pub limit_fault : Planned → ℕ → Option PlanFault
-limit_fault plan stage =
-    unless (nat_lt stage (length plan.stages)) NoSuchStage
-    (unless (nat_lt (length plan.limits) 4096) TooManyLimits None)
 
 -- limits in firing order, and one more: it stands behind all whose moment isn't later
 abbrev pub with_limit_in_order : List Limit → Limit → List Limit

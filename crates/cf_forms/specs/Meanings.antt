@@ -2,10 +2,10 @@
 use Rattle.std.specs.Prelude.{ℕ, List, slice_get, unwrap_or}
 use Rattle.std.specs.Option.{option_map_or}
 use Rattle.cf_outcome.specs.declared.outcome.Value.TheVariants.{Nil}
-use Rattle.cf_plan.specs.declared.forms.Args.{Args}
-use Rattle.cf_plan.specs.declared.forms.Answer.{Answer}
-use Rattle.cf_plan.specs.declared.forms.Answer.TheVariants.{Give}
-use Rattle.cf_plan.specs.Plans.{PlannedStage, function_at}
+use Rattle.cf_forms.specs.declared.forms.Args.{Args}
+use Rattle.cf_forms.specs.declared.forms.Answer.{Answer}
+use Rattle.cf_forms.specs.declared.forms.Answer.TheVariants.{Give}
+use Rattle.cf_forms.specs.Plans.{PlannedStage, function_at}
 
 -- what functions answer to their arguments, by their numbers
 abbrev pub Meanings : Type 0

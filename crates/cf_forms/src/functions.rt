@@ -1,8 +1,8 @@
 //! What a stage's function is.
 ghost use Rattle.std.specs.Prelude.{◌≡◌, ℕ};
-ghost use Rattle.cf_plan.specs.Meanings.{meanings_of};
-ghost use Rattle.cf_plan.specs.declared.forms.Args.{Args};
-ghost use Rattle.cf_plan.specs.declared.forms.Answer.{Answer};
+ghost use Rattle.cf_forms.specs.Meanings.{meanings_of};
+ghost use Rattle.cf_forms.specs.declared.forms.Args.{Args};
+ghost use Rattle.cf_forms.specs.declared.forms.Answer.{Answer};
 
 use crate::forms::{Answer, Args};
 use cf_outcome::Value;

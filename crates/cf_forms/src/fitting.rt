@@ -1,6 +1,6 @@
 //! Which stages fit their form: how many sources it takes, and whether it has a function.
 ghost use Rattle.std.specs.Prelude.{◌≡◌};
-ghost use Rattle.cf_plan.specs.Plans.{calls_function, fits_count, fits_form};
+ghost use Rattle.cf_forms.specs.Plans.{calls_function, fits_count, fits_form};
 
 use crate::forms::Form;
 
@@ -9,11 +9,11 @@ use crate::forms::Form;
 pub fn fits_form(form: Form, sources: u16, has_function: bool) -> bool
     ensures { result ≡ fits_form form sources has_function }
 {
-    takes_count(form, sources as usize) && has_function == calls(form)
+    takes_count(form, sources as usize) && has_function == calls_function(form)
 }
 
 /// Whether the form takes this many sources.
-pub(crate) fn takes_count(form: Form, count: usize) -> bool
+pub fn takes_count(form: Form, count: usize) -> bool
     ensures { result ≡ fits_count form count }
 {
     match form {
@@ -30,7 +30,7 @@ pub(crate) fn takes_count(form: Form, count: usize) -> bool
 }
 
 /// Whether a stage of the form has a function.
-pub(crate) fn calls(form: Form) -> bool
+pub fn calls_function(form: Form) -> bool
     ensures { result ≡ calls_function form }
 {
     !matches!(form, Form::Source | Form::AllOf | Form::AnyOf)

@@ -1,6 +1,6 @@
 //! Forms of stages, and what their functions take and answer.
 ghost use Rattle.std.specs.Prelude.{◌≡◌, ◌↔◌, IsTrue, length};
-ghost use Rattle.cf_plan.specs.Plans.{AreBelow, sources_of};
+ghost use Rattle.cf_forms.specs.Plans.{AreBelow, sources_of};
 
 use cf_outcome::{Outcome, Value};
 

@@ -1,6 +1,6 @@
 //! The numbers and the names of forms.
 ghost use Rattle.std.specs.Prelude.{◌≡◌, ◌<◌, IfSome, Some, slice_get};
-ghost use Rattle.cf_plan.specs.Naming.{form_name, form_named, form_number, forms, free_form, handling_form, pair_form, single_form};
+ghost use Rattle.cf_forms.specs.Naming.{form_name, form_named, form_number, forms, free_form, handling_form, pair_form, single_form};
 
 use crate::forms::Form;
 

@@ -3,7 +3,7 @@
 //! They are those of Java SE 17's `CompletionStage`: a stage that doesn't handle a fault passes it on inside a
 //! completion exception, which `wrap` says, and one that handles it is told the outcome as it is stored.
 ghost use Rattle.std.specs.Prelude.{◌≡◌, ℕ};
-ghost use Rattle.cf_plan.specs.Forms.{composes, due_one, due_two, is_decided_by_first, kept_value, landing};
+ghost use Rattle.cf_forms.specs.Forms.{composes, due_one, due_two, is_decided_by_first, kept_value, landing, starts};
 
 use crate::forms::{Answer, Args, Due, Form, Landing};
 use cf_outcome::{Cause, Outcome, Value, is_exceptional, wrap};
@@ -104,6 +104,18 @@ pub fn composes(form: Form) -> bool
     ensures { result ≡ composes form }
 {
     matches!(form, Form::Compose | Form::ExceptionallyCompose)
+}
+
+/// Whether a stage of this form with these sources has something to take from the start on, when nothing has settled: a
+/// supply or runAsync, or an allOf without sources.
+pub fn starts(form: Form, of: &[u16]) -> bool
+    ensures { result ≡ starts form of.now }
+{
+    match form {
+        Form::Supply | Form::RunAsync => true,
+        Form::AllOf => of.is_empty(),
+        _ => false,
+    }
 }
 
 /// The value that a stage keeps of the one that its function gave.

@@ -1,0 +1,4 @@
+pub mod ListLemmas
+pub mod LimitLemmas
+pub mod PlanLemmas
+pub mod NamingLemmas

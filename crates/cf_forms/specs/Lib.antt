@@ -1,0 +1,4 @@
+pub mod Forms
+pub mod Meanings
+pub mod Naming
+pub mod Plans
