@@ -116,7 +116,7 @@ def main():
     if {number: snake(text) for number, text in codes.items()} != named:
         wrong.append("the codes differ")
 
-    forms = re.search(r"pub enum Form \{(.*?)^\}", (CRATES / "cf_plan/src/forms.rt").read_text(encoding="utf-8"), re.S | re.M)[1]
+    forms = re.search(r"pub enum Form \{(.*?)^\}", (CRATES / "cf_forms/src/forms.rt").read_text(encoding="utf-8"), re.S | re.M)[1]
     inside = next(it for it in re.findall(r"enum \{([^{}]*)\};", header) if "CF_SOURCE =" in it)
     numbered = {name[3:].lower(): number for name, number in numbers_of(inside, "CF_").items()}
     if {snake(it): number for number, it in enumerate(re.findall(r"^    (\w+),", forms, re.M))} != numbered:
