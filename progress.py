@@ -19,9 +19,9 @@ from crates import TOP, own
 OTHER = 100
 PROOFS = {
     "cf_look": 603, "cf_explain": 421, "cf_orders": 363, "cf_handles": 360, "cf_page": 330, "cf_core": 306, "cf_bench": 290,
-    "cf_stress": 269, "cf_explore": 257, "cf_reading": 242, "cf_refused": 211, "cf_pool": 202, "cf_plan": 110, "cf_desk": 157,
+    "cf_stress": 269, "cf_explore": 257, "cf_reading": 242, "cf_refused": 211, "cf_pool": 202, "cf_plan": 125, "cf_desk": 157,
     "cf": 146, "cf_script": 138, "cf_plain": 134, "cf_example": 132, "cf_c": 131, "cf_history": 129, "cf_picture": 124,
-    "cf_ledger": 93, "cf_command": 83, "cf_forms": 80, "cf_outcome": 76, "cf_event": 68, "cf_model": 55, "cf_text": 54, "cf_bits": 20,
+    "cf_ledger": 93, "cf_command": 83, "cf_forms": 62, "cf_outcome": 76, "cf_event": 68, "cf_model": 55, "cf_text": 54, "cf_bits": 20,
     "cf_covers": 16, "cf_expr": 16,
 }  # fmt: skip
 TESTS = {
