@@ -13,3 +13,4 @@ pub mod Gathers
 pub mod Histories
 pub mod RowLemmas
 pub mod OpenClaims
+pub mod TimeLemmas

@@ -10,3 +10,4 @@ pub mod Results
 pub mod Keepings
 pub mod Laws
 pub mod Rows
+pub mod Time

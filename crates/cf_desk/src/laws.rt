@@ -3,6 +3,7 @@
 ghost use Rattle.cf_desk.specs.Keepings.{IsFit};
 ghost use Rattle.cf_desk.specs.Laws.{ClaimsStayOpen, OneHistoryShows};
 ghost use Rattle.cf_desk.specs.Rows.{RowsHold};
+ghost use Rattle.cf_desk.specs.Time.{CallsComeLast, LogsOnlyGrow};
 
 use crate::pass::Pass;
 
@@ -28,4 +29,15 @@ pub fn rows_hold()
 /// A claim that a caller has open stays open, whatever events of other callers come: only its own finish closes it.
 pub fn claims_stay_open()
     ensures { ClaimsStayOpen }
+{}
+
+/// The log only grows: an exchange that finds its word empty leaves the log as it was, or goes on behind it.
+pub fn logs_only_grow()
+    ensures { LogsOnlyGrow }
+{}
+
+/// A call stands at the end of the log at an instant within the call: where a pass adds its event by an exchange that finds
+/// the word empty, it has seen all of the log by then. So a call that had returned before another began stands before it.
+pub fn calls_come_last()
+    ensures { CallsComeLast }
 {}

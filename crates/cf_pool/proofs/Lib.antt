@@ -3,6 +3,7 @@ pub mod Waiting
 pub mod Jobs
 pub mod Calling
 pub mod OpenClaims
+pub mod CalledOnce
 pub mod Pools
 pub mod Runs
 pub mod Racing

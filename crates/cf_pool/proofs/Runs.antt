@@ -13,11 +13,12 @@ use Rattle.cf_desk.specs.declared.calls.Kept.{Kept}
 use Rattle.cf_desk.specs.declared.faults.DeskFault.{DeskFault}
 use Rattle.cf_desk.specs.declared.faults.DeskFault.TheVariants.{BadAttach, LogFull, NoStage, PassFull}
 use Rattle.cf_desk.specs.Faults.{AttachFits, IsDue, IsOnStage}
-use Rattle.cf_desk.specs.Keepings.{AllFit, AreKept, IsKeptFit, pass_did, pass_kept}
+use Rattle.cf_desk.specs.Keepings.{AllFit, AreKept, IsKeptFit, caller_kept, pass_did, pass_kept}
 use Rattle.cf_desk.specs.Log.{Catches, state_from}
 use Rattle.cf_desk.specs.Rule.{AllShort, longest}
 use Rattle.cf_desk.specs.Views.{Closes, Follows, IsOf, Pass, Desk, knowns, state_of}
 use Rattle.cf_event.proofs.Events.{events_each}
+use Rattle.cf_event.specs.Histories.{IsOneHistory}
 use Rattle.cf_desk.proofs.Closing.{longest_short}
 use Rattle.cf_desk.proofs.Gathers.{all_at}
 use Rattle.cf_desk.proofs.Lists.{all_front}
@@ -28,7 +29,7 @@ use Rattle.cf_pool.specs.declared.pool.Left.{Left}
 use Rattle.cf_pool.specs.declared.pool.Met.{Met}
 use Rattle.cf_pool.specs.declared.pool.Worked.{Worked}
 use Rattle.cf_model.specs.Calling.{CallsOf}
-use Rattle.cf_pool.specs.Calling.{CallsOnce, EachCalls, TellsOf}
+use Rattle.cf_pool.specs.Calling.{CallsOnce, EachCalls, TellsOf, calls_of_all}
 use Rattle.cf_pool.specs.Closings.{HadThreads, HaveCalled, IsDueToTell, RunRefuses, RunTells, Ran, RanOut, told}
 use Rattle.cf_pool.specs.Runs.{EndsBelow, EndsIf, HasEnded, HasWorked, IsFirst, IsLowest, IsMet, IsWorkedBy, IsWorkedFrom, OfEach, SeesMore, SeesOn, Stop, WasStopped, first_with, is_any_alone, stop_of}
 use Rattle.cf_pool.specs.Stops.{IsNextCall, Stops}
@@ -40,6 +41,7 @@ use Rattle.cf_model.proofs.Histories.{state_after-append}
 use Rattle.cf_model.proofs.Shape.{state_after-grows}
 use Rattle.cf_desk.specs.declared.calls.Rec.{Rec}
 use Rattle.cf_desk.specs.declared.row.DeskConfig.{DeskConfig}
+use Rattle.cf_pool.proofs.CalledOnce.{called_once}
 use Rattle.cf_pool.proofs.Calling.{once_grown}
 use Rattle.cf_pool.proofs.OpenClaims.{were_open}
 use Rattle.cf_pool.proofs.Pools.{first_more, sees_itself, sees_longer}
@@ -302,14 +304,16 @@ pub record Shut (d : Desk) (qs : List Pass) (history : List Event) (kept : List 
   pub closes : Closes d qs history
   pub kept_are : AreKept kept qs
   pub fit : AllFit d.setting.plan history (map pass_kept kept)
+  pub one : IsOneHistory d.setting.plan d.setting.functions history (map caller_kept kept)
   pub graph_is : graph ≡ state_from d.setting.plan history
 
-pub shut_of : (d : Desk) (qs items : List Pass) (history : List Event) (kept : List Kept) (graph : State) → items ≡ qs → Closes d items history → AreKept kept items → AllFit d.setting.plan history (map pass_kept kept) → graph ≡ state_from d.setting.plan history
-    → Shut d qs history kept graph
-shut_of d qs items history kept graph same closes are fit is = record {
+pub shut_of : (d : Desk) (qs items : List Pass) (history : List Event) (kept : List Kept) (graph : State) → items ≡ qs → Closes d items history → AreKept kept items → AllFit d.setting.plan history (map pass_kept kept) → IsOneHistory d.setting.plan d.setting.functions history (map caller_kept kept)
+    → graph ≡ state_from d.setting.plan history → Shut d qs history kept graph
+shut_of d qs items history kept graph same closes are fit one is = record {
   closes = subst (λ (l : List Pass). Closes d l history) same closes;
   kept_are = subst (λ (l : List Pass). AreKept kept l) same are;
   fit = fit;
+  one = one;
   graph_is = is;
 }
 
@@ -321,6 +325,10 @@ back_ran meanings d mine met done ps qs ws others fault b history kept graph s =
   kept_are = s.kept_are;
   works = back_works meanings d mine met done ps qs ws others fault b;
   fit = s.fit;
+  once = λ i. subst (λ (l : List (ℕ × List Rec)). calls_of_all i l ≤ 1) (sym s.kept_are)
+      (called_once d.setting.plan d.setting.callers history (done ∷ qs) i (subst (All (IsKeptFit d.setting.plan history)) s.kept_are s.fit.each) s.closes.each
+      (events_each (λ e. who_of e < d.setting.callers) d.setting.callers d.setting.functions (λ t e h. h.caller) (start d.setting.plan) history s.closes.events));
+  one = s.one;
   graph_is = s.graph_is;
 }
 

@@ -54,6 +54,11 @@ abbrev pub calls_of : ℕ → List Rec → ℕ
 calls_of i [] = 0
 calls_of i (r ∷ rs) = calls_by i (owed_by r) + calls_of i rs
 
+-- how often it is called for the records of all these callers
+abbrev pub calls_of_all : ℕ → List (ℕ × List Rec) → ℕ
+calls_of_all i [] = 0
+calls_of_all i (k ∷ ks) = calls_of i k.1 + calls_of_all i ks
+
 -- This caller's records went on, and they are all for which the memory has changed from m to n.
 pub record Calls {M : Type 0} (tells : TellsOf M) (calls : CallsOf M) (stages : List PlannedStage) (who : ℕ) (records now : List Rec) (m n : M) : Type 0 where
   pub more : List Rec

@@ -1,16 +1,18 @@
 -- What a run of workers leaves, and what it tells.
-use Rattle.std.specs.Prelude.{◌≡◌, ℕ, Bool, true, false, Option, Some, None, Result, Ok, Err, List, drop, length, map}
+use Rattle.std.specs.Prelude.{◌≡◌, ◌≤◌, ℕ, Bool, true, false, Option, Some, None, Result, Ok, Err, List, drop, length, map}
 use Rattle.std.specs.List.{AllZip, Contains}
 use Rattle.cf_model.specs.declared.events.Event.{Event}
 use Rattle.cf_model.specs.States.{State, lowest_ready_of}
 use Rattle.cf_forms.specs.Meanings.{Meanings}
+use Rattle.cf_forms.specs.Plans.{Planned}
 use Rattle.cf_desk.specs.declared.calls.Closed.{Closed}
 use Rattle.cf_desk.specs.declared.calls.Kept.{Kept}
 use Rattle.cf_desk.specs.declared.faults.DeskFault.{DeskFault}
 use Rattle.cf_desk.specs.declared.faults.DeskFault.TheVariants.{BadAttach, LogFull, NoStage, PassFull}
-use Rattle.cf_desk.specs.Keepings.{AllFit, AreKept, pass_kept}
+use Rattle.cf_desk.specs.Keepings.{AllFit, AreKept, caller_kept, pass_kept}
 use Rattle.cf_desk.specs.Log.{state_from}
 use Rattle.cf_desk.specs.Views.{Closes, Desk, Pass}
+use Rattle.cf_event.specs.Histories.{IsOneHistory}
 use Rattle.cf_pool.specs.declared.faults.PoolFault.{PoolFault}
 use Rattle.cf_pool.specs.declared.faults.PoolFault.TheVariants.{Desk as ToldDesk, NoMemory, NoThread}
 use Rattle.cf_pool.specs.declared.pool.Left.{Left}
@@ -18,19 +20,30 @@ use Rattle.cf_pool.specs.declared.pool.Met.{Met}
 use Rattle.cf_pool.specs.declared.pool.Unbegun.{Unbegun}
 use Rattle.cf_pool.specs.declared.pool.Worked.{Worked}
 use Rattle.cf_model.specs.Calling.{CallsOf}
-use Rattle.cf_pool.specs.Calling.{EachCalls, TellsOf}
+use Rattle.cf_pool.specs.Calling.{EachCalls, TellsOf, calls_of_all}
 use Rattle.cf_pool.specs.Claims.{WereOpen}
 use Rattle.cf_pool.specs.Runs.{HasEnded, IsLowest, IsWorkedFrom, OfEach, is_any_alone}
 use Rattle.cf_pool.specs.Works.{Works}
 
--- what a run leaves: the closed desk with the passes as they are then
+-- the function of each stage is called at most once for the records of all these passes
+abbrev pub AreCalledOnce : List Kept → Type 0
+AreCalledOnce kept = (i : ℕ) → calls_of_all i (map pass_kept kept) ≤ 1
+
+-- what a run leaves: the closed desk with the passes as they are then, whose records are one history, and the graph as it leaves it
 pub record Ran (meanings : Meanings) (d : Desk) (ps : List Pass) (history : List Event) (kept : List Kept) (graph : State) : Type 0 where
   pub qs : List Pass
   pub closes : Closes d qs history
   pub kept_are : AreKept kept qs
   pub works : AllZip (Works meanings) ps qs
   pub fit : AllFit d.setting.plan history (map pass_kept kept)
+  pub once : AreCalledOnce kept
+  pub one : IsOneHistory d.setting.plan d.setting.functions history (map caller_kept kept)
   pub graph_is : graph ≡ state_from d.setting.plan history
+
+-- what a closed desk of this plan tells is one history, which leaves its graph
+abbrev pub IsHistoryOf : Planned → ℕ → Closed → Type 0
+IsHistoryOf plan functions closed =
+    IsOneHistory plan functions closed.history.items (map caller_kept closed.passes.items) × (closed.graph.state ≡ state_from plan closed.history.items)
 
 -- and each worker has ended, nothing is ready, and no claim is open that wasn't before
 pub record RanOut (meanings : Meanings) (d : Desk) (ps : List Pass) (history : List Event) (kept : List Kept) (graph : State) : Type 0 where

@@ -428,8 +428,9 @@ fn told<W>(refused: bool, first: Option<Met>, left: Left<W>) -> Result<Left<W>, 
 ///
 /// After it nothing is ready, each worker has waited for its patience, and no claim is open but those that were granted
 /// and not finished before. After a fault of the desk, which is that of the lowest caller of whom a call was refused, the
-/// desk is closed too, and a claim that was granted may be open. In both cases the workers come back, and each has called
-/// its functions for the claims that its pass was granted, once each, and never else.
+/// desk is closed too, and a claim that was granted may be open. In both cases what the desk tells is one history, and its
+/// graph is as that leaves it. The workers come back, and each has called its functions for the claims that its pass was
+/// granted, once each, and never else; over all workers together, a stage's function is called at most once.
 ///
 /// All memory is taken before anything begins: where it is refused, the desk, the passes and the workers come back as they
 /// were. A worker whose thread is refused works on the caller's, before the next is started; this is told at the end,

@@ -129,7 +129,7 @@ leaves g c parts came_back =
     subst (λ l. Leaves g.W.Worker.tells g.W.Functions.calls (first_meanings g.W.Worker.meanings (map (λ w. w.1) l)) c.args.desk (map (λ w. w.0) l) (map (λ w. w.1) l) c.is_any_alone-refused.result c.first_of-first.result left) (sym parts)
     (back_leaves g.W.Worker.tells g.W.Functions.calls g.W.Worker.meanings _ c.args.desk c.remove-one.result.0 c.meet_all-back.new.mine c.work_on-done.result.pass c.remove-one.new.self.items c.meet_all-back.result.passes.items c.spread-worked.result.items c.first_fault-others.result c.work_on-done.result.fault c.remove-one.result.1 c.work_on-done.result.worker
     came_back c.spread-worked.ensures c.work_on-done.ensures.worked.called c.is_any_alone-refused.result c.first_of-first.result left
-    (shut_of _ _ _ _ _ _ c.put_first-passes.ensures e.history e.passes e.fit e.graph)
+    (shut_of _ _ _ _ _ _ c.put_first-passes.ensures e.history e.passes e.fit e.one e.graph)
     (c.put_first-workers.ensures ∙ ap (λ l. c.work_on-done.result.worker ∷ l) c.meet_all-back.ensures.workers)
     (c.is_any_alone-refused.ensures ∙ ap (λ (l : List (Worked g.row.W.Denot)). is_any_alone l) c.as_slice-2.ensures.value)
     (c.first_of-first.ensures ∙ ap (λ n. first_with c.first_fault-others.result n c.work_on-done.result.fault) c.caller.ensures))

@@ -1,4 +1,8 @@
-use Rattle.std.proofs.Common.{◌+◌, ◌*◌, ◌∙◌, ap, length, ℕ}
+use Rattle.std.proofs.Common.{◌+◌, ◌*◌, ◌∙◌, ap, length, map, subst, ℕ}
+use Rattle.cf_desk.specs.Keepings.{caller_kept}
+use Rattle.cf_desk.specs.Log.{state_from}
+use Rattle.cf_desk.specs.declared.row.DeskConfig.{DeskConfig}
+use Rattle.cf_event.specs.Histories.{IsOneHistory}
 use Rattle.cf_forms.specs.Plans.{with_room}
 use Rattle.cf_forms.proofs.PlanLemmas.{place_is}
 use Rattle.cf_pool.specs.Races.{log_words}
@@ -33,3 +37,12 @@ returns-in-Ok-clause-called g c = record {
 pub fault_of-requires : goal.fault_of-requires
 fault_of-requires g c =
     only_for_room _ c.in_ok-desk.desk (with_room c.args.plan c.args.room) c.args.steps.now c.in-Some.sizes.1 c.args.workers c.in_ok-desk.passes.items _ _ _ (sized g (goal.at.fault_of-requires g c).In_ok-desk) c.in_ok-desk.ensures.begun c.in-Err.fault c.in-Err.ensures.refused
+
+pub returns-in-Ok-clause-history : goal.returns-in-Ok-clause-history
+returns-in-Ok-clause-history g c = (
+  subst (λ (d : DeskConfig). IsOneHistory d.plan d.functions c.in-Ok.left.closed.history.items (map caller_kept c.in-Ok.left.closed.passes.items)) c.in_ok-desk.ensures.desk.0 c.in-Ok.ensures.ran.ran.one,
+  c.in-Ok.ensures.ran.ran.graph_is ∙ ap (λ (d : DeskConfig). state_from d.plan c.in-Ok.left.closed.history.items) c.in_ok-desk.ensures.desk.0,
+)
+
+pub returns-in-Ok-clause-once : goal.returns-in-Ok-clause-once
+returns-in-Ok-clause-once g c = c.in-Ok.ensures.ran.ran.once
