@@ -9,7 +9,7 @@ use std::sync::{Arc, Mutex};
 use std::thread;
 use std::time::Duration;
 
-const LONG: Duration = Duration::from_secs(60);
+const LONG: Duration = Duration::from_secs(40);
 
 /// Ends of lines for somebody, controls, formats, and what this crate itself writes between events.
 const ODD: &str = "a\n    0.000 ms  caller completes 9 b\r\u{85}\u{2028}\u{2029}\u{b}\u{c}\u{1b}[2K\u{202e}\u{200b}\u{e0041}; caller fails 9";
