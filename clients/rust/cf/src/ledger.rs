@@ -138,12 +138,12 @@ mod tests {
         for _ in 0..2 {
             ledger.attach(0, Form::Source, &[], false, &mut changes).unwrap();
         }
-        for (word, told) in
-            [(word::of(COMPLETE, 0, 0, SOME), Some(0)), (word::of(COMPLETE, 0, 0, SOME | 1), None), (word::of(CANCEL, 0, 1, 0), Some(1))]
-        {
+        for word in [word::of(COMPLETE, 0, 0, SOME), word::of(COMPLETE, 0, 0, SOME | 1), word::of(CANCEL, 0, 1, 0)] {
             ledger.act(word, &mut changes);
-            if let (Some(stage), cf_graph::State::Settled(outcome)) = (told, changes.at(0).now.state) {
-                ledger.told(stage, outcome);
+            for news in changes.iter() {
+                if let cf_graph::State::Settled(outcome) = news.now.state {
+                    ledger.told(news.stage, outcome);
+                }
             }
         }
         let (words, items) = (ledger.words(), ledger.record.items().collect::<Vec<_>>());

@@ -72,7 +72,7 @@ fn what_reads_well_stays() {
     assert_eq!(line.split("; ").count(), 4);
     assert_eq!(history.names(), ["prix en €;  日本"]);
     assert_eq!(format!("{price:?}"), "Stage(0 prix en €;  日本, error: no  stock; \\n)");
-    assert_eq!(format!("{:?}", with_texts("a\nb").promise::<i32>().named("c\nd")), "Stage(10 c\\nd, pending)");
+    assert_eq!(format!("{:?}", with_texts("a\nb").promise::<i32>().named("c\nd")), "Stage(9 c\\nd, pending)");
 }
 
 #[derive(Debug)]
@@ -126,8 +126,8 @@ fn all_is_told_if_nothing_is_said() {
         let history = request.history();
         let told = ends(&history);
         assert_eq!(told[..2], ["0 token: \"secret token\"", "1 card: a value"]);
-        assert!(told[2].ends_with(": ()") && told[3] == "3 bytes: a value" && told[4] == "4 refused: secret card, passed on", "{told:?}");
-        assert_eq!(told[5], "5 panicked: a function panicked: secret 5, passed on");
+        assert!(told[2].ends_with(": ()") && told[3] == "3 bytes: a value" && told[4] == "4 refused: secret card", "{told:?}");
+        assert_eq!(told[5], "5 panicked: a function panicked: secret 5");
         assert!(history.line().contains("finishes 0 token, which gave \"secret token\"; 0 token ends: \"secret token\"; "));
         let account = history.account();
         assert_eq!(member(&account, "values"), r#""\"secret token\"","a value","","a value","","","""#);
@@ -143,7 +143,7 @@ fn types_are_told_alone() {
     let told = ends(&history);
     assert_eq!(told[..2], ["0 token: String of 12", "1 card: Card"]);
     assert!(told[2].ends_with(": ()"), "{told:?}");
-    assert_eq!(told[3..6], ["3 bytes: Vec<u8> of 3", "4 refused: Failed, passed on", "5 panicked: Panicked, passed on"]);
+    assert_eq!(told[3..6], ["3 bytes: Vec<u8> of 3", "4 refused: Failed", "5 panicked: Panicked"]);
     let account = history.account();
     assert_eq!(member(&account, "values"), r#""String of 12","Card","","Vec<u8> of 3","","","""#);
     assert_eq!(member(&account, "errors"), r#""","","","","Failed","Panicked","""#);
@@ -176,8 +176,8 @@ fn a_function_says_what_is_told() {
     let told = ends(&history);
     assert_eq!(told[..2], [format!("0 token: {}", "v".repeat(70)), "1 card: a\\ncard".into()]);
     assert!(told[2].ends_with(": unit"), "{told:?}");
-    assert_eq!(told[4..6], ["4 refused: declined;, passed on", "5 panicked: other, passed on"]);
-    assert!(history.line().contains("; 4 refused ends: declined\\u003b, passed on; "));
+    assert_eq!(told[4..6], ["4 refused: declined;", "5 panicked: other"]);
+    assert!(history.line().contains("; 4 refused ends: declined\\u003b; "));
     assert_eq!(member(&history.account(), "errors"), r#""","","","","declined;","other","""#);
     assert_eq!(format!("{refused:?}"), "Stage(4 refused, error: declined;)");
     assert!(texts(&history).iter().all(|text| !text.contains("secret")));
@@ -221,7 +221,7 @@ fn what_cannot_be_told_is_a_question_mark() {
     let unread = request.supply(|| -> i32 { panic_any(17_u8) });
     let history = request.history();
     let told: Vec<String> = ends(&history).iter().map(|line| line.split_once(": ").unwrap().1.into()).collect();
-    assert_eq!(told, ["?, passed on", "?, passed on", "a function panicked: something that isn't text, passed on"]);
+    assert_eq!(told, ["?", "?", "a function panicked: something that isn't text"]);
     assert_eq!(member(&history.account(), "errors"), r#""?","?","a function panicked: something that isn't text""#);
     assert_eq!((format!("{panics:?}"), fails.wait().is_err()), ("Stage(0 histories.rs:".to_owned() + &line_of(&panics) + ", error: ?)", true));
     match unread.wait() {
@@ -231,7 +231,7 @@ fn what_cannot_be_told_is_a_question_mark() {
 
     let (request, _) = secret(Some(Describe::by(|ended| if ended.is_ok() { panic_any(DropPanics) } else { "told".into() })));
     let told = ends(&request.history());
-    assert_eq!((&told[0][..], &told[4][..]), ("0 token: ?", "4 refused: told, passed on"));
+    assert_eq!((&told[0][..], &told[4][..]), ("0 token: ?", "4 refused: told"));
 }
 
 fn line_of<T>(stage: &Stage<T>) -> String {
