@@ -2,14 +2,14 @@
 use cf::{Describe, Error, History, Inline, Request, Stage};
 use std::error::Error as StdError;
 use std::fmt;
-use std::panic::panic_any;
+use std::panic::{catch_unwind, panic_any, AssertUnwindSafe};
 use std::sync::atomic::{AtomicUsize, Ordering};
 use std::sync::mpsc::channel;
 use std::sync::{Arc, Mutex};
 use std::thread;
 use std::time::Duration;
 
-const LONG: Duration = Duration::from_secs(40);
+const LONG: Duration = Duration::from_secs(20);
 
 /// Ends of lines for somebody, controls, formats, and what this crate itself writes between events.
 const ODD: &str = "a\n    0.000 ms  caller completes 9 b\r\u{85}\u{2028}\u{2029}\u{b}\u{c}\u{1b}[2K\u{202e}\u{200b}\u{e0041}; caller fails 9";
@@ -220,7 +220,7 @@ fn what_cannot_be_told_is_a_question_mark() {
     let (panics, fails) = (request.try_supply(|| Err::<i32, _>(Panics)), request.try_supply(|| Err::<i32, _>(Fails)));
     let unread = request.supply(|| -> i32 { panic_any(17_u8) });
     let history = request.history();
-    let told: Vec<String> = ends(&history).iter().map(|line| line.split_once(": ").unwrap().1.into()).collect();
+    let told: Vec<String> = whole(|| ends(&history)).iter().map(|line| line.split_once(": ").unwrap().1.into()).collect();
     assert_eq!(told, ["?", "?", "a function panicked: something that isn't text"]);
     assert_eq!(member(&history.account(), "errors"), r#""?","?","a function panicked: something that isn't text""#);
     assert_eq!((format!("{panics:?}"), fails.wait().is_err()), ("Stage(0 histories.rs:".to_owned() + &line_of(&panics) + ", error: ?)", true));
@@ -230,8 +230,16 @@ fn what_cannot_be_told_is_a_question_mark() {
     }
 
     let (request, _) = secret(Some(Describe::by(|ended| if ended.is_ok() { panic_any(DropPanics) } else { "told".into() })));
-    let told = ends(&request.history());
+    let told = ends(&whole(|| request.history()));
     assert_eq!((&told[0][..], &told[4][..]), ("0 token: ?", "4 refused: told"));
+}
+
+/// Does it, which is not to panic: the payload of this test's panics can't be dropped.
+fn whole<T>(act: impl FnOnce() -> T) -> T {
+    catch_unwind(AssertUnwindSafe(act)).unwrap_or_else(|payload| {
+        std::mem::forget(payload);
+        panic!("it panics")
+    })
 }
 
 fn line_of<T>(stage: &Stage<T>) -> String {
