@@ -249,3 +249,18 @@ impl Caller {
         self.handle.tell(call).map(|reply| reply.answer != 0)
     }
 }
+
+#[cfg(test)]
+mod tests {
+    use super::*;
+
+    /// The library isn't asked, which would say that nothing stands behind these handles.
+    #[test]
+    fn desks_are_compared_first() {
+        let of = |desk: &Arc<Sizes>| Caller { handle: Handle::empty(), desk: Arc::clone(desk), number: 0 };
+        let desk = || Arc::new(Sizes { callers: 1, log: 1, calls: 1, growth: None });
+        let (one, other) = (desk(), desk());
+        assert_eq!(of(&one).meet(&mut of(&other)), Err(Refused::OTHER_DESK));
+        assert_eq!(Desk(one).close(vec![of(&other)]).unwrap_err().why, Refused::OTHER_DESK);
+    }
+}
