@@ -5,7 +5,6 @@
 //!
 //! A value's number is that of the stage that gave it, and so is an error's.
 use crate::core::Core;
-use crate::describe::Describe;
 use crate::error::{Error, Refusal};
 use crate::ledger::Ledger;
 use crate::name::Made;
@@ -33,7 +32,7 @@ pub(crate) struct Inner {
     /// The names that were given to stages.
     pub(crate) names: BTreeMap<u16, Cow<'static, str>>,
     /// What histories tell of values and errors.
-    pub(crate) describe: Describe,
+    pub(crate) describe: crate::describe::Describe,
     /// Which stage each relay of this request stands for.
     pub(crate) relays: Vec<(u16, u16)>,
     /// The handles that wait for a stage.
@@ -115,7 +114,7 @@ impl Inner {
             ledger: Ledger::new(room)?,
             slots: Vec::with_capacity(usize::from(room.min(SLOTS))),
             names: BTreeMap::new(),
-            describe: Describe::All,
+            describe: crate::describe::Describe::All,
             relays: Vec::new(),
             waiting: Wakers::default(),
             helpers: Vec::new(),

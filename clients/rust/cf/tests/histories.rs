@@ -364,7 +364,7 @@ fn histories_are_taken_meanwhile() {
     let request = Request::new("meanwhile", cf::Pool::new(2)).described(Describe::Types);
     let by = request.clone();
     let does = thread::spawn(move || {
-        for k in 0..300 {
+        for k in 0..100 {
             let stage = by.supply(move || k).named(format!("a\nb{k}"));
             drop(stage.then(|k| k + 1).wait());
         }
@@ -377,5 +377,5 @@ fn histories_are_taken_meanwhile() {
         last = history.words().len();
     }
     does.join().unwrap();
-    assert_eq!(request.history().names().len(), 600);
+    assert_eq!(request.history().names().len(), 200);
 }
