@@ -36,9 +36,9 @@ impl Closed {
 
     /// The words of all events, in the one order in which they came.
     pub fn words(&mut self) -> Result<Vec<u64>, Refused> {
-        // SAFETY: `h` and what is told to are this call's alone.
+        // SAFETY: alone, pointers: `h` and what is told to are this call's.
         let events = self.handle.tell(|h, told| unsafe { sys::cf_closed_events(h, told) })?;
-        // SAFETY: `h` and what is told to are this call's alone.
+        // SAFETY: alone, pointers: `h` and what is told to are this call's.
         (0..events).map(|place| self.handle.tell(|h, told| unsafe { sys::cf_closed_word(h, place, told) })).collect()
     }
 
@@ -49,15 +49,15 @@ impl Closed {
 
     /// What the caller of a number, which is one of its callers', did and saw, in its order.
     pub fn records(&mut self, caller: u8) -> Result<Vec<Record>, Refused> {
-        // SAFETY: `h` and what is told to are this call's alone.
+        // SAFETY: alone, pointers: `h` and what is told to are this call's.
         let records = self.handle.tell(|h, told| unsafe { sys::cf_closed_records(h, caller, told) })?;
-        // SAFETY: `h` and what is told to are this call's alone.
+        // SAFETY: alone, pointers: `h` and what is told to are this call's.
         (0..records).map(|at| record_out(self.handle.tell(|h, told| unsafe { sys::cf_closed_record(h, caller, at, told) })?)).collect()
     }
 
     /// The graph as all events leave it.
     pub fn graph(mut self) -> Result<Graph, Refused> {
-        // SAFETY: `h` is this call's alone.
+        // SAFETY: alone: `h` is this call's.
         self.handle.call(|h| unsafe { sys::cf_closed_graph(h) })?;
         Ok(Graph(self.handle))
     }

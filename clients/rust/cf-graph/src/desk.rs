@@ -31,7 +31,7 @@ pub(crate) fn opened(sizes: Sizes, handles: Vec<sys::cf_handle>) -> (Desk, Vec<C
 }
 
 fn caller_of(mut handle: Handle, desk: Arc<Sizes>) -> Caller {
-    // SAFETY: `h` and what is told to are this call's alone.
+    // SAFETY: alone, pointers: `h` and what is told to are this call's.
     let number = handle.tell(|h, told| unsafe { sys::cf_desk_caller(h, told) });
     let number = number.expect("a caller stands behind the handle");
     Caller { handle, desk, number }
@@ -50,24 +50,24 @@ impl Desk {
             return Err(NotClosed { why, desk: self, callers });
         }
         let numbers = callers.len() as u8;
-        // SAFETY: `h` is this call's alone.
+        // SAFETY: alone: `h` is this call's.
         if let Err(why) = callers[0].handle.call(|h| unsafe { sys::cf_close_begin(h) }) {
             return Err(NotClosed { why, desk: self, callers });
         }
         let mut rest = callers.into_iter();
         let mut closing = rest.next().map(|caller| caller.handle).unwrap_or_else(Handle::empty);
         for mut caller in rest {
-            // SAFETY: two different handles, both this call's alone, and callers of one desk or seen not to be.
+            // SAFETY: alone, apart, one desk: two handles that are both this call's, of callers whose desks were compared.
             let added = closing.call(|closing| Refused::code_of(caller.handle.call(|h| unsafe { sys::cf_close_add(closing, h) })));
             added.expect("all callers are of one desk");
         }
-        // SAFETY: `h` is this call's alone.
+        // SAFETY: alone: `h` is this call's.
         closing.call(|h| unsafe { sys::cf_close_end(h) }).expect("all callers were given back");
         Ok(Closed::of(closing, numbers))
     }
 
     fn cannot_close(&self, callers: &[Caller]) -> Option<Refused> {
-        if callers.iter().any(|caller| !Arc::ptr_eq(&caller.desk, &self.0)) {
+        if !callers.iter().all(|caller| caller.is_of(&self.0)) {
             return Some(Refused::OTHER_DESK);
         }
         (callers.len() < usize::from(self.0.callers)).then_some(Refused::NOT_ALL)
@@ -98,44 +98,44 @@ impl Error for NotClosed {}
 impl Caller {
     /// Settles a stage with a value, and says whether it did.
     pub fn complete(&mut self, stage: u16, value: Value) -> Result<bool, Refused> {
-        // SAFETY: `h` and what is told to are this call's alone.
+        // SAFETY: alone, pointers: `h` and what is told to are this call's.
         self.flag(|h, reply| unsafe { sys::cf_desk_complete(h, stage, value_in(value), reply) })
     }
 
     /// Settles a stage with a thrown code, and says whether it did.
     pub fn fail(&mut self, stage: u16, code: u32) -> Result<bool, Refused> {
-        // SAFETY: `h` and what is told to are this call's alone.
+        // SAFETY: alone, pointers: `h` and what is told to are this call's.
         self.flag(|h, reply| unsafe { sys::cf_desk_fail(h, stage, code, reply) })
     }
 
     /// Cancels a stage, and says whether it is cancelled then.
     pub fn cancel(&mut self, stage: u16) -> Result<bool, Refused> {
-        // SAFETY: `h` and what is told to are this call's alone.
+        // SAFETY: alone, pointers: `h` and what is told to are this call's.
         self.flag(|h, reply| unsafe { sys::cf_desk_cancel(h, stage, reply) })
     }
 
     /// Takes a ready stage, whose function is then to be called, and the stage to be finished.
     pub fn claim(&mut self, stage: u16) -> Result<Claimed, Refused> {
-        // SAFETY: `h` and what is told to are this call's alone.
+        // SAFETY: alone, pointers: `h` and what is told to are this call's.
         self.handle.tell(|h, reply| unsafe { sys::cf_desk_claim(h, stage, reply) }).map(claimed_out)
     }
 
     /// Finishes a stage that it has claimed with what its function answered. `NO_STAGE`, `PASS_FULL`, `LOG_FULL`.
     pub fn finish(&mut self, stage: u16, answer: Answer) -> Result<Finished, Refused> {
-        // SAFETY: `h` and what is told to are this call's alone.
+        // SAFETY: alone, pointers: `h` and what is told to are this call's.
         self.handle.tell(|h, reply| unsafe { sys::cf_desk_finish_with(h, stage, &answer_in(answer), reply) }).map(finished_out)
     }
 
     /// Lets it be this moment, in the unit of the plan's limits.
     pub fn tick(&mut self, now: u32) -> Result<Ticked, Refused> {
-        // SAFETY: `h` and what is told to are this call's alone.
+        // SAFETY: alone, pointers: `h` and what is told to are this call's.
         self.handle.tell(|h, reply| unsafe { sys::cf_desk_tick(h, now, reply) }).map(ticked_out)
     }
 
     /// Attaches a stage, and tells its number, or None where no room is left.
     pub fn attach(&mut self, form: Form, of: &[u16], function: Option<u16>) -> Result<Option<u16>, Refused> {
         self.handle
-            // SAFETY: `h` and what is told to are this call's alone, and `of` points to as many numbers as said.
+            // SAFETY: alone, pointers: `h` and what is told to are this call's, and `of` points to as many numbers as said.
             .tell(|h, reply| unsafe { sys::cf_desk_attach(h, form as u32, of.as_ptr(), of.len(), function_in(function), reply) })
             .map(attached_out)
     }
@@ -146,7 +146,7 @@ impl Caller {
         let given: Vec<_> = given.iter().map(|&(stage, value)| sys::cf_given { stage, value: value_in(value) }).collect();
         let mut done = 0;
         let (first, n, told) = (given.as_ptr(), given.len(), &mut done);
-        // SAFETY: `h` and what is told to are this call's alone, and `first` points to as many elements as said.
+        // SAFETY: alone, pointers: `h` and what is told to are this call's, and `first` points to as many elements as said.
         let answer = self.handle.call(|h| unsafe { sys::cf_desk_complete_many(h, first, n, told) });
         (done, answer)
     }
@@ -157,7 +157,7 @@ impl Caller {
     /// where this caller has no open claim of the stage: nothing is changed then.
     pub fn step(&mut self, held: Option<(u16, Answer)>) -> (Option<Finished>, Result<Option<Taken>, Refused>) {
         let mut task = task_in(held);
-        // SAFETY: `h` and the task are this call's alone.
+        // SAFETY: alone, pointers: `h` and the task are this call's.
         let answer = self.handle.call(|h| unsafe { sys::cf_desk_next(h, &mut task) });
         let Step { finished, taken } = step_out(held, &task);
         match answer {
@@ -170,50 +170,53 @@ impl Caller {
 
     /// What a stage is settled with, if it is, after a look at all that is there.
     pub fn read(&mut self, stage: u16) -> Result<Option<Outcome>, Refused> {
-        // SAFETY: `h` and what is told to are this call's alone.
+        // SAFETY: alone, pointers: `h` and what is told to are this call's.
         self.handle.tell(|h, told| unsafe { sys::cf_desk_read(h, stage, told) }).map(outcome_out)
     }
 
     /// What a stage gives at present, or `absent` where it isn't settled, after a look.
     pub fn read_now(&mut self, stage: u16, absent: Value) -> Result<Now, Refused> {
-        // SAFETY: `h` and what is told to are this call's alone.
+        // SAFETY: alone, pointers: `h` and what is told to are this call's.
         self.handle.tell(|h, told| unsafe { sys::cf_desk_read_now(h, stage, value_in(absent), told) }).map(now_out)
     }
 
     /// Looks until the stage is settled, at most so many times, and tells what it gives then: `Absent` where it isn't. The last look is
     /// recorded.
     pub fn join(&mut self, stage: u16, looks: u32) -> Result<Now, Refused> {
-        // SAFETY: `h` and what is told to are this call's alone.
+        // SAFETY: alone, pointers: `h` and what is told to are this call's.
         self.handle.tell(|h, told| unsafe { sys::cf_desk_join(h, stage, looks, told) }).map(now_out)
     }
 
     /// The lowest stage that can be claimed, after a look that isn't recorded.
     pub fn ready(&mut self) -> Result<Option<u16>, Refused> {
-        // SAFETY: `h` and what is told to are this call's alone.
+        // SAFETY: alone, pointers: `h` and what is told to are this call's.
         if_there(self.handle.tell(|h, told| unsafe { sys::cf_desk_ready(h, told) }))
     }
 
-    /// Lets two callers of one desk see the longer of what either has seen.
+    /// Lets two callers of one desk see the longer of what either has seen. `OTHER_DESK` leaves both as they were.
     pub fn meet(&mut self, other: &mut Caller) -> Result<(), Refused> {
-        // SAFETY: two different handles, both this call's alone, and callers of one desk or seen not to be.
+        if !self.is_of(&other.desk) {
+            return Err(Refused::OTHER_DESK);
+        }
+        // SAFETY: alone, apart, one desk: two handles that are both this call's, of callers whose desks were compared.
         self.handle.call(|h| Refused::code_of(other.handle.call(|o| unsafe { sys::cf_desk_meet(h, o) })))
     }
 
     /// How many events it has seen.
     pub fn seen(&mut self) -> Result<u16, Refused> {
-        // SAFETY: `h` and what is told to are this call's alone.
+        // SAFETY: alone, pointers: `h` and what is told to are this call's.
         self.handle.tell(|h, told| unsafe { sys::cf_desk_seen(h, told) })
     }
 
     /// How many records it still takes.
     pub fn left(&mut self) -> Result<u16, Refused> {
-        // SAFETY: `h` and what is told to are this call's alone.
+        // SAFETY: alone, pointers: `h` and what is told to are this call's.
         self.handle.tell(|h, told| unsafe { sys::cf_desk_left(h, told) })
     }
 
     /// The number of a stage's function, if it has one. The stage is one that the caller has seen.
     pub fn function(&mut self, stage: u16) -> Result<Option<u16>, Refused> {
-        // SAFETY: `h` and what is told to are this call's alone.
+        // SAFETY: alone, pointers: `h` and what is told to are this call's.
         if_there(self.handle.tell(|h, told| unsafe { sys::cf_desk_function(h, stage, told) }))
     }
 
@@ -236,7 +239,28 @@ impl Caller {
         Ok(calls)
     }
 
+    /// Whether it is a caller of this desk. The library looks at the other desk to tell, which nobody may do while that one's callers are at
+    /// work, so the two are compared here.
+    fn is_of(&self, desk: &Arc<Sizes>) -> bool {
+        Arc::ptr_eq(&self.desk, desk)
+    }
+
     fn flag(&mut self, call: impl FnOnce(*mut sys::cf_handle, *mut sys::cf_reply) -> u32) -> Result<bool, Refused> {
         self.handle.tell(call).map(|reply| reply.answer != 0)
+    }
+}
+
+#[cfg(test)]
+mod tests {
+    use super::*;
+
+    /// The library isn't asked, which would say that nothing stands behind these handles.
+    #[test]
+    fn desks_are_compared_first() {
+        let of = |desk: &Arc<Sizes>| Caller { handle: Handle::empty(), desk: Arc::clone(desk), number: 0 };
+        let desk = || Arc::new(Sizes { callers: 1, log: 1, calls: 1, growth: None });
+        let (one, other) = (desk(), desk());
+        assert_eq!(of(&one).meet(&mut of(&other)), Err(Refused::OTHER_DESK));
+        assert_eq!(Desk(one).close(vec![of(&other)]).unwrap_err().why, Refused::OTHER_DESK);
     }
 }

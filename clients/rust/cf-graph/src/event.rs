@@ -36,7 +36,7 @@ impl Event {
     pub fn word(self) -> Result<u64, Refused> {
         checked()?;
         let mut word = 0;
-        // SAFETY: both pointers are to locals.
+        // SAFETY: this library, pointers: both are to locals.
         done(unsafe { sys::cf_word_of_event(&event_in(self), &mut word) })?;
         Ok(word)
     }
@@ -45,7 +45,7 @@ impl Event {
     pub fn of_word(word: u64) -> Result<Event, Refused> {
         checked()?;
         let mut event = sys::cf_event::default();
-        // SAFETY: both pointers are to locals.
+        // SAFETY: this library, pointers: both are to locals.
         done(unsafe { sys::cf_event_of(word, &mut event) })?;
         Ok(event_out(event))
     }

@@ -15,92 +15,92 @@ pub struct Graph(pub(crate) Handle);
 impl Graph {
     /// Settles a stage with a value, and says whether it did.
     pub fn complete(&mut self, stage: u16, value: Value) -> Result<bool, Refused> {
-        // SAFETY: `h` and what is told to are this call's alone.
+        // SAFETY: alone, pointers: `h` and what is told to are this call's.
         self.flag(|h, reply| unsafe { sys::cf_complete(h, stage, value_in(value), reply) })
     }
 
     /// Settles a stage with a thrown code, and says whether it did.
     pub fn fail(&mut self, stage: u16, code: u32) -> Result<bool, Refused> {
-        // SAFETY: `h` and what is told to are this call's alone.
+        // SAFETY: alone, pointers: `h` and what is told to are this call's.
         self.flag(|h, reply| unsafe { sys::cf_fail(h, stage, code, reply) })
     }
 
     /// Cancels a stage, and says whether it is cancelled then.
     pub fn cancel(&mut self, stage: u16) -> Result<bool, Refused> {
-        // SAFETY: `h` and what is told to are this call's alone.
+        // SAFETY: alone, pointers: `h` and what is told to are this call's.
         self.flag(|h, reply| unsafe { sys::cf_cancel(h, stage, reply) })
     }
 
     /// Takes a ready stage for a caller, who then calls its function and finishes the stage.
     pub fn claim(&mut self, who: u8, stage: u16) -> Result<Claimed, Refused> {
-        // SAFETY: `h` and what is told to are this call's alone.
+        // SAFETY: alone, pointers: `h` and what is told to are this call's.
         self.0.tell(|h, reply| unsafe { sys::cf_claim(h, who, stage, reply) }).map(claimed_out)
     }
 
     /// Finishes a stage that a caller has claimed with what its function answered. `NO_STAGE`.
     pub fn finish(&mut self, who: u8, stage: u16, answer: Answer) -> Result<Finished, Refused> {
-        // SAFETY: `h` and what is told to are this call's alone.
+        // SAFETY: alone, pointers: `h` and what is told to are this call's.
         self.0.tell(|h, reply| unsafe { sys::cf_finish_with(h, who, stage, &answer_in(answer), reply) }).map(finished_out)
     }
 
     /// Lets it be this moment, in the unit of the plan's limits.
     pub fn tick(&mut self, now: u32) -> Result<Ticked, Refused> {
-        // SAFETY: `h` and what is told to are this call's alone.
+        // SAFETY: alone, pointers: `h` and what is told to are this call's.
         self.0.tell(|h, reply| unsafe { sys::cf_tick(h, now, reply) }).map(ticked_out)
     }
 
     /// Attaches a stage, and tells its number, or None where no room is left.
     pub fn attach(&mut self, form: Form, of: &[u16], function: Option<u16>) -> Result<Option<u16>, Refused> {
-        // SAFETY: `h` and what is told to are this call's alone, and `of` points to as many numbers as said.
+        // SAFETY: alone, pointers: `h` and what is told to are this call's, and `of` points to as many numbers as said.
         self.0.tell(|h, reply| unsafe { sys::cf_attach(h, form as u32, of.as_ptr(), of.len(), function_in(function), reply) }).map(attached_out)
     }
 
     /// What a stage is settled with, if it is.
     pub fn outcome(&mut self, stage: u16) -> Result<Option<Outcome>, Refused> {
-        // SAFETY: `h` and what is told to are this call's alone.
+        // SAFETY: alone, pointers: `h` and what is told to are this call's.
         self.0.tell(|h, told| unsafe { sys::cf_get(h, stage, told) }).map(outcome_out)
     }
 
     /// What a stage gives at present, or `absent` where it isn't settled.
     pub fn now(&mut self, stage: u16, absent: Value) -> Result<Now, Refused> {
-        // SAFETY: `h` and what is told to are this call's alone.
+        // SAFETY: alone, pointers: `h` and what is told to are this call's.
         self.0.tell(|h, told| unsafe { sys::cf_get_now(h, stage, value_in(absent), told) }).map(now_out)
     }
 
     /// The lowest stage that can be claimed, if there is one.
     pub fn lowest_ready(&mut self) -> Result<Option<u16>, Refused> {
-        // SAFETY: `h` and what is told to are this call's alone.
+        // SAFETY: alone, pointers: `h` and what is told to are this call's.
         if_there(self.0.tell(|h, told| unsafe { sys::cf_lowest_ready(h, told) }))
     }
 
     /// The number of a stage's function, if it has one.
     pub fn function(&mut self, stage: u16) -> Result<Option<u16>, Refused> {
-        // SAFETY: `h` and what is told to are this call's alone.
+        // SAFETY: alone, pointers: `h` and what is told to are this call's.
         if_there(self.0.tell(|h, told| unsafe { sys::cf_function(h, stage, told) }))
     }
 
     /// How many stages there are by now.
     pub fn stages(&mut self) -> Result<u16, Refused> {
-        // SAFETY: `h` and what is told to are this call's alone.
+        // SAFETY: alone, pointers: `h` and what is told to are this call's.
         self.0.tell(|h, told| unsafe { sys::cf_stages(h, told) })
     }
 
     /// How many turns were taken since the graph was opened or last restarted.
     pub fn turns(&mut self) -> Result<u64, Refused> {
-        // SAFETY: `h` and what is told to are this call's alone.
+        // SAFETY: alone, pointers: `h` and what is told to are this call's.
         self.0.tell(|h, told| unsafe { sys::cf_turns(h, told) })
     }
 
     /// Does the event of a word, and gives its reply.
     pub fn apply(&mut self, word: u64) -> Result<Reply, Refused> {
         let event = Event::of_word(word)?;
-        // SAFETY: `h` and what is told to are this call's alone.
+        // SAFETY: alone, pointers: `h` and what is told to are this call's.
         self.0.tell(|h, told| unsafe { sys::cf_apply(h, word, told) }).map(|reply| reply_out(event.call, reply))
     }
 
     /// Starts again, as the graph was opened.
     pub fn restart(&mut self) -> Result<(), Refused> {
-        // SAFETY: `h` is this call's alone.
+        // SAFETY: alone: `h` is this call's.
         self.0.call(|h| unsafe { sys::cf_restart(h) })
     }
 
@@ -108,14 +108,14 @@ impl Graph {
     /// done.
     pub fn restart_with(&mut self, given: &[(u16, Value)]) -> Result<(), Refused> {
         let given: Vec<_> = given.iter().map(|&(stage, value)| sys::cf_given { stage, value: value_in(value) }).collect();
-        // SAFETY: `h` is this call's alone, and `given` points to as many elements as said.
+        // SAFETY: alone, pointers: `h` is this call's, and `given` points to as many elements as said.
         self.0.call(|h| unsafe { sys::cf_restart_with(h, given.as_ptr(), given.len()) })
     }
 
     /// The plan as the graph was opened. `NO_MEMORY`.
     pub fn plan(&mut self) -> Result<Plan, Refused> {
         let mut plan = Handle::empty();
-        // SAFETY: two different handles, both this call's alone.
+        // SAFETY: alone, apart: two handles, and both are this call's.
         self.0.call(|h| Refused::code_of(plan.call(|plan| unsafe { sys::cf_plan_of(h, plan) })))?;
         Ok(Plan(plan))
     }
@@ -138,7 +138,7 @@ impl Graph {
     /// ```
     pub fn step(&mut self, who: u8, held: Option<(u16, Answer)>) -> Result<Step, Refused> {
         let mut task = task_in(held);
-        // SAFETY: `h` and the task are this call's alone.
+        // SAFETY: alone, pointers: `h` and the task are this call's.
         match self.0.call(|h| unsafe { sys::cf_next(h, who, &mut task) }) {
             Ok(()) | Err(Refused::NOTHING) => Ok(step_out(held, &task)),
             Err(refused) => Err(refused),
@@ -164,7 +164,7 @@ impl Graph {
     pub fn round(&mut self, who: u8, held: &[Option<(u16, Answer)>]) -> Result<Vec<Step>, Refused> {
         let mut tasks: Vec<_> = held.iter().copied().map(task_in).collect();
         let (first, n) = (tasks.as_mut_ptr(), tasks.len());
-        // SAFETY: `h` is this call's alone, and `first` points to as many tasks as said.
+        // SAFETY: alone, pointers: `h` is this call's, and `first` points to as many tasks as said.
         match self.0.call(|h| unsafe { sys::cf_round(h, who, first, n) }) {
             Ok(()) | Err(Refused::NOTHING) => Ok(held.iter().zip(&tasks).map(|(held, task)| step_out(*held, task)).collect()),
             Err(refused) => Err(refused),

@@ -136,11 +136,11 @@ impl Changes {
     fn tell_more(&mut self, handle: &mut Handle, place: usize) -> Result<(), Refused> {
         let mut stages = vec![0; self.count];
         let (first, room) = (stages.as_mut_ptr(), stages.len());
-        // SAFETY: `h` and what is told to are this call's alone, and `first` points to as many numbers as said.
+        // SAFETY: alone, pointers: `h` and what is told to are this call's, and `first` points to as many numbers as said.
         handle.tell(|h, told| unsafe { sys::cf_ledger_news(h, place, first, room, told) })?;
         self.news.resize(self.count.next_power_of_two(), sys::cf_news::default());
         for (news, stage) in self.news.iter_mut().zip(stages) {
-            // SAFETY: `h` and what is told to are this call's alone.
+            // SAFETY: alone, pointers: `h` and what is told to are this call's.
             *news = sys::cf_news { stage, now: handle.tell(|h, told| unsafe { sys::cf_ledger_stage(h, stage, told) })? };
         }
         Ok(())
@@ -151,7 +151,7 @@ impl Ledger {
     /// A ledger of the plan in which nothing is written, with room for so many stages that are attached later. `ROOM`, `NO_MEMORY`.
     pub fn new(plan: &mut Plan, room: u16) -> Result<Ledger, Refused> {
         let mut handle = Handle::empty();
-        // SAFETY: two different handles, both this call's alone.
+        // SAFETY: alone, apart: two handles, and both are this call's.
         plan.0.call(|plan| Refused::code_of(handle.call(|h| unsafe { sys::cf_ledger_new(plan, room, h) })))?;
         Ok(Ledger::behind(handle))
     }
@@ -161,7 +161,7 @@ impl Ledger {
         let (mut handle, mut place) = (Handle::empty(), usize::MAX);
         let (first, n, at) = (words.as_ptr(), words.len(), &mut place);
         let made = plan.0.call(|plan| {
-            // SAFETY: two different handles, both this call's alone; `first` points to n words, and `at` to a local.
+            // SAFETY: alone, apart, pointers: two handles, and both are this call's; `first` points to n words, and `at` to a local.
             Refused::code_of(handle.call(|h| unsafe { sys::cf_ledger_of(plan, room, first, n, h, at) }))
         });
         made.map_err(|why| Misfit { why, place: (place != usize::MAX).then_some(place) })?;
@@ -210,7 +210,7 @@ impl Ledger {
         let mut step = sys::cf_step { who, from, ..sys::cf_step::default() };
         let mut task = task_in(held);
         let told = (&mut step, &mut task);
-        // SAFETY: `h` and what is told to are this call's alone, and `news` points to as many elements as said.
+        // SAFETY: alone, pointers: `h` and what is told to are this call's, and `news` points to as many elements as said.
         match changes.tell(&mut self.handle, |h, news, room, n| unsafe { sys::cf_ledger_step(h, told.0, told.1, news, room, n) }) {
             Ok(()) | Err(Refused::NOTHING) => {}
             Err(refused) => return Err(refused),
@@ -225,7 +225,7 @@ impl Ledger {
     pub fn apply_all(&mut self, words: &[u64]) -> (usize, Result<(), Refused>) {
         let mut done = 0;
         let (first, n, told) = (words.as_ptr(), words.len(), &mut done);
-        // SAFETY: `h` and what is told to are this call's alone, and `first` points to as many words as said.
+        // SAFETY: alone, pointers: `h` and what is told to are this call's, and `first` points to as many words as said.
         let answer = self.handle.call(|h| unsafe { sys::cf_ledger_apply_all(h, first, n, told) });
         self.changes.count = 0;
         (done, answer)
@@ -234,7 +234,7 @@ impl Ledger {
     /// Starts again: no word is written then, and all of its room is free. `NO_MEMORY`.
     pub fn restart(&mut self) -> Result<(), Refused> {
         self.changes.count = 0;
-        // SAFETY: `h` is this call's alone.
+        // SAFETY: alone: `h` is this call's.
         self.handle.call(|h| unsafe { sys::cf_ledger_restart(h) })
     }
 
@@ -253,38 +253,38 @@ impl Ledger {
     pub fn words(&mut self) -> Result<Vec<u64>, Refused> {
         let mut words = vec![0; self.count()?];
         let (first, room) = (words.as_mut_ptr(), words.len());
-        // SAFETY: `h` and what is told to are this call's alone, and `first` points to as many words as said.
+        // SAFETY: alone, pointers: `h` and what is told to are this call's, and `first` points to as many words as said.
         self.handle.tell(|h, told| unsafe { sys::cf_ledger_words(h, 0, first, room, told) })?;
         Ok(words)
     }
 
     /// The lowest ready stage from this number on.
     pub fn ready(&mut self, from: u16) -> Result<Option<u16>, Refused> {
-        // SAFETY: `h` and what is told to are this call's alone.
+        // SAFETY: alone, pointers: `h` and what is told to are this call's.
         if_there(self.handle.tell(|h, told| unsafe { sys::cf_ledger_ready(h, from, told) }))
     }
 
     /// What a stage is. `NO_STAGE`.
     pub fn stage(&mut self, stage: u16) -> Result<Stage, Refused> {
-        // SAFETY: `h` and what is told to are this call's alone.
+        // SAFETY: alone, pointers: `h` and what is told to are this call's.
         self.handle.tell(|h, told| unsafe { sys::cf_ledger_stage(h, stage, told) }).map(stage_out)
     }
 
     /// The number of a stage's function, if it has one. `NO_STAGE`.
     pub fn function(&mut self, stage: u16) -> Result<Option<u16>, Refused> {
-        // SAFETY: `h` and what is told to are this call's alone.
+        // SAFETY: alone, pointers: `h` and what is told to are this call's.
         if_there(self.handle.tell(|h, told| unsafe { sys::cf_ledger_function(h, stage, told) }))
     }
 
     /// How many stages there are by now.
     pub fn stages(&mut self) -> Result<u16, Refused> {
-        // SAFETY: `h` and what is told to are this call's alone.
+        // SAFETY: alone, pointers: `h` and what is told to are this call's.
         self.handle.tell(|h, told| unsafe { sys::cf_ledger_stages(h, told) })
     }
 
     /// Makes room for so many stages more, by doing all words again. `ROOM`, `NO_MEMORY`.
     pub fn grow(&mut self, more: u16) -> Result<(), Refused> {
-        // SAFETY: `h` is this call's alone.
+        // SAFETY: alone: `h` is this call's.
         self.handle.call(|h| unsafe { sys::cf_ledger_grow(h, more) })
     }
 
@@ -298,7 +298,7 @@ impl Ledger {
 fn apply(handle: &mut Handle, word: u64, changes: &mut Changes) -> Result<Reply, Refused> {
     let mut reply = sys::cf_reply::default();
     let told = &mut reply;
-    // SAFETY: `h` and what is told to are this call's alone, and `news` points to as many elements as said.
+    // SAFETY: alone, pointers: `h` and what is told to are this call's, and `news` points to as many elements as said.
     changes.tell(handle, |h, news, room, n| unsafe { sys::cf_ledger_apply(h, word, told, news, room, n) })?;
     if changes.count > changes.news.len() {
         let last = count(handle)? - 1;
@@ -309,7 +309,7 @@ fn apply(handle: &mut Handle, word: u64, changes: &mut Changes) -> Result<Reply,
 
 /// How many words there are.
 fn count(handle: &mut Handle) -> Result<usize, Refused> {
-    // SAFETY: `h` and what is told to are this call's alone; there is room for no word.
+    // SAFETY: alone, pointers: `h` and what is told to are this call's, and there is room for no word.
     handle.tell(|h, told| unsafe { sys::cf_ledger_words(h, 0, std::ptr::null_mut(), 0, told) })
 }
 

@@ -4,7 +4,9 @@
 //! time, since each takes it by `&mut`. A [`Desk`] is a graph that threads share without a lock, each by a [`Caller`] of its own; closed
 //! with all of them it gives the one history of what they did. A [`Ledger`] is a graph that keeps the words of all that was done to it, and
 //! a [`Sweep`] one whose functions are called in one go. What C owes by docs/C.md is met by the types: nothing copies a handle, and dropping
-//! frees it.
+//! frees it. `src/handle.rs` says how each thing owed is met, and `tests/owed.rs` tries to break it.
+//!
+//! No owner is `Clone`:
 //!
 //! ```compile_fail
 //! fn twice(graph: cf_graph::Graph) -> (cf_graph::Graph, cf_graph::Graph) {
@@ -18,10 +20,42 @@
 //! }
 //! ```
 //!
+//! What a desk was closed with is gone, and so is a graph that is a sweep:
+//!
 //! ```compile_fail
 //! fn after_closing(desk: cf_graph::Desk, callers: Vec<cf_graph::Caller>) {
 //!     let _ = desk.close(callers);
 //!     drop(callers);
+//! }
+//! ```
+//!
+//! ```compile_fail
+//! fn while_it_is_swept(mut graph: cf_graph::Graph) {
+//!     let _sweep = graph.sweep();
+//!     let _ = graph.restart();
+//! }
+//! ```
+//!
+//! One call at a time has a handle, and has it once:
+//!
+//! ```compile_fail
+//! fn with_itself(caller: &mut cf_graph::Caller) {
+//!     let _ = caller.meet(caller);
+//! }
+//! ```
+//!
+//! ```compile_fail
+//! fn while_it_works(mut graph: cf_graph::Graph) {
+//!     let _ = graph.work(0, |_, _| cf_graph::Answer::Link(graph.stages().unwrap()));
+//! }
+//! ```
+//!
+//! ```compile_fail
+//! fn on_two_threads(graph: &mut cf_graph::Graph) {
+//!     std::thread::scope(|scope| {
+//!         scope.spawn(|| graph.restart());
+//!         scope.spawn(|| graph.restart());
+//!     });
 //! }
 //! ```
 #![deny(unsafe_op_in_unsafe_fn)]

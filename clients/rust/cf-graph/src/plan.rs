@@ -74,14 +74,14 @@ impl PlanBuilder {
     pub fn new() -> Result<PlanBuilder, Refused> {
         checked()?;
         let mut handle = Handle::empty();
-        // SAFETY: `h` is this call's alone.
+        // SAFETY: this library, alone: `h` is this call's.
         handle.call(|h| unsafe { sys::cf_builder_new(h, 0, 0) })?;
         Ok(PlanBuilder(handle))
     }
 
     /// Adds a stage to these sources, and tells its number. `function` is the number by which you know its function.
     pub fn stage(&mut self, form: Form, of: &[u16], function: Option<u16>) -> Result<u16, Refused> {
-        // SAFETY: `h` and what is told to are this call's alone, and `of` points to as many numbers as said.
+        // SAFETY: alone, pointers: `h` and what is told to are this call's, and `of` points to as many numbers as said.
         self.0.tell(|h, told| unsafe { sys::cf_builder_stage(h, form as u32, of.as_ptr(), of.len(), function_in(function), told) })
     }
 
@@ -91,13 +91,13 @@ impl PlanBuilder {
             Limit::Timeout => (0, Value::Nil),
             Limit::Give(value) => (1, value),
         };
-        // SAFETY: `h` is this call's alone.
+        // SAFETY: alone: `h` is this call's.
         self.0.call(|h| unsafe { sys::cf_builder_limit(h, stage, at, kind, value_in(value)) })
     }
 
     /// The plan of these stages. `NO_MEMORY`.
     pub fn build(mut self) -> Result<Plan, Refused> {
-        // SAFETY: `h` is this call's alone.
+        // SAFETY: alone: `h` is this call's.
         self.0.call(|h| unsafe { sys::cf_build(h) })?;
         Ok(Plan(self.0))
     }
@@ -115,7 +115,7 @@ impl Plan {
     /// A graph at its start, with room for so many stages that are attached later.
     pub fn graph(&mut self, room: u16) -> Result<Graph, Refused> {
         let mut graph = Handle::empty();
-        // SAFETY: two different handles, both this call's alone.
+        // SAFETY: alone, apart: two handles, and both are this call's.
         self.0.call(|plan| Refused::code_of(graph.call(|h| unsafe { sys::cf_graph_new(plan, room, h) })))?;
         Ok(Graph(graph))
     }
@@ -125,11 +125,11 @@ impl Plan {
         let mut handles: Vec<sys::cf_handle> = (0..sizes.callers).map(|_| sys::cf_handle::EMPTY).collect();
         let (callers, n) = (handles.as_mut_ptr(), handles.len());
         self.0.call(|plan| match sizes.growth {
-            // SAFETY: `plan` is this call's alone, and `callers` points to n empty handles that nobody else has.
+            // SAFETY: alone, apart, pointers: `plan` is this call's, and `callers` points to n empty handles that nobody else has.
             None => unsafe { sys::cf_desk_open(plan, callers, n, sizes.log, sizes.calls) },
             Some((room, functions)) => {
                 let grown = sys::cf_desk_sizes { log: sizes.log, calls: sizes.calls, room, functions };
-                // SAFETY: `plan` is this call's alone, and `callers` points to n empty handles that nobody else has.
+                // SAFETY: alone, apart, pointers: `plan` is this call's, and `callers` points to n empty handles that nobody else has.
                 unsafe { sys::cf_desk_open_with(plan, callers, n, &grown) }
             }
         })?;

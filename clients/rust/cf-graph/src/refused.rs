@@ -85,9 +85,13 @@ impl Refused {
         self.0
     }
 
-    /// Its name, as the library has it: `NoStage`.
+    /// Its name, as the library has it: `NoStage`. Another library than this crate was written for isn't asked, and no code of the library has
+    /// none.
     pub fn name(self) -> String {
-        // SAFETY: `text` has `room` bytes, and `length` is a local of `told`.
+        if checked().is_err() {
+            return String::new();
+        }
+        // SAFETY: this library, pointers: `text` has `room` bytes, and `length` is a local of `told`.
         told(|text, room, length| unsafe { sys::cf_code_text(self.0, text, room, length) }).1
     }
 }

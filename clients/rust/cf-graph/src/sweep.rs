@@ -32,7 +32,7 @@ pub struct Sweep(Handle);
 impl Sweep {
     /// The sweep over a graph.
     pub(crate) fn of(mut graph: Graph) -> Result<Sweep, Refused> {
-        // SAFETY: `h` is this call's alone.
+        // SAFETY: alone: `h` is this call's.
         graph.0.call(|h| unsafe { sys::cf_sweep_begin(h) })?;
         Ok(Sweep(graph.0))
     }
@@ -42,7 +42,7 @@ impl Sweep {
     /// at none: nothing is changed then.
     pub fn step(&mut self, held: Option<(u16, Answer)>) -> Result<Option<Taken>, Refused> {
         let mut task = task_in(held);
-        // SAFETY: `h` and the task are this call's alone.
+        // SAFETY: alone, pointers: `h` and the task are this call's.
         match self.0.call(|h| unsafe { sys::cf_sweep_next(h, &mut task) }) {
             Ok(()) | Err(Refused::NOTHING) => Ok(taken_out(&task)),
             Err(refused) => Err(refused),
@@ -51,7 +51,7 @@ impl Sweep {
 
     /// The graph, once all stages are behind the sweep. Until then the sweep is given back.
     pub fn end(mut self) -> Result<Graph, Sweep> {
-        // SAFETY: `h` is this call's alone.
+        // SAFETY: alone: `h` is this call's.
         match self.0.call(|h| unsafe { sys::cf_sweep_end(h) }) {
             Ok(()) => Ok(Graph(self.0)),
             Err(_) => Err(self),

@@ -28,7 +28,7 @@ impl Error for ScriptFault {}
 /// Runs a script, as `cf run` does, and gives its report.
 pub fn run_script(script: &[u8]) -> Result<String, ScriptFault> {
     checked().map_err(ScriptFault::Refused)?;
-    // SAFETY: both texts are of as many bytes as said, and `length` is a local of `told`.
+    // SAFETY: this library, pointers: both texts are of as many bytes as said, and `length` is a local of `told`.
     let (code, text) = told(|report, room, length| unsafe { sys::cf_run_script(script.as_ptr(), script.len(), report, room, length) });
     match done(code) {
         Ok(()) => Ok(text),
@@ -37,9 +37,12 @@ pub fn run_script(script: &[u8]) -> Result<String, ScriptFault> {
     }
 }
 
-/// The text of an outcome, as reports have it.
+/// The text of an outcome, as reports have it. Of another library than this crate was written for it is that refusal's.
 pub fn outcome_text(outcome: Option<Outcome>) -> String {
-    // SAFETY: `text` has `room` bytes, and `length` is a local of `told`.
+    if let Err(refused) = checked() {
+        return refused.to_string();
+    }
+    // SAFETY: this library, pointers: `text` has `room` bytes, and `length` is a local of `told`.
     told(|text, room, length| unsafe { sys::cf_text_of_outcome(&outcome_in(outcome), text, room, length) }).1
 }
 

@@ -1,8 +1,9 @@
 //! The library for C, `libcf`, as its header `cf.h` declares it: names, numbers and structures are those of the header, whose comments say
 //! what each call means and what who calls owes. Safe owners of handles stand in the crate `cf-graph`, stages with any values in `cf`.
 //!
-//! The library is found in the folder of `CF_LIBRARY_DIR`, or by pkg-config, or where the linker looks by itself: `libcf.a`, and `libcf.so`
-//! with the feature `dynamic`. [`mismatch`] compares its version and the layout of each structure with these declarations.
+//! The library is found in the folder of `CF_LIBRARY_DIR`, or by pkg-config: `libcf.a`, or with the feature `dynamic` `libcf.so`, which may also
+//! stand where the linker looks by itself. A warning says where it was looked for, and what to do, where it isn't there. [`mismatch`] compares
+//! its version and the layout of each structure with these declarations.
 //!
 //! ```
 //! assert_eq!(cf_sys::mismatch(), None);

@@ -1,5 +1,6 @@
 //! What happened to a request: in words, as an account that `cf_look check` judges, as a script that `cf run` does again, as a page.
 use crate::core::Core;
+use crate::describe::{escape, escaped, is_unseen, short, Describe};
 use crate::error::Error;
 use crate::ledger::comes_again;
 use crate::name::Made;
@@ -21,6 +22,9 @@ const LONGEST_NAME: usize = 64;
 /// The events of a request until some moment, in their one order, with all that callers were told. It stays as it is while the request goes
 /// on. `Display` tells it in words.
 ///
+/// What names and texts of others hold is told in one line: a line break in one is written `\n`, and a letter that isn't seen or turns the
+/// direction `\u202e`. [`Request::described`](crate::Request::described) says how much is told of values and errors.
+///
 /// ```
 /// let request = cf::Request::new("order 17", cf::Inline);
 /// let price = request.promise::<u32>().named("price");
@@ -35,9 +39,32 @@ pub struct History {
     record: Record,
     names: Vec<String>,
     /// What stages gave, by their numbers, and what they failed with.
-    values: Vec<Option<Val>>,
-    errors: Vec<Option<Error>>,
+    values: Vec<Option<Kept<Val>>>,
+    errors: Vec<Option<Kept<Error>>>,
+    /// What is told of `()`.
+    nil: String,
     relays: Vec<(u16, u16)>,
+}
+
+/// What a stage ended in, or what is told of it where that isn't all: then what it ended in isn't kept.
+#[derive(Clone)]
+enum Kept<T> {
+    Raw(T),
+    Text(String),
+}
+
+impl<T> Kept<T> {
+    fn all(kept: Vec<Option<T>>, tell: impl Fn(&T) -> Option<String>) -> Vec<Option<Kept<T>>> {
+        let keep = |it: T| tell(&it).map_or(Kept::Raw(it), Kept::Text);
+        kept.into_iter().map(|it| it.map(keep)).collect()
+    }
+
+    fn text(&self, tell: impl Fn(&T) -> String) -> String {
+        match self {
+            Kept::Raw(it) => tell(it),
+            Kept::Text(text) => text.clone(),
+        }
+    }
 }
 
 /// An event: its word, when it was done, what it was answered, and the stages that it settled.
@@ -55,12 +82,15 @@ impl History {
         let record = inner.ledger.record.clone();
         let slots = inner.slots.iter();
         let (made, kept): (Vec<_>, Vec<_>) = slots.map(|slot| (slot.made, (slot.value().cloned(), slot.error().cloned()))).unzip();
-        let (given, relays) = (inner.names.clone(), inner.relays.clone());
+        let (given, relays, describe) = (inner.names.clone(), inner.relays.clone(), inner.describe.clone());
         drop(inner);
         let mut names: Vec<String> = made.iter().map(Made::to_string).collect();
         given.into_iter().for_each(|(stage, name)| names[usize::from(stage)] = name.into_owned());
         let (values, errors) = kept.into_iter().unzip();
-        History { name: core.name.to_string(), words, record, names, values, errors, relays }
+        let (is_all, nil) = (matches!(describe, Describe::All), describe.tell(Ok(&Val::Nil)));
+        let values = Kept::all(values, |value| (!is_all).then(|| describe.tell(Ok(value))));
+        let errors = Kept::all(errors, |error| (!is_all).then(|| describe.tell(Err(error))));
+        History { name: core.name.to_string(), words, record, names, values, errors, nil, relays }
     }
 
     /// The words of all events, in their one order: docs/FORMATS.md, "Words of events".
@@ -258,12 +288,12 @@ impl History {
             outcomes: self.outcomes(),
             names: self.names.iter().map(|name| name.chars().take(LONGEST_NAME).collect()).collect(),
             lanes: (0..lanes).map(caller).collect(),
-            values: self.values.iter().map(|value| value.as_ref().map_or_else(String::new, shown)).collect(),
-            errors: self.errors.iter().map(|error| error.as_ref().map_or_else(String::new, Error::to_string)).collect(),
+            values: self.values.iter().map(|value| value.as_ref().map_or_else(String::new, |it| it.text(|value| told(Ok(value))))).collect(),
+            errors: self.errors.iter().map(|error| error.as_ref().map_or_else(String::new, |it| it.text(|error| told(Err(error))))).collect(),
         }
     }
 
-    /// All in one line, for a log.
+    /// All in one line, for a log. A `;` of a name or a text is written `\u003b`, so that what stands between two `; ` is a line of the history.
     ///
     /// ```
     /// let request = cf::Request::new("order 17", cf::Inline);
@@ -272,24 +302,52 @@ impl History {
     /// ```
     #[must_use]
     pub fn line(&self) -> String {
-        self.to_string().lines().map(|line| line.split_whitespace().collect::<Vec<_>>().join(" ")).collect::<Vec<_>>().join("; ")
+        let mut line = self.head().replace(';', SEMICOLON);
+        for (at, told) in self.lines() {
+            let at = at.map_or_else(String::new, |at| format!("{:.3} ms ", milliseconds(at)));
+            let _ = write!(line, "; {at}{}", told.replace(';', SEMICOLON));
+        }
+        line
     }
 
-    // In words.
+    // In words. What others wrote is escaped as it is put among them.
+
+    fn head(&self) -> String {
+        format!("{}: {} events, {} stages", escaped(&self.name), self.words.len(), self.names.len())
+    }
+
+    /// What is told of each event, and when that was, and of each stage that it settled.
+    fn lines(&self) -> impl Iterator<Item = (Option<u64>, String)> + '_ {
+        self.entries().into_iter().flat_map(move |entry| {
+            let ends = entry.told.iter().map(|&(stage, outcome)| (None, self.end(&entry, stage, outcome)));
+            std::iter::once((Some(entry.at), self.sentence(&entry))).chain(ends).collect::<Vec<_>>()
+        })
+    }
 
     fn stage(&self, number: u16) -> String {
-        format!("{number} {}", self.names[usize::from(number)])
+        format!("{number} {}", escaped(&self.names[usize::from(number)]))
     }
 
     fn value(&self, value: Value) -> String {
         match value {
-            Value::Nil => "()".into(),
-            Value::Int(number) => self.values[number as usize].as_ref().map_or_else(|| "a value".into(), shown),
+            Value::Nil => escaped(&self.nil),
+            Value::Int(number) => {
+                self.values[number as usize].as_ref().map_or_else(|| "a value".into(), |value| escaped(&value.text(|value| told(Ok(value)))))
+            }
         }
     }
 
     fn error(&self, code: u32) -> String {
-        self.errors[code as usize].as_ref().map_or_else(|| "an error".into(), |error| short(error.to_string()))
+        self.errors[code as usize].as_ref().map_or_else(|| "an error".into(), |error| escaped(&error.text(|error| short(told(Err(error))))))
+    }
+
+    /// How a stage ended that this event settled.
+    fn end(&self, entry: &Entry, stage: u16, outcome: Outcome) -> String {
+        let parts = word::parts(entry.word);
+        let is_own = parts.kind == FINISH && parts.tag != LINKS && parts.stage == stage;
+        let is_wrapped = matches!(outcome, Outcome::Fault { wrapped: true, .. });
+        let passed_on = if is_wrapped && !is_own { ", passed on" } else { "" };
+        format!("{} ends: {}{passed_on}", self.stage(stage), self.outcome(outcome))
     }
 
     fn outcome(&self, outcome: Outcome) -> String {
@@ -352,24 +410,28 @@ impl History {
 impl fmt::Display for History {
     /// A line for each event, and one for each stage that was settled by it.
     fn fmt(&self, f: &mut fmt::Formatter<'_>) -> fmt::Result {
-        writeln!(f, "{}: {} events, {} stages", self.name, self.words.len(), self.names.len())?;
-        for entry in self.entries() {
-            writeln!(f, "{:9.3} ms  {}", entry.at as f64 / 1e6, self.sentence(&entry))?;
-            let parts = word::parts(entry.word);
-            let own = (parts.kind == FINISH && parts.tag != LINKS).then_some(parts.stage);
-            for (stage, outcome) in entry.told {
-                let is_wrapped = matches!(outcome, Outcome::Fault { wrapped: true, .. });
-                let passed_on = if is_wrapped && Some(stage) != own { ", passed on" } else { "" };
-                writeln!(f, "{:12}  {} ends: {}{passed_on}", "", self.stage(stage), self.outcome(outcome))?;
-            }
-        }
-        Ok(())
+        writeln!(f, "{}", self.head())?;
+        self.lines().try_for_each(|(at, told)| match at {
+            Some(at) => writeln!(f, "{:9.3} ms  {told}", milliseconds(at)),
+            None => writeln!(f, "{:12}  {told}", ""),
+        })
     }
+}
+
+/// A `;` in a line of several.
+const SEMICOLON: &str = "\\u003b";
+
+fn milliseconds(at: u64) -> f64 {
+    at as f64 / 1e6
+}
+
+fn told(ended: Result<&Val, &Error>) -> String {
+    Describe::All.tell(ended)
 }
 
 impl fmt::Debug for History {
     fn fmt(&self, f: &mut fmt::Formatter<'_>) -> fmt::Result {
-        write!(f, "History({}, {} events, {} stages)", self.name, self.words.len(), self.names.len())
+        write!(f, "History({}, {} events, {} stages)", escaped(&self.name), self.words.len(), self.names.len())
     }
 }
 
@@ -405,23 +467,6 @@ fn caller(who: u8) -> String {
         RELAY => "relay".into(),
         _ => format!("worker {}", who - FIRST_WORKER),
     }
-}
-
-/// A value of a common type as it is, cut to 60 letters; of another that it is one.
-fn shown(value: &Val) -> String {
-    macro_rules! common {
-        ($($of:ty),*) => { $(if let Some(value) = value.any().downcast_ref::<$of>() { return short(format!("{value:?}")); })* };
-    }
-    common!(i32, i64, u32, u64, usize, u16, u8, f64, bool, char, String, &'static str, ());
-    common!(Vec<i32>, Vec<i64>, Vec<u32>, Vec<u64>, Vec<f64>, Vec<String>, Option<i32>, Option<i64>, Option<u64>, Option<String>, Duration);
-    "a value".into()
-}
-
-fn short(text: String) -> String {
-    if text.chars().count() <= 60 {
-        return text;
-    }
-    text.chars().take(57).chain("...".chars()).collect()
 }
 
 fn has_function(form: usize) -> bool {
@@ -470,16 +515,14 @@ fn list(text: &mut String, items: impl Iterator<Item = String>) {
     }
 }
 
-/// A JSON string.
+/// A JSON string, which is one line also for who takes other letters for the end of one.
 fn quoted(text: &str) -> String {
     let mut quoted = String::from('"');
     for letter in text.chars() {
         match letter {
             '"' => quoted += "\\\"",
             '\\' => quoted += "\\\\",
-            letter if letter < ' ' => {
-                let _ = write!(quoted, "\\u{:04x}", letter as u32);
-            }
+            letter if is_unseen(letter) => escape(&mut quoted, letter),
             letter => quoted.push(letter),
         }
     }

@@ -31,6 +31,8 @@ pub(crate) struct Inner {
     pub(crate) slots: Vec<Slot>,
     /// The names that were given to stages.
     pub(crate) names: BTreeMap<u16, Cow<'static, str>>,
+    /// What histories tell of values and errors.
+    pub(crate) describe: crate::describe::Describe,
     /// Which stage each relay of this request stands for.
     pub(crate) relays: Vec<(u16, u16)>,
     /// The handles that wait for a stage.
@@ -112,6 +114,7 @@ impl Inner {
             ledger: Ledger::new(room)?,
             slots: Vec::with_capacity(usize::from(room.min(SLOTS))),
             names: BTreeMap::new(),
+            describe: crate::describe::Describe::All,
             relays: Vec::new(),
             waiting: Wakers::default(),
             helpers: Vec::new(),

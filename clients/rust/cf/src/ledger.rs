@@ -124,3 +124,55 @@ impl Ledger {
         Ok(())
     }
 }
+
+#[cfg(test)]
+mod tests {
+    use super::*;
+    use crate::record::Item;
+    use crate::word::{CANCEL, COMPLETE, SOME};
+
+    /// What another ledger would tell of the same words, or this one of others.
+    #[test]
+    fn what_differs_does_not_come_again() {
+        let (mut ledger, mut changes) = (Ledger::new(2).unwrap(), Changes::default());
+        for _ in 0..2 {
+            ledger.attach(0, Form::Source, &[], false, &mut changes).unwrap();
+        }
+        for word in [word::of(COMPLETE, 0, 0, SOME), word::of(COMPLETE, 0, 0, SOME | 1), word::of(CANCEL, 0, 1, 0)] {
+            ledger.act(word, &mut changes);
+            for news in changes.iter() {
+                if let cf_graph::State::Settled(outcome) = news.now.state {
+                    ledger.told(news.stage, outcome);
+                }
+            }
+        }
+        let (words, items) = (ledger.words(), ledger.record.items().collect::<Vec<_>>());
+        assert_eq!((words.len(), items.len()), (5, 7));
+        let comes = |words: &[u64], items: &[Item]| {
+            let mut record = Record::default();
+            for item in items {
+                match *item {
+                    Item::Event(at, reply) => record.event(at, reply),
+                    Item::Told(stage, outcome) => record.told(stage, outcome),
+                }
+            }
+            comes_again(words, &record, 2).unwrap_or(false)
+        };
+        assert!(comes(&words, &items));
+        for at in 0..items.len() {
+            let left_out = [&items[..at], &items[at + 1..]].concat();
+            assert!(!comes(&words, &left_out), "without {:?}", items[at]);
+            let mut other = items.clone();
+            other[at] = match other[at] {
+                Item::Event(at, Reply::Flag(did)) => Item::Event(at, Reply::Flag(!did)),
+                Item::Event(at, _) => Item::Event(at, Reply::Attached(None)),
+                Item::Told(stage, _) => Item::Told(stage, Outcome::Value(cf_graph::Value::Nil)),
+            };
+            assert!(!comes(&words, &other), "with {:?}", other[at]);
+        }
+        for at in 0..words.len() {
+            assert!(!comes(&[&words[..at], &words[at + 1..]].concat(), &items), "without word {at}");
+        }
+        assert!(!comes(&words, &items[..5]) && !comes(&[&words[..], &[0]].concat(), &items));
+    }
+}

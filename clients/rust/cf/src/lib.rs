@@ -39,6 +39,11 @@
 //! A function that holds a handle of its own request keeps that alive until it was called or dropped, and a value that holds one for good.
 //! What a worker runs while it waits lies on its stack, so functions that wait for one another want few levels.
 //!
+//! # What is told
+//!
+//! A [`History`] tells what stages gave and failed with. [`Describe`] says how much of that, for requests whose values are nobody else's
+//! business. Names, values and errors are told in one line whatever stands in them, so that none looks like an event.
+//!
 //! # Features
 //!
 //! | Feature | What it adds | It needs |
@@ -59,6 +64,7 @@
 
 mod clock;
 mod core;
+mod describe;
 mod error;
 mod help;
 mod history;
@@ -80,6 +86,7 @@ mod wakers;
 mod word;
 
 pub use clock::{Alarm, Clock, HandClock, SystemClock};
+pub use describe::{Describe, Describes};
 pub use error::{BoxError, Error, Panic, Refusal};
 pub use history::History;
 pub use request::Request;

@@ -1,6 +1,7 @@
 //! Stages that belong together.
 use crate::clock::{Clock, SystemClock};
 use crate::core::Core;
+use crate::describe::Describe;
 use crate::error::{BoxError, Error, Refusal};
 use crate::history::History;
 use crate::name::Made;
@@ -85,6 +86,22 @@ impl Request {
     /// ```
     pub fn name(&self) -> &str {
         &self.0.name
+    }
+
+    /// The request itself, of whose values and errors so much is told from now on, also of those that are there. A history that was taken
+    /// before stays as it is.
+    ///
+    /// ```
+    /// let request = cf::Request::new("login", cf::Inline).described(cf::Describe::Nothing);
+    /// request.supply(|| "Bearer eyJhbGciOi").wait().unwrap();
+    /// assert!(!request.history().to_string().contains("Bearer"));
+    /// ```
+    pub fn described(self, describe: Describe) -> Request {
+        let mut inner = self.0.lock();
+        let old = std::mem::replace(&mut inner.describe, describe);
+        drop(inner);
+        drop(old);
+        self
     }
 
     /// What the function gives.

@@ -1,5 +1,6 @@
 //! A stage of a request: a value that will be there, and a future of it.
 use crate::core::Core;
+use crate::describe::escaped;
 use crate::error::{BoxError, Error, Refusal};
 use crate::help::Helper;
 use crate::name::Made;
@@ -629,12 +630,12 @@ impl<T> fmt::Debug for Stage<T> {
             Err(why) => return write!(f, "Stage(refused: {why})"),
         };
         let inner = self.core.lock();
-        let (name, told) = (inner.name(number), inner.told(number));
+        let (name, told, describe) = (escaped(&inner.name(number)), inner.told(number), inner.describe.clone());
         drop(inner);
         match told {
             None => write!(f, "Stage({number} {name}, pending)"),
             Some(Ok(_)) => write!(f, "Stage({number} {name}, value)"),
-            Some(Err(error)) => write!(f, "Stage({number} {name}, error: {error})"),
+            Some(Err(error)) => write!(f, "Stage({number} {name}, error: {})", escaped(&describe.tell(Err(&error)))),
         }
     }
 }

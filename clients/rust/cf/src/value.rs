@@ -1,7 +1,7 @@
 //! What functions are called with and give, whatever its type.
 use crate::core::Core;
 use crate::error::Error;
-use std::any::Any;
+use std::any::{type_name, Any};
 use std::future::Future;
 use std::pin::Pin;
 use std::sync::Arc;
@@ -13,7 +13,7 @@ macro_rules! values {
         pub(crate) enum Val {
             Nil,
             $($kind($type),)*
-            Shared(Arc<dyn Any + Send + Sync>),
+            Shared(Arc<dyn Shared>),
         }
 
         impl Val {
@@ -36,7 +36,7 @@ macro_rules! values {
                 match self {
                     Val::Nil => &(),
                     $(Val::$kind(small) => small,)*
-                    Val::Shared(value) => &**value,
+                    Val::Shared(value) => (**value).any(),
                 }
             }
 
@@ -44,11 +44,42 @@ macro_rules! values {
                 match self {
                     Val::Nil => Arc::new(()),
                     $(Val::$kind(small) => Arc::new(small),)*
-                    Val::Shared(value) => value,
+                    Val::Shared(value) => value.shared(),
+                }
+            }
+
+            /// The name of its type.
+            pub(crate) fn type_name(&self) -> &'static str {
+                match self {
+                    Val::Nil => "()",
+                    $(Val::$kind(_) => stringify!($type),)*
+                    Val::Shared(value) => (**value).type_name(),
                 }
             }
         }
     };
+}
+
+/// A value of any type, which knows the type's name.
+pub(crate) trait Shared: Send + Sync {
+    fn any(&self) -> &dyn Any;
+    fn shared(self: Arc<Self>) -> Arc<dyn Any + Send + Sync>;
+    fn type_name(&self) -> &'static str;
+}
+
+impl<T: Send + Sync + 'static> Shared for T {
+    #[inline]
+    fn any(&self) -> &dyn Any {
+        self
+    }
+
+    fn shared(self: Arc<T>) -> Arc<dyn Any + Send + Sync> {
+        self
+    }
+
+    fn type_name(&self) -> &'static str {
+        type_name::<T>()
+    }
 }
 
 values!(Bool bool, Char char, I8 i8, U8 u8, I16 i16, U16 u16, I32 i32, U32 u32, I64 i64, U64 u64, Isize isize, Usize usize, F32 f32, F64 f64);

@@ -1,0 +1,497 @@
+//! What who calls the library owes it (src/handle.rs names each), and safe code that tries to break it. Sanitizers and valgrind run these, too:
+//! conformance/rust-sanitized.
+use cf_graph::*;
+use std::fmt::Debug;
+use std::mem::{replace, swap};
+use std::panic::{catch_unwind, AssertUnwindSafe};
+use std::path::Path;
+use std::sync::atomic::{AtomicBool, Ordering};
+use std::sync::mpsc::channel;
+use std::sync::Mutex;
+use std::thread;
+use std::time::{Duration, Instant};
+
+const fn sizes(callers: u8, log: u16, calls: u16) -> Sizes {
+    Sizes { callers, log, calls, growth: None }
+}
+
+/// 0 a source, and a row of so many applies behind it.
+fn row(applies: u16) -> Plan {
+    let mut builder = PlanBuilder::new().unwrap();
+    let mut last = builder.stage(Form::Source, &[], None).unwrap();
+    for function in 0..applies {
+        last = builder.stage(Form::Apply, &[last], Some(function)).unwrap();
+    }
+    builder.build().unwrap()
+}
+
+fn one_more(args: Args) -> Answer {
+    match args {
+        Args::One(Value::Int(number)) => Answer::Give(Value::Int(number + 1)),
+        _ => Answer::Throw(0),
+    }
+}
+
+fn given(number: i32) -> Result<Option<Outcome>, Refused> {
+    Ok(Some(Outcome::Value(Value::Int(number))))
+}
+
+fn completes(stage: u16, number: i32) -> u64 {
+    Event { who: 0, call: Call::Complete(stage, Value::Int(number)) }.word().unwrap()
+}
+
+// Alone: one call at a time has a handle, in one thread, and none is used twice.
+
+/// Compiles for each type that isn't `Clone`: of one that is, two of these would fit.
+trait IsNoClone<Which> {
+    fn stands() {}
+}
+
+impl<T> IsNoClone<()> for T {}
+impl<T: Clone> IsNoClone<u8> for T {}
+
+#[test]
+fn owners_go_to_threads_and_are_never_two() {
+    fn goes<T: Send + Sync + Debug + 'static>() {}
+    macro_rules! owners {
+        ($($owner:ty)*) => { $(goes::<$owner>(); <$owner as IsNoClone<_>>::stands();)* };
+    }
+    owners!(PlanBuilder Plan Graph Sweep Ledger Changes Desk Caller Closed NotClosed);
+    <cf_sys::cf_handle as IsNoClone<_>>::stands();
+}
+
+/// The function of one stage panics: that stays claimed, what stands behind the handle is whole, and the others go on.
+#[test]
+fn a_function_that_panics_leaves_its_owner_whole() {
+    let mut graph = row(3).graph(0).unwrap();
+    graph.complete(0, Value::Int(1)).unwrap();
+    let panics = |function, args| if function == 1 { panic!("in a function") } else { one_more(args) };
+    assert!(catch_unwind(AssertUnwindSafe(|| graph.work(7, panics))).is_err());
+    assert_eq!((graph.outcome(1), graph.outcome(2)), (given(2), Ok(None)));
+    assert_eq!(graph.claim(8, 2), Ok(Claimed::Taken));
+    assert_eq!(graph.work(8, panics), Ok(0));
+    assert_eq!(graph.finish(7, 2, Answer::Give(Value::Int(20))), Ok(Finished::Won));
+    assert_eq!(graph.work(8, panics), Ok(1));
+    assert_eq!(graph.outcome(3), given(21));
+
+    let (desk, mut callers) = row(3).desk(sizes(2, 20, 20)).unwrap();
+    callers[0].complete(0, Value::Int(1)).unwrap();
+    assert!(catch_unwind(AssertUnwindSafe(|| callers[0].work(panics))).is_err());
+    assert_eq!(callers[1].claim(2), Ok(Claimed::Taken));
+    assert_eq!(callers[0].finish(2, Answer::Give(Value::Int(20))), Ok(Finished::Won));
+    assert_eq!(callers[1].work(panics), Ok(1));
+    assert_eq!(desk.close(callers).unwrap().graph().unwrap().outcome(3), given(21));
+}
+
+/// Functions open and free all that there is, also of the plan of the graph that calls them.
+#[test]
+fn functions_use_other_owners() {
+    let mut graph = row(40).graph(0).unwrap();
+    let mut plan = graph.plan().unwrap();
+    let (desk, mut callers) = plan.desk(sizes(2, 200, 200)).unwrap();
+    graph.complete(0, Value::Int(0)).unwrap();
+    let mut held: Vec<Graph> = Vec::new();
+    let calls = graph.work(1, |function, args| {
+        held.push(plan.graph(0).unwrap());
+        let other = held[0].plan().unwrap().graph(function).unwrap();
+        held.push(other);
+        if function % 3 == 0 {
+            held.clear();
+            drop(replace(&mut plan, row(2)));
+        }
+        let mut other = plan.graph(1).unwrap();
+        other.complete(0, Value::Nil).unwrap();
+        let mut inside = 0;
+        callers[1].complete(0, Value::Int(0)).unwrap();
+        callers[0].ready().unwrap();
+        other
+            .work(2, |_, args| {
+                inside += 1;
+                one_more(args)
+            })
+            .unwrap();
+        assert!(inside > 0);
+        one_more(args)
+    });
+    assert_eq!(calls, Ok(40));
+    assert_eq!(graph.outcome(40), given(40));
+    assert_eq!(desk.close(callers).unwrap().words().unwrap().len(), 40);
+}
+
+/// Lets go of an owner, which is never freed. Where it stands is kept, so that no tool takes it for a leak.
+fn forgotten(owner: impl Send + 'static) {
+    static FORGOTTEN: Mutex<Vec<Box<dyn Send>>> = Mutex::new(Vec::new());
+    FORGOTTEN.lock().unwrap().push(Box::new(owner));
+}
+
+/// What is forgotten is never freed, and the others of its kind go on.
+#[test]
+fn owners_are_forgotten() {
+    let mut plan = row(1);
+    let (desk, mut callers) = plan.desk(sizes(3, 9, 9)).unwrap();
+    forgotten(callers.remove(1));
+    assert_eq!(callers[1].complete(0, Value::Int(3)), Ok(true));
+    let refused = desk.close(callers).unwrap_err();
+    assert_eq!(refused.why, Refused::NOT_ALL);
+    let NotClosed { desk, mut callers, .. } = refused;
+    assert_eq!(callers[0].read(0), given(3));
+    forgotten(desk);
+    drop(callers);
+
+    let (desk, callers) = plan.desk(sizes(2, 9, 9)).unwrap();
+    forgotten(desk.close(callers).unwrap());
+    let mut graph = plan.graph(0).unwrap();
+    graph.complete(0, Value::Int(3)).unwrap();
+    let mut sweep = graph.sweep().unwrap();
+    assert!(sweep.step(None).unwrap().is_some());
+    forgotten(sweep);
+    forgotten(Ledger::new(&mut plan, 3).unwrap());
+    forgotten(plan.graph(0).unwrap());
+    let mut again = plan.graph(0).unwrap();
+    forgotten(plan);
+    again.complete(0, Value::Int(4)).unwrap();
+    assert_eq!(again.work(0, |_, args| one_more(args)), Ok(1));
+}
+
+/// Owners change places in the midst of what is done with them. Each keeps what is its own.
+#[test]
+fn owners_change_places() {
+    let (mut short, mut long) = (row(1).graph(0).unwrap(), row(4).graph(0).unwrap());
+    for (graph, number) in [(&mut short, 1), (&mut long, 10)] {
+        graph.complete(0, Value::Int(number)).unwrap();
+    }
+    let taken = long.step(3, None).unwrap().taken.unwrap();
+    swap(&mut short, &mut long);
+    assert_eq!(long.step(3, Some((taken.stage, one_more(taken.args)))), Err(Refused::NOT_HELD));
+    assert_eq!(short.step(3, Some((taken.stage, one_more(taken.args)))).unwrap().finished, Some(Finished::Won));
+    let (mut first, mut second) = (short.sweep().unwrap(), long.sweep().unwrap());
+    let held = second.step(None).unwrap().unwrap();
+    swap(&mut first, &mut second);
+    assert_eq!(first.step(Some((held.stage, one_more(held.args)))), Ok(None));
+    let mut short = first.end().unwrap();
+    assert_eq!(short.outcome(1), given(2));
+    assert_eq!(second.step(None), Ok(None));
+    let mut long = replace(&mut short, second.end().unwrap());
+    swap(&mut short, &mut long);
+    // What the third caller took before the sweep is its own yet.
+    assert_eq!(long.finish(3, 2, Answer::Give(Value::Int(12))), Ok(Finished::Won));
+
+    let mut plan = row(1);
+    let (mut one, mut two) = (Ledger::new(&mut plan, 2).unwrap(), Ledger::new(&mut plan, 2).unwrap());
+    one.apply(completes(0, 5)).unwrap();
+    swap(&mut one, &mut two);
+    assert_eq!((one.count(), two.count()), (Ok(0), Ok(1)));
+    assert_eq!((one.news().len(), two.news().len()), (0, 2));
+}
+
+/// All orders in which six owners that share a plan are freed, some of them by another thread.
+#[test]
+fn owners_are_freed_in_any_order() {
+    fn owners() -> Vec<Box<dyn Send>> {
+        let mut plan = row(3);
+        let (desk, mut callers) = plan.desk(sizes(2, 9, 9)).unwrap();
+        let last = callers.pop().unwrap();
+        let sweep = plan.graph(2).unwrap().sweep().unwrap();
+        vec![Box::new(plan.graph(0).unwrap()), Box::new(sweep), Box::new(plan), Box::new(last), Box::new(callers), Box::new(desk)]
+    }
+    let mut orders = vec![vec![]];
+    for k in 0..6 {
+        orders = orders.iter().flat_map(|order: &Vec<usize>| (0..=k).map(move |at| [&order[..at], &[k], &order[at..]].concat())).collect();
+    }
+    assert_eq!(orders.len(), 720);
+    let (frees, freed) = channel::<Box<dyn Send>>();
+    let other = thread::spawn(move || freed.into_iter().for_each(drop));
+    for (k, order) in orders.into_iter().enumerate() {
+        let mut owners: Vec<_> = owners().into_iter().map(Some).collect();
+        for at in order {
+            let owner = owners[at].take().unwrap();
+            if (k + at) % 3 == 0 {
+                frees.send(owner).unwrap();
+            }
+        }
+    }
+    drop(frees);
+    other.join().unwrap();
+}
+
+/// One graph goes from thread to thread, while others of its plan are opened, used and freed.
+#[test]
+fn a_graph_goes_from_thread_to_thread() {
+    let mut plan = row(1);
+    let graphs: Vec<Graph> = (0..4).map(|_| plan.graph(0).unwrap()).collect();
+    let (starts, ends) = channel();
+    let threads: Vec<_> = graphs
+        .into_iter()
+        .map(|mut own| {
+            let ends = starts.clone();
+            thread::spawn(move || {
+                for k in 0..200 {
+                    let mut plan = own.plan().unwrap();
+                    let mut graph = plan.graph(1).unwrap();
+                    graph.complete(0, Value::Int(k)).unwrap();
+                    drop(plan);
+                    ends.send((k, graph)).unwrap();
+                }
+            })
+        })
+        .collect();
+    drop((starts, plan));
+    let mut calls = 0;
+    for (k, mut graph) in ends {
+        calls += graph.work(0, |_, args| one_more(args)).unwrap();
+        assert_eq!(graph.outcome(1), given(k + 1));
+    }
+    assert_eq!(calls, 800);
+    threads.into_iter().for_each(|thread| thread.join().unwrap());
+}
+
+/// Callers are dropped, and their desk with the last, while others are in the midst of their calls.
+#[test]
+fn callers_are_dropped_while_others_call() {
+    for round in 0..20 {
+        let (desk, callers) = row(50).desk(sizes(6, 2_000, 2_000)).unwrap();
+        let threads: Vec<_> = callers
+            .into_iter()
+            .enumerate()
+            .map(|(k, mut caller)| {
+                thread::spawn(move || {
+                    for call in 0..(20 * k + round) {
+                        caller.complete((call % 50) as u16, Value::Int(1)).unwrap();
+                        caller.read((call % 50) as u16).unwrap();
+                    }
+                    drop(caller);
+                })
+            })
+            .collect();
+        drop(desk);
+        threads.into_iter().for_each(|thread| thread.join().unwrap());
+    }
+}
+
+// One desk: callers that meet, and those that close a desk, are of one.
+
+/// While callers of a large desk meet one another, one of a small desk asks to meet one of theirs.
+#[test]
+fn callers_of_two_desks_never_meet() {
+    let opened = |stages: u16, events: u16, log: u16| {
+        let mut builder = PlanBuilder::new().unwrap();
+        for _ in 0..stages {
+            builder.stage(Form::Source, &[], None).unwrap();
+        }
+        let (desk, mut callers) = builder.build().unwrap().desk(sizes(3, log, 3_000)).unwrap();
+        for k in 0..events {
+            callers[0].complete(k % stages, Value::Int(i32::from(k))).unwrap();
+        }
+        (desk, callers)
+    };
+    let ((small, mut few), (large, mut many)) = (opened(2, 4, 8), opened(3_000, 2_500, 60_000));
+    let (mut one, mut other) = (few.pop().unwrap(), many.pop().unwrap());
+    let ends = AtomicBool::new(false);
+    thread::scope(|scope| {
+        scope.spawn(|| {
+            let (first, second) = many.split_at_mut(1);
+            while !ends.load(Ordering::Relaxed) {
+                first[0].meet(&mut second[0]).unwrap();
+            }
+        });
+        let since = Instant::now();
+        let mut told = one.meet(&mut other);
+        while told == Err(Refused::OTHER_DESK) && since.elapsed() < Duration::from_secs(1) {
+            told = one.meet(&mut other);
+        }
+        ends.store(true, Ordering::Relaxed);
+        assert_eq!(told, Err(Refused::OTHER_DESK));
+    });
+    assert_eq!((one.seen(), other.seen()), (Ok(0), Ok(0)));
+    few.push(one);
+    many.push(other);
+    assert_eq!(small.close(few).unwrap().words().unwrap().len(), 4);
+    assert_eq!(large.close(many).unwrap().words().unwrap().len(), 2_500);
+}
+
+/// The caller of one desk takes the place of another's, which as many callers are to close.
+#[test]
+fn callers_that_change_places_close_no_desk() {
+    let mut plan = row(1);
+    let (mut desk, mut callers) = plan.desk(sizes(2, 9, 9)).unwrap();
+    let (other, mut others) = plan.desk(sizes(2, 9, 9)).unwrap();
+    for k in 0..2 {
+        swap(&mut callers[k], &mut others[1]);
+        let refused = desk.close(callers).unwrap_err();
+        assert_eq!(refused.why, Refused::OTHER_DESK);
+        (desk, callers) = (refused.desk, refused.callers);
+        swap(&mut callers[k], &mut others[1]);
+    }
+    let refused = desk.close(others).unwrap_err();
+    assert_eq!(refused.why, Refused::OTHER_DESK);
+    assert_eq!(refused.desk.close(callers).unwrap().callers(), 2);
+    assert_eq!(other.close(refused.callers).unwrap().callers(), 2);
+}
+
+// Apart and pointers: numbers and lengths of all sizes.
+
+#[test]
+fn numbers_and_lengths_are_never_cut() {
+    let mut builder = PlanBuilder::new().unwrap();
+    assert_eq!(builder.stage(Form::Source, &[], None), Ok(0));
+    // As many more than fit into 16 bits as there have to be.
+    assert_eq!(builder.stage(Form::Combine, &vec![0; (1 << 16) + 2], Some(0)), Err(Refused::WRONG_SOURCE_COUNT));
+    assert_eq!(builder.stage(Form::Apply, &vec![0; (1 << 16) + 1], Some(0)), Err(Refused::WRONG_SOURCE_COUNT));
+    assert_eq!(builder.stage(Form::AllOf, &vec![0; 1 << 16], None), Err(Refused::TOO_MANY_EDGES));
+    assert_eq!(builder.stage(Form::Apply, &[u16::MAX], Some(0)), Err(Refused::SOURCE_NOT_LOWER));
+    assert_eq!(builder.stage(Form::Apply, &[0], Some(u16::MAX)), Ok(1));
+    assert_eq!(builder.limit(u16::MAX, u32::MAX, Limit::Timeout), Err(Refused::NO_SUCH_STAGE));
+    assert_eq!(builder.limit(0, u32::MAX, Limit::Timeout), Ok(()));
+    let mut plan = builder.build().unwrap();
+    assert_eq!(plan.graph(u16::MAX).err(), Some(Refused::ROOM));
+    assert_eq!(Ledger::new(&mut plan, u16::MAX).err(), Some(Refused::ROOM));
+    assert_eq!(Ledger::of_words(&mut plan, u16::MAX, &[]).err().map(|misfit| misfit.place), Some(None));
+
+    let mut graph = plan.graph(0).unwrap();
+    for stage in [2, 4_095, 4_096, u16::MAX] {
+        assert_eq!(graph.complete(stage, Value::Nil), Err(Refused::NO_STAGE));
+        assert_eq!(graph.outcome(stage), Err(Refused::NO_STAGE));
+        assert_eq!(graph.restart_with(&[(stage, Value::Nil)]), Err(Refused::NO_STAGE));
+    }
+    assert_eq!(graph.attach(Form::AllOf, &vec![0; (1 << 16) + 2], None), Err(Refused::WRONG_SOURCE_COUNT));
+    assert_eq!(graph.restart_with(&[(0, Value::Int(i32::MIN)); 70_000]), Ok(()));
+    assert_eq!(graph.tick(u32::MAX), Ok(Ticked::Fired(0)));
+    let steps = graph.round(u8::MAX, &vec![None; 70_000]).unwrap();
+    assert_eq!(steps.len(), 70_000);
+    assert_eq!(steps[0].taken, Some(Taken { stage: 1, function: u16::MAX, args: Args::One(Value::Int(i32::MIN)) }));
+    assert!(steps[1..].iter().all(|step| step.taken.is_none()));
+
+    for (sizes, why) in
+        [(Sizes { growth: Some((u16::MAX, u32::MAX)), ..sizes(1, 1, 1) }, Refused::ROOM), (sizes(u8::MAX, u16::MAX, u16::MAX), Refused::CALLERS)]
+    {
+        assert_eq!(plan.desk(sizes).err(), Some(why), "{sizes:?}");
+    }
+    let (_desk, mut callers) = plan.desk(sizes(1, 10, 10)).unwrap();
+    assert_eq!(callers[0].complete_many(&[(0, Value::Nil); 70_000]), (10, Err(Refused::PASS_FULL)));
+    let (_desk, mut callers) = plan.desk(sizes(1, 10, 10)).unwrap();
+    callers[0].complete(0, Value::Nil).unwrap();
+    assert_eq!(callers[0].join(0, u32::MAX), Ok(Now::Value(Value::Nil)));
+
+    let late = vec![completes(0, 1); 70_000];
+    let mut ledger = Ledger::of_words(&mut plan, 0, &late).unwrap();
+    assert_eq!(ledger.count(), Ok(70_000));
+    assert_eq!(ledger.words().unwrap(), late);
+    assert_eq!(ledger.apply_all(&late), (70_000, Ok(())));
+    assert_eq!(ledger.grow(u16::MAX), Err(Refused::ROOM));
+    assert_eq!((ledger.ready(u16::MAX), ledger.stage(u16::MAX).err()), (Ok(None), Some(Refused::NO_STAGE)));
+    assert_eq!(Event::of_word(u64::MAX), Err(Refused::NO_WORD));
+}
+
+/// More changes than there was room for, also for rows of changes that another ledger has used.
+#[test]
+fn changes_of_all_sizes_are_told() {
+    let mut changes = Changes::default();
+    for applies in [0, 14, 15, 16, 17, 1_000, 3, 4_000] {
+        let mut ledger = Ledger::new(&mut all_behind_one(applies), 0).unwrap();
+        ledger.apply_telling(completes(0, 1), &mut changes).unwrap();
+        let told: Vec<u16> = changes.iter().map(|news| news.stage).collect();
+        assert_eq!(told, (0..=applies).collect::<Vec<u16>>());
+        assert!(catch_unwind(AssertUnwindSafe(|| changes.at(usize::from(applies) + 1))).is_err());
+        assert_eq!(ledger.apply_telling(0, &mut changes), Err(Refused::NO_WORD));
+        assert!(changes.is_empty());
+    }
+}
+
+/// So many stages that are settled, or become ready, by the first.
+fn all_behind_one(count: u16) -> Plan {
+    let mut builder = PlanBuilder::new().unwrap();
+    builder.stage(Form::Source, &[], None).unwrap();
+    for _ in 0..count {
+        builder.stage(Form::Apply, &[0], Some(0)).unwrap();
+    }
+    builder.build().unwrap()
+}
+
+/// After a call was refused, what it had is as it was.
+#[test]
+fn owners_are_whole_after_refusals() {
+    let mut plan = row(1);
+    let mut graph = plan.graph(0).unwrap();
+    for _ in 0..3 {
+        assert_eq!(graph.attach(Form::Apply, &[0], None), Err(Refused::BAD_ATTACH));
+        assert_eq!(graph.finish(0, u16::MAX, Answer::Link(u16::MAX)), Err(Refused::NO_STAGE));
+        assert_eq!(graph.step(0, Some((1, Answer::Throw(0)))), Err(Refused::NOT_HELD));
+        assert_eq!(graph.round(0, &[None, Some((1, Answer::Throw(0)))]), Err(Refused::NOT_HELD));
+        assert_eq!(graph.apply(1), Err(Refused::NO_WORD));
+    }
+    graph.complete(0, Value::Int(1)).unwrap();
+    let mut sweep = graph.sweep().unwrap();
+    for _ in 0..3 {
+        sweep = sweep.end().unwrap_err();
+        assert_eq!(sweep.step(Some((0, Answer::Throw(0)))), Err(Refused::NOT_HELD));
+    }
+    assert_eq!(sweep.step(None).unwrap().unwrap().stage, 1);
+    assert_eq!(sweep.step(Some((1, Answer::Give(Value::Int(2))))), Ok(None));
+    assert_eq!(sweep.end().unwrap().outcome(1), given(2));
+
+    let mut ledger = Ledger::new(&mut plan, 0).unwrap();
+    let mut changes = Changes::default();
+    for _ in 0..3 {
+        assert_eq!(ledger.grow(u16::MAX), Err(Refused::ROOM));
+        assert_eq!(ledger.step(64, None, 0, &mut changes), Err(Refused::NO_WORD));
+        assert_eq!(ledger.step(1, Some((1, Answer::Throw(0))), 0, &mut changes), Err(Refused::NOT_HELD));
+        assert_eq!(ledger.apply_all(&[0]), (0, Err(Refused::NO_WORD)));
+    }
+    assert_eq!(ledger.count(), Ok(0));
+
+    let (mut desk, mut callers) = plan.desk(sizes(2, 1, 1)).unwrap();
+    assert_eq!(callers[0].complete(0, Value::Int(5)), Ok(true));
+    let kept = callers.pop().unwrap();
+    for _ in 0..3 {
+        let refused = desk.close(callers).unwrap_err();
+        (desk, callers) = (refused.desk, refused.callers);
+        assert_eq!(callers[0].read(0), Err(Refused::PASS_FULL));
+    }
+    callers.push(kept);
+    assert_eq!(callers[1].complete(0, Value::Nil), Err(Refused::LOG_FULL));
+    assert_eq!(desk.close(callers).unwrap().graph().unwrap().outcome(0), given(5));
+}
+
+/// A stack that is small for a thread is enough for any call.
+#[test]
+fn calls_take_little_stack() {
+    let does = || {
+        let mut plan = all_behind_one(4_000);
+        let mut graph = plan.graph(90).unwrap();
+        graph.complete(0, Value::Int(1)).unwrap();
+        assert_eq!(graph.work(1, |_, args| one_more(args)), Ok(4_000));
+        let mut row = row(4_000);
+        let mut graph = row.graph(0).unwrap();
+        graph.fail(0, 1).unwrap();
+        let (desk, mut callers) = row.desk(sizes(2, 9, 9)).unwrap();
+        callers[0].cancel(0).unwrap();
+        callers[1].read(4_000).unwrap();
+        assert_eq!(desk.close(callers).unwrap().words().unwrap().len(), 1);
+        let mut ledger = Ledger::new(&mut row, 0).unwrap();
+        ledger.act(Event { who: 0, call: Call::Cancel(0) }).unwrap();
+        assert_eq!(ledger.news().len(), 4_001);
+    };
+    thread::Builder::new().stack_size(1 << 18).spawn(does).unwrap().join().unwrap();
+}
+
+// This library: cf-sys compares it (tests/other_library.rs).
+
+/// Each `unsafe` says what it meets.
+#[test]
+fn each_unsafe_says_what_it_meets() {
+    let names = ["alone", "apart", "one desk", "pointers", "unwritten", "this library"];
+    let mut found = 0;
+    for file in std::fs::read_dir(Path::new(env!("CARGO_MANIFEST_DIR")).join("src")).unwrap() {
+        let path = file.unwrap().path();
+        let text = std::fs::read_to_string(&path).unwrap();
+        let lines: Vec<&str> = text.lines().collect();
+        for (at, line) in lines.iter().enumerate().filter(|(_, line)| line.contains("unsafe {") || line.contains("unsafe impl")) {
+            let said = lines[..at].iter().rev().take(2).find_map(|line| line.trim().strip_prefix("// SAFETY: "));
+            let said = said.and_then(|said| said.split_once(": ")).map(|(names, _)| names);
+            let is_named = said.map_or(false, |said| said.split(", ").all(|name| names.contains(&name)));
+            assert!(is_named, "{}:{}: {line}", path.display(), at + 1);
+            found += 1;
+        }
+    }
+    assert!(found > 60, "{found}");
+}
