@@ -9,10 +9,15 @@ does (20).
 """
 import asyncio
 import concurrent.futures
+import contextlib
+import contextvars
 import gc
+import json
 import logging
+import math
 import os
 import pickle
+import queue
 import signal
 import subprocess
 import sys
@@ -21,6 +26,7 @@ import threading
 import time
 import traceback
 import unittest
+import unittest.mock
 import weakref
 from concurrent.futures import CancelledError, InvalidStateError
 from pathlib import Path
@@ -28,7 +34,8 @@ from pathlib import Path
 HERE = Path(__file__).resolve().parent
 if not os.environ.get("CF_INSTALLED"):
     sys.path.insert(0, str(HERE.parent))
-from cf.service import Flow, LoopService, Request, RequestFull, Service, Stage  # noqa: E402
+import cf  # noqa: E402
+from cf.service import Flow, LoopService, Request, RequestFull, Service, Stage, describe_nothing, describe_types, flow as flows  # noqa: E402
 from cf.service._core import IS_MODULE  # noqa: E402
 
 REQUESTS = int(os.environ.get("CF_REQUESTS", "20000"))
@@ -46,8 +53,45 @@ def fails(*_):
     raise Oops("x")
 
 
+def leaves(*_):
+    raise SystemExit(3)
+
+
 def inc(x):
     return x + 1
+
+
+def until(is_so):
+    """Waits until something is so, for at most 20 seconds; whether it is."""
+    end = time.monotonic() + 20
+    while not is_so() and time.monotonic() < end:
+        time.sleep(0.002)
+    return is_so()
+
+
+@contextlib.contextmanager
+def starting(start):
+    """Calls this in the place of `Thread.start`, for threads of services; it is given the thread and what starts it."""
+    real = threading.Thread.start
+
+    def chosen(thread):
+        if thread.name.startswith("Service-"):
+            start(thread, real)
+        else:
+            real(thread)
+    with unittest.mock.patch.object(threading.Thread, "start", chosen):
+        yield
+
+
+def no_thread(*_):
+    raise RuntimeError("can't start new thread")
+
+
+class Thing:
+    """Something of which a test knows whether it is still there. It may be called."""
+
+    def __call__(self, *_, **__):
+        return None
 
 
 def program(text, timeout=60, **environment):
@@ -196,6 +240,60 @@ class Settling(Case):
         with self.assertRaises(concurrent.futures.TimeoutError):
             r.promise().exception(timeout=0)
 
+    def test_limits_of_any_size(self):
+        """An endless limit never fires, one that is over fires at once, one that is none is refused; and the clock goes on."""
+        r = self.request
+        for seconds in (math.inf, 1e10, 1e300, threading.TIMEOUT_MAX, 10**20):
+            promise = r.promise().or_timeout(seconds)
+            self.assertIsInstance(r.promise().or_timeout(0.01).exception(20), TimeoutError)
+            self.assertTrue(promise.complete(1))
+        for seconds in (0, -1, -1e300, -math.inf):
+            self.assertIsInstance(r.promise().or_timeout(seconds).exception(20), TimeoutError)
+        for seconds, kind in ((math.nan, ValueError), ("1", TypeError), (None, TypeError)):
+            for promise in (r.promise(), self.service.submit(str)):
+                with self.assertRaises(kind):
+                    promise.or_timeout(seconds)
+                with self.assertRaises(kind):
+                    promise.complete_on_timeout(1, seconds)
+        self.assertEqual(r.promise().complete_on_timeout(7, 0.01).result(20), 7)
+
+    def test_an_earlier_limit_wakes_the_clock(self):
+        late = [self.request.promise().or_timeout(1000 + k) for k in range(3)]
+        time.sleep(0.05)  # (the clock waits for the first of these)
+        self.assertEqual(self.request.promise().complete_on_timeout(1, 0.01).result(20), 1)
+        self.assertFalse(any(stage.done() for stage in late))
+
+    def test_slow_functions_hold_up_no_limit(self):
+        """What is behind a limit is called by a thread, and not by the clock."""
+        begun, goes_on = threading.Event(), threading.Event()
+        slow = self.request.promise().or_timeout(0.01).recover(lambda _: begun.set() or goes_on.wait(20))
+        self.assertTrue(begun.wait(20))
+        self.assertEqual(self.request.promise().complete_on_timeout(1, 0.01).result(20), 1)
+        goes_on.set()
+        self.assertTrue(slow.result(20))
+
+    def test_the_clock_outlives_callbacks(self):
+        for raises in (leaves, fails):
+            late = self.request.promise()
+            late.add_done_callback(raises)
+            with self.assertLogs("concurrent.futures", "ERROR"):
+                self.assertIsInstance(late.or_timeout(0.01).exception(20), TimeoutError)
+                self.assertEqual(self.request.promise().complete_on_timeout(1, 0.02).result(20), 1)
+
+    def test_what_a_timer_held_may_use_the_clock(self):
+        """A value that a timer lets go of is freed where no lock is held."""
+        told = []
+
+        class Last:
+            def __del__(it):
+                asks = threading.Thread(target=lambda: told.append(self.request.promise().complete_on_timeout(1, 0.01).result(20)))
+                asks.start()
+                asks.join(5)
+                told.append(asks.is_alive())
+        self.request.promise().complete_on_timeout(Last(), 1000).complete(1)
+        self.assertTrue(until(lambda: len(told) == 2))
+        self.assertEqual(told, [1, False])
+
     def test_timer_outlives_all_who_asked(self):
         done = threading.Event()
         self.service.request().promise().or_timeout(0.05).recover(lambda error: done.set())
@@ -286,6 +384,44 @@ class Raising(Case):
             behind.result(5)
             self.service.shutdown()
         self.assertEqual(told, [True])
+
+    def test_exits_of_callbacks_lose_no_other(self):
+        """One event settles two stages, and the first callback of the first leaves."""
+        r, told = self.request, []
+        promise = r.promise()
+        both = r.all_of(promise)
+        elsewhere = self.service.request("other").adopt(both)
+        promise.add_done_callback(leaves)
+        promise.add_done_callback(lambda _: told.append("second"))
+        both.add_done_callback(lambda _: told.append("other stage"))
+        with self.assertRaises(SystemExit):
+            promise.complete(1)
+        self.assertEqual((told, elsewhere.done()), (["second", "other stage"], True))
+
+    def test_exits_of_callbacks_lose_no_relay(self):
+        """Relays wait in a row for their turn, and a callback of the first leaves."""
+        new = self.service.request
+        first = self.request.promise()
+        middle = new().adopt(first)
+        relays = [new().adopt(middle) for _ in range(3)]
+        relays[0].add_done_callback(leaves)
+        with self.assertRaises(SystemExit):
+            first.complete(1)
+        self.assertTrue(all(relay.done() for relay in relays))
+        again = self.request.promise()
+        relay = new().adopt(again)
+        again.complete(2)
+        self.assertEqual(relay.result(0), 2)
+
+    def test_exits_of_callbacks_end_no_thread(self):
+        with Service(1) as service, self.assertLogs("concurrent.futures", "CRITICAL"):
+            for _ in range(3):
+                begun = threading.Event()
+                stage = service.submit(begun.wait, 20)
+                behind = stage.then(inc)
+                stage.add_done_callback(leaves)
+                begun.set()
+                self.assertEqual(behind.result(20), 2)
 
     def test_callbacks_may_call_their_request(self):
         r, told = self.request, []
@@ -411,6 +547,102 @@ class Loops(unittest.TestCase):
         asyncio.run(main())
         self.assertEqual(ended, ["cancelled"] * 3)
 
+    def test_limits_of_any_size(self):
+        async def main():
+            r = LoopService(asyncio.get_running_loop()).request()
+            for seconds in (math.inf, 1e10, 1e300):
+                promise = r.promise().or_timeout(seconds)
+                self.assertEqual(await r.promise().complete_on_timeout(1, 0.01), 1)
+                self.assertTrue(promise.complete(1))
+            with self.assertRaises(TimeoutError):
+                await r.promise().or_timeout(-1)
+            with self.assertRaises(ValueError):
+                r.promise().or_timeout(math.nan)
+        asyncio.run(main())
+
+    def test_functions_have_the_context_of_where_they_were_attached(self):
+        tenant, seen = contextvars.ContextVar("tenant", default="-"), []
+
+        async def later(_):
+            first = tenant.get()
+            await asyncio.sleep(0)
+            seen.append((first, tenant.get()))
+
+        def leaks(_):
+            seen.append(tenant.get())
+            tenant.set("leaked")
+
+        async def handler(service, name, cache):
+            tenant.set(name)
+            r = service.request(name)
+            await r.adopt(cache).then(leaks).then(later).then(leaks)
+            seen.append(tenant.get())
+
+        async def main():
+            service = LoopService(asyncio.get_running_loop())
+            for name in ("acme", "umbrella"):
+                cache = service.request("cache").promise()
+                task = asyncio.ensure_future(handler(service, name, cache))
+                await asyncio.sleep(0)
+                tenant.set("loader")
+                cache.complete(1)
+                await task
+                self.assertEqual(seen, [name, (name, name), name, name])
+                seen.clear()
+            flow = Flow()
+            end = flow.promise().then(leaks).then(later)
+            tenant.set("starter")
+            request = service.start(flow)
+            tenant.set("completer")
+            request[flow_promise(flow)].complete(1)
+            await request[end]
+            self.assertEqual(seen, ["starter", ("starter", "starter")])
+
+        def flow_promise(flow):
+            return flows.Step(flow, 0)
+        asyncio.run(main())
+
+    def test_names_of_functions(self):
+        async def main():
+            r = LoopService(asyncio.get_running_loop()).request()
+            self.assertEqual([r.supply(inc).name, r.supply(flows.functools.partial(inc, 1)).name, r.supply(Thing()).name, r.promise().then(inc).name],
+                             ["inc", "inc", "Thing", "inc"])
+        asyncio.run(main())
+
+    def test_interrupts_and_exits_leave_the_loop(self):
+        """As those of asyncio's tasks do. The stage has it, and what is behind it is run all the same, once the loop goes on."""
+        for kind in (KeyboardInterrupt, SystemExit):
+            async def later():
+                await asyncio.sleep(0)
+                raise kind
+
+            def now():
+                raise kind
+            for raises in (now, later):
+                loop = asyncio.new_event_loop()
+                loop.set_exception_handler(lambda *_: None)
+                r = LoopService(loop).request()
+                stage = r.supply(raises)
+                behind = [stage.recover(lambda error: type(error)), stage.recover(lambda _: 2)]
+                with self.assertRaises(kind):
+                    loop.run_until_complete(asyncio.sleep(20))
+                self.assertIsInstance(stage.exception(0), kind)
+                self.assertEqual(loop.run_until_complete(asyncio.wait_for(r.gather(*behind), 20)), [kind, 2])
+                loop.close()
+
+    def test_other_exceptions_stay_in_the_loop(self):
+        async def main():
+            r = LoopService(asyncio.get_running_loop()).request()
+
+            def wild():
+                raise Wild
+
+            async def later():
+                raise Wild
+            for raises in (wild, later):
+                self.assertEqual(await r.supply(raises).recover(lambda error: type(error)), Wild)
+        asyncio.run(main())
+
     def test_other_threads_complete(self):
         async def main():
             promise = LoopService(asyncio.get_running_loop()).request().promise()
@@ -487,6 +719,64 @@ class Flows(Case):
             request[Flow().promise()]
         with self.assertRaises(KeyError):
             self.request[number]
+
+    def test_first_starts_at_once(self):
+        """Threads begin a flow for the first time: one plan is built, and a step that is added meanwhile is refused."""
+        flow, plans, told, built = Flow(), [], [], threading.Event()
+        end = flow.promise().then(inc)
+
+        def slowly(rows):
+            plans.append(rows)
+            built.wait(20)
+            return PlanCore(rows)
+
+        def start(k):
+            request = self.service.start(flow, k)
+            told.append(request[end].result(20) - k)
+
+        def add():
+            try:
+                told.append(flow.promise())
+            except RuntimeError:
+                told.append(1)
+        PlanCore = flows.PlanCore
+        with unittest.mock.patch.object(flows, "PlanCore", slowly):
+            threads = [threading.Thread(target=start, args=[k]) for k in range(6)]
+            for thread in threads:
+                thread.start()
+            self.assertTrue(until(lambda: plans))
+            threads.append(threading.Thread(target=add))
+            threads[-1].start()
+            time.sleep(0.05)  # (the others come as far as they may)
+            built.set()
+            for thread in threads:
+                thread.join(20)
+        self.assertEqual((len(plans), told), (1, [1] * 7))
+
+    @unittest.skipUnless(hasattr(os, "fork"), "no fork")
+    def test_fork_while_a_plan_is_built(self):
+        out, err, status = program("""
+            import signal
+            from cf.service import Flow, flow as flows
+            service, entered, PlanCore = Service(1), threading.Event(), flows.PlanCore
+
+            def slowly(rows):
+                entered.set()
+                time.sleep(0.3)
+                return PlanCore(rows)
+            flows.PlanCore = slowly
+            flow = Flow()
+            end = flow.promise().then(str)
+            threading.Thread(target=flow.run).start()
+            entered.wait(20)
+            pid = os.fork()
+            if not pid:
+                signal.alarm(20)  # ends it where it hangs
+                print(service.start(flow, 1)[end].result(10), flush=True)
+                os._exit(0)
+            print(os.waitpid(pid, 0)[1], flush=True)
+        """)
+        self.assertEqual((out, status), ("1\n0\n", 0), err)
 
     def test_on_a_loop(self):
         async def load(x):
@@ -576,6 +866,107 @@ class Histories(Case):
                 raise Oops
         self.request.promise().complete(Mute())
         self.assertIn("a Mute", str(self.request.history()))
+
+    FORGED = "x\r\n    9.999 ms  caller completes 0 paid\t\x1b[2J\b\u2028\u2029\u202e\u200b\ud800\U000e0041\x85; 0 paid ends: 1\\n   y"
+    ESCAPED = (r"x\r\n    9.999 ms  caller completes 0 paid\t\u001b[2J\u0008\u2028\u2029\u202e\u200b\ud800\udb40\udc41\u0085; 0 paid "
+               r"ends: 1\n   y")
+
+    def test_texts_forge_no_lines(self):
+        class Forged:
+            def __repr__(it):
+                return self.FORGED[:60]
+
+        class Fault(Exception):
+            def __repr__(it):
+                return self.FORGED[60:]
+        r = self.service.request(self.FORGED)
+        failed = r.promise(self.FORGED)
+        r.promise().named("a;b").complete(Forged())
+        late = failed.recover(lambda _: None).named("late\n").or_timeout(1e9)
+        failed.fail(Fault())
+        late.result(20)
+        history = r.history()
+        lines, short = history.lines(), self.ESCAPED.index("ends: ")
+        self.assertEqual(len(str(history).splitlines()), len(lines))
+        self.assertTrue(all(line.isprintable() for line in lines))
+        self.assertEqual(lines[0], f"{self.ESCAPED}: 7 events, 3 stages")
+        self.assertIn(f"caller attaches 0 {self.ESCAPED}, source", str(history))
+        self.assertIn(f"caller completes 1 a;b with {self.ESCAPED[:short]}"[:70], str(history))
+        line = history.line()
+        self.assertTrue(line.isprintable())
+        self.assertEqual(line.count("; ") + 1, len(lines))
+        self.assertIn(r"a\u003bb", line)
+        self.assertIn("x\\r\\n    9.999 ms", line)  # blanks stay
+        self.assertTrue(history.account().isascii() and history.script().isascii())
+        self.assertIn("9.999 ms", json.loads(history.account())["values"][0])
+        slow = r.promise("slow\n").or_timeout(0.01)
+        self.assertIn("slow\\n took", str(slow.exception(20)))
+
+    def test_what_is_told_of_values(self):
+        """By the service, by a request, and by a loop's; a history keeps no value then."""
+        secret, flow = "Bearer 0123456789abcdef", Flow()
+        end = flow.promise("token").then(lambda token: [token, token])
+
+        def raises(_):
+            raise Wild
+
+        def of(request, promise, stage):
+            promise.complete(secret) if not promise.done() else None
+            stage.result(20)
+            failed = request.promise("failed")
+            failed.fail(Oops(secret))
+            request.promise("nothing").complete(None)
+            until(lambda: " gave " in str(request.history()))
+            history = request.history()
+            account = json.loads(history.account())
+            return [str(history), history.line(), *account["values"], *account["errors"]], history
+
+        def new(service, **given):
+            request = service.request("r", **given)
+            promise = request.promise("token")
+            return request, promise, promise.then(lambda token: [token, token])
+
+        def begun(service, **given):
+            request = service.start(flow, secret, **given)
+            return request, request[flows.Step(flow, 0)], request[end]
+        with Service(2, describe=describe_types) as typed:
+            cases = [(new(typed), ("str of 23", "list of 2", "Oops", "NoneType")), (begun(typed), ("str of 23", "list of 2", "Oops", "NoneType")),
+                     (new(typed, describe=describe_nothing), ("-", "-", "-", "-")), (new(typed, describe=raises), ("?", "?", "?", "?")),
+                     (new(typed, describe=lambda value: 7), ("?", "?", "?", "?")), (begun(typed, describe=describe_nothing), ("-", "-", "-", "-")),
+                     (new(self.service, describe=lambda value: f"<{type(value).__name__}\n>"), ("<str\\n>", "<list\\n>", "<Oops\\n>", "<NoneType\\n>"))]
+            request = flow.run(secret, describe=describe_types)
+            cases.append(((request, request[flows.Step(flow, 0)], request[end]), ("str of 23", "list of 2", "Oops", "NoneType")))
+            for case, told in cases:
+                texts, history = of(*case)
+                self.assertNotIn("0123456789", "".join(texts))
+                for text in (f"caller completes 0 token with {told[0]}", f"which gave {told[1]}", f"with {told[2]}", f"nothing with {told[3]}"):
+                    self.assertIn(text, texts[0])
+                self.assertEqual((history.values, history.errors), (texts[2:4], texts[4:]))
+            stage = typed.submit(lambda: secret)
+            stage.result(20)
+            self.assertTrue(until(lambda: "0 Histories.test_what_is_told_of_values.<locals>.<lambda> ends: str of 23" in str(stage.request.history())))
+        texts, history = of(*new(self.service))
+        self.assertIn(secret, texts[0])
+        self.assertEqual(history.values[0], secret)
+
+        async def main():
+            r = LoopService(asyncio.get_running_loop(), describe=describe_nothing).request()
+            await r.supply(lambda: secret)
+            self.assertNotIn(secret, str(r.history()))
+            r = LoopService(asyncio.get_running_loop()).request(describe=describe_types)
+            await r.supply(lambda: secret)
+            self.assertIn("str of 23", str(r.history()))
+        asyncio.run(main())
+
+    def test_what_tells_of_values_may_call(self):
+        """It is called under no lock of the request."""
+        r = self.service.request("r", describe=lambda value: str(len(r.history().words) if value == "ask" else value))
+        asks = threading.Thread(target=lambda: told.append(r.promise().complete("x")))
+        told = []
+        r.promise().complete("ask")
+        r._describe = lambda value: (asks.start(), asks.join(20), "told")[2] if not told else "again"
+        self.assertIn("told", str(r.history()))
+        self.assertEqual(told, [True])
 
     def test_it_stays(self):
         history = self.request.history()
