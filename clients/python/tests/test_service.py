@@ -217,6 +217,23 @@ class Settling(Case):
         self.service.shutdown()
         self.assertIn("too late", str(self.request.history()))
 
+    @unittest.skipIf(IS_MODULE, "the module has no lock")
+    def test_cancel_looks_under_the_lock(self):
+        """A stage begins to run between the call of `cancel` and its having the request's lock."""
+        promise, lock = self.request.promise(), self.request._lock
+
+        class Late:
+            def __enter__(it):
+                self.request._lock = lock
+                self.assertTrue(promise.set_running_or_notify_cancel())
+                lock.acquire()
+
+            def __exit__(it, *_):
+                lock.release()
+        self.request._lock = Late()
+        self.assertFalse(promise.cancel())
+        self.assertTrue(promise.running())
+
     def test_promise_of_somebody_else(self):
         promise = self.request.promise()
         self.assertTrue(promise.set_running_or_notify_cancel())
@@ -497,6 +514,146 @@ class Raising(Case):
             print(seen > 20, lost)
         """)
         self.assertEqual((out, status), ("True 0\n", 0), err)
+
+
+class Threads(unittest.TestCase):
+    def idle(self, service, many):
+        self.assertTrue(until(lambda: service._works._idle == many))
+
+    def test_idle_threads_are_used(self):
+        with Service(4) as service:
+            for _ in range(20):
+                service.submit(str).result(20)
+                self.idle(service, 1)
+            self.assertEqual(len(service._works.threads), 1)
+
+    def test_each_ready_stage_has_a_thread(self):
+        """Stages that wait for each other become ready at once, while one thread is idle, and all of a full pool are."""
+        with Service(3) as service:
+            service.submit(str).result(20)
+            self.idle(service, 1)
+            r = service.request()
+            for _ in range(3):
+                promise, gate = r.promise(), threading.Barrier(3)
+                ends = [promise.then(lambda _: gate.wait(20)) for _ in range(3)]
+                promise.complete(1)
+                self.assertEqual(sorted(end.result(20) for end in ends), [0, 1, 2])
+
+    def test_a_start_that_fails_is_tried_again(self):
+        for threads in (1, 3):
+            with Service(threads) as service:
+                with starting(no_thread):
+                    self.assertIn("can't start new thread", str(service.submit(str).exception(20)))
+                    self.assertIsInstance(service.submit(str).exception(20), RuntimeError)
+                r, gate = service.request(), threading.Barrier(threads)
+                self.assertEqual(len([end.result(20) for end in [r.supply(gate.wait, 20) for _ in range(threads)]]), threads)
+
+    def test_a_start_of_the_clock_that_fails_is_tried_again(self):
+        with Service(1) as service:
+            promise, late = service.request().promise(), service.request().promise()
+            with starting(no_thread), self.assertRaises(RuntimeError):
+                late.or_timeout(0)
+            self.assertEqual(promise.complete_on_timeout(1, 0.01).result(20), 1)
+            self.assertFalse(late.done())
+
+    def test_stages_that_are_put_while_a_start_fails(self):
+        """A second caller leaves its stage to the only thread, which then can't be started."""
+        entered, goes_on = threading.Event(), threading.Event()
+
+        def fails_late(*_):
+            entered.set()
+            goes_on.wait(20)
+            no_thread()
+        with Service(1) as service:
+            with starting(fails_late):
+                first, stages = threading.Thread(target=lambda: stages.append(service.submit(str))), []
+                first.start()
+                self.assertTrue(entered.wait(20))
+                stages.append(service.submit(str))
+                goes_on.set()
+                first.join(20)
+            for stage in stages:
+                self.assertIsInstance(stage.exception(20), RuntimeError)
+            self.assertEqual(service.submit(str, 1).result(20), "1")
+
+    def test_threads_that_are_there_finish_what_no_thread_can_be_started_for(self):
+        """As where the interpreter ends, from Python 3.12 on."""
+        service, goes_on = Service(2), threading.Event()
+        promise = service.request().promise()
+        ends, running = [promise.then(inc) for _ in range(3)], service.submit(goes_on.wait, 20)
+        service.shutdown(wait=False)
+        with starting(no_thread):
+            promise.complete(1)
+            goes_on.set()
+            self.assertEqual([end.result(20) for end in ends], [2, 2, 2])
+        service.shutdown()
+        self.assertTrue(running.done())
+
+    def test_functions_have_the_context_of_their_thread(self):
+        """As those of ThreadPoolExecutor."""
+        name = contextvars.ContextVar("name", default="-")
+        name.set("caller")
+        with Service(1, initializer=lambda: name.set("thread")) as service:
+            self.assertEqual(service.submit(name.get).result(20), "thread")
+            self.assertEqual(service.submit(contextvars.copy_context().run, name.get).result(20), "caller")
+
+
+class Kept(Case):
+    """What is let go of, and when."""
+
+    def things(self, attach):
+        """A stage that is attached with things alone; and whether they are still there."""
+        things = [Thing() for _ in range(4)]
+        call, first, other, callback = things
+        stage = attach(call, first, other)
+        stage.add_done_callback(callback)
+        stage.complete_on_timeout(Thing(), 1000)
+        known = [weakref.ref(thing) for thing in things]
+        return stage, lambda: [it for it in known if it() is not None]
+
+    def test_settled_stages_keep_nothing(self):
+        r, goes_on = self.request, threading.Event()
+        running = [self.service.submit(goes_on.wait, 20) for _ in range(4)]
+
+        def supplied(call, first, other):
+            return r.supply(call, first, other=other)
+
+        def behind(source):
+            return lambda call, first, other: source.then(call)
+        source = r.promise()
+        cases = [(supplied, Stage.cancel), (supplied, lambda stage: stage.complete(1)), (supplied, lambda stage: stage.fail(Oops())),
+                 (supplied, lambda _: goes_on.set()), (supplied, lambda _: None), (behind(source), Stage.cancel),
+                 (behind(source), lambda _: source.cancel()), (behind(r.supply(str)), lambda _: None)]
+        held = []
+        for attach, settle in cases:
+            stage, left = self.things(attach)
+            settle(stage)
+            self.assertTrue(stage.done() or until(stage.done))
+            self.assertTrue(until(lambda: not left()), left())
+            held.append(stage)
+        self.assertTrue(all(stage.done() for stage in [*held, *running]))
+
+    def test_idle_threads_keep_nothing(self):
+        gc.disable()
+        try:
+            for call, *given in ((Thing(),), (lambda it: it, Thing()), (fails,)):
+                stage = self.service.submit(call, *given)
+                stage.exception(20)
+                known = weakref.ref(stage)
+                del call, given, stage
+                self.assertTrue(until(lambda: known() is None))
+        finally:
+            gc.enable()
+
+    def test_unsettled_stages_that_nobody_has_are_freed(self):
+        def make():
+            r, thing = self.service.request(), Thing()
+            promise = r.promise()
+            r.gather(promise, promise.then(thing), r.first_of(r.promise(), promise)).then(thing).compose(thing)
+            return weakref.ref(thing), weakref.ref(r)
+        known = [make() for _ in range(3)]
+        gc.collect()
+        self.assertEqual([it for both in known for it in both if it() is not None], [])
 
 
 class Loops(unittest.TestCase):
@@ -1005,6 +1162,70 @@ class Ending(unittest.TestCase):
         self.assertTrue(all(stage.cancelled() for stage in waiting))
         self.assertEqual(behind.result(5), "CancelledError")
 
+    def test_shutdown_with_cancel_while_a_thread_takes(self):
+        """A thread takes the last stage between two looks of who cancels the rest."""
+        service, goes_on = Service(1), threading.Event()
+
+        class Taken(queue.SimpleQueue):
+            def empty(it):
+                was = super().empty()
+                if not was and threading.current_thread() is ends:
+                    goes_on.set()
+                    until(super().empty)
+                return was
+        service._works._stages = Taken()
+        stages = [service.submit(goes_on.wait, 20), service.submit(str)]
+        ends = threading.Thread(target=service.shutdown, kwargs={"wait": False, "cancel_futures": True}, daemon=True)
+        ends.start()
+        ends.join(20)
+        self.assertFalse(ends.is_alive())
+        goes_on.set()
+        self.assertFalse(concurrent.futures.wait(stages, 20).not_done)
+
+    def test_shutdown_with_cancel_goes_on_after_a_callback(self):
+        service, goes_on = Service(1), threading.Event()
+        running, waiting = service.submit(goes_on.wait, 20), [service.submit(str) for _ in range(3)]
+        waiting[0].add_done_callback(leaves)
+        threading.Timer(0.05, goes_on.set).start()
+        with self.assertRaises(SystemExit):
+            service.shutdown(cancel_futures=True)
+        self.assertTrue(running.done() and all(stage.cancelled() for stage in waiting))
+
+    def test_shutdown_waits_for_a_thread_that_has_not_begun(self):
+        service, entered, goes_on, stages = Service(1), threading.Event(), threading.Event(), []
+
+        def late(thread, start):
+            entered.set()
+            goes_on.wait(20)
+            start(thread)
+        submits = threading.Thread(target=lambda: stages.append(service.submit(time.sleep, 0.1)))
+        ends = threading.Thread(target=service.shutdown)
+        with starting(late):
+            submits.start()
+            self.assertTrue(entered.wait(20))
+            ends.start()
+            ends.join(0.2)
+            self.assertTrue(ends.is_alive())
+            goes_on.set()
+            ends.join(20)
+        submits.join(20)
+        self.assertTrue(stages[0].done())
+
+    def test_shutdown_waits_for_threads_that_are_started_meanwhile(self):
+        service, goes_on = Service(3), threading.Event()
+        first, done = service.submit(goes_on.wait, 20), []
+        for k in range(3):
+            first.then(lambda _: time.sleep(0.1)).then(done.append)
+        threading.Timer(0.05, goes_on.set).start()
+        service.shutdown()
+        self.assertEqual(len(done), 3)
+
+    def test_shutdown_that_fails_to_start_a_thread_ends(self):
+        with Service(2) as service, starting(no_thread):
+            self.assertIsInstance(service.submit(str).exception(20), RuntimeError)
+        with starting(no_thread), Service(2) as service:
+            service.submit(str)
+
     def test_ready_behind_the_end(self):
         service = Service(2)
         promise = service.request().promise()
@@ -1039,6 +1260,32 @@ class Ending(unittest.TestCase):
             self.assertIsInstance(stage.exception(5), concurrent.futures.BrokenExecutor)
             with self.assertRaises(concurrent.futures.BrokenExecutor):
                 service.submit(str)
+
+    def test_initializer_that_fails_loses_nobody(self):
+        """Stages wait for the thread whose initializer fails, and a callback of the first leaves."""
+        fails_now = threading.Event()
+        with self.assertLogs("concurrent.futures", "CRITICAL"):
+            service = Service(1, initializer=lambda: fails_now.wait(20) and fails())
+            stages = [service.submit(str) for _ in range(3)]
+            for stage in stages:
+                stage.add_done_callback(leaves)
+            fails_now.set()
+            for stage in stages:
+                self.assertIsInstance(stage.exception(20), concurrent.futures.BrokenExecutor)
+            service.shutdown()
+
+    def test_a_stage_that_threads_have_left_is_refused_alone(self):
+        """After the end stages become ready while a thread still runs: it runs them, and nobody is refused."""
+        service, goes_on = Service(1), threading.Event()
+        promises = [service.request().promise() for _ in range(5)]
+        ends, running = [promise.then(inc) for promise in promises], service.submit(goes_on.wait, 20)
+        service.shutdown(wait=False)
+        for promise in promises:
+            promise.complete(1)
+        goes_on.set()
+        self.assertEqual([end.result(20) for end in ends], [2] * 5)
+        service.shutdown()
+        self.assertTrue(running.result(0))
 
     def test_exit_with_work_open(self):
         out, err, status = program("""
@@ -1274,6 +1521,42 @@ class Ending(unittest.TestCase):
                 self.assertIsNone(known())
         finally:
             gc.enable()
+
+
+class Else(unittest.TestCase):
+    def test_a_library_that_is_missing(self):
+        out, err, status = program("", CF_LIBRARY="/nowhere/libcf.so")
+        self.assertEqual(status, 1)
+        for part in ("OSError: cf needs its library for C, libcf.so", "CF_LIBRARY says, which is /nowhere/libcf.so", "cf._cf", "docs/C.md"):
+            self.assertIn(part, err)
+
+    def test_workers_of_a_desk_outlive_functions(self):
+        """One exits, one throws, and one raises: the stages behind them are done, and the threads go on."""
+        def throws():
+            raise cf.Thrown(7)
+        plan = cf.Plan()
+        stages = [plan.stage(cf.Form.SUPPLY, function=number) for number in range(4)]
+        desk = plan.open_desk(callers=2, log=40, calls=40)
+        functions = [leaves, throws, fails, lambda: 5]
+        with cf.Workers(desk.callers[1:], functions, code=3) as workers:
+            self.assertTrue(until(lambda: desk.callers[0].read(stages[3]) is not None))
+        self.assertEqual([(number, type(error)) for number, error in workers.errors], [(0, SystemExit), (2, Oops)])
+        self.assertEqual([desk.callers[0].read(stage).fault for stage in stages[:3]], [cf.Thrown(code) for code in (3, 7, 3)])
+
+    def test_workers_of_which_one_does_not_start(self):
+        plan = cf.Plan()
+        plan.stage(cf.Form.SOURCE)
+        workers, begun, real = cf.Workers(plan.open_desk(callers=3, log=4, calls=4).callers[1:], []), [], threading.Thread.start
+
+        def start(thread):
+            if begun:
+                no_thread()
+            begun.append(thread)
+            real(thread)
+        with unittest.mock.patch.object(threading.Thread, "start", start), self.assertRaises(RuntimeError):
+            workers.start()
+        begun[0].join(20)
+        self.assertFalse(begun[0].is_alive())
 
 
 class Memory(unittest.TestCase):

@@ -150,12 +150,12 @@ class History:
         """What stands at the head of each line, and its text."""
         yield "", f"{escaped(self.name)}: {len(self.words)} {self._unit}, {len(self.names)} stages"
         for entry in self.entries():
-            yield self._at(entry), self.sentence(entry)
+            yield self._at(entry.place, entry.at), self.sentence(entry)
             for stage, text in self.ends(entry):
                 yield " " * self._width, f"{self.stage(stage)} ends: {text}"
 
-    def _at(self, entry: Entry) -> str:
-        return f"{entry.at * 1000:9.3f} ms"
+    def _at(self, place: int, seconds: float) -> str:
+        return f"{seconds * 1000:9.3f} ms"
 
     def sentence(self, entry: Entry) -> str:
         """Who did what, and what it was answered."""

@@ -9,7 +9,7 @@ from typing import Any, Callable, Dict, List, NamedTuple, Optional, Sequence, Se
 from .. import values
 from .._library import CNews
 from ..service._plain import PlanCore, _grow, _Ledger, _told
-from ..service.history import Entry, History, Told
+from ..service.history import History, Told
 from ..service.words import (ANSWER, ATTACH, CLAIM, COMPOSE_FORMS, FINISH, IS_CLAIMED, IS_READY, IS_SETTLED, LINKS, MOST_STAGES, NUMBER, PENDING,
                              RequestFull)
 from .codec import Json
@@ -69,8 +69,8 @@ class RowHistory(History):
             own.append(record)
         return {"sessions": list(sessions.values())} if len(sessions) > 1 else records
 
-    def _at(self, entry: Entry) -> str:
-        return f"{entry.place:5}"
+    def _at(self, place: int, seconds: float) -> str:
+        return f"{place:5}"
 
 
 class Desk:
