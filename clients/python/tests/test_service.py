@@ -1178,7 +1178,10 @@ class Ending(unittest.TestCase):
         ends.join(20)
         if not ends.is_alive():
             return True
-        service._works._stages.get(timeout=5)  # (or they would never)
+        with contextlib.suppress(queue.Empty):  # (or they would never)
+            while True:
+                service._works._stages.get(timeout=0.5)
+        service._works._stages.put(None)
         return False
 
     def test_shutdowns_at_once(self):
@@ -1190,7 +1193,7 @@ class Ending(unittest.TestCase):
             was = works.__dict__["closed"]
             if threading.current_thread() in threads:
                 with contextlib.suppress(threading.BrokenBarrierError):
-                    both.wait(0.2)
+                    both.wait(5)
             return was
         threads = [threading.Thread(target=service.shutdown, kwargs={"wait": False}) for _ in range(2)]
         looked = property(look, lambda works, is_closed: works.__dict__.update(closed=is_closed))
@@ -1568,7 +1571,7 @@ class Else(unittest.TestCase):
         with cf.Workers(desk.callers[1:], functions, code=3) as workers:
             self.assertTrue(until(lambda: desk.callers[0].read(stages[3]) is not None))
         self.assertEqual([(number, type(error)) for number, error in workers.errors], [(0, SystemExit), (2, Oops)])
-        self.assertEqual([desk.callers[0].read(stage).fault for stage in stages[:3]], [cf.Thrown(code) for code in (3, 7, 3)])
+        self.assertEqual([str(desk.callers[0].read(stage).fault) for stage in stages[:3]], ["thrown 3", "thrown 7", "thrown 3"])
 
     def test_workers_of_which_one_does_not_start(self):
         plan = cf.Plan()
