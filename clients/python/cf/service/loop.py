@@ -126,7 +126,7 @@ class _LoopWorks:
             if begun is None:
                 return
             call, args, kwargs = begun
-            run = call.func if type(call) is _Within else cast(_Request, request)._context.copy().run
+            run: Callable[..., Any] = call.func if type(call) is _Within else cast(_Request, request)._context.copy().run
             try:
                 given = call(*args, **kwargs) if type(call) is _Within else run(call, *args, **kwargs)
             except BaseException as error:
