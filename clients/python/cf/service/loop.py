@@ -126,14 +126,14 @@ class _LoopWorks:
             if begun is None:
                 return
             call, args, kwargs = begun
-            run: Callable[..., Any] = call.func if type(call) is _Within else cast(_Request, request)._context.copy().run
+            within = call if type(call) is _Within else _Within(cast(_Request, request)._context.copy().run, call)
             try:
-                given = call(*args, **kwargs) if type(call) is _Within else run(call, *args, **kwargs)
+                given = within(*args, **kwargs)
             except BaseException as error:
                 stage = self._raised(stage, error)
             else:
                 if inspect.isawaitable(given) and not isinstance(given, Stage):
-                    run(self._await, stage, given)
+                    within.func(self._await, stage, given)
                     return
                 stage = _ended(stage, given)
 
