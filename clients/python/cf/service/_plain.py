@@ -151,6 +151,25 @@ class _Row:
         self.told, self.place, self.running = _NOT_YET, 0, False
 
 
+class _First:
+    """Keeps the first that is raised within, of several things that are done one after another, so that the rest be done."""
+
+    error: Optional[BaseException] = None
+
+    def __enter__(self) -> None: ...
+
+    def __exit__(self, _kind: object, error: Optional[BaseException], _trace: object) -> bool:
+        self.error = self.error or error
+        return True
+
+    def show(self) -> None:
+        if self.error is not None:
+            try:
+                raise self.error
+            finally:
+                self.error = None  # (its traceback has this)
+
+
 class _News(NamedTuple):
     """The stages that were settled, and the numbers of those that are ready."""
 
@@ -165,8 +184,9 @@ if TYPE_CHECKING:
         _result: Any
         _exception: Optional[BaseException]
         _waiters: List[Any]
+        _done_callbacks: List[Callable[[Any], object]]
 
-        def _invoke_callbacks(self) -> None: ...
+        def _log(self, error: BaseException) -> None: ...
 else:
     _Future = object
 
@@ -223,9 +243,15 @@ class StageCore(_Future):
                 getattr(waiter, note)(self)
             self._condition.notify_all()
 
-    def _let_go(self) -> None:
-        """Calls the callbacks, and forgets what it needs no more."""
-        self._invoke_callbacks()
+    def _let_go(self, first: "_First") -> None:
+        """Calls the callbacks, each whatever another raises, and forgets what it needs no more."""
+        callbacks, self._done_callbacks = self._done_callbacks, []
+        for call in callbacks:
+            with first:
+                try:
+                    call(self)
+                except Exception as error:
+                    self._log(error)
         self.__dict__.pop("_call", None)
         self.__dict__.pop("_given", None)
 
@@ -420,14 +446,17 @@ class RequestCore:
 
     def _work(self, who: int) -> None:
         """Runs all that is ready, and all that gets ready by that, where nobody else does."""
-        ready = c.c_uint16()
+        ready, first, last = c.c_uint16(), _First(), -1
         while True:
             with self._lock:
                 code = _ready(self._ledger.at, 0, c.byref(ready))
-            if code == 17:  # CF_NOTHING
+            if code == 17 or ready.value == last:  # CF_NOTHING, or one that can't be claimed
+                first.show()
                 return
             check(code)
-            self._run(self._stage(ready.value), who)
+            with first:
+                self._run(self._stage(ready.value), who)
+            last = -1 if first.error is None else ready.value
 
     def _begin(self, stage: "Stage[Any]", who: int) -> Optional[Tuple[Callable[..., Any], Tuple[Any, ...], Dict[str, Any]]]:
         """Claims a stage. Its function with its arguments, or None where nobody is to call it."""
@@ -510,14 +539,31 @@ class RequestCore:
                     self._values[:], self._errors[:])
 
     def _tell(self, news: _News) -> None:
-        """Tells threads of stages that are ready, and callbacks of those that were settled. The lock is free."""
+        """Tells threads of stages that are ready, and callbacks of those that were settled. The lock is free. What one raises, comes up once
+        all are told."""
+        if not (news.ready or news.settled):
+            return
+        first = _First()
         for number in news.ready:  # (which grows)
-            if not self._works.put(self._stage(number)):
-                error = self._works.refusal()
-                with self._lock:
-                    self._apply(FAIL << 56 | _here.who << 48 | number << 36 | self._code(error), news)
+            with first:
+                self._hand(number, news)
         for stage in news.settled:
-            stage._let_go()
+            stage._let_go(first)
+        first.show()
+
+    def _hand(self, number: int, news: _News) -> None:
+        try:
+            self._put(number, news)
+        except BaseException:  # an interrupt, say: a stage that is put twice runs once
+            self._put(number, news)
+            raise
+
+    def _put(self, number: int, news: _News) -> None:
+        """Hands a ready stage to whoever runs it. Where nobody will, it fails."""
+        if not self._works.put(self._stage(number)):
+            error = self._works.refusal()
+            with self._lock:
+                self._apply(FAIL << 56 | _here.who << 48 | number << 36 | self._code(error), news)
 
     # What the ledger's numbers stand for. The lock is held.
 
