@@ -151,25 +151,6 @@ class _Row:
         self.told, self.place, self.running = _NOT_YET, 0, False
 
 
-class _First:
-    """Keeps the first that is raised within, of several things that are done one after another, so that the rest be done."""
-
-    error: Optional[BaseException] = None
-
-    def __enter__(self) -> None: ...
-
-    def __exit__(self, _kind: object, error: Optional[BaseException], _trace: object) -> bool:
-        self.error = self.error or error
-        return True
-
-    def show(self) -> None:
-        if self.error is not None:
-            try:
-                raise self.error
-            finally:
-                self.error = None  # (its traceback has this)
-
-
 class _News(NamedTuple):
     """The stages that were settled, and the numbers of those that are ready."""
 
@@ -243,17 +224,19 @@ class StageCore(_Future):
                 getattr(waiter, note)(self)
             self._condition.notify_all()
 
-    def _let_go(self, first: "_First") -> None:
-        """Calls the callbacks, each whatever another raises, and forgets what it needs no more."""
-        callbacks, self._done_callbacks = self._done_callbacks, []
+    def _let_go(self) -> Optional[BaseException]:
+        """Calls the callbacks, and forgets them and what it needs no more. The first that was raised and isn't an `Exception`."""
+        callbacks, self._done_callbacks, first = self._done_callbacks, [], None
         for call in callbacks:
-            with first:
-                try:
-                    call(self)
-                except Exception as error:
-                    self._log(error)
+            try:
+                call(self)
+            except Exception as error:
+                self._log(error)
+            except BaseException as error:
+                first = first or error
         self.__dict__.pop("_call", None)
         self.__dict__.pop("_given", None)
+        return first
 
 
 class PlanCore:
@@ -446,17 +429,19 @@ class RequestCore:
 
     def _work(self, who: int) -> None:
         """Runs all that is ready, and all that gets ready by that, where nobody else does."""
-        ready, first, last = c.c_uint16(), _First(), -1
+        ready, last, first = c.c_uint16(), -1, None
         while True:
             with self._lock:
                 code = _ready(self._ledger.at, 0, c.byref(ready))
-            if code == 17 or ready.value == last:  # CF_NOTHING, or one that can't be claimed
-                first.show()
-                return
+            if code == 17 or ready.value == last:  # CF_NOTHING, or one that couldn't be claimed
+                break
             check(code)
-            with first:
+            try:
                 self._run(self._stage(ready.value), who)
-            last = -1 if first.error is None else ready.value
+            except BaseException as error:  # a callback's
+                first, last = first or error, ready.value
+        if first is not None:
+            raise first
 
     def _begin(self, stage: "Stage[Any]", who: int) -> Optional[Tuple[Callable[..., Any], Tuple[Any, ...], Dict[str, Any]]]:
         """Claims a stage. Its function with its arguments, or None where nobody is to call it."""
@@ -539,31 +524,24 @@ class RequestCore:
                     self._values[:], self._errors[:])
 
     def _tell(self, news: _News) -> None:
-        """Tells threads of stages that are ready, and callbacks of those that were settled. The lock is free. What one raises, comes up once
-        all are told."""
-        if not (news.ready or news.settled):
-            return
-        first = _First()
+        """Tells threads of stages that are ready, and callbacks of those that were settled. The lock is free. What a callback raises is
+        raised once all is told."""
+        first: Optional[BaseException] = None
         for number in news.ready:  # (which grows)
-            with first:
-                self._hand(number, news)
+            stage = self._stage(number)
+            try:
+                is_taken = self._works.put(stage)
+            except BaseException as raised:  # a stage that is put twice runs once, and one that isn't put never does
+                first, is_taken = first or raised, self._works.put(stage)
+            if not is_taken:
+                error = self._works.refusal()
+                with self._lock:
+                    self._apply(FAIL << 56 | _here.who << 48 | number << 36 | self._code(error), news)
         for stage in news.settled:
-            stage._let_go(first)
-        first.show()
-
-    def _hand(self, number: int, news: _News) -> None:
-        try:
-            self._put(number, news)
-        except BaseException:  # an interrupt, say: a stage that is put twice runs once
-            self._put(number, news)
-            raise
-
-    def _put(self, number: int, news: _News) -> None:
-        """Hands a ready stage to whoever runs it. Where nobody will, it fails."""
-        if not self._works.put(self._stage(number)):
-            error = self._works.refusal()
-            with self._lock:
-                self._apply(FAIL << 56 | _here.who << 48 | number << 36 | self._code(error), news)
+            raised_by_callback = stage._let_go()
+            first = first or raised_by_callback
+        if first is not None:
+            raise first
 
     # What the ledger's numbers stand for. The lock is held.
 

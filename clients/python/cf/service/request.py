@@ -1,11 +1,12 @@
 """A request: stages that belong together, of which one history is kept."""
 import concurrent.futures
 import functools
+import math
 from typing import TYPE_CHECKING, Any, Callable, List, Optional, Sequence, Tuple, TypeVar
 
 from ..values import Form
 from ._core import RequestCore
-from .history import History
+from .history import Describe, History
 from .relays import Hold, link
 from .stage import Stage
 from .words import FAIL, LINKS, MOST_STAGES, RELAY, THROWS, RequestFull
@@ -29,12 +30,16 @@ if TYPE_CHECKING:
         @property
         def closed(self) -> bool: ...
 
+        @property
+        def describe(self) -> Describe: ...
+
         def refusal(self) -> RuntimeError: ...
 
         def put(self, stage: Stage[Any]) -> bool: ...
 
 
 T = TypeVar("T")
+R = TypeVar("R", bound="Request")
 
 
 class Request(RequestCore):
@@ -44,7 +49,8 @@ class Request(RequestCore):
     that. Values and exceptions are kept until nobody has the request or one of its stages any more. `RequestFull` is raised where it
     would have over 4,096 stages, and `RuntimeError` where a stage with a function is attached after the service's shutdown."""
 
-    __slots__ = ()
+    __slots__ = ("_describe",)  # what histories tell of values, where that isn't what the service chose
+    _describe: Describe
 
     @property
     def name(self) -> str:
@@ -99,7 +105,13 @@ class Request(RequestCore):
 
     def history(self) -> History:
         """All that happened until now. It takes time by the number of events."""
-        return History(self.name, self._plan, self._facts())
+        return History(self.name, self._plan, self._facts())._described(getattr(self, "_describe", self._works.describe))
+
+    def _describing(self: R, describe: Optional[Describe]) -> R:
+        """This request, whose histories tell of values what a function does, if one is given."""
+        if describe is not None:
+            self._describe = describe
+        return self
 
     # Attaching.
 
@@ -154,8 +166,11 @@ class Request(RequestCore):
             raise RequestFull("a request has at most 4,096 stages")
 
     def _later(self, stage: "Stage[T]", seconds: float, act: Callable[[], object]) -> "Stage[T]":
-        """Acts on the stage after some seconds, unless it is settled before."""
-        if not stage.done():
+        """Acts on the stage after some seconds, unless it is settled before. Where they are over already, as soon as may be; after endless
+        ones never."""
+        if math.isnan(seconds):
+            raise ValueError("a time limit can't be NaN")
+        if seconds != math.inf and not stage.done():
             forget = self._works.clock.after(seconds, act)
             stage.add_done_callback(lambda _: forget())
         return stage

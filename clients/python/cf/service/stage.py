@@ -8,6 +8,7 @@ from typing import TYPE_CHECKING, Any, Callable, Generator, Generic, Optional, T
 
 from ..values import BadAnswer, Form
 from ._core import StageCore, use
+from .history import escaped
 from .words import CANCEL, CLOCK, COMPLETE, FAIL, THIS_THREAD, RequestFull
 
 if TYPE_CHECKING:
@@ -98,12 +99,13 @@ class Stage(_Future[T]):
         return self.request._change(CANCEL, THIS_THREAD, self, False)
 
     def or_timeout(self, seconds: float) -> "Stage[T]":
-        """Lets it fail with a `TimeoutError`, unless it is settled by then. This stage itself is given back."""
-        error = f"{self.name} took longer than {seconds} s"
+        """Lets it fail with a `TimeoutError`, unless it is settled by then: at once where the time is over already, and never where it is
+        endless; `ValueError` of NaN. This stage itself is given back."""
+        error = f"{escaped(self.name)} took longer than {seconds} s"
         return self.request._later(self, seconds, lambda: self.request._change(FAIL, CLOCK, self, TimeoutError(error)))
 
     def complete_on_timeout(self, value: T, seconds: float) -> "Stage[T]":
-        """Gives it the value, unless it is settled by then. This stage itself is given back."""
+        """Gives it the value, unless it is settled by then, as `or_timeout`. This stage itself is given back."""
         return self.request._later(self, seconds, lambda: self.request._change(COMPLETE, CLOCK, self, value))
 
     def set_result(self, result: T) -> None:
