@@ -507,18 +507,12 @@ class Telling(Case):
 
         def raises(_):
             raise Wild
-        first = start.then(lambda x: x)
+        last, request = start.then(lambda x: x), flow.run()
+        request[ends[0]].add_done_callback(raises)
+        request[start].complete(1)
         with self.assertRaises(Wild):
-            request = flow.start_raising(raises) if hasattr(flow, "start_raising") else self.begun(flow, ends[0], raises)
             request._work(3)
-        self.assertEqual((told, request[first].done()), (list(range(5)), True))
-
-    @staticmethod
-    def begun(flow, step, callback):
-        from cf.service.works import Here
-        request = flow._start(Here(), "", None, [1])
-        request[step].add_done_callback(callback)
-        return request
+        self.assertEqual((told, request[last].done()), (list(range(5)), True))
 
     def test_a_put_that_raises_is_done_again(self):
         class Interrupted:
