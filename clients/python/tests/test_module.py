@@ -261,18 +261,16 @@ class Misuse(Case):
         self.assertEqual(flow.run()._stage(1).name, "str")
 
     def test_a_plan_whose_rows_change_as_they_are_read(self):
-        class Number(int):
+        class Number:
             def __index__(self):
                 rows.clear()
                 gc.collect()
                 return 0
-        for row in ((Number(0), (), None, "x"), (3, (Number(0),), str, "y")):
-            rows = [(0, (), None, "name " + "x" * 50), row, *[(0, (), None, f"name {k} " + "x" * 50) for k in range(50)]]
-            rows = [tuple(row) for row in rows]
-            try:
-                self.assertEqual(len(_core.PlanCore(rows).rows), 52)
-            except (TypeError, ValueError):
-                pass
+        for row in ((Number(), (), None, "x"), (3, (Number(),), str, "y")):
+            rows = [(0, (), None, f"name {k}") for k in range(50)]
+            rows[1] = row
+            del row
+            self.assertEqual((len(_core.PlanCore(rows).rows), rows), (50, []))
         self.refused(lambda: _core.PlanCore([7]), lambda: _core.PlanCore([()]), lambda: _core.PlanCore([(3, (0,), str, "x")]),
                      lambda: _core.PlanCore([(0, (), None, "x"), (3, (65536,), str, "y")]), lambda: _core.PlanCore([(3, (-1,), str, "y")]),
                      lambda: _core.PlanCore([(99, (), None, "x")]), lambda: _core.PlanCore([(0, (), None, 7)]), lambda: _core.PlanCore(7))
@@ -372,16 +370,18 @@ class Reentrant(Case):
         known = gc.get_threshold()
         try:
             for kind, given in ((COMPLETE, ("outer", "inner")), (FAIL, (OSError("outer"), OSError("inner")))):
-                for allocations in range(1, 16):
+                for allocations in range(-4, 8):
                     gc.set_threshold(0)
-                    gc.collect()
                     r = self.service.request()
                     outer, inner = r.promise(), r.promise()
                     Last(inner, kind, given[1])
+                    held = [[] for _ in range(200)]  # the next list is none that Python has kept
                     gc.set_threshold(gc.get_count()[0] + allocations, 1000, 1000)
                     r._change(kind, THIS_THREAD, outer, given[0])
                     gc.set_threshold(0)
-                    gc.collect()
+                    del held
+                    if not inner.done():
+                        gc.collect()
                     self.assertEqual([it._result if kind == COMPLETE else it._exception for it in (outer, inner)], list(given), allocations)
                     self.fits(r)
         finally:
@@ -571,8 +571,8 @@ class Telling(Case):
             service.submit(abs, 1).result(9)
             promises = [service.request().promise() for _ in range(60)]
             behind = [promise.then(abs) for promise in promises]
-            threads = [threading.Thread(target=lambda it=it: told.append(it.result(60)), daemon=True) for it in promises[::2]]
-            waits = threading.Thread(target=lambda: told.append(len(concurrent.futures.wait(promises, 60).done)), daemon=True)
+            threads = [threading.Thread(target=lambda it=it: told.append(it.result(20)), daemon=True) for it in promises[::2]]
+            waits = threading.Thread(target=lambda: told.append(len(concurrent.futures.wait(promises, 20).done)), daemon=True)
             for thread in (*threads, waits):
                 thread.start()
             while not all(it._condition._waiters for it in promises[::2]) or not all(it._waiters for it in promises):
@@ -593,8 +593,8 @@ class Telling(Case):
                         left.pop()
             deeper()
             for thread in (*threads, waits):
-                thread.join(60)
-            print(len(left), len(told), [it.result(60) for it in behind] == [1] * 60, sys.getrecursionlimit())
+                thread.join(20)
+            print(len(left), len(told), [it.result(20) for it in behind] == [1] * 60, sys.getrecursionlimit())
         """)
         self.assertEqual((out, status), ("0 31 True 1000\n", 0), err)
 
@@ -672,7 +672,7 @@ class Lifetime(Case):
         self.released(known, "arguments")
 
     def released(self, known, which):
-        until = time.monotonic() + 30
+        until = time.monotonic() + 10
         while any(it() is not None for it in known) and time.monotonic() < until:
             time.sleep(0.001)  # (the thread that ran it lets go of it a moment later)
         self.assertEqual([it() for it in known], [None] * len(known), which)
@@ -818,7 +818,7 @@ class Relays(Case):
                             time.sleep(0.001)
                     open_one.complete(1)
                 del r, open_one
-                until = time.monotonic() + 30
+                until = time.monotonic() + 10
                 while any(it() is not None for it in known) and time.monotonic() < until:
                     gc.collect()  # (a thread may still have one for a moment)
                     time.sleep(0.001)
@@ -838,7 +838,7 @@ class Relays(Case):
             gc.collect()
             self.end(stop, 3)
             self.service.submit(str).result(9)
-            until = time.monotonic() + 30
+            until = time.monotonic() + 10
             while len(told) < 40 and time.monotonic() < until:
                 time.sleep(0.001)
             self.assertEqual(told, [3] * 40, kind)
@@ -903,7 +903,7 @@ class Relays(Case):
                 stop.set_result(k)
                 for thread in threads:
                     thread.join()
-                self.assertEqual([relay.result(30) for relay in relays], [k] * 40)
+                self.assertEqual([relay.result(10) for relay in relays], [k] * 40)
                 self.assertEqual({len(bytes(relay.request._facts()[0])) for relay in relays}, {16})
         finally:
             sys.setswitchinterval(known)
