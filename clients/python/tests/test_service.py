@@ -217,23 +217,6 @@ class Settling(Case):
         self.service.shutdown()
         self.assertIn("too late", str(self.request.history()))
 
-    @unittest.skipIf(IS_MODULE, "the module has no lock")
-    def test_cancel_looks_under_the_lock(self):
-        """A stage begins to run between the call of `cancel` and its having the request's lock."""
-        promise, lock = self.request.promise(), self.request._lock
-
-        class Late:
-            def __enter__(it):
-                self.request._lock = lock
-                self.assertTrue(promise.set_running_or_notify_cancel())
-                lock.acquire()
-
-            def __exit__(it, *_):
-                lock.release()
-        self.request._lock = Late()
-        self.assertFalse(promise.cancel())
-        self.assertTrue(promise.running())
-
     def test_promise_of_somebody_else(self):
         promise = self.request.promise()
         self.assertTrue(promise.set_running_or_notify_cancel())

@@ -429,14 +429,19 @@ class RequestCore:
 
     def _work(self, who: int) -> None:
         """Runs all that is ready, and all that gets ready by that, where nobody else does."""
-        ready = c.c_uint16()
+        ready, last, first = c.c_uint16(), -1, None
         while True:
             with self._lock:
                 code = _ready(self._ledger.at, 0, c.byref(ready))
-            if code == 17:  # CF_NOTHING
-                return
+            if code == 17 or ready.value == last:  # CF_NOTHING, or one that couldn't be claimed
+                break
             check(code)
-            self._run(self._stage(ready.value), who)
+            try:
+                self._run(self._stage(ready.value), who)
+            except BaseException as error:  # a callback's
+                first, last = first or error, ready.value
+        if first is not None:
+            raise first
 
     def _begin(self, stage: "Stage[Any]", who: int) -> Optional[Tuple[Callable[..., Any], Tuple[Any, ...], Dict[str, Any]]]:
         """Claims a stage. Its function with its arguments, or None where nobody is to call it."""

@@ -143,19 +143,22 @@ class Stage(_Future[T]):
 
     # For the C module.
 
+    _told = 0  # of those who wait
+
     def _wait(self, timeout: Optional[float]) -> None:
         """Waits until it is shown, or so many seconds."""
         with self._condition:
             self._condition.wait_for(functools.partial(getattr, self, "_shown"), timeout)
 
     def _show(self) -> None:
-        """Tells those who wait. It is settled."""
+        """Tells those who wait. It is settled. Where this ends by an interrupt, it is called once more, and goes on."""
         with self._condition:
-            self._shown = True
+            self._condition.notify_all()  # (they look once the condition is free)
             note = "add_cancelled" if self.cancelled() else "add_result" if self._exception is None else "add_exception"
-            for waiter in self._waiters:
-                getattr(waiter, note)(self)
-            self._condition.notify_all()
+            while self._told < len(self._waiters):
+                self._told += 1
+                getattr(self._waiters[self._told - 1], note)(self)
+            self._shown = True
 
     def _log(self, error: BaseException) -> None:
         LOGGER.error("exception calling callback for %r", self, exc_info=error)

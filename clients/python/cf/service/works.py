@@ -262,6 +262,15 @@ class Clock:
                 if many == len(self._due):  # (what is collected meanwhile may have added some)
                     self._due, self._forgotten = left, 0
 
+    def end(self) -> None:
+        """Forgets what is due later, and waits for its thread: an interpreter within this process can't end while there is one."""
+        with self._changed:
+            thread, due, self._due, self._forgotten = self._thread, self._due, [], 0
+            self._changed.notify()
+        del due  # (not under the lock)
+        if thread is not None and thread is not threading.current_thread():
+            thread.join()
+
     def _run(self) -> None:
         while True:
             with self._changed:
@@ -312,6 +321,8 @@ def _at_exit() -> None:
         works.close()
     for works in open_ones:
         works.join()
+    for works in open_ones:
+        works.clock.end()
 
 
 def _after_fork() -> None:
