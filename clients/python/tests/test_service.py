@@ -1169,8 +1169,8 @@ class Ending(unittest.TestCase):
 
     def test_shutdowns_at_once(self):
         """Two threads find the service open, and end it."""
-        service, both = Service(1), threading.Barrier(2)
-        service.submit(str).result(20)
+        service, both, goes_on = Service(1), threading.Barrier(2), threading.Event()
+        running = service.submit(goes_on.wait, 20)
 
         def look(works):
             was = works.__dict__["closed"]
@@ -1185,22 +1185,26 @@ class Ending(unittest.TestCase):
                 thread.start()
             for thread in threads:
                 thread.join(20)
+        goes_on.set()
+        self.assertTrue(running.result(20))
         self.assertTrue(self.ends(service))
 
     def test_initializers_that_fail_let_others_end(self):
-        service, begun, goes_on, numbers = Service(3, initializer=lambda: init()), threading.Event(), threading.Event(), iter(range(3))
+        service, numbers = Service(3, initializer=lambda: init()), iter(range(3))
+        begun, fail, goes_on = threading.Event(), threading.Event(), threading.Event()
 
         def init():
             if next(numbers):
-                goes_on.wait(20)
+                fail.wait(20)
                 fails()
         running = service.submit(lambda: begun.set() or goes_on.wait(20))
         self.assertTrue(begun.wait(20))
         with self.assertLogs("concurrent.futures", "CRITICAL"):
             stages = [service.submit(str), service.submit(str)]
-            goes_on.set()
+            fail.set()
             for stage in stages:
                 self.assertIsInstance(stage.exception(20), concurrent.futures.BrokenExecutor)
+        goes_on.set()
         self.assertTrue(running.result(20))
         self.assertTrue(self.ends(service))
 
