@@ -202,7 +202,13 @@ def fit(loaded: c.CDLL, path: str) -> None:
 
 def load(path: str) -> SimpleNamespace:
     """The calls of the library."""
-    loaded, calls = c.CDLL(path), SimpleNamespace()
+    try:
+        loaded, calls = c.CDLL(path), SimpleNamespace()
+    except OSError as error:
+        said = os.environ.get("CF_LIBRARY")
+        raise OSError(f"cf needs its library for C, libcf.so, which can't be loaded: {error}. It is looked for where CF_LIBRARY says, which is "
+                      f"{said or 'not set'}; without that within the C module cf._cf, if it was built, and else where the system looks for "
+                      "libcf.so. Set CF_LIBRARY to its path, or install a wheel that has it within; docs/C.md says how it is built.") from None
     fit(loaded, path)
     for name, arguments in CALLS.items():
         call = getattr(loaded, name)

@@ -36,9 +36,10 @@ class Caller(Calls):
 
     _prefix, _ready = "cf_desk_", "cf_desk_ready"
 
-    def __init__(self, handle: CHandle) -> None:
+    def __init__(self, handle: CHandle, desk: object) -> None:
         super().__init__(handle)
         self._lock = _Own()
+        self._desk = desk  # which it is of
         self.number: int = self._tell("cf_desk_caller", c.c_uint8()).value
 
     def __enter__(self) -> "Caller":
@@ -73,7 +74,10 @@ class Caller(Calls):
         return now_out(self._tell("cf_desk_join", CNow(), stage, looks))
 
     def meet(self, other: "Caller") -> None:
-        """Lets two callers of one desk, both in this thread's hands, see the longer of what either has seen."""
+        """Lets two callers of one desk, both in this thread's hands, see the longer of what either has seen. `Refused` has OTHER_DESK where
+        they are of two: the library can't always tell that while other threads have the second one's callers."""
+        if other._desk is not self._desk:
+            raise Refused(Code.OTHER_DESK)
         with other._lock:
             if other is not self:
                 self._call("cf_desk_meet", other._at)
@@ -138,7 +142,8 @@ class Desk:
             any_number = 2**16 if functions is None else functions
             sizes = CDeskSizes(in_range(log, 0xFFFF), in_range(calls, 0xFFFF), in_range(room, 0xFFFF), in_range(any_number, 0xFFFFFFFF))
             plan.build()._call("cf_desk_open_with", handles, callers, c.byref(sizes))
-        self.callers: Tuple[Caller, ...] = tuple(Caller(handle) for handle in handles)
+        desk = object()
+        self.callers: Tuple[Caller, ...] = tuple(Caller(handle, desk) for handle in handles)
         self._left = list(self.callers)
         self._closing: Optional[Handle] = None
         self._lock = threading.Lock()

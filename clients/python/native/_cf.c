@@ -3,7 +3,18 @@
  * A request is a ledger of the library, and beside each of its events the time and the reply, beside each of its stages the name, the
  * future and what was told of it. `apply` does one event and writes down what came of it. Nothing of Python's runs meanwhile: no object
  * is made and none is freed, so nothing is collected either, no signal is handled, and the interpreter's lock isn't let go. That makes it
- * one step for all threads, without a lock of its own. Whatever may run anything is done behind it, by `tell`. */
+ * one step for all threads, without a lock of its own. Whatever may run anything is done behind it, by `tell`.
+ *
+ * Each interpreter that imports this has a `State` of its own, with its own types. Objects hold the module, and so outlive no State.
+ *
+ * How it meets what C owes the library (docs/C.md):
+ *   - a handle is used by one thread at a time, which has the interpreter's lock: no call of the library runs Python, and none lets it go;
+ *   - a handle stands within one object, is never copied, and is freed once, where that object is freed; an object that wasn't opened,
+ *     whose opening failed or that is opened twice has an empty handle, on which each call answers CF_EMPTY, or its first one;
+ *   - pointers are to the object's own memory and to the State's `changed`, which has room for as many news as a request may have stages;
+ *   - rows are as many as the ledger has stages or room for: each number from Python is checked before it gets into a word, so no word is
+ *     of another kind than is meant, and what the ledger attaches has its row before;
+ *   - in a child of `fork` the handles are whole, since nobody forks within a call. */
 #define PY_SSIZE_T_CLEAN
 #include <Python.h>
 #include <structmember.h>
@@ -11,13 +22,29 @@
 #include <time.h>
 #include "cf.h"
 
-enum { MOST = 4096, NONE = 0xFFFF, THIS_THREAD = -1 };
+enum { MOST = 4096, CALLERS = 64, NONE = 0xFFFF, THIS_THREAD = -1 };
+enum { DEEPER = 200, TRIES = 100 };  /* calls of Python's beyond its limit for what has to be told, and how often that is tried */
 enum { COMPLETE = 1, FAIL = 2, CANCEL = 3, CLAIM = 4, FINISH = 5, ATTACH = 7 };  /* the kinds of words */
 #define KIND(kind) ((uint64_t)(kind) << 56)
 #define WHO(who) ((uint64_t)(who) << 48)
 #define OF(stage) ((uint64_t)(stage) << 36)
 #define GIVES (1ULL << 32)
 #define THROWS (2ULL << 32)
+
+static _Thread_local int caller;   /* which caller this thread is */
+
+/* What one interpreter has of this. */
+typedef struct {
+  PyObject *module;          /* whose state it is, borrowed */
+  cf_handle nothing;         /* a plan without stages */
+  cf_news *changed;          /* what the last event changed: MOST of them */
+  uint32_t forks;            /* how many forks lie between the first process and this one */
+  PyTypeObject *request_core, *stage_core, *plan_core;
+  PyTypeObject *stage_type;  /* the class of futures, below `stage_core`, once `use` told it */
+  PyObject *full, *bad_answer, *cancelled_error, *future_error, *condition_class;
+  PyObject *pending, *running, *finished, *cancelled_state;
+  PyObject *put_name, *refusal_name, *show_name, *log_name, *wait_name, *qualname_name, *func_name, *relay_name;
+} State;
 
 /* An event, when it was done in nanoseconds, and what it was answered. */
 typedef struct { int64_t at; cf_reply reply; } Event;
@@ -35,6 +62,7 @@ typedef struct {
 
 typedef struct {
   PyObject_HEAD
+  State *state;
   cf_handle plan;
   uint16_t stages;
   uint8_t *forms;
@@ -45,6 +73,7 @@ typedef struct {
 
 typedef struct {
   PyObject_HEAD
+  State *state;
   cf_handle ledger;
   uint32_t room, stages, events, event_room;
   Row *rows;
@@ -55,6 +84,7 @@ typedef struct {
 
 typedef struct {
   PyObject_HEAD
+  State *state;
   Request *request;
   uint16_t number;
   bool shown;  /* to those who wait by its condition, and to callbacks */
@@ -65,16 +95,6 @@ typedef struct {
 /* The stages that an event settled and made ready, as lists through their rows. */
 typedef struct { uint16_t settled, last_settled, ready, last_ready; } News;
 static const News NO_NEWS = {NONE, NONE, NONE, NONE};
-
-static cf_handle nothing;          /* a plan without stages */
-static cf_news changed[MOST];      /* what the last event changed */
-static _Thread_local int caller;   /* which caller this thread is */
-static uint32_t forks;             /* how many forks lie between the first process and this one */
-static PyTypeObject RequestType, StageType, PlanType;
-static PyTypeObject *stage_type;   /* the class of futures, below StageType */
-static PyObject *full, *bad_answer, *cancelled_error, *future_error, *condition_class;
-static PyObject *pending, *running, *finished, *cancelled_state;
-static PyObject *put_name, *refusal_name, *show_name, *log_name, *wait_name, *qualname_name, *func_name, *relay_name;
 
 static PyObject *refused(uint32_t code) {
   if (code == CF_NO_MEMORY) return PyErr_NoMemory();
@@ -93,7 +113,7 @@ static int64_t now(void) {
 /* Memory for two events more. At first for those of a request whose stages are each attached, claimed and finished. */
 static int room_for_events(Request *self) {
   if (self->events + 2 <= self->event_room) return 0;
-  uint32_t room = self->event_room ? 2 * self->event_room : self->room < 64 ? 3 * self->room + 1 : 192;
+  uint32_t room = self->event_room ? 2 * self->event_room : !self->room ? 2 : self->room < 64 ? 3 * self->room + 1 : 192;
   Event *done = PyMem_Realloc(self->done, room * sizeof *done);
   if (!done) return -1;
   self->done = done;
@@ -103,6 +123,7 @@ static int room_for_events(Request *self) {
 
 /* Writes down the stages that the last event changed. */
 static void note(Request *self, size_t n, News *news) {
+  const cf_news *changed = self->state->changed;
   for (size_t k = 0; k < n; k++) {
     uint16_t i = changed[k].stage;
     Row *row = &self->rows[i];
@@ -125,7 +146,7 @@ static uint32_t apply(Request *self, uint64_t word, cf_reply *reply, News *news)
   if (room_for_events(self)) return CF_NO_MEMORY;
   Event *event = &self->done[self->events];
   size_t n = 0;
-  uint32_t code = cf_ledger_apply(&self->ledger, word, &event->reply, changed, MOST, &n);
+  uint32_t code = cf_ledger_apply(&self->ledger, word, &event->reply, self->state->changed, MOST, &n);
   if (code) return code;
   event->at = now();
   self->events++;
@@ -141,7 +162,7 @@ static uint32_t step(Request *self, int who, cf_task *task, News *news) {
   bool held = task->held;
   size_t n = 0;
   cf_step step = {.who = (uint8_t)who};
-  uint32_t code = cf_ledger_step(&self->ledger, &step, task, changed, MOST, &n);
+  uint32_t code = cf_ledger_step(&self->ledger, &step, task, self->state->changed, MOST, &n);
   if (code && code != CF_NOTHING) return code;
   int64_t at = now();
   if (held) {
@@ -158,7 +179,11 @@ static uint32_t step(Request *self, int who, cf_task *task, News *news) {
 /* ---- What the numbers of the library stand for ---- */
 
 static int kept(PyObject **list, PyObject *thing, uint32_t *number) {
-  if (!*list && !(*list = PyList_New(0))) return -1;
+  if (!*list) {
+    PyObject *made = PyList_New(0);
+    if (!made) return -1;
+    if (!*list) *list = made; else Py_DECREF(made);  /* (what is collected meanwhile may have made one) */
+  }
   *number = (uint32_t)PyList_GET_SIZE(*list);
   return PyList_Append(*list, thing);
 }
@@ -185,25 +210,31 @@ static PyObject *error_out(Request *self, cf_outcome outcome) {
     Py_INCREF(error);
     return error;
   }
-  return PyObject_CallNoArgs(outcome.kind == CF_CANCELLED ? cancelled_error : bad_answer);
+  return PyObject_CallNoArgs(outcome.kind == CF_CANCELLED ? self->state->cancelled_error : self->state->bad_answer);
 }
 
 static bool was_cancelled(cf_outcome outcome) { return outcome.kind == CF_CANCELLED && !outcome.wrapped; }
 
+/* An attribute, or NULL without an error where it isn't there. */
+static PyObject *attribute_of(PyObject *thing, PyObject *name) {
+  PyObject *found = PyObject_GetAttr(thing, name);
+  if (!found && PyErr_ExceptionMatches(PyExc_AttributeError)) PyErr_Clear();
+  return found;
+}
+
 /* What a function is called: its qualified name, that of what a partial calls, or that of its class. */
-static PyObject *name_of(PyObject *call) {
-  PyObject *held = NULL, *name;
+static PyObject *name_of(State *state, PyObject *call) {
   if (PyFunction_Check(call)) {
-    name = ((PyFunctionObject *)call)->func_qualname;
+    PyObject *name = ((PyFunctionObject *)call)->func_qualname;
     Py_INCREF(name);
     return name;
   }
-  if ((held = PyObject_GetAttr(call, func_name))) call = held; else PyErr_Clear();
-  name = PyObject_GetAttr(call, qualname_name);
-  if (!name || !PyUnicode_Check(name)) {
-    PyErr_Clear();
-    Py_XDECREF(name);
-    name = PyUnicode_FromString(Py_TYPE(call)->tp_name);
+  PyObject *held = attribute_of(call, state->func_name), *name = NULL;
+  if (!PyErr_Occurred()) name = attribute_of(held ? held : call, state->qualname_name);
+  if (name && !PyUnicode_Check(name)) Py_SETREF(name, PyObject_Str(name));
+  if (!name && !PyErr_Occurred()) {
+    const char *whole = Py_TYPE(call)->tp_name, *dot = strrchr(whole, '.');
+    name = PyUnicode_FromString(dot ? dot + 1 : whole);
   }
   Py_XDECREF(held);
   return name;
@@ -212,13 +243,24 @@ static PyObject *name_of(PyObject *call) {
 /* ---- Stages ---- */
 
 static Stage *new_stage(Request *request, uint16_t number) {
-  Stage *stage = (Stage *)PyType_GenericAlloc(stage_type, 0);
+  State *state = request->state;
+  if (!state->stage_type) return (Stage *)PyErr_Format(PyExc_RuntimeError, "no class of stages is in use");
+  Stage *stage = (Stage *)PyType_GenericAlloc(state->stage_type, 0);
   if (!stage) return NULL;
+  Py_INCREF(state->module);
+  stage->state = state;
   Py_INCREF(request);
   stage->request = request;
   stage->number = number;
-  stage->forks = forks;
+  stage->forks = state->forks;
   return stage;
+}
+
+/* The function of a planned stage, borrowed, or NULL. */
+static PyObject *planned(Request *self, uint16_t i) {
+  Plan *plan = self->plan;
+  PyObject *call = plan && plan->calls && i < plan->stages ? PyTuple_GET_ITEM(plan->calls, i) : NULL;
+  return call == Py_None ? NULL : call;
 }
 
 /* The future of a stage. That of a planned one is made once it is asked for. */
@@ -231,10 +273,8 @@ static Stage *stage_at(Request *self, uint16_t i) {
       return stage;
     }
     if (!self->rows[i].stage) {
-      if (self->plan && i < self->plan->stages) {
-        PyObject *call = PyTuple_GET_ITEM(self->plan->calls, i);
-        if (call != Py_None) { Py_INCREF(call); stage->call = call; }
-      }
+      stage->call = planned(self, i);
+      Py_XINCREF(stage->call);
       self->rows[i].stage = (PyObject *)stage;  /* (whose count is the row's) */
     } else Py_DECREF(stage);
   }
@@ -249,9 +289,9 @@ static cf_outcome told(Stage *self) {
 /* In a child of `fork`: those who wait for a stage by its condition, had that at the moment, or were about to show the stage, are the
  * parent's threads, which aren't there. */
 static void be_here(Stage *self) {
-  if (self->forks == forks) return;
+  if (self->forks == self->state->forks) return;
   PyObject *condition = self->condition, *waiters = self->waiters;
-  self->forks = forks;
+  self->forks = self->state->forks;
   self->condition = self->waiters = NULL;
   if (told(self).kind) self->shown = true;
   Py_XDECREF(condition); Py_XDECREF(waiters);
@@ -272,12 +312,24 @@ static int raise_kept(Kept *first) {
   return -1;
 }
 
+/* Calls a method, with `given` or with nothing, and where that fails once more: an event that is done is told, though an interrupt came
+ * meanwhile, or the stack was as deep as Python lets it be. */
+static PyObject *ask(PyObject *of, PyObject *method, PyObject *given, Kept *first) {
+  PyObject *told = PyObject_CallMethodObjArgs(of, method, given, NULL);
+  if (told) return told;
+  if (PyErr_ExceptionMatches(PyExc_RecursionError)) PyErr_Clear(); else keep(first);
+  Py_SetRecursionLimit(Py_GetRecursionLimit() + DEEPER);
+  told = PyObject_CallMethodObjArgs(of, method, given, NULL);
+  Py_SetRecursionLimit(Py_GetRecursionLimit() - DEEPER);
+  return told;
+}
+
 /* Lets those see a stage who wait for it by its condition. */
 static void show(Stage *stage, Kept *first) {
   be_here(stage);
-  while (!stage->shown) {
-    if (!stage->condition) { stage->shown = true; return; }
-    PyObject *none = PyObject_CallMethodNoArgs((PyObject *)stage, show_name);
+  for (int tries = 0; !stage->shown; tries++) {
+    if (!stage->condition || tries == TRIES) { stage->shown = true; return; }
+    PyObject *none = ask((PyObject *)stage, stage->state->show_name, NULL, first);
     if (!none) keep(first);
     Py_XDECREF(none);
   }
@@ -290,7 +342,7 @@ static void call_back(Stage *stage, PyObject *call, Kept *first) {
     PyErr_Fetch(&type, &error, &trace);
     PyErr_NormalizeException(&type, &error, &trace);
     if (trace) PyException_SetTraceback(error, trace);
-    none = PyObject_CallMethodOneArg((PyObject *)stage, log_name, error);
+    none = PyObject_CallMethodOneArg((PyObject *)stage, stage->state->log_name, error);
     Py_XDECREF(type); Py_XDECREF(error); Py_XDECREF(trace);
   }
   if (!none) keep(first);
@@ -309,19 +361,15 @@ static void let_go(Stage *stage, Kept *first) {
 /* Puts a ready stage before those who run it, and says whether one will. An interrupt that comes meanwhile is raised once the stage is put:
  * one that is put twice runs once, and one that isn't put never does. */
 static int put_stage(Request *self, Stage *stage, Kept *interrupt) {
-  PyObject *is_taken = PyObject_CallMethodOneArg(self->works, put_name, (PyObject *)stage);
-  if (!is_taken) {
-    keep(interrupt);
-    is_taken = PyObject_CallMethodOneArg(self->works, put_name, (PyObject *)stage);
-  }
+  PyObject *is_taken = ask(self->works, self->state->put_name, (PyObject *)stage, interrupt);
   int taken = is_taken ? PyObject_IsTrue(is_taken) : -1;
   Py_XDECREF(is_taken);
   return taken;
 }
 
 /* Lets a stage fail that nobody will run. What comes of that is added to the news. */
-static int refuse(Request *self, uint16_t i, News *news) {
-  PyObject *error = PyObject_CallMethodNoArgs(self->works, refusal_name);
+static int refuse(Request *self, uint16_t i, News *news, Kept *first) {
+  PyObject *error = ask(self->works, self->state->refusal_name, NULL, first);
   uint32_t number, code;
   cf_reply reply;
   if (!error || kept(&self->errors, error, &number)) { Py_XDECREF(error); return -1; }
@@ -337,7 +385,7 @@ static int hand(Request *self, uint16_t i, News *news) {
   Kept first = {0};
   int taken = put_stage(self, stage, &first);
   Py_DECREF(stage);
-  if (taken < 0 || (!taken && refuse(self, i, news))) keep(&first);
+  if (taken < 0 || (!taken && refuse(self, i, news, &first))) keep(&first);
   return raise_kept(&first);
 }
 
@@ -369,13 +417,30 @@ static int tell(Request *self, News news, uint16_t *following) {
 
 /* ---- Requests ---- */
 
+/* The State of a type that is, or is below, the core whose objects are freed by this. */
+static State *state_of(PyTypeObject *type, destructor dealloc) {
+  while (type->tp_dealloc != dealloc) type = type->tp_base;
+  return PyType_GetModuleState(type);
+}
+
+static void Request_dealloc(Request *self);
+
+static PyObject *Request_new(PyTypeObject *type, PyObject *Py_UNUSED(args), PyObject *Py_UNUSED(kwargs)) {
+  State *state = state_of(type, (destructor)Request_dealloc);
+  Request *self = state ? (Request *)type->tp_alloc(type, 0) : NULL;
+  if (!self) return NULL;
+  Py_INCREF(state->module);
+  self->state = state;
+  return (PyObject *)self;
+}
+
 static int Request_init(Request *self, PyObject *args, PyObject *kwargs) {
   PyObject *works, *title, *keeps = Py_None, *plan = Py_None;
   unsigned int room;
   if (!PyArg_ParseTuple(args, "OOI|OO", &works, &title, &room, &keeps, &plan)) return -1;
   if (self->rows) { PyErr_SetString(PyExc_TypeError, "a request is opened once"); return -1; }
   if (plan != Py_None) {
-    if (!PyObject_TypeCheck(plan, &PlanType)) { PyErr_SetString(PyExc_TypeError, "no plan"); return -1; }
+    if (!PyObject_TypeCheck(plan, self->state->plan_core)) { PyErr_SetString(PyExc_TypeError, "no plan"); return -1; }
     Py_INCREF(plan);
     self->plan = (Plan *)plan;
   }
@@ -385,7 +450,7 @@ static int Request_init(Request *self, PyObject *args, PyObject *kwargs) {
   self->room = stages + room;
   self->rows = PyMem_Calloc(self->room ? self->room : 1, sizeof *self->rows);
   if (!self->rows) { PyErr_NoMemory(); return -1; }
-  uint32_t code = cf_ledger_new(self->plan ? &self->plan->plan : &nothing, (uint16_t)room, &self->ledger);
+  uint32_t code = cf_ledger_new(self->plan ? &self->plan->plan : &self->state->nothing, (uint16_t)room, &self->ledger);
   if (code) { refused(code); return -1; }
   for (uint32_t i = 0; i < stages; i++) {
     self->rows[i].name = PyTuple_GET_ITEM(self->plan->names, i);
@@ -401,6 +466,8 @@ static int Request_init(Request *self, PyObject *args, PyObject *kwargs) {
 }
 
 static int Request_traverse(Request *self, visitproc visit, void *arg) {
+  Py_VISIT(Py_TYPE(self));
+  Py_VISIT(self->state->module);
   for (uint32_t i = 0; i < self->stages; i++) Py_VISIT(self->rows[i].stage);
   Py_VISIT(self->works); Py_VISIT(self->keeps); Py_VISIT(self->values); Py_VISIT(self->errors); Py_VISIT(self->plan);
   return 0;
@@ -415,6 +482,7 @@ static int Request_clear(Request *self) {
 
 static void Request_dealloc(Request *self) {
   PyTypeObject *type = Py_TYPE(self);
+  State *state = self->state;
   PyObject_GC_UnTrack(self);
   if (self->weak) PyObject_ClearWeakRefs((PyObject *)self);
   Request_clear(self);
@@ -423,6 +491,8 @@ static void Request_dealloc(Request *self) {
   cf_free(&self->ledger);
   PyMem_Free(self->rows); PyMem_Free(self->done);
   type->tp_free((PyObject *)self);
+  Py_DECREF(state->module);
+  Py_DECREF(type);
 }
 
 /* Makes room for `least` stages more, and some. */
@@ -434,27 +504,42 @@ static int grow(Request *self, uint32_t least) {
   self->rows = rows;
   for (; more && self->room + more >= self->stages + least && code == CF_ROOM; more /= 2)
     if (!(code = cf_ledger_grow(&self->ledger, (uint16_t)more))) { self->room += more; return 0; }
-  if (code == CF_ROOM) PyErr_SetString(full, "a request has at most 4,096 stages"); else refused(code);
+  if (code == CF_ROOM) PyErr_SetString(self->state->full, "a request has at most 4,096 stages"); else refused(code);
   return -1;
 }
 
+/* A number from 0 on, below the bound, which gets into a word; else -1 and an error. */
+static long number_below(PyObject *number, long bound, const char *what) {
+  long given = PyLong_AsLong(number);
+  if (given == -1 && PyErr_Occurred()) return -1;
+  if (given >= 0 && given < bound) return given;
+  PyErr_Format(PyExc_ValueError, "no %s has the number %ld", what, given);
+  return -1;
+}
+
+/* The number of a caller, or -1 and an error. */
+static int caller_in(PyObject *who) { return (int)number_below(who, CALLERS, "caller"); }
+
 static bool is_own(Request *self, PyObject *stage) {
-  return PyObject_TypeCheck(stage, &StageType) && ((Stage *)stage)->request == self;
+  return PyObject_TypeCheck(stage, self->state->stage_core) && ((Stage *)stage)->request == self;
 }
 
 /* _attach(form, first, second, call, args, kwargs, name): a stage more, to at most two sources of this request. Below a composing one stands
  * its relay, a source. */
 static PyObject *Request_attach(Request *self, PyObject *const *args, Py_ssize_t n) {
   if (n != 7) return PyErr_Format(PyExc_TypeError, "_attach takes 7");
-  long form = PyLong_AsLong(args[0]);
-  if (form == -1 && PyErr_Occurred()) return NULL;
+  long form = number_below(args[0], CF_EXCEPTIONALLY_COMPOSE + 1, "form");
+  if (form < 0) return NULL;
+  if ((args[4] != Py_None && !PyTuple_Check(args[4])) || (args[5] != Py_None && !PyDict_Check(args[5])))
+    return PyErr_Format(PyExc_TypeError, "arguments are a tuple and a dict");
+  if (!self->rows) return PyErr_Format(PyExc_RuntimeError, "the request isn't opened");
   PyObject *call = args[3] == Py_None ? NULL : args[3], *name = args[6];
   uint32_t sources = (args[1] != Py_None) + (args[2] != Py_None), code;
   if ((args[1] != Py_None && !is_own(self, args[1])) || (args[2] != Py_None && !is_own(self, args[2])))
     return PyErr_Format(PyExc_TypeError, "no stage of this request");
   Stage *stage = new_stage(self, 0);
   if (!stage) return NULL;
-  if (name == Py_None && call) name = name_of(call); else Py_INCREF(name);
+  if (name == Py_None && call) name = name_of(self->state, call); else Py_INCREF(name);
   if (!name) { Py_DECREF(stage); return NULL; }
   if (call) { Py_INCREF(call); stage->call = call; }
   if (args[4] != Py_None) { Py_INCREF(args[4]); stage->args = args[4]; }
@@ -465,9 +550,10 @@ static PyObject *Request_attach(Request *self, PyObject *const *args, Py_ssize_t
   News news = NO_NEWS;
   cf_reply reply;
   if (least == 2) {
-    Py_INCREF(relay_name);
-    self->rows[self->stages] = (Row){.next_settled = NONE, .next_ready = NONE, .form = CF_SOURCE, .name = relay_name};
-    if ((code = apply(self, KIND(ATTACH) | WHO(caller), &reply, &news))) { Py_DECREF(relay_name); refused(code); goto failed; }
+    PyObject *relay = self->state->relay_name;
+    Py_INCREF(relay);
+    self->rows[self->stages] = (Row){.next_settled = NONE, .next_ready = NONE, .form = CF_SOURCE, .name = relay};
+    if ((code = apply(self, KIND(ATTACH) | WHO(caller), &reply, &news))) { Py_DECREF(relay); refused(code); goto failed; }
     self->stages++;
   }
   uint16_t number = (uint16_t)self->stages;
@@ -505,8 +591,10 @@ static int stage_in(Request *self, PyObject *stage, uint16_t *i) {
 static PyObject *Request_change(Request *self, PyObject *const *args, Py_ssize_t n) {
   uint16_t stage;
   if (n != 4 || stage_in(self, args[2], &stage)) return n == 4 ? NULL : PyErr_Format(PyExc_TypeError, "_change takes 4");
-  long kind = PyLong_AsLong(args[0]), who = PyLong_AsLong(args[1]);
-  if (PyErr_Occurred()) return NULL;
+  long kind = number_below(args[0], CANCEL + 1, "change");
+  if (kind < 0) return NULL;
+  int who = PyLong_AsLong(args[1]) == THIS_THREAD && !PyErr_Occurred() ? caller : caller_in(args[1]);
+  if (who < 0) return NULL;
   uint64_t low = 0;
   uint32_t number, code;
   if (kind == COMPLETE && value_in(self, args[3], &low)) return NULL;
@@ -517,7 +605,7 @@ static PyObject *Request_change(Request *self, PyObject *const *args, Py_ssize_t
   if (kind == CANCEL && args[3] == Py_True && self->rows[stage].running && !self->rows[stage].told.kind) Py_RETURN_FALSE;  /* unless it runs */
   News news = NO_NEWS;
   cf_reply reply;
-  if ((code = apply(self, KIND(kind) | WHO(who == THIS_THREAD ? caller : who) | OF(stage) | low, &reply, &news))) return refused(code);
+  if ((code = apply(self, KIND(kind) | WHO(who) | OF(stage) | low, &reply, &news))) return refused(code);
   if (tell(self, news, NULL)) return NULL;
   return PyBool_FromLong(reply.answer);
 }
@@ -534,7 +622,7 @@ static void called_clear(Called *it) {
 static int to_call(Request *self, uint16_t i, const cf_args *args, Called *it) {
   memset(it, 0, sizeof *it);
   Stage *stage = (Stage *)self->rows[i].stage;
-  it->call = stage ? stage->call : self->plan ? PyTuple_GET_ITEM(self->plan->calls, i) : NULL;
+  it->call = stage ? stage->call : planned(self, i);
   if (!it->call) { PyErr_SetString(PyExc_RuntimeError, "the request is collected"); return -1; }
   Py_INCREF(it->call);
   if (stage) {
@@ -618,8 +706,8 @@ static int end_linking(Request *self, uint16_t i, int who, PyObject *given, uint
 /* _run(stage, who): claims a stage, calls its function and finishes it, and goes on with a stage that became ready by that. */
 static PyObject *Request_run(Request *self, PyObject *const *args, Py_ssize_t n) {
   if (n != 2 || !is_own(self, args[0])) return PyErr_Format(PyExc_TypeError, "_run takes 2");
-  int who = (int)PyLong_AsLong(args[1]);
-  if (who == -1 && PyErr_Occurred()) return NULL;
+  int who = caller_in(args[1]);
+  if (who < 0) return NULL;
   Kept first = {0};
   uint16_t i = ((Stage *)args[0])->number, following;
   for (; i != NONE; i = following) {
@@ -671,8 +759,8 @@ static int answer(Request *self, int who, PyObject *given, cf_task *task) {
 
 /* _work(who): runs all that is ready, and all that gets ready by that, where nobody else does. */
 static PyObject *Request_work(Request *self, PyObject *number) {
-  int who = (int)PyLong_AsLong(number);
-  if (who == -1 && PyErr_Occurred()) return NULL;
+  int who = caller_in(number);
+  if (who < 0) return NULL;
   Kept first = {0};
   cf_task task = {0};
   for (;;) {
@@ -696,8 +784,8 @@ static PyObject *Request_work(Request *self, PyObject *number) {
 /* _begin(stage, who): claims a stage. Its function with positional and other arguments, or None where nobody is to call it. */
 static PyObject *Request_begin(Request *self, PyObject *const *args, Py_ssize_t n) {
   if (n != 2 || !is_own(self, args[0])) return PyErr_Format(PyExc_TypeError, "_begin takes 2");
-  int who = (int)PyLong_AsLong(args[1]);
-  if (who == -1 && PyErr_Occurred()) return NULL;
+  int who = caller_in(args[1]);
+  if (who < 0) return NULL;
   Called it;
   uint16_t i = ((Stage *)args[0])->number;
   int is_granted = begin(self, i, who, &it);
@@ -719,9 +807,9 @@ static PyObject *Request_begin(Request *self, PyObject *const *args, Py_ssize_t 
  * that and isn't handed to a thread, or None. */
 static PyObject *Request_end(Request *self, PyObject *const *args, Py_ssize_t n) {
   if (n != 4 || !is_own(self, args[0])) return PyErr_Format(PyExc_TypeError, "_end takes 4");
-  int who = (int)PyLong_AsLong(args[1]);
-  long kind = PyLong_AsLong(args[2]);
-  if (PyErr_Occurred()) return NULL;
+  int who = caller_in(args[1]);
+  long kind = who < 0 ? -1 : number_below(args[2], 4, "way to end");
+  if (kind < 0) return NULL;
   uint16_t i = ((Stage *)args[0])->number, following = NONE;
   int failed;
   if (kind == 3) {
@@ -845,16 +933,25 @@ static PyMemberDef request_members[] = {
   {"_title", T_OBJECT, offsetof(Request, title), READONLY, NULL},
   {"_plan", T_OBJECT, offsetof(Request, plan), READONLY, NULL},
   {"_stages", T_UINT, offsetof(Request, stages), READONLY, NULL},
+  {"__weaklistoffset__", T_PYSSIZET, offsetof(Request, weak), READONLY, NULL},
   {NULL}};
-static PyTypeObject RequestType = {
-  PyVarObject_HEAD_INIT(NULL, 0).tp_name = "cf._cf.RequestCore", .tp_basicsize = sizeof(Request),
-  .tp_flags = Py_TPFLAGS_DEFAULT | Py_TPFLAGS_BASETYPE | Py_TPFLAGS_HAVE_GC, .tp_new = PyType_GenericNew, .tp_init = (initproc)Request_init,
-  .tp_traverse = (traverseproc)Request_traverse, .tp_clear = (inquiry)Request_clear, .tp_dealloc = (destructor)Request_dealloc,
-  .tp_weaklistoffset = offsetof(Request, weak), .tp_methods = request_methods, .tp_members = request_members};
+#ifdef Py_TPFLAGS_IMMUTABLETYPE
+enum { FIXED = Py_TPFLAGS_IMMUTABLETYPE, NOT_CALLED = Py_TPFLAGS_DISALLOW_INSTANTIATION };
+#else
+enum { FIXED = 0, NOT_CALLED = 0 };
+#endif
+static PyType_Slot request_slots[] = {
+  {Py_tp_new, Request_new}, {Py_tp_init, Request_init}, {Py_tp_traverse, Request_traverse}, {Py_tp_clear, Request_clear},
+  {Py_tp_dealloc, Request_dealloc}, {Py_tp_methods, request_methods}, {Py_tp_members, request_members}, {0, NULL}};
+static PyType_Spec request_spec = {
+  .name = "cf._cf.RequestCore", .basicsize = sizeof(Request), .slots = request_slots,
+  .flags = Py_TPFLAGS_DEFAULT | Py_TPFLAGS_BASETYPE | Py_TPFLAGS_HAVE_GC | FIXED};
 
 /* ---- Futures ---- */
 
 static int Stage_traverse(Stage *self, visitproc visit, void *arg) {
+  Py_VISIT(Py_TYPE(self));
+  Py_VISIT(self->state->module);
   Py_VISIT(self->request); Py_VISIT(self->call); Py_VISIT(self->args); Py_VISIT(self->kwargs);
   Py_VISIT(self->callbacks); Py_VISIT(self->condition); Py_VISIT(self->waiters); Py_VISIT(self->error);
   return 0;
@@ -868,9 +965,12 @@ static int Stage_clear(Stage *self) {
 
 static void Stage_dealloc(Stage *self) {
   PyTypeObject *type = Py_TYPE(self);
+  State *state = self->state;
   PyObject_GC_UnTrack(self);
   Stage_clear(self);
   type->tp_free((PyObject *)self);
+  Py_DECREF(state->module);
+  Py_DECREF(type);
 }
 
 static PyObject *Stage_done(Stage *self, PyObject *Py_UNUSED(none)) { return PyBool_FromLong(told(self).kind); }
@@ -900,12 +1000,12 @@ static int settle(Stage *self, PyObject *const *args, Py_ssize_t n, PyObject *na
     return -1;
   }
   if (!told(self).kind) {
-    PyObject *none = PyObject_CallMethodOneArg((PyObject *)self, wait_name, many ? args[0] : Py_None);
+    PyObject *none = PyObject_CallMethodOneArg((PyObject *)self, self->state->wait_name, many ? args[0] : Py_None);
     if (!none) return -1;
     Py_DECREF(none);
-    if (!told(self).kind) { PyErr_SetNone(future_error); return -1; }
+    if (!told(self).kind) { PyErr_SetNone(self->state->future_error); return -1; }
   }
-  if (was_cancelled(told(self))) { PyErr_SetNone(cancelled_error); return -1; }
+  if (was_cancelled(told(self))) { PyErr_SetNone(self->state->cancelled_error); return -1; }
   return 0;
 }
 
@@ -943,8 +1043,9 @@ static PyObject *Stage_add_done_callback(Stage *self, PyObject *call) {
 static PyObject *Stage_state(Stage *self, void *Py_UNUSED(which)) {
   be_here(self);
   cf_outcome outcome = told(self);
-  PyObject *state = self->shown ? was_cancelled(outcome) ? cancelled_state : finished
-                    : self->request && self->request->rows[self->number].running ? running : pending;
+  State *of = self->state;
+  PyObject *state = self->shown ? was_cancelled(outcome) ? of->cancelled_state : of->finished
+                    : self->request && self->request->rows[self->number].running ? of->running : of->pending;
   Py_INCREF(state);
   return state;
 }
@@ -968,7 +1069,7 @@ static int Stage_set_shown(Stage *self, PyObject *shown, void *Py_UNUSED(which))
 static PyObject *Stage_condition(Stage *self, void *Py_UNUSED(which)) {
   be_here(self);
   if (!self->condition) {
-    PyObject *made = PyObject_CallNoArgs(condition_class);
+    PyObject *made = PyObject_CallNoArgs(self->state->condition_class);
     if (!made) return NULL;
     if (!self->condition) self->condition = made; else Py_DECREF(made);
   }
@@ -1025,42 +1126,66 @@ static PyGetSetDef stage_getters[] = {
   {"_result", (getter)Stage_value, NULL, NULL, NULL},
   {"_exception", (getter)Stage_error, NULL, NULL, NULL},
   {NULL}};
-static PyTypeObject StageType = {
-  PyVarObject_HEAD_INIT(NULL, 0).tp_name = "cf._cf.StageCore", .tp_basicsize = sizeof(Stage),
-  .tp_flags = Py_TPFLAGS_DEFAULT | Py_TPFLAGS_BASETYPE | Py_TPFLAGS_HAVE_GC,
-  .tp_traverse = (traverseproc)Stage_traverse, .tp_clear = (inquiry)Stage_clear, .tp_dealloc = (destructor)Stage_dealloc,
-  .tp_methods = stage_methods, .tp_members = stage_members, .tp_getset = stage_getters};
+static PyType_Slot stage_slots[] = {
+  {Py_tp_traverse, Stage_traverse}, {Py_tp_clear, Stage_clear}, {Py_tp_dealloc, Stage_dealloc}, {Py_tp_methods, stage_methods},
+  {Py_tp_members, stage_members}, {Py_tp_getset, stage_getters}, {0, NULL}};
+static PyType_Spec stage_spec = {
+  .name = "cf._cf.StageCore", .basicsize = sizeof(Stage), .slots = stage_slots,
+  .flags = Py_TPFLAGS_DEFAULT | Py_TPFLAGS_BASETYPE | Py_TPFLAGS_HAVE_GC | FIXED | NOT_CALLED};
 
 /* ---- Plans ---- */
+
+static void Plan_dealloc(Plan *self);
+
+static PyObject *Plan_new(PyTypeObject *type, PyObject *Py_UNUSED(args), PyObject *Py_UNUSED(kwargs)) {
+  State *state = state_of(type, (destructor)Plan_dealloc);
+  Plan *self = state ? (Plan *)type->tp_alloc(type, 0) : NULL;
+  if (!self) return NULL;
+  Py_INCREF(state->module);
+  self->state = state;
+  return (PyObject *)self;
+}
+
+/* Adds the stage of a row to a plan that is built, and answers the code of the library, or CF_NULL and an error. */
+static uint32_t plan_stage(Plan *self, PyObject *row, Py_ssize_t k) {
+  unsigned int form;
+  PyObject *of, *function, *name;
+  if (!PyTuple_Check(row)) { PyErr_SetString(PyExc_TypeError, "a row is a tuple"); return CF_NULL; }
+  if (!PyArg_ParseTuple(row, "IO!OU", &form, &PyTuple_Type, &of, &function, &name)) return CF_NULL;
+  Py_INCREF(function); PyTuple_SET_ITEM(self->calls, k, function);
+  Py_INCREF(name); PyTuple_SET_ITEM(self->names, k, name);
+  Py_ssize_t many = PyTuple_GET_SIZE(of);
+  uint16_t *sources = PyMem_Calloc(many + 1, sizeof *sources), stage;
+  if (!sources) return CF_NO_MEMORY;
+  uint32_t code = CF_OK;
+  for (Py_ssize_t s = 0; !code && s < many; s++) {
+    long source = number_below(PyTuple_GET_ITEM(of, s), k, "lower stage");
+    if (source < 0) code = CF_NULL; else sources[s] = (uint16_t)source;
+  }
+  self->forms[k] = (uint8_t)form;
+  if (!code) code = cf_builder_stage(&self->plan, form, sources, many, function == Py_None ? CF_NO_FUNCTION : (uint32_t)k, &stage);
+  PyMem_Free(sources);
+  return code;
+}
 
 /* PlanCore(rows): of each stage the form, the numbers of its sources, its function or None, and its name. */
 static int Plan_init(Plan *self, PyObject *args, PyObject *kwargs) {
   PyObject *rows;
   if (!PyArg_ParseTuple(args, "O!", &PyList_Type, &rows)) return -1;
+  if (self->rows) { PyErr_SetString(PyExc_TypeError, "a plan is made once"); return -1; }
+  if (!(rows = PyList_GetSlice(rows, 0, PyList_GET_SIZE(rows)))) return -1;  /* (numbers may run what changes the list) */
+  self->rows = rows;
   Py_ssize_t n = PyList_GET_SIZE(rows);
-  if (n > MOST) { PyErr_SetString(full, "a request has at most 4,096 stages"); return -1; }
+  if (n > MOST) { PyErr_SetString(self->state->full, "a request has at most 4,096 stages"); return -1; }
   uint32_t code = cf_builder_new(&self->plan, 0, 0);
   self->calls = PyTuple_New(n);
   self->names = PyTuple_New(n);
   self->forms = PyMem_Calloc(n + 1, 1);
   self->start = PyMem_Calloc(n + 1, sizeof *self->start);
   if (!self->calls || !self->names || !self->forms || !self->start) { PyErr_NoMemory(); return -1; }
-  for (Py_ssize_t k = 0; !code && k < n; k++) {
-    unsigned int form;
-    PyObject *of, *function, *name;
-    if (!PyArg_ParseTuple(PyList_GET_ITEM(rows, k), "IO!OU", &form, &PyTuple_Type, &of, &function, &name)) return -1;
-    Py_INCREF(function); PyTuple_SET_ITEM(self->calls, k, function);
-    Py_INCREF(name); PyTuple_SET_ITEM(self->names, k, name);
-    Py_ssize_t many = PyTuple_GET_SIZE(of);
-    uint16_t *sources = PyMem_Calloc(many + 1, sizeof *sources), stage;
-    if (!sources) { PyErr_NoMemory(); return -1; }
-    for (Py_ssize_t s = 0; s < many; s++) sources[s] = (uint16_t)PyLong_AsLong(PyTuple_GET_ITEM(of, s));
-    self->forms[k] = (uint8_t)form;
-    code = cf_builder_stage(&self->plan, form, sources, many, function == Py_None ? CF_NO_FUNCTION : (uint32_t)k, &stage);
-    PyMem_Free(sources);
-    if (PyErr_Occurred()) return -1;
-  }
-  if (code == CF_TOO_MANY_EDGES) { PyErr_SetString(full, "a flow has at most 16,384 mentions of sources"); return -1; }
+  for (Py_ssize_t k = 0; !code && k < n; k++) code = plan_stage(self, PyList_GET_ITEM(rows, k), k);
+  if (code == CF_NULL) return -1;
+  if (code == CF_TOO_MANY_EDGES) { PyErr_SetString(self->state->full, "a flow has at most 16,384 mentions of sources"); return -1; }
   cf_handle ledger = {0};
   if (!code) code = cf_build(&self->plan);
   if (!code) code = cf_ledger_new(&self->plan, 0, &ledger);
@@ -1068,14 +1193,14 @@ static int Plan_init(Plan *self, PyObject *args, PyObject *kwargs) {
   cf_free(&ledger);
   if (code) { refused(code); return -1; }
   self->stages = (uint16_t)n;
-  Py_INCREF(rows);
-  self->rows = rows;
   return 0;
 }
 
 static PyMemberDef plan_members[] = {{"rows", T_OBJECT, offsetof(Plan, rows), READONLY, NULL}, {NULL}};
 
 static int Plan_traverse(Plan *self, visitproc visit, void *arg) {
+  Py_VISIT(Py_TYPE(self));
+  Py_VISIT(self->state->module);
   Py_VISIT(self->calls); Py_VISIT(self->rows);
   return 0;
 }
@@ -1086,40 +1211,49 @@ static int Plan_clear(Plan *self) {
 }
 
 static void Plan_dealloc(Plan *self) {
+  PyTypeObject *type = Py_TYPE(self);
+  State *state = self->state;
   PyObject_GC_UnTrack(self);
   Plan_clear(self);
   Py_CLEAR(self->names);
   cf_free(&self->plan);
   PyMem_Free(self->forms); PyMem_Free(self->start);
-  Py_TYPE(self)->tp_free((PyObject *)self);
+  type->tp_free((PyObject *)self);
+  Py_DECREF(state->module);
+  Py_DECREF(type);
 }
 
-static PyTypeObject PlanType = {
-  PyVarObject_HEAD_INIT(NULL, 0).tp_name = "cf._cf.PlanCore", .tp_basicsize = sizeof(Plan),
-  .tp_flags = Py_TPFLAGS_DEFAULT | Py_TPFLAGS_HAVE_GC, .tp_new = PyType_GenericNew, .tp_init = (initproc)Plan_init,
-  .tp_members = plan_members, .tp_traverse = (traverseproc)Plan_traverse, .tp_clear = (inquiry)Plan_clear, .tp_dealloc = (destructor)Plan_dealloc};
+static PyType_Slot plan_slots[] = {
+  {Py_tp_new, Plan_new}, {Py_tp_init, Plan_init}, {Py_tp_members, plan_members}, {Py_tp_traverse, Plan_traverse}, {Py_tp_clear, Plan_clear},
+  {Py_tp_dealloc, Plan_dealloc}, {0, NULL}};
+static PyType_Spec plan_spec = {
+  .name = "cf._cf.PlanCore", .basicsize = sizeof(Plan), .slots = plan_slots, .flags = Py_TPFLAGS_DEFAULT | Py_TPFLAGS_HAVE_GC | FIXED};
 
 /* ---- The module ---- */
 
 /* use(Stage, RequestFull, BadAnswer): the classes that are written in Python. */
-static PyObject *use(PyObject *Py_UNUSED(module), PyObject *args) {
-  PyObject *type;
-  if (!PyArg_ParseTuple(args, "OOO", &type, &full, &bad_answer)) return NULL;
-  if (!PyType_Check(type) || !PyType_IsSubtype((PyTypeObject *)type, &StageType)) return PyErr_Format(PyExc_TypeError, "no class of stages");
-  stage_type = (PyTypeObject *)type;
+static PyObject *use(PyObject *module, PyObject *args) {
+  State *state = PyModule_GetState(module);
+  PyObject *type, *full, *bad_answer;
+  if (!PyArg_ParseTuple(args, "O!OO", &PyType_Type, &type, &full, &bad_answer)) return NULL;
+  if (!PyType_IsSubtype((PyTypeObject *)type, state->stage_core)) return PyErr_Format(PyExc_TypeError, "no class of stages");
+  if (!PyExceptionClass_Check(full) || !PyExceptionClass_Check(bad_answer)) return PyErr_Format(PyExc_TypeError, "no class of exceptions");
   Py_INCREF(type); Py_INCREF(full); Py_INCREF(bad_answer);
+  Py_XSETREF(state->stage_type, (PyTypeObject *)type);
+  Py_XSETREF(state->full, full);
+  Py_XSETREF(state->bad_answer, bad_answer);
   Py_RETURN_NONE;
 }
 
 static PyObject *be(PyObject *Py_UNUSED(module), PyObject *who) {
-  long number = PyLong_AsLong(who);
-  if (number == -1 && PyErr_Occurred()) return NULL;
-  caller = (int)number;
+  int number = caller_in(who);
+  if (number < 0) return NULL;
+  caller = number;
   Py_RETURN_NONE;
 }
 
-static PyObject *forked(PyObject *Py_UNUSED(module), PyObject *Py_UNUSED(none)) {
-  forks++;
+static PyObject *forked(PyObject *module, PyObject *Py_UNUSED(none)) {
+  ((State *)PyModule_GetState(module))->forks++;
   Py_RETURN_NONE;
 }
 
@@ -1128,7 +1262,6 @@ static PyMethodDef module_methods[] = {
   {"be", (PyCFunction)be, METH_O, "Gives this thread the number of a caller."},
   {"forked", (PyCFunction)forked, METH_NOARGS, "Tells that this process is a fork's child."},
   {NULL}};
-static PyModuleDef module = {PyModuleDef_HEAD_INIT, "_cf", "Requests and stages over the proved ledger.", -1, module_methods, NULL, NULL, NULL, NULL};
 
 static PyObject *of_module(const char *name, const char *attribute) {
   PyObject *imported = PyImport_ImportModule(name), *found = imported ? PyObject_GetAttrString(imported, attribute) : NULL;
@@ -1136,38 +1269,86 @@ static PyObject *of_module(const char *name, const char *attribute) {
   return found;
 }
 
-PyMODINIT_FUNC PyInit__cf(void) {
+static PyTypeObject *type_of(PyObject *module, PyType_Spec *spec, const char *name) {
+  PyObject *type = PyType_FromModuleAndSpec(module, spec, NULL);
+  if (!type) return NULL;
+  Py_INCREF(type);
+  if (PyModule_AddObject(module, name, type)) { Py_DECREF(type); Py_CLEAR(type); }
+  return (PyTypeObject *)type;
+}
+
+/* Makes what an interpreter has of the module. */
+static int fill(PyObject *module) {
+  State *it = PyModule_GetState(module);
+  it->module = module;
   if (!cf_fits(CF_VERSION_MAJOR, CF_VERSION_MINOR)) {
     PyErr_Format(PyExc_ImportError, "the library has version %s", cf_version());
-    return NULL;
+    return -1;
   }
   if (sizeof(cf_reply) != 48 || sizeof(cf_outcome) != 20 || cf_layout("cf_reply") != 48 || cf_layout("cf_news") != sizeof(cf_news)) {
     PyErr_SetString(PyExc_ImportError, "the structures of the library are others");
-    return NULL;
+    return -1;
   }
-  if (PyType_Ready(&RequestType) || PyType_Ready(&StageType) || PyType_Ready(&PlanType)) return NULL;
-  if (cf_builder_new(&nothing, 0, 0) || cf_build(&nothing)) return PyErr_NoMemory();
-  cancelled_error = of_module("concurrent.futures", "CancelledError");
-  future_error = of_module("concurrent.futures", "TimeoutError");
-  condition_class = of_module("threading", "Condition");
-  pending = of_module("concurrent.futures._base", "PENDING");
-  running = of_module("concurrent.futures._base", "RUNNING");
-  finished = of_module("concurrent.futures._base", "FINISHED");
-  cancelled_state = of_module("concurrent.futures._base", "CANCELLED_AND_NOTIFIED");
-  put_name = PyUnicode_InternFromString("put");
-  refusal_name = PyUnicode_InternFromString("refusal");
-  show_name = PyUnicode_InternFromString("_show");
-  log_name = PyUnicode_InternFromString("_log");
-  wait_name = PyUnicode_InternFromString("_wait");
-  qualname_name = PyUnicode_InternFromString("__qualname__");
-  func_name = PyUnicode_InternFromString("func");
-  relay_name = PyUnicode_InternFromString("relay");
-  if (PyErr_Occurred()) return NULL;
-  PyObject *made = PyModule_Create(&module);
-  if (!made) return NULL;
-  Py_INCREF(&RequestType); Py_INCREF(&StageType); Py_INCREF(&PlanType);
-  if (PyModule_AddObject(made, "RequestCore", (PyObject *)&RequestType) || PyModule_AddObject(made, "StageCore", (PyObject *)&StageType) ||
-      PyModule_AddObject(made, "PlanCore", (PyObject *)&PlanType))
-    return NULL;
-  return made;
+  it->changed = PyMem_RawMalloc(MOST * sizeof *it->changed);
+  if (!it->changed || cf_builder_new(&it->nothing, 0, 0) || cf_build(&it->nothing)) { PyErr_NoMemory(); return -1; }
+  if (!(it->request_core = type_of(module, &request_spec, "RequestCore"))) return -1;
+  if (!(it->stage_core = type_of(module, &stage_spec, "StageCore"))) return -1;
+  it->stage_core->tp_new = NULL;  /* a request makes its stages (Python 3.9 has no flag for it) */
+  if (!(it->plan_core = type_of(module, &plan_spec, "PlanCore"))) return -1;
+  Py_INCREF(PyExc_RuntimeError); it->full = PyExc_RuntimeError;  /* until `use` tells another */
+  Py_INCREF(PyExc_RuntimeError); it->bad_answer = PyExc_RuntimeError;
+  it->cancelled_error = of_module("concurrent.futures", "CancelledError");
+  it->future_error = of_module("concurrent.futures", "TimeoutError");
+  it->condition_class = of_module("threading", "Condition");
+  it->pending = of_module("concurrent.futures._base", "PENDING");
+  it->running = of_module("concurrent.futures._base", "RUNNING");
+  it->finished = of_module("concurrent.futures._base", "FINISHED");
+  it->cancelled_state = of_module("concurrent.futures._base", "CANCELLED_AND_NOTIFIED");
+  it->put_name = PyUnicode_InternFromString("put");
+  it->refusal_name = PyUnicode_InternFromString("refusal");
+  it->show_name = PyUnicode_InternFromString("_show");
+  it->log_name = PyUnicode_InternFromString("_log");
+  it->wait_name = PyUnicode_InternFromString("_wait");
+  it->qualname_name = PyUnicode_InternFromString("__qualname__");
+  it->func_name = PyUnicode_InternFromString("func");
+  it->relay_name = PyUnicode_InternFromString("relay");
+  return PyErr_Occurred() ? -1 : 0;
 }
+
+static int module_traverse(PyObject *module, visitproc visit, void *arg) {
+  State *it = PyModule_GetState(module);
+  Py_VISIT(it->request_core); Py_VISIT(it->stage_core); Py_VISIT(it->plan_core); Py_VISIT(it->stage_type);
+  Py_VISIT(it->full); Py_VISIT(it->bad_answer); Py_VISIT(it->cancelled_error); Py_VISIT(it->future_error); Py_VISIT(it->condition_class);
+  return 0;
+}
+
+/* Of what stands here, the class of stages alone may lead back to the module. The rest stays until no object is left that uses it. */
+static int module_clear(PyObject *module) {
+  State *it = PyModule_GetState(module);
+  Py_CLEAR(it->stage_type);
+  return 0;
+}
+
+static void module_free(void *module) {
+  State *it = PyModule_GetState((PyObject *)module);
+  module_clear((PyObject *)module);
+  Py_CLEAR(it->request_core); Py_CLEAR(it->stage_core); Py_CLEAR(it->plan_core);
+  Py_CLEAR(it->full); Py_CLEAR(it->bad_answer); Py_CLEAR(it->cancelled_error); Py_CLEAR(it->future_error); Py_CLEAR(it->condition_class);
+  Py_CLEAR(it->pending); Py_CLEAR(it->running); Py_CLEAR(it->finished); Py_CLEAR(it->cancelled_state);
+  Py_CLEAR(it->put_name); Py_CLEAR(it->refusal_name); Py_CLEAR(it->show_name); Py_CLEAR(it->log_name); Py_CLEAR(it->wait_name);
+  Py_CLEAR(it->qualname_name); Py_CLEAR(it->func_name); Py_CLEAR(it->relay_name);
+  cf_free(&it->nothing);
+  PyMem_RawFree(it->changed);
+}
+
+static PyModuleDef_Slot module_slots[] = {
+  {Py_mod_exec, fill},
+#ifdef Py_MOD_PER_INTERPRETER_GIL_SUPPORTED
+  {Py_mod_multiple_interpreters, Py_MOD_PER_INTERPRETER_GIL_SUPPORTED},
+#endif
+  {0, NULL}};
+static PyModuleDef module = {
+  PyModuleDef_HEAD_INIT, .m_name = "_cf", .m_doc = "Requests and stages over the proved ledger.", .m_size = sizeof(State),
+  .m_methods = module_methods, .m_slots = module_slots, .m_traverse = module_traverse, .m_clear = module_clear, .m_free = module_free};
+
+PyMODINIT_FUNC PyInit__cf(void) { return PyModuleDef_Init(&module); }

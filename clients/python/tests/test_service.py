@@ -9,10 +9,15 @@ does (20).
 """
 import asyncio
 import concurrent.futures
+import contextlib
+import contextvars
 import gc
+import json
 import logging
+import math
 import os
 import pickle
+import queue
 import signal
 import subprocess
 import sys
@@ -21,6 +26,7 @@ import threading
 import time
 import traceback
 import unittest
+import unittest.mock
 import weakref
 from concurrent.futures import CancelledError, InvalidStateError
 from pathlib import Path
@@ -28,7 +34,8 @@ from pathlib import Path
 HERE = Path(__file__).resolve().parent
 if not os.environ.get("CF_INSTALLED"):
     sys.path.insert(0, str(HERE.parent))
-from cf.service import Flow, LoopService, Request, RequestFull, Service, Stage  # noqa: E402
+import cf  # noqa: E402
+from cf.service import Flow, LoopService, Request, RequestFull, Service, Stage, describe_nothing, describe_types, flow as flows  # noqa: E402
 from cf.service._core import IS_MODULE  # noqa: E402
 
 REQUESTS = int(os.environ.get("CF_REQUESTS", "20000"))
@@ -46,8 +53,45 @@ def fails(*_):
     raise Oops("x")
 
 
+def leaves(*_):
+    raise SystemExit(3)
+
+
 def inc(x):
     return x + 1
+
+
+def until(is_so):
+    """Waits until something is so, for at most 20 seconds; whether it is."""
+    end = time.monotonic() + 20
+    while not is_so() and time.monotonic() < end:
+        time.sleep(0.002)
+    return is_so()
+
+
+@contextlib.contextmanager
+def starting(start):
+    """Calls this in the place of `Thread.start`, for threads of services; it is given the thread and what starts it."""
+    real = threading.Thread.start
+
+    def chosen(thread):
+        if thread.name.startswith("Service-"):
+            start(thread, real)
+        else:
+            real(thread)
+    with unittest.mock.patch.object(threading.Thread, "start", chosen):
+        yield
+
+
+def no_thread(*_):
+    raise RuntimeError("can't start new thread")
+
+
+class Thing:
+    """Something of which a test knows whether it is still there. It may be called."""
+
+    def __call__(self, *_, **__):
+        return None
 
 
 def program(text, timeout=60, **environment):
@@ -196,6 +240,60 @@ class Settling(Case):
         with self.assertRaises(concurrent.futures.TimeoutError):
             r.promise().exception(timeout=0)
 
+    def test_limits_of_any_size(self):
+        """An endless limit never fires, one that is over fires at once, one that is none is refused; and the clock goes on."""
+        r = self.request
+        for seconds in (math.inf, 1e10, 1e300, threading.TIMEOUT_MAX, 10**20):
+            promise = r.promise().or_timeout(seconds)
+            self.assertIsInstance(r.promise().or_timeout(0.01).exception(20), TimeoutError)
+            self.assertTrue(promise.complete(1))
+        for seconds in (0, -1, -1e300, -math.inf):
+            self.assertIsInstance(r.promise().or_timeout(seconds).exception(20), TimeoutError)
+        for seconds, kind in ((math.nan, ValueError), ("1", TypeError), (None, TypeError)):
+            for promise in (r.promise(), self.service.submit(str)):
+                with self.assertRaises(kind):
+                    promise.or_timeout(seconds)
+                with self.assertRaises(kind):
+                    promise.complete_on_timeout(1, seconds)
+        self.assertEqual(r.promise().complete_on_timeout(7, 0.01).result(20), 7)
+
+    def test_an_earlier_limit_wakes_the_clock(self):
+        late = [self.request.promise().or_timeout(1000 + k) for k in range(3)]
+        time.sleep(0.05)  # (the clock waits for the first of these)
+        self.assertEqual(self.request.promise().complete_on_timeout(1, 0.01).result(20), 1)
+        self.assertFalse(any(stage.done() for stage in late))
+
+    def test_slow_functions_hold_up_no_limit(self):
+        """What is behind a limit is called by a thread, and not by the clock."""
+        begun, goes_on = threading.Event(), threading.Event()
+        slow = self.request.promise().or_timeout(0.01).recover(lambda _: begun.set() or goes_on.wait(20))
+        self.assertTrue(begun.wait(20))
+        self.assertEqual(self.request.promise().complete_on_timeout(1, 0.01).result(20), 1)
+        goes_on.set()
+        self.assertTrue(slow.result(20))
+
+    def test_the_clock_outlives_callbacks(self):
+        for raises in (leaves, fails):
+            late = self.request.promise()
+            late.add_done_callback(raises)
+            with self.assertLogs("concurrent.futures", "ERROR"):
+                self.assertIsInstance(late.or_timeout(0.01).exception(20), TimeoutError)
+                self.assertEqual(self.request.promise().complete_on_timeout(1, 0.02).result(20), 1)
+
+    def test_what_a_timer_held_may_use_the_clock(self):
+        """A value that a timer lets go of is freed where no lock is held."""
+        told = []
+
+        class Last:
+            def __del__(it):
+                asks = threading.Thread(target=lambda: told.append(self.request.promise().complete_on_timeout(1, 0.01).result(20)))
+                asks.start()
+                asks.join(5)
+                told.append(asks.is_alive())
+        self.request.promise().complete_on_timeout(Last(), 1000).complete(1)
+        self.assertTrue(until(lambda: len(told) == 2))
+        self.assertEqual(told, [1, False])
+
     def test_timer_outlives_all_who_asked(self):
         done = threading.Event()
         self.service.request().promise().or_timeout(0.05).recover(lambda error: done.set())
@@ -287,6 +385,44 @@ class Raising(Case):
             self.service.shutdown()
         self.assertEqual(told, [True])
 
+    def test_exits_of_callbacks_lose_no_other(self):
+        """One event settles two stages, and the first callback of the first leaves."""
+        r, told = self.request, []
+        promise = r.promise()
+        both = r.all_of(promise)
+        elsewhere = self.service.request("other").adopt(both)
+        promise.add_done_callback(leaves)
+        promise.add_done_callback(lambda _: told.append("second"))
+        both.add_done_callback(lambda _: told.append("other stage"))
+        with self.assertRaises(SystemExit):
+            promise.complete(1)
+        self.assertEqual((told, elsewhere.done()), (["second", "other stage"], True))
+
+    def test_exits_of_callbacks_lose_no_relay(self):
+        """Relays wait in a row for their turn, and a callback of the first leaves."""
+        new = self.service.request
+        first = self.request.promise()
+        middle = new().adopt(first)
+        relays = [new().adopt(middle) for _ in range(3)]
+        relays[0].add_done_callback(leaves)
+        with self.assertRaises(SystemExit):
+            first.complete(1)
+        self.assertTrue(all(relay.done() for relay in relays))
+        again = self.request.promise()
+        relay = new().adopt(again)
+        again.complete(2)
+        self.assertEqual(relay.result(0), 2)
+
+    def test_exits_of_callbacks_end_no_thread(self):
+        with Service(1) as service, self.assertLogs("concurrent.futures", "CRITICAL"):
+            for _ in range(3):
+                begun = threading.Event()
+                stage = service.submit(begun.wait, 20)
+                behind = stage.then(inc)
+                stage.add_done_callback(leaves)
+                begun.set()
+                self.assertEqual(behind.result(20), 2)
+
     def test_callbacks_may_call_their_request(self):
         r, told = self.request, []
         promise = r.promise()
@@ -363,6 +499,132 @@ class Raising(Case):
         self.assertEqual((out, status), ("True 0\n", 0), err)
 
 
+class Threads(unittest.TestCase):
+    def idle(self, service, many):
+        self.assertTrue(until(lambda: service._works._idle == many))
+
+    def test_idle_threads_are_used(self):
+        with Service(4) as service:
+            for _ in range(20):
+                service.submit(str).result(20)
+                self.idle(service, 1)
+            self.assertEqual(len(service._works.threads), 1)
+
+    def test_each_ready_stage_has_a_thread(self):
+        """Stages that wait for each other become ready at once, while one thread is idle, and all of a full pool are."""
+        with Service(3) as service:
+            service.submit(str).result(20)
+            self.idle(service, 1)
+            r = service.request()
+            for _ in range(3):
+                promise, gate = r.promise(), threading.Barrier(3)
+                ends = [promise.then(lambda _: gate.wait(20)) for _ in range(3)]
+                promise.complete(1)
+                self.assertEqual(sorted(end.result(20) for end in ends), [0, 1, 2])
+
+    def test_a_start_that_fails_is_tried_again(self):
+        for threads in (1, 3):
+            with Service(threads) as service:
+                with starting(no_thread):
+                    self.assertIn("can't start new thread", str(service.submit(str).exception(20)))
+                    self.assertIsInstance(service.submit(str).exception(20), RuntimeError)
+                r, gate = service.request(), threading.Barrier(threads)
+                self.assertEqual(len([end.result(20) for end in [r.supply(gate.wait, 20) for _ in range(threads)]]), threads)
+
+    def test_a_start_of_the_clock_that_fails_is_tried_again(self):
+        with Service(1) as service:
+            promise, late = service.request().promise(), service.request().promise()
+            with starting(no_thread), self.assertRaises(RuntimeError):
+                late.or_timeout(0)
+            self.assertEqual(promise.complete_on_timeout(1, 0.01).result(20), 1)
+            self.assertFalse(late.done())
+
+    def test_stages_that_are_put_while_a_start_fails(self):
+        """A second caller leaves its stage to the only thread, which then can't be started."""
+        entered, goes_on = threading.Event(), threading.Event()
+
+        def fails_late(*_):
+            entered.set()
+            goes_on.wait(20)
+            no_thread()
+        with Service(1) as service:
+            with starting(fails_late):
+                first, stages = threading.Thread(target=lambda: stages.append(service.submit(str))), []
+                first.start()
+                self.assertTrue(entered.wait(20))
+                stages.append(service.submit(str))
+                goes_on.set()
+                first.join(20)
+            for stage in stages:
+                self.assertIsInstance(stage.exception(20), RuntimeError)
+            self.assertEqual(service.submit(str, 1).result(20), "1")
+
+    def test_functions_have_the_context_of_their_thread(self):
+        """As those of ThreadPoolExecutor."""
+        name = contextvars.ContextVar("name", default="-")
+        name.set("caller")
+        with Service(1, initializer=lambda: name.set("thread")) as service:
+            self.assertEqual(service.submit(name.get).result(20), "thread")
+            self.assertEqual(service.submit(contextvars.copy_context().run, name.get).result(20), "caller")
+
+
+class Kept(Case):
+    """What is let go of, and when."""
+
+    def things(self, attach):
+        """A stage that is attached with things alone; and whether they are still there."""
+        things = [Thing() for _ in range(5)]
+        call, first, other, callback, late = things
+        stage = attach(call, first, other).complete_on_timeout(late, 1000)
+        stage.add_done_callback(callback)
+        known = [weakref.ref(thing) for thing in things]
+        return stage, lambda: [it for it in known if it() is not None]
+
+    def test_settled_stages_keep_nothing(self):
+        r, goes_on = self.request, threading.Event()
+        running = [self.service.submit(goes_on.wait, 20) for _ in range(4)]
+
+        def supplied(call, first, other):
+            return r.supply(call, first, other=other)
+
+        def behind(source):
+            return lambda call, first, other: source.then(call)
+        source = r.promise()
+        cases = [(supplied, Stage.cancel), (supplied, lambda stage: stage.complete(1)), (supplied, lambda stage: stage.fail(Oops())),
+                 (supplied, lambda _: goes_on.set()), (supplied, lambda _: None), (behind(source), Stage.cancel),
+                 (behind(source), lambda _: source.cancel()), (behind(r.supply(str)), lambda _: None)]
+        held = []
+        for attach, settle in cases:
+            stage, left = self.things(attach)
+            settle(stage)
+            self.assertTrue(stage.done() or until(stage.done))
+            self.assertTrue(until(lambda: not left()), left())
+            held.append(stage)
+        self.assertTrue(all(stage.done() for stage in [*held, *running]))
+
+    def test_idle_threads_keep_nothing(self):
+        gc.disable()
+        try:
+            for call, *given in ((Thing(),), (lambda it: it, Thing()), (fails,)):
+                stage = self.service.submit(call, *given)
+                stage.exception(20)
+                known = weakref.ref(stage)
+                del call, given, stage
+                self.assertTrue(until(lambda: known() is None))
+        finally:
+            gc.enable()
+
+    def test_unsettled_stages_that_nobody_has_are_freed(self):
+        def make():
+            r, thing = self.service.request(), Thing()
+            promise = r.promise()
+            r.gather(promise, promise.then(thing), r.first_of(r.promise(), promise)).then(thing).compose(thing)
+            return weakref.ref(thing), weakref.ref(r)
+        known = [make() for _ in range(3)]
+        gc.collect()
+        self.assertEqual([it for both in known for it in both if it() is not None], [])
+
+
 class Loops(unittest.TestCase):
     def test_coroutines(self):
         async def load(n):
@@ -410,6 +672,102 @@ class Loops(unittest.TestCase):
             self.assertEqual(await quick, "1")
         asyncio.run(main())
         self.assertEqual(ended, ["cancelled"] * 3)
+
+    def test_limits_of_any_size(self):
+        async def main():
+            r = LoopService(asyncio.get_running_loop()).request()
+            for seconds in (math.inf, 1e10, 1e300):
+                promise = r.promise().or_timeout(seconds)
+                self.assertEqual(await r.promise().complete_on_timeout(1, 0.01), 1)
+                self.assertTrue(promise.complete(1))
+            with self.assertRaises(TimeoutError):
+                await r.promise().or_timeout(-1)
+            with self.assertRaises(ValueError):
+                r.promise().or_timeout(math.nan)
+        asyncio.run(main())
+
+    def test_functions_have_the_context_of_where_they_were_attached(self):
+        tenant, seen = contextvars.ContextVar("tenant", default="-"), []
+
+        async def later(_):
+            first = tenant.get()
+            await asyncio.sleep(0)
+            seen.append((first, tenant.get()))
+
+        def leaks(_):
+            seen.append(tenant.get())
+            tenant.set("leaked")
+
+        async def handler(service, name, cache):
+            tenant.set(name)
+            r = service.request(name)
+            await r.adopt(cache).then(leaks).then(later).then(leaks)
+            seen.append(tenant.get())
+
+        async def main():
+            service = LoopService(asyncio.get_running_loop())
+            for name in ("acme", "umbrella"):
+                cache = service.request("cache").promise()
+                task = asyncio.ensure_future(handler(service, name, cache))
+                await asyncio.sleep(0)
+                tenant.set("loader")
+                cache.complete(1)
+                await task
+                self.assertEqual(seen, [name, (name, name), name, name])
+                seen.clear()
+            flow = Flow()
+            end = flow.promise().then(leaks).then(later)
+            tenant.set("starter")
+            request = service.start(flow)
+            tenant.set("completer")
+            request[flow_promise(flow)].complete(1)
+            await request[end]
+            self.assertEqual(seen, ["starter", ("starter", "starter")])
+
+        def flow_promise(flow):
+            return flows.Step(flow, 0)
+        asyncio.run(main())
+
+    def test_names_of_functions(self):
+        async def main():
+            r = LoopService(asyncio.get_running_loop()).request()
+            self.assertEqual([r.supply(inc).name, r.supply(flows.functools.partial(inc, 1)).name, r.supply(Thing()).name, r.promise().then(inc).name],
+                             ["inc", "inc", "Thing", "inc"])
+        asyncio.run(main())
+
+    def test_interrupts_and_exits_leave_the_loop(self):
+        """As those of asyncio's tasks do. The stage has it, and what is behind it is run all the same, once the loop goes on."""
+        for kind in (KeyboardInterrupt, SystemExit):
+            async def later():
+                await asyncio.sleep(0)
+                raise kind
+
+            def now():
+                raise kind
+            for raises in (now, later):
+                loop = asyncio.new_event_loop()
+                loop.set_exception_handler(lambda *_: None)
+                r = LoopService(loop).request()
+                stage = r.supply(raises)
+                behind = [stage.recover(lambda error: type(error)), stage.recover(lambda _: 2)]
+                with self.assertRaises(kind):
+                    loop.run_until_complete(asyncio.sleep(20))
+                self.assertIsInstance(stage.exception(0), kind)
+                self.assertEqual(loop.run_until_complete(asyncio.wait_for(r.gather(*behind), 20)), [kind, 2])
+                loop.close()
+
+    def test_other_exceptions_stay_in_the_loop(self):
+        async def main():
+            r = LoopService(asyncio.get_running_loop()).request()
+
+            def wild():
+                raise Wild
+
+            async def later():
+                raise Wild
+            for raises in (wild, later):
+                self.assertEqual(await r.supply(raises).recover(lambda error: type(error)), Wild)
+        asyncio.run(main())
 
     def test_other_threads_complete(self):
         async def main():
@@ -487,6 +845,64 @@ class Flows(Case):
             request[Flow().promise()]
         with self.assertRaises(KeyError):
             self.request[number]
+
+    def test_first_starts_at_once(self):
+        """Threads begin a flow for the first time: one plan is built, and a step that is added meanwhile is refused."""
+        flow, plans, told, built = Flow(), [], [], threading.Event()
+        end = flow.promise().then(inc)
+
+        def slowly(rows):
+            plans.append(rows)
+            built.wait(20)
+            return PlanCore(rows)
+
+        def start(k):
+            request = self.service.start(flow, k)
+            told.append(request[end].result(20) - k)
+
+        def add():
+            try:
+                told.append(flow.promise())
+            except RuntimeError:
+                told.append(1)
+        PlanCore = flows.PlanCore
+        with unittest.mock.patch.object(flows, "PlanCore", slowly):
+            threads = [threading.Thread(target=start, args=[k]) for k in range(6)]
+            for thread in threads:
+                thread.start()
+            self.assertTrue(until(lambda: plans))
+            threads.append(threading.Thread(target=add))
+            threads[-1].start()
+            time.sleep(0.05)  # (the others come as far as they may)
+            built.set()
+            for thread in threads:
+                thread.join(20)
+        self.assertEqual((len(plans), told), (1, [1] * 7))
+
+    @unittest.skipUnless(hasattr(os, "fork"), "no fork")
+    def test_fork_while_a_plan_is_built(self):
+        out, err, status = program("""
+            import signal
+            from cf.service import Flow, flow as flows
+            service, entered, PlanCore = Service(1), threading.Event(), flows.PlanCore
+
+            def slowly(rows):
+                entered.set()
+                time.sleep(0.3)
+                return PlanCore(rows)
+            flows.PlanCore = slowly
+            flow = Flow()
+            end = flow.promise().then(str)
+            threading.Thread(target=flow.run).start()
+            entered.wait(20)
+            pid = os.fork()
+            if not pid:
+                signal.alarm(20)  # ends it where it hangs
+                print(service.start(flow, 1)[end].result(10), flush=True)
+                os._exit(0)
+            print(os.waitpid(pid, 0)[1], flush=True)
+        """)
+        self.assertEqual((out, status), ("1\n0\n", 0), err)
 
     def test_on_a_loop(self):
         async def load(x):
@@ -577,6 +993,107 @@ class Histories(Case):
         self.request.promise().complete(Mute())
         self.assertIn("a Mute", str(self.request.history()))
 
+    FORGED = "x\r\n    9.999 ms  caller completes 0 paid\t\x1b[2J\b\u2028\u2029\u202e\u200b\ud800\U000e0041\x85; 0 paid ends: 1\\n   y"
+    ESCAPED = (r"x\r\n    9.999 ms  caller completes 0 paid\t\u001b[2J\u0008\u2028\u2029\u202e\u200b\ud800\udb40\udc41\u0085; 0 paid "
+               r"ends: 1\n   y")
+
+    def test_texts_forge_no_lines(self):
+        class Forged:
+            def __repr__(it):
+                return self.FORGED[:60]
+
+        class Fault(Exception):
+            def __repr__(it):
+                return self.FORGED[60:]
+        r = self.service.request(self.FORGED)
+        failed = r.promise(self.FORGED)
+        r.promise().named("a;b").complete(Forged())
+        late = failed.recover(lambda _: None).named("late\n").or_timeout(1e9)
+        failed.fail(Fault())
+        late.result(20)
+        history = r.history()
+        lines, short = history.lines(), self.ESCAPED.index("ends: ")
+        self.assertEqual(len(str(history).splitlines()), len(lines))
+        self.assertTrue(all(line.isprintable() for line in lines))
+        self.assertEqual(lines[0], f"{self.ESCAPED}: 7 events, 3 stages")
+        self.assertIn(f"caller attaches 0 {self.ESCAPED}, source", str(history))
+        self.assertIn(f"caller completes 1 a;b with {self.ESCAPED[:short]}"[:70], str(history))
+        line = history.line()
+        self.assertTrue(line.isprintable())
+        self.assertEqual(line.count("; ") + 1, len(lines))
+        self.assertIn(r"a\u003bb", line)
+        self.assertIn("x\\r\\n    9.999 ms", line)  # blanks stay
+        self.assertTrue(history.account().isascii() and history.script().isascii())
+        self.assertIn("9.999 ms", json.loads(history.account())["values"][0])
+        slow = r.promise("slow\n").or_timeout(0.01)
+        self.assertIn("slow\\n took", str(slow.exception(20)))
+
+    def test_what_is_told_of_values(self):
+        """By the service, by a request, and by a loop's; a history keeps no value then."""
+        secret, flow = "Bearer 0123456789abcdef", Flow()
+        end = flow.promise("token").then(lambda token: [token, token])
+
+        def raises(_):
+            raise Wild
+
+        def of(request, promise, stage):
+            promise.complete(secret) if not promise.done() else None
+            stage.result(20)
+            failed = request.promise("failed")
+            failed.fail(Oops(secret))
+            request.promise("nothing").complete(None)
+            until(lambda: " gave " in str(request.history()))
+            history = request.history()
+            account = json.loads(history.account())
+            return [str(history), history.line(), *account["values"], *account["errors"]], history
+
+        def new(service, **given):
+            request = service.request("r", **given)
+            promise = request.promise("token")
+            return request, promise, promise.then(lambda token: [token, token])
+
+        def begun(service, **given):
+            request = service.start(flow, secret, **given)
+            return request, request[flows.Step(flow, 0)], request[end]
+        with Service(2, describe=describe_types) as typed:
+            cases = [(new(typed), ("str of 23", "list of 2", "Oops", "NoneType")), (begun(typed), ("str of 23", "list of 2", "Oops", "NoneType")),
+                     (new(typed, describe=describe_nothing), ("-", "-", "-", "-")), (new(typed, describe=raises), ("?", "?", "?", "?")),
+                     (new(typed, describe=lambda value: 7), ("?", "?", "?", "?")), (begun(typed, describe=describe_nothing), ("-", "-", "-", "-")),
+                     (new(self.service, describe=lambda value: f"<{type(value).__name__}\n>"), ("<str\\n>", "<list\\n>", "<Oops\\n>", "<NoneType\\n>"))]
+            request = flow.run(secret, describe=describe_types)
+            cases.append(((request, request[flows.Step(flow, 0)], request[end]), ("str of 23", "list of 2", "Oops", "NoneType")))
+            for case, told in cases:
+                texts, history = of(*case)
+                self.assertNotIn("0123456789", "".join(texts))
+                for text in (f"caller completes 0 token with {told[0]}", f"which gave {told[1]}", f"with {told[2]}", f"nothing with {told[3]}"):
+                    self.assertIn(text, texts[0])
+                self.assertEqual((history.values, history.errors), (texts[2:4], texts[4:]))
+            stage = typed.submit(lambda: secret)
+            stage.result(20)
+            self.assertTrue(until(lambda: "0 Histories.test_what_is_told_of_values.<locals>.<lambda> ends: str of 23" in str(stage.request.history())))
+        texts, history = of(*new(self.service))
+        self.assertIn(secret, texts[0])
+        self.assertEqual(history.values[0], secret)
+
+        async def main():
+            r = LoopService(asyncio.get_running_loop(), describe=describe_nothing).request()
+            await r.supply(lambda: secret)
+            self.assertNotIn(secret, str(r.history()))
+            r = LoopService(asyncio.get_running_loop()).request(describe=describe_types)
+            await r.supply(lambda: secret)
+            self.assertIn("str of 23", str(r.history()))
+        asyncio.run(main())
+
+    def test_what_tells_of_values_may_call(self):
+        """It is called under no lock of the request."""
+        r = self.service.request("r", describe=lambda value: str(len(r.history().words) if value == "ask" else value))
+        asks = threading.Thread(target=lambda: told.append(r.promise().complete("x")))
+        told = []
+        r.promise().complete("ask")
+        r._describe = lambda value: (asks.start(), asks.join(20), "told")[2] if not told else "again"
+        self.assertIn("told", str(r.history()))
+        self.assertEqual(told, [True])
+
     def test_it_stays(self):
         history = self.request.history()
         self.request.promise()
@@ -614,6 +1131,118 @@ class Ending(unittest.TestCase):
         self.assertTrue(all(stage.cancelled() for stage in waiting))
         self.assertEqual(behind.result(5), "CancelledError")
 
+    def test_shutdown_with_cancel_while_a_thread_takes(self):
+        """A thread takes the last stage between two looks of who cancels the rest."""
+        service, goes_on = Service(1), threading.Event()
+
+        class Taken(queue.SimpleQueue):
+            def empty(it):
+                was = super().empty()
+                if not was and threading.current_thread() is ends:
+                    goes_on.set()
+                    until(super().empty)
+                return was
+        service._works._stages = Taken()
+        stages = [service.submit(goes_on.wait, 20), service.submit(str)]
+        ends = threading.Thread(target=service.shutdown, kwargs={"wait": False, "cancel_futures": True}, daemon=True)
+        ends.start()
+        ends.join(20)
+        hangs = ends.is_alive()
+        if hangs:
+            service._works._stages.put(service.request().promise())
+        self.assertFalse(hangs)
+        goes_on.set()
+        self.assertFalse(concurrent.futures.wait(stages, 20).not_done)
+
+    def ends(self, service):
+        """Whether a service's threads end once it is shut down."""
+        ends = threading.Thread(target=service.shutdown, daemon=True)
+        ends.start()
+        ends.join(20)
+        if not ends.is_alive():
+            return True
+        with contextlib.suppress(queue.Empty):  # (or they would never)
+            while True:
+                service._works._stages.get(timeout=0.5)
+        service._works._stages.put(None)
+        return False
+
+    def test_shutdowns_at_once(self):
+        """Two threads find the service open, and end it."""
+        service, both, goes_on = Service(1), threading.Barrier(2), threading.Event()
+        running = service.submit(goes_on.wait, 20)
+
+        def look(works):
+            was = works.__dict__["closed"]
+            if threading.current_thread() in threads:
+                with contextlib.suppress(threading.BrokenBarrierError):
+                    both.wait(5)
+            return was
+        threads = [threading.Thread(target=service.shutdown, kwargs={"wait": False}) for _ in range(2)]
+        looked = property(look, lambda works, is_closed: works.__dict__.update(closed=is_closed))
+        with unittest.mock.patch.object(type(service._works), "closed", looked, create=True):
+            for thread in threads:
+                thread.start()
+            for thread in threads:
+                thread.join(20)
+        goes_on.set()
+        self.assertTrue(running.result(20))
+        self.assertTrue(self.ends(service))
+
+    def test_initializers_that_fail_let_others_end(self):
+        service, numbers = Service(3, initializer=lambda: init()), iter(range(3))
+        begun, fail, goes_on = threading.Event(), threading.Event(), threading.Event()
+
+        def init():
+            if next(numbers):
+                fail.wait(20)
+                fails()
+        running = service.submit(lambda: begun.set() or goes_on.wait(20))
+        self.assertTrue(begun.wait(20))
+        with self.assertLogs("concurrent.futures", "CRITICAL"):
+            stages = [service.submit(str), service.submit(str)]
+            fail.set()
+            for stage in stages:
+                self.assertIsInstance(stage.exception(20), concurrent.futures.BrokenExecutor)
+        goes_on.set()
+        self.assertTrue(running.result(20))
+        self.assertTrue(self.ends(service))
+
+    def test_shutdown_with_cancel_goes_on_after_a_callback(self):
+        service, goes_on = Service(1), threading.Event()
+        running, waiting = service.submit(goes_on.wait, 20), [service.submit(str) for _ in range(3)]
+        waiting[0].add_done_callback(leaves)
+        threading.Timer(0.05, goes_on.set).start()
+        with self.assertRaises(SystemExit):
+            service.shutdown(cancel_futures=True)
+        self.assertTrue(running.done() and all(stage.cancelled() for stage in waiting))
+
+    def test_shutdown_waits_for_a_thread_that_has_not_begun(self):
+        service, entered, goes_on, stages = Service(1), threading.Event(), threading.Event(), []
+
+        def late(thread, start):
+            entered.set()
+            goes_on.wait(20)
+            start(thread)
+        submits = threading.Thread(target=lambda: stages.append(service.submit(time.sleep, 0.1)))
+        ends = threading.Thread(target=service.shutdown)
+        with starting(late):
+            submits.start()
+            self.assertTrue(entered.wait(20))
+            ends.start()
+            ends.join(0.2)
+            self.assertTrue(ends.is_alive())
+            goes_on.set()
+            ends.join(20)
+        submits.join(20)
+        self.assertTrue(stages[0].done())
+
+    def test_shutdown_that_fails_to_start_a_thread_ends(self):
+        with Service(2) as service, starting(no_thread):
+            self.assertIsInstance(service.submit(str).exception(20), RuntimeError)
+        with starting(no_thread), Service(2) as service:
+            service.submit(str)
+
     def test_ready_behind_the_end(self):
         service = Service(2)
         promise = service.request().promise()
@@ -648,6 +1277,32 @@ class Ending(unittest.TestCase):
             self.assertIsInstance(stage.exception(5), concurrent.futures.BrokenExecutor)
             with self.assertRaises(concurrent.futures.BrokenExecutor):
                 service.submit(str)
+
+    def test_initializer_that_fails_loses_nobody(self):
+        """Stages wait for the thread whose initializer fails, and a callback of the first leaves."""
+        fails_now = threading.Event()
+        with self.assertLogs("concurrent.futures", "CRITICAL"):
+            service = Service(1, initializer=lambda: fails_now.wait(20) and fails())
+            stages = [service.submit(str) for _ in range(3)]
+            for stage in stages:
+                stage.add_done_callback(leaves)
+            fails_now.set()
+            for stage in stages:
+                self.assertIsInstance(stage.exception(20), concurrent.futures.BrokenExecutor)
+            service.shutdown()
+
+    def test_stages_that_become_ready_behind_the_end_are_run(self):
+        """By the thread that still runs; and none is refused."""
+        service, goes_on = Service(1), threading.Event()
+        promises = [service.request().promise() for _ in range(5)]
+        ends, running = [promise.then(inc) for promise in promises], service.submit(goes_on.wait, 20)
+        service.shutdown(wait=False)
+        for promise in promises:
+            promise.complete(1)
+        goes_on.set()
+        self.assertEqual([end.result(20) for end in ends], [2] * 5)
+        service.shutdown()
+        self.assertTrue(running.result(0))
 
     def test_exit_with_work_open(self):
         out, err, status = program("""
@@ -883,6 +1538,42 @@ class Ending(unittest.TestCase):
                 self.assertIsNone(known())
         finally:
             gc.enable()
+
+
+class Else(unittest.TestCase):
+    def test_a_library_that_is_missing(self):
+        out, err, status = program("", CF_LIBRARY="/nowhere/libcf.so")
+        self.assertEqual(status, 1)
+        for part in ("OSError: cf needs its library for C, libcf.so", "CF_LIBRARY says, which is /nowhere/libcf.so", "cf._cf", "docs/C.md"):
+            self.assertIn(part, err)
+
+    def test_workers_of_a_desk_outlive_functions(self):
+        """One exits, one throws, and one raises: the stages behind them are done, and the threads go on."""
+        def throws():
+            raise cf.Thrown(7)
+        plan = cf.Plan()
+        stages = [plan.stage(cf.Form.SUPPLY, function=number) for number in range(4)]
+        desk = plan.open_desk(callers=2, log=40, calls=40)
+        functions = [leaves, throws, fails, lambda: 5]
+        with cf.Workers(desk.callers[1:], functions, code=3) as workers:
+            self.assertTrue(until(lambda: desk.callers[0].read(stages[3]) is not None))
+        self.assertEqual([(number, type(error)) for number, error in workers.errors], [(0, SystemExit), (2, Oops)])
+        self.assertEqual([str(desk.callers[0].read(stage).fault) for stage in stages[:3]], ["thrown 3", "thrown 7", "thrown 3"])
+
+    def test_workers_of_which_one_does_not_start(self):
+        plan = cf.Plan()
+        plan.stage(cf.Form.SOURCE)
+        workers, begun, real = cf.Workers(plan.open_desk(callers=3, log=4, calls=4).callers[1:], []), [], threading.Thread.start
+
+        def start(thread):
+            if begun:
+                no_thread()
+            begun.append(thread)
+            real(thread)
+        with unittest.mock.patch.object(threading.Thread, "start", start), self.assertRaises(RuntimeError):
+            workers.start()
+        begun[0].join(20)
+        self.assertFalse(begun[0].is_alive())
 
 
 class Memory(unittest.TestCase):

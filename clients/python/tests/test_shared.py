@@ -27,7 +27,7 @@ if not os.environ.get("CF_INSTALLED"):
     sys.path.insert(0, str(HERE.parent))
 import shared_functions as f  # noqa: E402
 from cf import requests  # noqa: E402
-from cf.service import Flow, RequestFull, Service  # noqa: E402
+from cf.service import Flow, RequestFull, Service, describe_nothing, describe_types  # noqa: E402
 from cf.shared import (Abandoned, Broken, Desk, DurableService, Functions, Grouped, Json, Memory, Put, RemoteError, StoreError, Timer,  # noqa: E402
                        Unknown, connect, new_session)
 from cf.shared import service as shared_service  # noqa: E402
@@ -899,6 +899,28 @@ class Services(Case):
                      "2 text ends: 'sorry, card declined'"):
             self.assertIn(part, str(history))
         self.assertEqual(len(json.loads(history.account())["events"]), 9)
+
+    def test_what_a_history_tells_of_values(self):
+        """By the service or by a request; it is asked under no lock of the request, and names forge no line."""
+        service = Service(store=Memory(), max_workers=1, functions=f.functions, describe=describe_types)
+        self.services.append(service)
+
+        def own(_):
+            asks = threading.Thread(target=r._catch_up)
+            asks.start()
+            asks.join(2)
+            told.append(asks.is_alive())
+            return "own"
+        for describe, words in ((None, ("dict of 2", "PermissionError", "str of 20")), (describe_nothing, ("-", "-", "-")), (own, ("own", "own", "own"))):
+            r, told = service.request(f"order\n{self.name} {words}", describe=describe), []
+            self.assertEqual(r.supply(f.load, 17).then(f.fails).recover(f.text).result(20), "sorry, card declined")
+            history = r.history()
+            self.assertIn(f"0 load ends: {words[0]}", str(history))
+            self.assertIn(f"1 fails ends: {words[1]}", history.line())
+            self.assertIn(f"2 text ends: {words[2]}", str(history))
+            self.assertNotIn("declined", history.account() + str(history.values + history.errors))
+            self.assertFalse(any(told))
+            self.assertEqual(len(str(history).splitlines()), 1 + 9 + 3)
 
     def test_it_is_awaited(self):
         service = self.service()

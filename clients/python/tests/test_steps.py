@@ -10,6 +10,7 @@ import os
 import sys
 import threading
 import unittest
+import unittest.mock
 from pathlib import Path
 
 if not os.environ.get("CF_INSTALLED"):
@@ -147,6 +148,16 @@ class Desks(unittest.TestCase):
                 self.assertEqual((misfit.exception.place, misfit.exception.code), (place, code))
             graph = desk.close().graph()
         self.assertEqual([graph.outcome(stage) for stage in range(4)], [cf.Outcome(value, None) for value in (5, None, 7, 8)])
+
+    def test_callers_of_two_desks_never_meet(self):
+        """The library sees that they are of two only while nobody else has callers of the second, so it isn't asked."""
+        plan, _ = chain()
+        with plan.open_desk(2, 8, 8) as one, plan.open_desk(2, 8, 8) as other:
+            one.callers[0].meet(one.callers[1])
+            with unittest.mock.patch.object(cf.desk.library, "cf_desk_meet") as asked:
+                with self.assertRaises(cf.Refused) as refused:
+                    one.callers[0].meet(other.callers[0])
+            self.assertEqual((refused.exception.code, asked.called, one.callers[0].seen()), (Code.OTHER_DESK, False, 0))
 
 
 if __name__ == "__main__":

@@ -4,11 +4,12 @@ Each request has one history of all that happened to it, which is proved to be o
 (`cf run`) and drawn (`cf_look dot`).
 """
 from .flow import Flow, Step
-from .history import History
+from .history import History, describe_all, describe_nothing, describe_types
 from .loop import LoopService
 from .request import Request
 from .service import Service
 from .stage import Stage
 from .words import RequestFull
 
-__all__ = ["Flow", "History", "LoopService", "Request", "RequestFull", "Service", "Stage", "Step"]
+__all__ = ["Flow", "History", "LoopService", "Request", "RequestFull", "Service", "Stage", "Step", "describe_all", "describe_nothing",
+           "describe_types"]

@@ -165,8 +165,9 @@ if TYPE_CHECKING:
         _result: Any
         _exception: Optional[BaseException]
         _waiters: List[Any]
+        _done_callbacks: List[Callable[[Any], object]]
 
-        def _invoke_callbacks(self) -> None: ...
+        def _log(self, error: BaseException) -> None: ...
 else:
     _Future = object
 
@@ -223,11 +224,19 @@ class StageCore(_Future):
                 getattr(waiter, note)(self)
             self._condition.notify_all()
 
-    def _let_go(self) -> None:
-        """Calls the callbacks, and forgets what it needs no more."""
-        self._invoke_callbacks()
+    def _let_go(self) -> Optional[BaseException]:
+        """Calls the callbacks, and forgets them and what it needs no more. The first that was raised and isn't an `Exception`."""
+        callbacks, self._done_callbacks, first = self._done_callbacks, [], None
+        for call in callbacks:
+            try:
+                call(self)
+            except Exception as error:
+                self._log(error)
+            except BaseException as error:
+                first = first or error
         self.__dict__.pop("_call", None)
         self.__dict__.pop("_given", None)
+        return first
 
 
 class PlanCore:
@@ -420,14 +429,19 @@ class RequestCore:
 
     def _work(self, who: int) -> None:
         """Runs all that is ready, and all that gets ready by that, where nobody else does."""
-        ready = c.c_uint16()
+        ready, last, first = c.c_uint16(), -1, None
         while True:
             with self._lock:
                 code = _ready(self._ledger.at, 0, c.byref(ready))
-            if code == 17:  # CF_NOTHING
-                return
+            if code == 17 or ready.value == last:  # CF_NOTHING, or one that couldn't be claimed
+                break
             check(code)
-            self._run(self._stage(ready.value), who)
+            try:
+                self._run(self._stage(ready.value), who)
+            except BaseException as error:  # a callback's
+                first, last = first or error, ready.value
+        if first is not None:
+            raise first
 
     def _begin(self, stage: "Stage[Any]", who: int) -> Optional[Tuple[Callable[..., Any], Tuple[Any, ...], Dict[str, Any]]]:
         """Claims a stage. Its function with its arguments, or None where nobody is to call it."""
@@ -510,14 +524,24 @@ class RequestCore:
                     self._values[:], self._errors[:])
 
     def _tell(self, news: _News) -> None:
-        """Tells threads of stages that are ready, and callbacks of those that were settled. The lock is free."""
+        """Tells threads of stages that are ready, and callbacks of those that were settled. The lock is free. What a callback raises is
+        raised once all is told."""
+        first: Optional[BaseException] = None
         for number in news.ready:  # (which grows)
-            if not self._works.put(self._stage(number)):
+            stage = self._stage(number)
+            try:
+                is_taken = self._works.put(stage)
+            except BaseException as raised:  # a stage that is put twice runs once, and one that isn't put never does
+                first, is_taken = first or raised, self._works.put(stage)
+            if not is_taken:
                 error = self._works.refusal()
                 with self._lock:
                     self._apply(FAIL << 56 | _here.who << 48 | number << 36 | self._code(error), news)
         for stage in news.settled:
-            stage._let_go()
+            raised_by_callback = stage._let_go()
+            first = first or raised_by_callback
+        if first is not None:
+            raise first
 
     # What the ledger's numbers stand for. The lock is held.
 

@@ -2,10 +2,13 @@
 import concurrent.futures
 import functools
 import operator
-from typing import TYPE_CHECKING, Any, Callable, Generic, List, Optional, Sequence, Tuple, TypeVar
+import os
+import threading
+from typing import TYPE_CHECKING, Any, Callable, Generic, List, Optional, Sequence, Tuple, Type, TypeVar
 
 from ..values import Form
 from ._core import PlanCore
+from .history import Describe
 from .request import Request
 from .words import COMPLETE, FIRST_WORKER, MOST_STAGES, THIS_THREAD, RequestFull
 from .works import Here
@@ -16,6 +19,10 @@ if TYPE_CHECKING:
 T = TypeVar("T")
 U = TypeVar("U")
 V = TypeVar("V")
+
+_begins = threading.RLock()  # held while a step is added or a plan is built, of any flow; a fork waits for that
+if hasattr(os, "register_at_fork"):
+    os.register_at_fork(before=_begins.acquire, after_in_parent=_begins.release, after_in_child=_begins.release)
 
 
 class Step(Generic[T]):
@@ -138,43 +145,52 @@ class Flow:
             row = [pair[0].combine(pair[1], operator.add).named("gather") if len(pair) == 2 else pair[0] for pair in pairs]
         return row[0]
 
-    def run(self, *given: Any, name: str = "") -> Request:
+    def run(self, *given: Any, name: str = "", describe: Optional[Describe] = None) -> Request:
         """A request of the flow, of which this thread runs all that becomes ready, and comes back once nothing is. It is the quickest way.
         Stages may be attached to it later, and are run by nobody."""
-        request = self._start(Here(), name or self.name, None, given)
+        request = self._start(Request, Here(), name or self.name, None, given)._describing(describe)
         request._work(FIRST_WORKER)
         return request
 
     def _step(self, form: Form, of: "Sequence[Step[Any]]", fn: Optional[Callable[..., Any]], name: str = "") -> "Step[Any]":
-        if self._plan is not None:
-            raise RuntimeError("the flow was begun, and is as it is")
-        if len(self._rows) == MOST_STAGES:
-            raise RequestFull("a flow has at most 4,096 steps")
         if any(step.flow is not self for step in of):
             raise ValueError("a step of another flow")
-        self._rows.append((int(form), tuple(step.number for step in of), fn, name or _name(fn)))
-        return Step(self, len(self._rows) - 1)
+        row = (int(form), tuple(step.number for step in of), fn, name or _name(fn))
+        with _begins:
+            number = len(self._rows)
+            if self._plan is not None:
+                raise RuntimeError("the flow was begun, and is as it is")
+            if number == MOST_STAGES:
+                raise RequestFull("a flow has at most 4,096 steps")
+            self._rows.append(row)
+        return Step(self, number)
 
     def _composing(self, form: Form, source: "Step[Any]", fn: Callable[..., Any]) -> "Step[Any]":
         """Its relay stands just below it."""
-        if len(self._rows) + 2 > MOST_STAGES:
-            raise RequestFull("a flow has at most 4,096 steps")
-        self._step(Form.SOURCE, (), None, "relay")
-        return self._step(form, (source,), fn)
+        with _begins:
+            if len(self._rows) + 2 > MOST_STAGES:
+                raise RequestFull("a flow has at most 4,096 steps")
+            self._step(Form.SOURCE, (), None, "relay")
+            return self._step(form, (source,), fn)
 
     def _rename(self, number: int, name: str) -> None:
         self._rows[number] = (*self._rows[number][:3], name)
 
-    def _start(self, works: "Works", name: str, keeps: object, given: Sequence[Any]) -> Request:
+    def _start(self, kind: Type[Request], works: "Works", name: str, keeps: object, given: Sequence[Any]) -> Request:
         if len(given) > len(self._promises):
             raise ValueError(f"{self.name} has {len(self._promises)} promises")
-        if self._plan is None:
-            self._plan = PlanCore(self._rows)
-        request = Request(works, name, 0, keeps, self._plan)
+        request = kind(works, name, 0, keeps, self._plan or self._begun())
         request._open()
         for number, value in zip(self._promises, given):
             request._change(COMPLETE, THIS_THREAD, number, value)
         return request
+
+    def _begun(self) -> PlanCore:
+        """The one plan of all its requests, whichever threads begin the first ones."""
+        with _begins:
+            if self._plan is None:
+                self._plan = PlanCore(self._rows)
+            return self._plan
 
 
 def _alone(value: T) -> List[T]:

@@ -1,8 +1,9 @@
 """What happened to a request: told in words, as an account that `cf_look check` judges, and as a script."""
 import json
 import subprocess
+import unicodedata
 from array import array
-from typing import TYPE_CHECKING, Any, Dict, List, NamedTuple, Optional, Sequence, Tuple
+from typing import TYPE_CHECKING, Any, Callable, Dict, Iterator, List, NamedTuple, Optional, Sequence, Tuple
 
 from ..events import Attach, Cancel, Claim, Complete, Event, Fail, Finish, Tick, event_of
 from ..values import Link, Thrown
@@ -13,6 +14,10 @@ if TYPE_CHECKING:
     from ._plain import PlanCore
 
 LONGEST_NAME = 64  # characters that accounts take of a stage's name
+LONGEST_TEXT = 60  # characters that are told of a value
+FORGING = ("Cc", "Cf", "Cs", "Zl", "Zp")  # the categories of characters that could make a text look like another line
+SHORT = {"\n": "\\n", "\r": "\\r", "\t": "\\t"}
+Describe = Callable[[object], str]  # what is told of a value or an exception
 CALLERS = {CLIENT: "caller", CLOCK: "clock", RELAY: "relay"}
 
 
@@ -38,18 +43,70 @@ class Entry(NamedTuple):
     told: List[Tuple[int, Told]]
 
 
+def describe_all(value: object) -> str:
+    """All that `repr` tells of a value or an exception, cut to 60 characters."""
+    try:
+        text = repr(value)
+    except Exception:
+        text = f"a {type(value).__name__}"
+    return text if len(text) <= LONGEST_TEXT else text[:LONGEST_TEXT - 3] + "..."
+
+
+def describe_types(value: object) -> str:
+    """The type of a value, and its length where it has one, as `str of 12`; the class of an exception alone."""
+    name = type(value).__name__
+    try:
+        return name if isinstance(value, BaseException) else f"{name} of {len(value)}"  # type: ignore[arg-type]
+    except Exception:
+        return name
+
+
+def describe_nothing(_: object) -> str:
+    """Nothing of a value or an exception."""
+    return "-"
+
+
+def escaped(text: str) -> str:
+    """The text with its control and format characters, separators of lines and lone surrogates as JSON writes them."""
+    return text if text.isprintable() else "".join(map(_escape, text))
+
+
+def _escape(character: str) -> str:
+    if character in SHORT or unicodedata.category(character) not in FORGING:
+        return SHORT.get(character, character)
+    code = character.encode("utf-16-be", "surrogatepass").hex()
+    return "".join(f"\\u{code[k:k + 4]}" for k in range(0, len(code), 4))
+
+
+def _by(describe: Describe, value: object) -> str:
+    """What a function tells of a value; `?` where it raises."""
+    try:
+        text = describe(value)
+    except KeyboardInterrupt:
+        raise
+    except BaseException:
+        return "?"
+    return text if isinstance(text, str) else "?"
+
+
 class History:
     """The events of a request in their one order, with all that callers were told. It stays as it is while the request goes on.
 
     `print(history)` tells it in words, a line for each event; `line()` is the same in one line, for a log. `account()` is what
-    `cf_look check` judges, `page()` what a browser shows of it, `script()` what `cf run` does again and `cf_look dot` draws."""
+    `cf_look check` judges, `page()` what a browser shows of it, `script()` what `cf run` does again and `cf_look dot` draws.
+
+    What is told of values and exceptions, the request or its service chooses by a function: `describe_all`, `describe_types`,
+    `describe_nothing`, or another. With any but the first `values` and `errors` are these texts, and no value is kept."""
+
+    _unit, _width = "events", 12
 
     def __init__(self, name: str, plan: "Optional[PlanCore]", facts: Tuple[Any, Any, Any, Any, List[str], List[Any], List[BaseException]]) -> None:
         words, times, replies, told, names, values, errors = facts
         self.name: str = name
         self.names: List[str] = names
         self.values: List[Any] = values
-        self.errors: List[BaseException] = errors
+        self.errors: List[Any] = errors
+        self._describe: Describe = describe_all
         self.words: List[int] = _numbers("Q", words)
         self.planned: List[Tuple[int, Tuple[int, ...], bool]] = [] if plan is None else [(form, of, call is not None) for form, of, call, _ in plan.rows]
         self._times, self._replies = _numbers("q", times), _numbers("I", replies)
@@ -59,6 +116,13 @@ class History:
         for k in range(0, len(numbers), 7):
             if numbers[k + 2] != PENDING:
                 self._told.setdefault(numbers[k], []).append((numbers[k + 1], Told(*numbers[k + 2:k + 7])))
+
+    def _described(self, describe: Describe) -> "History":
+        """The same with what a function tells of values and exceptions. It is called here, and no lock is held."""
+        if describe is not describe_all:
+            self.values, self.errors = [_by(describe, it) for it in self.values], [_by(describe, it) for it in self.errors]
+            self._describe = describe
+        return self
 
     def entries(self) -> List[Entry]:
         """All events."""
@@ -76,15 +140,22 @@ class History:
 
     def line(self) -> str:
         """All in one line."""
-        return "; ".join(" ".join(line.split()) for line in self.lines())
+        return "; ".join(" ".join(filter(None, (at.strip(), text.replace(";", "\\u003b")))) for at, text in self._parts())
 
     def lines(self) -> List[str]:
         """A line for each event, and one for each stage that was settled by it."""
-        lines = [f"{self.name}: {len(self.words)} events, {len(self.names)} stages"]
+        return [f"{at}  {text}" if at else text for at, text in self._parts()]
+
+    def _parts(self) -> Iterator[Tuple[str, str]]:
+        """What stands at the head of each line, and its text."""
+        yield "", f"{escaped(self.name)}: {len(self.words)} {self._unit}, {len(self.names)} stages"
         for entry in self.entries():
-            lines.append(f"{entry.at * 1000:9.3f} ms  {self.sentence(entry)}")
-            lines += [f"{'':12}  {self.stage(stage)} ends: {text}" for stage, text in self.ends(entry)]
-        return lines
+            yield self._at(entry.place, entry.at), self.sentence(entry)
+            for stage, text in self.ends(entry):
+                yield " " * self._width, f"{self.stage(stage)} ends: {text}"
+
+    def _at(self, place: int, seconds: float) -> str:
+        return f"{seconds * 1000:9.3f} ms"
 
     def sentence(self, entry: Entry) -> str:
         """Who did what, and what it was answered."""
@@ -112,15 +183,18 @@ class History:
 
     def stage(self, number: int) -> str:
         """Number and name of a stage."""
-        return f"{number} {self.names[number]}"
+        return f"{number} {escaped(self.names[number])}"
 
     def value(self, number: Optional[int]) -> str:
-        """The text of a value, cut to 60 characters."""
-        return "None" if number is None else _short(self.values[number])
+        """What is told of a value."""
+        return escaped(_by(self._describe, None) if number is None else self._text(self.values[number]))
 
     def error(self, code: int) -> str:
-        """The text of an exception."""
-        return _short(self.errors[code])
+        """What is told of an exception."""
+        return escaped(self._text(self.errors[code]))
+
+    def _text(self, thing: Any) -> str:
+        return _by(describe_all, thing) if self._describe is describe_all else str(thing)
 
     def outcome(self, told: Told) -> str:
         """What a stage ended in."""
@@ -172,7 +246,7 @@ class History:
     def _for_people(self, callers: int) -> Dict[str, Any]:
         return {"name": _whole(self.name), "names": [_whole(name[:LONGEST_NAME]) for name in self.names],
                 "times": [moment - self._times[0] for moment in self._times], "lanes": [self.caller(who) for who in range(callers)],
-                "values": [_whole(_short(value)) for value in self.values], "errors": [_whole(_short(error)) for error in self.errors]}
+                "values": [_whole(self._text(value)) for value in self.values], "errors": [_whole(self._text(error)) for error in self.errors]}
 
     def page(self, program: str = "cf_look") -> str:
         """A page for a browser, which loads nothing, as the program cf_look makes it of the account. FileNotFoundError where the program isn't
@@ -265,11 +339,3 @@ def _reply_text(event: Event, reply: Sequence[int]) -> str:
 def _whole(text: str) -> str:
     """The text without halves of surrogate pairs, which no UTF-8 has."""
     return text.encode("utf-8", "replace").decode()
-
-
-def _short(thing: Any) -> str:
-    try:
-        text = repr(thing)
-    except Exception:
-        text = f"a {type(thing).__name__}"
-    return text if len(text) <= 60 else text[:57] + "..."

@@ -1,10 +1,15 @@
 """Functions on an event loop, in place of threads: they may be coroutine functions, and the loop's clock is the clock."""
 import asyncio
+import contextvars
+import functools
 import inspect
 import itertools
-from typing import Any, Awaitable, Callable, List, Optional, Set
+from types import FunctionType
+from typing import Any, Awaitable, Callable, Dict, List, Optional, Set, Tuple, cast
 
-from .flow import Flow
+from ._core import RequestCore
+from .flow import Flow, _name
+from .history import Describe, describe_all
 from .request import Request
 from .service import ROOM
 from .stage import Stage
@@ -15,6 +20,9 @@ class LoopService:
     """Requests whose functions one event loop calls, one at a time; a coroutine function's work stands still at its awaits. Any thread may
     complete stages. A coroutine whose stage is settled meanwhile, as by a timeout, is cancelled.
 
+    A function has the context variables of where it was attached, as with `call_soon`, those of a flow of where the request was begun.
+    `KeyboardInterrupt` and `SystemExit` of a function are its stage's, and leave the loop, too, as those of asyncio's tasks do.
+
         service = LoopService(asyncio.get_running_loop())
         request = service.request("order 17")
         mail = request.supply(load_user, 3).then(address).or_timeout(2)    # both may be `async def`
@@ -23,24 +31,48 @@ class LoopService:
     Types: a coroutine function's stage is one of what it returns, which type checkers take for one of the coroutine; `typing.cast` helps.
     """
 
-    def __init__(self, loop: asyncio.AbstractEventLoop) -> None:
-        self._works = _LoopWorks(loop)
+    def __init__(self, loop: asyncio.AbstractEventLoop, *, describe: Describe = describe_all) -> None:
+        self._works = _LoopWorks(loop, describe)
         self._requests = itertools.count()
 
-    def request(self, name: str = "", room: int = ROOM) -> Request:
+    def request(self, name: str = "", room: int = ROOM, *, describe: Optional[Describe] = None) -> Request:
         """As `Service.request`."""
-        return Request(self._works, name or f"request {next(self._requests)}", room, self)
+        return _Request(self._works, name or f"request {next(self._requests)}", room, self)._describing(describe)
 
-    def start(self, flow: Flow, *given: Any, name: str = "") -> Request:
+    def start(self, flow: Flow, *given: Any, name: str = "", describe: Optional[Describe] = None) -> Request:
         """As `Service.start`."""
-        return flow._start(self._works, name or f"{flow.name} {next(self._requests)}", self, given)
+        return flow._start(_Request, self._works, name or f"{flow.name} {next(self._requests)}", self, given)._describing(describe)
+
+
+class _Request(Request):
+    """A request whose functions have contexts."""
+
+    __slots__ = ("_context",)
+
+    def __init__(self, *given: Any) -> None:
+        super().__init__(*given)
+        if self._plan is not None:
+            self._context = contextvars.copy_context()
+
+    def _attach(self, form: int, first: "Optional[Stage[Any]]", second: "Optional[Stage[Any]]", call: Optional[Callable[..., Any]],
+                args: Optional[Tuple[Any, ...]], kwargs: Optional[Dict[str, Any]], name: Optional[str]) -> "Stage[Any]":
+        if call is None:
+            return RequestCore._attach(self, form, first, second, None, args, kwargs, name)
+        known = name if name is not None else call.__qualname__ if type(call) is FunctionType else _name(call)
+        return RequestCore._attach(self, form, first, second, _Within(contextvars.copy_context().run, call), args, kwargs, known)
+
+
+class _Within(functools.partial):  # type: ignore[type-arg]
+    """The `run` of a context with the function that it is to call."""
+
+    __slots__ = ()
 
 
 class _LoopWorks:
     """What `Works` is to a request."""
 
-    def __init__(self, loop: asyncio.AbstractEventLoop) -> None:
-        self._loop = loop
+    def __init__(self, loop: asyncio.AbstractEventLoop, describe: Describe) -> None:
+        self._loop, self.describe = loop, describe
         self._tasks: "Set[asyncio.Task[None]]" = set()
 
     @property
@@ -94,18 +126,28 @@ class _LoopWorks:
             if begun is None:
                 return
             call, args, kwargs = begun
+            within = call if type(call) is _Within else _Within(cast(_Request, request)._context.copy().run, call)
             try:
-                given = call(*args, **kwargs)
+                given = within(*args, **kwargs)
             except BaseException as error:
-                stage = request._end(stage, FIRST_WORKER, THROWS, error)
+                stage = self._raised(stage, error)
             else:
                 if inspect.isawaitable(given) and not isinstance(given, Stage):
-                    self._await(stage, given)
+                    within.func(self._await, stage, given)
                     return
                 stage = _ended(stage, given)
 
+    def _raised(self, stage: "Stage[Any]", error: BaseException) -> "Optional[Stage[Any]]":
+        """Finishes a stage whose function raised. What leaves a loop as a task raises it does so here, too, once no stage is left behind."""
+        following = stage.request._end(stage, FIRST_WORKER, THROWS, error)
+        if not isinstance(error, (KeyboardInterrupt, SystemExit)):
+            return following
+        if following is not None:
+            self.put(following)
+        raise error
+
     def _await(self, stage: "Stage[Any]", given: Awaitable[Any]) -> None:
-        """Lets a coroutine go on."""
+        """Lets a coroutine go on, in a copy of this context."""
         task = self._loop.create_task(self._awaited(stage, given))
         self._tasks.add(task)
         task.add_done_callback(self._tasks.discard)
@@ -115,7 +157,7 @@ class _LoopWorks:
         try:
             value = await given
         except BaseException as error:
-            following = stage.request._end(stage, FIRST_WORKER, THROWS, error)
+            following = self._raised(stage, error)
         else:
             following = _ended(stage, value)
         self._run(following)

@@ -6,6 +6,7 @@ import weakref
 from typing import TYPE_CHECKING, Any, Callable, Optional, Tuple, TypeVar
 
 from .flow import Flow
+from .history import Describe, describe_all
 from .request import Request
 from .stage import Stage
 from .works import Works
@@ -30,7 +31,10 @@ class Service(concurrent.futures.Executor):
 
     The parameters are those of ThreadPoolExecutor, with the same errors. Threads are started as they are needed, and end with `shutdown`,
     when nobody has the service or a request of it any more, and once all that was handed in is done, when the interpreter ends. A child
-    of `fork` may use it, too: what was handed in before is its parent's."""
+    of `fork` may use it, too: what was handed in before is its parent's.
+
+    `describe` is what histories tell of values and exceptions: `describe_all`, the default, `describe_types`, `describe_nothing`, or
+    another function that makes a text of one."""
 
     _services = itertools.count()
 
@@ -43,26 +47,27 @@ class Service(concurrent.futures.Executor):
         return DurableService(store, max_workers, *given, **more)
 
     def __init__(self, max_workers: Optional[int] = None, thread_name_prefix: str = "",
-                 initializer: Optional[Callable[..., object]] = None, initargs: Tuple[Any, ...] = (), *, store: "Optional[Store]" = None) -> None:
+                 initializer: Optional[Callable[..., object]] = None, initargs: Tuple[Any, ...] = (), *, store: "Optional[Store]" = None,
+                 describe: Describe = describe_all) -> None:
         workers = min(32, (os.cpu_count() or 1) + 4) if max_workers is None else max_workers
         if workers <= 0:
             raise ValueError("max_workers must be greater than 0")
         if initializer is not None and not callable(initializer):
             raise TypeError("initializer must be a callable")
         number = next(self._services)
-        self._works = Works(workers, thread_name_prefix or f"{type(self).__name__}-{number}", initializer, initargs)
+        self._works = Works(workers, thread_name_prefix or f"{type(self).__name__}-{number}", initializer, initargs, describe)
         self._requests = itertools.count()
         weakref.finalize(self, self._works.close)
 
-    def request(self, name: str = "", room: int = ROOM) -> Request:
+    def request(self, name: str = "", room: int = ROOM, *, describe: Optional[Describe] = None) -> Request:
         """A request, which keeps this service. `room` is a guess how many stages it will have; one that grows beyond does all its events
-        again a few times."""
-        return Request(self._works, name or f"request {next(self._requests)}", room, self)
+        again a few times. `describe` is what its histories tell of values, in place of what the service chose."""
+        return Request(self._works, name or f"request {next(self._requests)}", room, self)._describing(describe)
 
-    def start(self, flow: Flow, *given: Any, name: str = "") -> Request:
+    def start(self, flow: Flow, *given: Any, name: str = "", describe: Optional[Describe] = None) -> Request:
         """A request of a flow's stages. Its promises are completed with what is given, in their order, and its supplies begin. Stages can
         be attached to it as to any other. `ValueError` where more is given than there are promises."""
-        return flow._start(self._works, name or f"{flow.name} {next(self._requests)}", self, given)
+        return flow._start(Request, self._works, name or f"{flow.name} {next(self._requests)}", self, given)._describing(describe)
 
     def submit(self, fn: Callable[..., T], /, *args: Any, **kwargs: Any) -> "Stage[T]":
         """Calls a function on one of the threads: a request of one stage."""
@@ -76,7 +81,9 @@ class Service(concurrent.futures.Executor):
         """Takes no more functions. Those that were handed in, and those of stages behind them, are called; with `cancel_futures` stages
         that no thread has taken are cancelled, as by `Stage.cancel`."""
         self._works.close()
-        if cancel_futures:
-            self._works.cancel_all()
-        if wait:
-            self._works.join()
+        try:
+            if cancel_futures:
+                self._works.cancel_all()
+        finally:
+            if wait:
+                self._works.join()

@@ -8,6 +8,7 @@ from typing import TYPE_CHECKING, Any, Callable, Generator, Generic, Optional, T
 
 from ..values import BadAnswer, Form
 from ._core import StageCore, use
+from .history import escaped
 from .words import CANCEL, CLOCK, COMPLETE, FAIL, THIS_THREAD, RequestFull
 
 if TYPE_CHECKING:
@@ -98,12 +99,13 @@ class Stage(_Future[T]):
         return self.request._change(CANCEL, THIS_THREAD, self, False)
 
     def or_timeout(self, seconds: float) -> "Stage[T]":
-        """Lets it fail with a `TimeoutError`, unless it is settled by then. This stage itself is given back."""
-        error = f"{self.name} took longer than {seconds} s"
+        """Lets it fail with a `TimeoutError`, unless it is settled by then: at once where the time is over already, and never where it is
+        endless; `ValueError` of NaN. This stage itself is given back."""
+        error = f"{escaped(self.name)} took longer than {seconds} s"
         return self.request._later(self, seconds, lambda: self.request._change(FAIL, CLOCK, self, TimeoutError(error)))
 
     def complete_on_timeout(self, value: T, seconds: float) -> "Stage[T]":
-        """Gives it the value, unless it is settled by then. This stage itself is given back."""
+        """Gives it the value, unless it is settled by then, as `or_timeout`. This stage itself is given back."""
         return self.request._later(self, seconds, lambda: self.request._change(COMPLETE, CLOCK, self, value))
 
     def set_result(self, result: T) -> None:
@@ -141,19 +143,22 @@ class Stage(_Future[T]):
 
     # For the C module.
 
+    _told = 0  # of those who wait
+
     def _wait(self, timeout: Optional[float]) -> None:
         """Waits until it is shown, or so many seconds."""
         with self._condition:
             self._condition.wait_for(functools.partial(getattr, self, "_shown"), timeout)
 
     def _show(self) -> None:
-        """Tells those who wait. It is settled."""
+        """Tells those who wait. It is settled. Where this ends by an interrupt, it is called once more, and goes on."""
         with self._condition:
-            self._shown = True
+            self._condition.notify_all()  # (they look once the condition is free)
             note = "add_cancelled" if self.cancelled() else "add_result" if self._exception is None else "add_exception"
-            for waiter in self._waiters:
-                getattr(waiter, note)(self)
-            self._condition.notify_all()
+            while self._told < len(self._waiters):
+                self._told += 1
+                getattr(self._waiters[self._told - 1], note)(self)
+            self._shown = True
 
     def _log(self, error: BaseException) -> None:
         LOGGER.error("exception calling callback for %r", self, exc_info=error)

@@ -1,5 +1,6 @@
 """Threads that run stages, and the clock."""
 import atexit
+import contextlib
 import heapq
 import itertools
 import logging
@@ -8,10 +9,11 @@ import threading
 import time
 import weakref
 from concurrent.futures.thread import BrokenThreadPool
-from queue import SimpleQueue
-from typing import Any, Callable, List, Optional, Set, Tuple
+from queue import Empty, SimpleQueue
+from typing import Any, Callable, Iterable, List, Optional, Set, Tuple
 
 from ._core import be
+from .history import Describe, describe_all
 from .stage import Stage
 from .words import FIRST_WORKER, MOST_CALLERS
 
@@ -26,8 +28,9 @@ class Works:
     back; no request's lock is held meanwhile. A thread ends only where it finds the queue empty under the lock, and who puts a stage looks
     behind it whether all have ended, so each stage is run or refused."""
 
-    def __init__(self, most: int, prefix: str, initializer: Optional[Callable[..., object]], initargs: Tuple[Any, ...]) -> None:
-        self.most, self.broken, self.closed = most, False, False
+    def __init__(self, most: int, prefix: str, initializer: Optional[Callable[..., object]], initargs: Tuple[Any, ...],
+                 describe: Describe = describe_all) -> None:
+        self.most, self.broken, self.closed, self.describe = most, False, False, describe
         self.clock = Clock(f"{prefix}_clock")
         self._prefix, self._initializer, self._initargs = prefix, initializer, initargs
         self._reset()
@@ -35,27 +38,29 @@ class Works:
 
     def _reset(self) -> None:
         """No thread is there."""
-        self.threads: Set[threading.Thread] = set()
+        self.threads: Set[_Thread] = set()
         self._lock = threading.RLock()  # (what is collected meanwhile may put stages)
         self._stages: "SimpleQueue[Optional[Stage[Any]]]" = SimpleQueue()
+        self._end = [None]  # what lets threads end is in the queue once, whoever closes this
         self._idle = self._alive = 0
         self._is_full = False  # all threads were started
 
     def refusal(self) -> RuntimeError:
         """Why nobody runs what is attached now."""
-        return BrokenThreadPool(BROKEN) if self.broken else RuntimeError("cannot schedule new futures after shutdown")
+        if self.broken:
+            return BrokenThreadPool(BROKEN)
+        return RuntimeError("cannot schedule new futures after shutdown" if self.closed else "can't start new thread")
 
     def put(self, stage: "Stage[Any]") -> bool:
         """Hands a ready stage to a thread, and says whether one will run it."""
         if not (self._is_full or self.closed):
             return self._put_starting(stage)
         self._stages.put(stage)
-        if not self.closed:
+        if self._is_full and not self.closed:
             return True
         with self._lock:
-            left = [] if self._alive else self._drained()
-        self._refuse(other for other in left if other is not stage)
-        return not any(other is stage for other in left)
+            left = self._left()
+        return self._refuse(left, stage)
 
     def _put_starting(self, stage: "Stage[Any]") -> bool:
         """The same while not all threads are there: where none is idle, one is started."""
@@ -69,43 +74,65 @@ class Works:
             number = self._alive
             self._alive += 1
             self._is_full = self._alive == self.most
-            thread = threading.Thread(target=self._work, args=(FIRST_WORKER + number % (MOST_CALLERS - FIRST_WORKER), [stage]),
-                                      name=f"{self._prefix}_{number}", daemon=True)
+            thread = _Thread(target=self._work, args=(FIRST_WORKER + number % (MOST_CALLERS - FIRST_WORKER), [stage]),
+                             name=f"{self._prefix}_{number}", daemon=True)
             self.threads.add(thread)
         try:
             thread.start()
-        except RuntimeError:  # there are no more threads, or the interpreter ends
-            with self._lock:
-                self._alive -= 1
-                self.threads.discard(thread)
+        except Exception:  # there are no more threads for now, or the interpreter ends
+            self._go_without(thread)
             return False
+        finally:
+            thread.tried.set()
         return True
+
+    def _go_without(self, thread: "_Thread") -> None:
+        """A thread couldn't be started. The next put tries again, and what others have put meanwhile isn't left behind."""
+        with self._lock:
+            self._alive -= 1
+            self.threads.discard(thread)
+            self._is_full, self._idle = False, 0  # (a thread that waits and isn't counted costs one more)
+            left = self._left()
+        self._refuse(left)
 
     def close(self) -> None:
         """Lets threads end once nothing is left to do."""
-        if not self.closed:
-            self.closed = True
-            self._stages.put(None)
+        self.closed = True
+        with contextlib.suppress(IndexError):
+            self._stages.put(self._end.pop())
 
     def join(self) -> None:
-        """Waits for all threads but this one."""
-        for thread in list(self.threads):
-            if thread.ident is not None and thread is not threading.current_thread():
+        """Waits for all threads but this one, also for one that is about to be started."""
+        own = threading.current_thread()
+        while True:
+            with self._lock:
+                thread = next((it for it in self.threads if it is not own), None)
+            if thread is None:
+                return
+            thread.tried.wait()
+            if thread.ident is not None:
                 thread.join()
+            with self._lock:
                 self.threads.discard(thread)
 
     def cancel_all(self) -> None:
         """Cancels the stages that no thread has taken yet."""
         with self._lock:
             stages = self._drained()
-        for stage in stages:
-            stage.cancel()
+        _all(Stage.cancel, stages)
+
+    def _left(self) -> "List[Stage[Any]]":
+        """What is in the queue, and nobody will run."""
+        return [] if self._alive else self._drained()
 
     def _drained(self) -> "List[Stage[Any]]":
         """What is in the queue, and no more. What lets threads end stays."""
         stages, ends = [], False
-        while not self._stages.empty():
-            stage = self._stages.get()
+        while True:
+            try:
+                stage = self._stages.get_nowait()  # (threads take from it without the lock)
+            except Empty:
+                break
             if stage is None:
                 ends = True
             else:
@@ -114,9 +141,10 @@ class Works:
             self._stages.put(None)
         return stages
 
-    def _refuse(self, stages: Any) -> None:
-        for stage in stages:
-            stage.fail(self.refusal())
+    def _refuse(self, stages: "List[Stage[Any]]", own: "Optional[Stage[Any]]" = None) -> bool:
+        """Lets stages fail that nobody will run, but the caller's own, and says whether that isn't among them."""
+        _all(lambda stage: stage.fail(self.refusal()), [stage for stage in stages if stage is not own])
+        return all(stage is not own for stage in stages)
 
     def _work(self, who: int, first: "List[Stage[Any]]") -> None:
         be(who)
@@ -126,7 +154,7 @@ class Works:
                 self._initializer(*self._initargs)
             except BaseException:
                 LOGGER.critical("Exception in initializer:", exc_info=True)
-                self._break(stage)
+                self._break([] if stage is None else [stage])
                 return
         while stage is not None:
             try:
@@ -152,20 +180,43 @@ class Works:
                 if is_last:
                     return None
 
-    def _break(self, first: "Optional[Stage[Any]]") -> None:
+    def _break(self, first: "List[Stage[Any]]") -> None:
         with self._lock:
-            self.broken = self.closed = True
+            self.broken = True
             self._alive -= 1
             stages = self._drained()
-            self._stages.put(None)
-        self._refuse([*stages, *([] if first is None else [first])])
+            self.close()  # (others may have)
+        try:
+            self._refuse(stages + first)
+        except BaseException:  # a callback's
+            LOGGER.critical("Exception in worker", exc_info=True)
 
     def _forked(self) -> None:
         """In a child of `fork` no thread is there. What they had to do is the parent's."""
         self._reset()
         self.clock._forked()
         if self.closed:
-            self._stages.put(None)
+            self.close()
+
+
+class _Thread(threading.Thread):
+    """A thread that may be waited for before it was started. `tried` is set once it was, or couldn't be."""
+
+    def __init__(self, **given: Any) -> None:
+        super().__init__(**given)
+        self.tried = threading.Event()
+
+
+def _all(act: "Callable[[Stage[Any]], object]", stages: "Iterable[Stage[Any]]") -> None:
+    """Does it to all of the stages, also where callbacks raise what isn't an `Exception`. The first of that is raised then."""
+    first: Optional[BaseException] = None
+    for stage in stages:
+        try:
+            act(stage)
+        except BaseException as error:
+            first = first or error
+    if first is not None:
+        raise first
 
 
 class Clock:
@@ -186,20 +237,24 @@ class Clock:
         """Acts after some seconds, unless what is given is called before."""
         acts = [act]
         with self._changed:
-            entry = (time.monotonic() + seconds, next(self._numbers), acts)
-            heapq.heappush(self._due, entry)
             if self._thread is None:
                 self._thread = threading.Thread(target=self._run, name=self._name, daemon=True)
-                self._thread.start()
-            elif self._due[0] is entry:
+                try:
+                    self._thread.start()
+                except BaseException:  # the next call tries again
+                    self._thread = None
+                    raise
+            entry = (time.monotonic() + seconds, next(self._numbers), acts)
+            heapq.heappush(self._due, entry)
+            if self._due[0] is entry:
                 self._changed.notify()
         return lambda: self._forget(acts)
 
     def _forget(self, acts: List[Callable[[], object]]) -> None:
         """Lets an act go. Where over half of the list are such, they are taken out."""
         with self._changed:
-            if acts:
-                acts.clear()
+            dropped, acts[:] = acts[:], []  # (what it has to itself is freed behind the lock)
+            if dropped:
                 self._forgotten += 1
             if self._forgotten > 64 and 2 * self._forgotten > len(self._due):
                 many, left = len(self._due), [entry for entry in self._due if entry[2]]
@@ -207,11 +262,20 @@ class Clock:
                 if many == len(self._due):  # (what is collected meanwhile may have added some)
                     self._due, self._forgotten = left, 0
 
+    def end(self) -> None:
+        """Forgets what is due later, and waits for its thread: an interpreter within this process can't end while there is one."""
+        with self._changed:
+            thread, due, self._due, self._forgotten = self._thread, self._due, [], 0
+            self._changed.notify()
+        del due  # (not under the lock)
+        if thread is not None and thread is not threading.current_thread():
+            thread.join()
+
     def _run(self) -> None:
         while True:
             with self._changed:
                 while self._due and self._due[0][0] > time.monotonic():
-                    self._changed.wait(self._due[0][0] - time.monotonic())
+                    self._changed.wait(min(self._due[0][0] - time.monotonic(), threading.TIMEOUT_MAX))
                 if not self._due:
                     self._thread = None
                     return
@@ -230,6 +294,10 @@ class Here:
     """This thread, which runs all that is ready before it goes on, as its ledger tells it. There is no clock."""
 
     closed = False
+
+    @property
+    def describe(self) -> Describe:
+        return describe_all
 
     @property
     def clock(self) -> Clock:
@@ -253,6 +321,8 @@ def _at_exit() -> None:
         works.close()
     for works in open_ones:
         works.join()
+    for works in open_ones:
+        works.clock.end()
 
 
 def _after_fork() -> None:

@@ -43,6 +43,8 @@ class Done(NamedTuple):
 class RowHistory(History):
     """A row's history: places in place of times, and numbers that sessions had as callers. `sessions` are those of its words."""
 
+    _unit, _width = "words", 5
+
     def __init__(self, name: str, core: PlanCore, facts: Any, sessions: Sequence[int]) -> None:
         super().__init__(name, core, facts)
         self._sessions = sessions
@@ -67,13 +69,8 @@ class RowHistory(History):
             own.append(record)
         return {"sessions": list(sessions.values())} if len(sessions) > 1 else records
 
-    def lines(self) -> List[str]:
-        """A line for each word, with its place, and one for each stage that was settled by it."""
-        lines = [f"{self.name}: {len(self.words)} words, {len(self.names)} stages"]
-        for entry in self.entries():
-            lines.append(f"{entry.place:5}  {self.sentence(entry)}")
-            lines += [f"       {self.stage(stage)} ends: {text}" for stage, text in self.ends(entry)]
-        return lines
+    def _at(self, place: int, seconds: float) -> str:
+        return f"{place:5}"
 
 
 class Desk:

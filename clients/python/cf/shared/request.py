@@ -7,7 +7,7 @@ from concurrent.futures import CancelledError, InvalidStateError
 from typing import TYPE_CHECKING, Any, Callable, Dict, Generator, Generic, List, Optional, Sequence, Set, Tuple, TypeVar
 
 from ..service.flow import Again, Step, _alone
-from ..service.history import History, Told
+from ..service.history import Describe, History, Told, escaped
 from ..service.words import ANSWER, ATTACH, CANCEL, CANCELLED, COMPLETE, FAIL, GIVES, MOST_STAGES, NUMBER, PENDING, THROWN, VALUE, RequestFull
 from ..values import BadAnswer, Form
 from .desk import Desk, Done
@@ -107,7 +107,7 @@ class Stage(_Future[T]):
     def or_timeout(self, seconds: float) -> "Stage[T]":
         """Lets it fail with a `TimeoutError`, unless it is settled by then: any process that works on the request does it. A stage has one
         timer, and this replaces one that it had. This stage itself is given back."""
-        error = TimeoutError(f"{self.name} took longer than {seconds} s")
+        error = TimeoutError(f"{escaped(self.name)} took longer than {seconds} s")
         return self.request._later(self, seconds, b"E" + self.request._service.codec.write_error(error))
 
     def complete_on_timeout(self, value: T, seconds: float) -> "Stage[T]":
@@ -151,6 +151,7 @@ class Request:
         self._stages: Dict[int, Stage[Any]] = {}
         self.is_queued = self.is_leaving = False
         self._unshown: Set[int] = set()  # settled stages whose payload couldn't be read yet
+        self._describe: Describe = service._describe
 
     @property
     def seen(self) -> int:
@@ -204,7 +205,8 @@ class Request:
         """All that happened until now, as the row tells it. It takes time by the number of words."""
         self._catch_up()
         with self._lock:
-            return self._desk.history(self._service.codec)
+            history = self._desk.history(self._service.codec)
+        return history._described(self._describe)
 
     def end(self) -> None:
         """Closes it: nothing is left to do in it, and workers look at it no more. A flow's request does so by itself."""

@@ -10,7 +10,7 @@ import time
 from typing import Any, Callable, Dict, List, NamedTuple, Optional, Sequence, Set, Tuple, TypeVar
 
 from ..service.flow import Flow
-from ..service.history import Told
+from ..service.history import Describe, Told, describe_all
 from ..service.words import (ANSWER, ARGS, CLAIM, COMPOSE_FORMS, FAIL, FINISH, FIRST, FIRST_SOME, GIVES, GOT, LINKS, ONE, OUTCOME, SECOND,
                              SECOND_SOME, THROWS, TWO, VALUE)
 from ..values import Form
@@ -69,12 +69,14 @@ class DurableService(concurrent.futures.Executor):
     It works on the requests that were begun or resumed here, by `max_workers` threads; with `takes_all` on all that are open, as a worker
     does. Functions are those that `function` named here, and values what the codec takes. `lease` is after how many seconds without a
     sign of life another process thinks that this one is gone, and the stages whose functions it runs are abandoned. Puts that come at
-    the same time are grouped into one commit where `groups` is set. A child of `fork` may not use it."""
+    the same time are grouped into one commit where `groups` is set. `describe` is what histories tell of values, as of `Service`. A child
+    of `fork` may not use it."""
 
     _numbers = itertools.count()
 
     def __init__(self, store: Store, max_workers: Optional[int] = None, *, functions: Optional[Functions] = None, codec: Optional[Json] = None,
-                 lease: float = 10, takes_all: bool = False, groups: bool = False, note: Optional[Callable[..., None]] = None) -> None:
+                 lease: float = 10, takes_all: bool = False, groups: bool = False, note: Optional[Callable[..., None]] = None,
+                 describe: Describe = describe_all) -> None:
         workers = min(32, (os.cpu_count() or 1) + 4) if max_workers is None else max_workers
         if workers < 0:
             raise ValueError("max_workers must not be below 0")
@@ -86,7 +88,7 @@ class DurableService(concurrent.futures.Executor):
         self.functions: Functions = Functions()
         if functions is not None:
             self.functions.add(functions)
-        self._workers, self._takes_all, self._lease, self._note = workers, takes_all, lease, note
+        self._workers, self._takes_all, self._lease, self._note, self._describe = workers, takes_all, lease, note, describe
         self._pool = concurrent.futures.ThreadPoolExecutor(max(workers, 1), f"cf-shared-{next(self._numbers)}")
         self._requests: Dict[str, Request] = {}
         self._unknown: Dict[str, Tuple[str, int]] = {}
@@ -106,17 +108,21 @@ class DurableService(concurrent.futures.Executor):
             raise StoreError(f"{type(self.store).__name__} has no transactions that a function can take part in")
         return self.functions.function(name, version, transactional)
 
-    def request(self, name: str = "") -> Request:
-        """A request without stages, or the one of this name as it stands in the store. Without a name it gets one by chance."""
-        return self._opened(name or f"request {new_session():x}", text_of(None, self.functions), False)
+    def request(self, name: str = "", *, describe: Optional[Describe] = None) -> Request:
+        """A request without stages, or the one of this name as it stands in the store. Without a name it gets one by chance. `describe` is
+        what its histories tell of values here, in place of what the service chose."""
+        request = self._opened(name or f"request {new_session():x}", text_of(None, self.functions), False)
+        request._describe = describe or request._describe
+        return request
 
-    def start(self, flow: Flow, *given: Any, name: str = "") -> Request:
+    def start(self, flow: Flow, *given: Any, name: str = "", describe: Optional[Describe] = None) -> Request:
         """A request of a flow's stages, whose promises are completed with what is given. Where one of this name stands in the store, it is
         gone on with, and `Broken` is raised if it was begun with another plan. `ValueError` where more is given than there are promises."""
         if len(given) > len(flow._promises):
             raise ValueError(f"{flow.name} has {len(flow._promises)} promises")
         payloads = [None if it is None else self.codec.write(it) for it in given]
         request = self._opened(name or f"{flow.name} {new_session():x}", text_of(flow, self.functions), True)
+        request._describe = describe or request._describe
         request._complete_all(list(zip(flow._promises, payloads)))
         self._serve(request)
         return request
