@@ -422,8 +422,8 @@ class Desks(Case):
     def test_a_stale_read(self):
         """Reads that lack the last words change nothing: the put decides, and who loses is told what stands."""
         class Stale(Memory):
-            def read(self, name, at=0):
-                return super().read(name, at)[:1] if at == 0 else []
+            def read(self, name, at=0, number=0):
+                return super().read(name, at, number)[:1] if at == 0 else []
         store = Stale()
         first, second = self.desk(store), self.desk(store)
         first.act(lambda desk: [(7 << 56 | desk.who << 48, b'{"name":"one"}'), (7 << 56 | desk.who << 48, b'{"name":"two"}')])
@@ -532,7 +532,7 @@ class Desks(Case):
         store = Away()
         desk = Desk(store, store.open("r", EMPTY), new_session(), patience=0.1)
         with self.assertRaises(Unknown) as told:
-            desk.act(lambda desk: [(1 << 56, None)])
+            desk.act(lambda desk: [(7 << 56, b'{"name":"p"}')])
         self.assertIn("'r', place 1: the store doesn't answer: no connection", str(told.exception))
 
     def test_an_account_by_sessions(self):
@@ -797,9 +797,9 @@ class Services(Case):
     def test_a_long_start(self):
         """Who reads many long rows for the first time says meanwhile that he is there."""
         class Slow(Memory):
-            def read(self, name, at=0):
+            def read(self, name, at=0, number=0):
                 time.sleep(0.02)
-                return super().read(name, at)
+                return super().read(name, at, number)
 
             def beat(self, session):
                 times.append(time.monotonic())

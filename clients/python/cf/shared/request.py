@@ -1,10 +1,12 @@
 """A request whose row stands in a store, and its stages as futures."""
 import asyncio
 import concurrent.futures
+import contextlib
 import json
+import logging
 import threading
 from concurrent.futures import CancelledError, InvalidStateError
-from typing import TYPE_CHECKING, Any, Callable, Dict, Generator, Generic, List, Optional, Sequence, Set, Tuple, TypeVar
+from typing import TYPE_CHECKING, Any, Callable, ContextManager, Dict, Generator, Generic, Iterable, List, Optional, Sequence, Set, Tuple, TypeVar
 
 from ..service.flow import Again, Step, _alone
 from ..service.history import History, Told
@@ -20,11 +22,14 @@ if TYPE_CHECKING:
 T = TypeVar("T")
 U = TypeVar("U")
 V = TypeVar("V")
+LOGGER = logging.getLogger("concurrent.futures")
 
 if TYPE_CHECKING:
 
     class _Future(concurrent.futures.Future[T]):
         _state: str
+        _condition: threading.Condition
+        _done_callbacks: "List[Callable[[Any], object]]"
 else:
 
     class _Future(concurrent.futures.Future, Generic[T]):
@@ -134,11 +139,26 @@ class Stage(_Future[T]):
             return
         if is_cancelled:
             super().cancel()
-            super().set_running_or_notify_cancel()
+            with self._condition:
+                if self._state == "CANCELLED":  # (another thread may show it, too)
+                    super().set_running_or_notify_cancel()
         elif error is not None:
             super().set_exception(error)
         else:
             super().set_result(value)
+
+    def _invoke_callbacks(self) -> None:
+        """Calls each, also behind one that raised what isn't an `Exception`. That is raised then."""
+        raised: Optional[BaseException] = None
+        for callback in self._done_callbacks:
+            try:
+                callback(self)
+            except Exception:
+                LOGGER.exception("exception calling callback for %r", self)
+            except BaseException as error:
+                raised = raised or error
+        if raised is not None:
+            raise raised
 
 
 class Request:
@@ -147,9 +167,14 @@ class Request:
     def __init__(self, service: "DurableService", desk: Desk) -> None:
         self._service, self._desk = service, desk
         self.name: str = desk.name
+        self.number: int = desk.opened.number
         self._lock = threading.RLock()
+        self._writes = threading.RLock()  # taken before the other one by who puts
+        self._transacts: Set[int] = set()  # the threads that run a transactional function of it
         self._stages: Dict[int, Stage[Any]] = {}
         self.is_queued = self.is_leaving = False
+        self.is_closed = self.reopens = False  # in the store, as far as is known; and whether that has yet to be taken back
+        self.kept = 0  # how often it was asked for again
         self._unshown: Set[int] = set()  # settled stages whose payload couldn't be read yet
 
     @property
@@ -203,25 +228,36 @@ class Request:
     def history(self) -> History:
         """All that happened until now, as the row tells it. It takes time by the number of words."""
         self._catch_up()
-        with self._lock:
-            return self._desk.history(self._service.codec)
+        return self._desk.history(self._service.codec, self._lock)
 
     def end(self) -> None:
-        """Closes it: nothing is left to do in it, and workers look at it no more. A flow's request does so by itself."""
+        """Closes it: nothing is left to do in it, and workers look at it no more. A flow's request does so by itself. A stage that is
+        attached opens it again."""
         self._catch_up()
-        self._desk.sure(lambda: self._service.store.end(self.name, self.seen))
+        self._desk.sure(lambda: self._service.store.end(self.name, self.seen, self.number))
+        self.is_closed = True
 
     # Acting on the row.
 
     def _act(self, decide: Callable[[Desk], Any]) -> Optional[List[Done]]:
-        with self._lock:
-            done, others = self._desk.act(decide)
+        if threading.get_ident() in self._transacts:
+            raise StoreError(f"request {self.name!r}: its transactional function can't put to it: that takes the place of its finish")
+        try:
+            with self._writes, self._lock:
+                done, others = self._desk.act(decide)
+        except BaseException:
+            self._show_settled()
+            raise
         self._show(others + (done or []))
         return done
 
     def _catch_up(self) -> None:
-        with self._lock:
-            news = self._desk.catch_up()
+        try:
+            with self._lock:
+                news = self._desk.catch_up()
+        except BaseException:
+            self._show_settled()
+            raise
         self._show(news)
 
     def _attach(self, form: Form, of: "Sequence[Stage[Any]]", call: Optional[Callable[..., Any]], args: Tuple[Any, ...] = (),
@@ -255,11 +291,19 @@ class Request:
     def _attached(self, done: Optional[List[Done]]) -> "Stage[Any]":
         """The last of the stages that were attached."""
         assert done is not None
-        if self._desk.plan.rows:
-            self._desk.sure(lambda: self._service.store.reopen(self.name))
-            self._service._requests.setdefault(self.name, self)
+        if self._desk.plan.rows or self.is_closed:
+            self.reopens = True
+            self._service._keep(self)
+            self._reopen()
         self._service._serve(self)
         return self._stage(done[-1].reply[NUMBER])
+
+    def _reopen(self) -> None:
+        """Opens it again in the store, where it may be closed and stages were attached."""
+        if self.reopens:
+            self._desk.sure(lambda: self._service.store.reopen(self.name, self.number))
+            self.reopens = self.is_closed = False
+            self._service._keep(self)  # (behind that: who thought it closed before doesn't forget it)
 
     def _relay(self) -> None:
         """Settles the promises of stages that composed as the stages are that their functions gave, where those are settled, and cancels
@@ -332,7 +376,7 @@ class Request:
     def _later(self, stage: "Stage[T]", seconds: float, payload: bytes) -> "Stage[T]":
         if not stage.done():
             store = self._service.store
-            self._desk.sure(lambda: store.set_timer(Timer(self.name, stage.number, store.now() + seconds, payload)))
+            self._desk.sure(lambda: store.set_timer(Timer(self.name, stage.number, store.now() + seconds, payload, self.number)))
         return stage
 
     def _fire(self, timer: Timer) -> None:
@@ -341,21 +385,38 @@ class Request:
             raise StoreError(f"place {self._desk.place}: a timer is set for stage {timer.stage}, which isn't there")
         self._settle(FAIL if kind == b"E" else COMPLETE, timer.stage, None if kind == b"N" else payload)
 
+    @contextlib.contextmanager
+    def _transacting(self) -> Generator[None, None, None]:
+        """While a transactional function runs. Where the store lets nobody else put meanwhile, this process's threads don't wait for it with
+        the lock of the request, which the finish takes."""
+        writes: ContextManager[Any] = contextlib.nullcontext()
+        if self._service.store.locks_out:
+            writes = self._writes
+        with writes:
+            self._transacts.add(threading.get_ident())
+            try:
+                yield
+            finally:
+                self._transacts.discard(threading.get_ident())
+
     def _act_within(self, transaction: Transaction, finish: "Finish") -> bool:
-        """Puts a finish within a transaction, and says whether that stands. `Unknown` where it may."""
+        """Puts a finish within a transaction, and says whether that stands. `Unknown` where it may. What it settled isn't shown yet."""
         with self._lock:
             put: Put = self._desk.put_of([finish.word(self._desk)])
             if self._desk.is_settled(finish.stage) or not transaction.append(put):
                 return False
-            transaction.commit()
-            done = self._desk.landed(put)
-        self._show(done)
-        return True
+            try:
+                transaction.commit()
+            except BaseException:
+                self._desk.doubt(put)
+                raise
+            self._desk.landed(put)
+            return True
 
-    def _stands(self, stage: int) -> bool:
-        """Whether this session's claim of a stage was finished."""
-        self._catch_up()
-        return not self._is_held(stage)
+    def _read(self) -> None:
+        """Replays what others have put, which isn't shown yet."""
+        with self._lock:
+            self._desk.catch_up()
 
     def _is_held(self, stage: int) -> bool:
         """Whether this session has a claim of a stage that isn't finished, by what is seen."""
@@ -367,7 +428,7 @@ class Request:
 
     def _end_if_done(self) -> None:
         if self._is_over():
-            self._service.store.end(self.name, self.seen)
+            self._service.store.end(self.name, self.seen, self.number)
 
     def _cancel_all(self) -> None:
         for number, stage in list(self._stages.items()):
@@ -385,14 +446,30 @@ class Request:
             stage = self._stages.get(number)
             if stage is None:
                 stage = self._stages[number] = Stage(self, number)
-        self._show_one(stage)
+        self._show_these([number])
         return stage
 
     def _show(self, news: List[Done]) -> None:
-        for number in [*self._unshown, *(number for done in news for number in done.settled)]:
+        self._show_these([*self._unshown, *(number for done in news for number in done.settled)])
+
+    def _show_settled(self) -> None:
+        """Shows all that is settled, where it isn't known what was read: a call has failed."""
+        self._show_these(list(self._stages))
+
+    def _show_these(self, numbers: Iterable[int]) -> None:
+        """Shows those of these stages that are settled, each whatever the callbacks of another raise."""
+        raised: Optional[BaseException] = None
+        for number in numbers:
             stage = self._stages.get(number)
-            if stage is not None:
-                self._show_one(stage)
+            try:
+                if stage is not None:
+                    self._show_one(stage)
+            except BaseException as error:
+                raised = raised or error
+                if stage is not None and not stage.done():
+                    self._unshown.add(number)
+        if raised is not None:
+            self._service._raise(raised)
 
     def _show_one(self, stage: "Stage[Any]") -> None:
         if stage.done() or not self._desk.is_settled(stage.number):
