@@ -7,6 +7,9 @@ They are over SQLite in a temporary folder. With CF_STORES="postgresql://.. etcd
 have to be empty.
 """
 import asyncio
+import contextlib
+import fcntl
+import importlib.util
 import json
 import os
 import signal
@@ -30,7 +33,9 @@ from cf import requests  # noqa: E402
 from cf.service import Flow, RequestFull, Service  # noqa: E402
 from cf.shared import (Abandoned, Broken, Desk, DurableService, Functions, Grouped, Json, Memory, Put, RemoteError, StoreError, Timer,  # noqa: E402
                        Unknown, connect, new_session)
+from cf.shared import Request, Watcher  # noqa: E402
 from cf.shared import service as shared_service  # noqa: E402
+from cf.shared import sqlite as shared_sqlite  # noqa: E402
 from cf.shared.plans import text_of  # noqa: E402
 
 STORES = os.environ.get("CF_STORES", "").split()
@@ -142,7 +147,6 @@ class Rows(Case):
 
     def test_forgotten_beats(self):
         """A session that ends drops its beat, and one that is long gone is forgotten by others; one that comes back beats anew."""
-        from cf.shared import Watcher
         for store in self.stores():
             with self.subTest(type(store).__name__):
                 gone, there = new_session(), new_session()
@@ -231,6 +235,125 @@ class Rows(Case):
                 store.drop(name)
                 store.close()
 
+    def test_a_later_request_of_the_name(self):
+        """Who has the number of one that was dropped reads, closes and times nothing of the one that has its name now."""
+        for store in self.stores():
+            with self.subTest(type(store).__name__):
+                name = self.name
+                old = store.open(name, "plan").number
+                store.append(Put(name, 0, [(1, 11)], {1: b"old"}, old))
+                self.assertTrue(store.again().drop(name))
+                number = store.again().open(name, "plan").number
+                store.again().append(Put(name, 0, [(2, 12)], {1: b"new"}, number))
+                calls = [lambda: store.read(name, 0, old), lambda: store.read(name, 1, old), lambda: store.payloads(name, [1], old),
+                         lambda: store.end(name, 1, old), lambda: store.set_timer(Timer(name, 0, 0.0, b"N", old)), lambda: store.reopen(name, old)]
+                for call in calls:
+                    with self.assertRaises(Broken) as told:
+                        call()
+                    self.assertIn("no such request", str(told.exception))
+                self.assertEqual(store.read(name, 0, number), [(2, 12)])
+                self.assertEqual(store.payloads(name, [1, 2], number), {1: b"new"})
+                self.assertEqual(store.read(name, 1, number), [])
+                self.assertIn(name, store.ends())
+                store.set_timer(Timer(name, 3, 1.0, b"N", number))
+                self.assertEqual([it for it in store.due(2.0) if it.request == name], [Timer(name, 3, 1.0, b"N", number)])
+                store.drop_timer(name, 3, number)
+                self.assertEqual([it for it in store.due(2.0) if it.request == name], [])
+                store.end(name, 1, number)
+                self.assertNotIn(name, store.ends())
+                store.drop(name)
+                store.close()
+
+    def test_files_that_are_let_go(self):
+        """A store that is closed, or that couldn't be opened, keeps no file."""
+        Path(self.folder.name, "text").write_text("no database, but a text that is long enough to be one" * 100)
+        before = len(os.listdir("/proc/self/fd"))
+        for _ in range(20):
+            store = connect(self.address)
+            store.open("r", "plan")
+            store.close()
+            store.close()
+            with self.assertRaises(StoreError):
+                connect(f"sqlite:///{self.folder.name}/text")
+        self.assertLess(len(os.listdir("/proc/self/fd")), before + 5)
+        with self.assertRaises(StoreError):
+            store.append(Put("r", 0, [(1, 1)], {}))
+
+    def test_a_process_that_is_stopped_in_the_line(self):
+        """Others are told so after some time, keep their place in the line, and go on once it does."""
+        store = connect(self.address)
+        store.open("r", "plan")
+        stopped = os.open(f"{self.folder.name}/db-line", os.O_RDWR)
+        fcntl.flock(stopped, fcntl.LOCK_EX)
+        with unittest.mock.patch.object(shared_sqlite, "LONGEST_WAIT", 0.1):
+            for _ in range(3):
+                with self.assertRaises(Unknown) as told:
+                    store.append(Put("r", 0, [(1, 1)], {}))
+                self.assertIn("another process has the file", str(told.exception))
+        fcntl.flock(stopped, fcntl.LOCK_UN)
+        for at in range(3):
+            self.assertIsNone(store.append(Put("r", at, [(1, at)], {})))
+        fcntl.flock(stopped, fcntl.LOCK_EX)
+        thread = threading.Thread(target=store.append, args=[Put("r", 3, [(1, 3)], {})])
+        thread.start()
+        self.until(lambda: store._line._waits)
+        fcntl.flock(stopped, fcntl.LOCK_UN)
+        thread.join(20)
+        self.until(lambda: not store._line._waits)
+        fcntl.flock(stopped, fcntl.LOCK_EX | fcntl.LOCK_NB)  # nobody kept it
+        os.close(stopped)
+        self.assertEqual(len(store.read("r")), 4)
+        store.close()
+
+    def test_an_undoing_that_fails(self):
+        """A connection whose transaction can't be undone is let go, so that others can put."""
+        store = connect(self.address)
+        store.open("r", "plan")
+
+        def act(db):
+            db.execute("insert into cf_beat values (1, 1)")
+            db.set_authorizer(lambda *_: sqlite3.SQLITE_DENY)
+            raise KeyError("what the act raises")
+        with self.assertRaises((KeyError, StoreError)):
+            store._in_turn(act)
+        self.assertIsNone(connect(self.address).append(Put("r", 0, [(1, 1)], {})))
+        self.assertIsNone(store.append(Put("r", 1, [(2, 2)], {})))
+        self.assertEqual(store.beats(), {})
+        store.close()
+
+    @unittest.skipIf(importlib.util.find_spec("psycopg2") is None, "no psycopg2")
+    def test_what_a_server_of_postgresql_says(self):
+        """One that can only be read for now is away; what it refuses for good is told as such, also at a commit."""
+        from cf.shared import postgres
+        said = {"ReadOnlySqlTransaction": Unknown, "AdminShutdown": Unknown, "UniqueViolation": StoreError, "DataError": StoreError,
+                "ProgramLimitExceeded": StoreError, "InFailedSqlTransaction": StoreError}
+        for name, kind in said.items():
+            with self.assertRaises(kind), postgres.Postgres._telling(None):
+                raise getattr(postgres.errors, name, getattr(postgres.psycopg2, name, None))("why")
+
+    @unittest.skipIf(importlib.util.find_spec("psycopg2") is None, "no psycopg2")
+    def test_a_notice_that_cant_be_sent(self):
+        """It is sent later, whatever was in its way: no thread, or a server that is refused for now."""
+        from cf.shared import postgres
+        store, sent, left = postgres.Postgres.__new__(postgres.Postgres), threading.Event(), [StoreError("refused"), ValueError("odd"), Unknown("away")]
+        store._changes, store._notifier, store._lock, store._is_closed = threading.Event(), None, threading.Lock(), False
+        db = unittest.mock.MagicMock(closed=0)
+        db.cursor().__enter__().execute = lambda *_: sent.set()
+
+        def connected():
+            if left:
+                raise left.pop()
+            return db
+        store._connected = connected
+        with unittest.mock.patch.object(threading.Thread, "start", side_effect=RuntimeError("can't start new thread")):
+            store._notify()
+        with unittest.mock.patch.object(postgres, "BETWEEN_TRIES", 0.01):
+            store._notify()
+            self.assertTrue(sent.wait(20))
+        store._is_closed = True
+        store._changes.set()
+        store._notifier.join(20)
+
     def test_rows_with_gaps(self):
         """A word that somebody took out is missed by whoever reads, at its place."""
         store = connect(self.address)
@@ -306,6 +429,22 @@ class Rows(Case):
         self.assertIn("no such request", told.pop("r3"))
         self.assertEqual({len(store.read(name)) for name in told}, {2})
         self.assertTrue(all(it in (None, [(1, 11), (2, 12)]) for it in told.values()), told)
+        store.close()
+
+    def test_two_puts_of_one_request(self):
+        """One writer puts them one after the other, since both are for one place: each is told what came of its own."""
+        store, told = Grouped(connect(self.address)), {}
+        store.open("r", "plan")
+        threads = [threading.Thread(target=lambda k=k: told.update({k: store.append(Put("r", 0, [(k, k)], {}))}), daemon=True) for k in (1, 2, 3)]
+        with store._change:  # so that all wait for one commit
+            for thread in threads:
+                thread.start()
+        for thread in threads:
+            thread.join(20)
+        self.assertEqual(sorted(told), [1, 2, 3])
+        stands = store.read("r")
+        self.assertEqual(len(stands), 1)
+        self.assertEqual([told[k] for k in sorted(told) if (k, k) not in stands], [stands, stands])
         store.close()
 
     def test_stores_that_are_away(self):
@@ -468,9 +607,80 @@ class Desks(Case):
     def silent(self):
         raise Unknown("silent")
 
+    def test_a_session_keeps_its_number(self):
+        """Also by a desk that it opens later."""
+        store, session = Memory(), new_session()
+        for of in (session, new_session(), session):
+            desk = self.desk(store, of)
+            desk.catch_up()
+            desk.act(lambda desk: [(1 << 56 | desk.who << 48, None)])
+        self.assertEqual([word >> 48 & 0xFF for word, _ in store.read("r")], [0, 1, 0])
+
+    def test_tokens_of_lost_puts(self):
+        """Whose place was taken is forgotten: a later word of the same token isn't that one."""
+        store = Silent(False)
+        desk, other = self.desk(store), self.desk(store)
+        desk._patience, store.append = 0, lambda put: self.silent()
+        with self.assertRaises(Unknown):
+            self.claim(desk)
+        del store.append
+        store.lands = None
+        lost = desk._count - 1
+        other.act(lambda desk: [(1 << 56 | desk.who << 48, None)])
+        desk.catch_up()
+        self.assertEqual(desk._doubt, {})
+        store.append(Put("r", 1, [(4 << 56, desk.session << 23 | lost)], {}))
+        desk.catch_up()
+        self.assertEqual(desk.found, {})
+
+    def test_two_that_put_one_token(self):
+        """Whose token stands with other words has lost, and replays what stands."""
+        store, session = Memory(), new_session()
+        plan = {"cf": 3, "flow": "", "stages": [{"form": "source", "name": "p"}, {"form": "source", "name": "q"}]}
+        first, second = (Desk(store, store.open("r", json.dumps(plan)), session) for _ in range(2))
+        second._count = first._count
+        first.act(lambda desk: [(1 << 56 | desk.who << 48, None)])
+        done, others = second.act(lambda desk: [(1 << 56 | desk.who << 48 | 1 << 36, None)])
+        first.catch_up()
+        self.assertEqual(([it.place for it in others], [it.place for it in done]), ([1], [2]))
+        self.assertEqual((list(first.words), list(second.words)), ([word for word, _ in store.read("r")],) * 2)
+        self.assertEqual((first.kinds, first.who), (second.kinds, second.who))
+
+    def test_words_are_tested(self):
+        """One that fits no graph isn't put, nor its group: it would break the row for everybody."""
+        store = Memory()
+        desk = self.desk(store)
+        attach = (7 << 56, b'{"name":"p"}')
+        for words in ([(99 << 56, None)], [(4 << 56 | 7 << 36, None)], [(1 << 56 | 5 << 48, None)], [(1 << 56, None), (5 << 56 | 1 << 36, None)],
+                      [(7 << 56 | 1 << 32 | 3 << 24 | 1 | 2 << 36, None)], [attach, attach, (1 << 56 | 3 << 36, None)], [(-1, None)]):
+            with self.subTest(words), self.assertRaises(ValueError) as told:
+                desk.act(lambda desk: words)
+            self.assertIn("'r', place 1: the word", str(told.exception))
+        self.assertEqual(store.read("r"), [])
+        self.assertEqual(len(desk.act(lambda desk: [attach, attach, (1 << 56 | 2 << 36, None)])[0]), 3)
+        with self.assertRaises(RequestFull):
+            desk.act(lambda desk: [attach] * 4094)
+        self.assertEqual(len(store.read("r")), 3)
+
+    def test_silence_isnt_absence(self):
+        """While the store was silent nobody could say that he is there: nobody is thought gone by that."""
+        store = Memory()
+        store.beat(5)
+        watcher = Watcher(store, 0.1)
+        watcher.look()
+        with unittest.mock.patch.object(store, "beats", side_effect=Unknown("away")):
+            for _ in range(8):
+                time.sleep(0.04)
+                watcher.look()
+        watcher.look()
+        self.assertFalse(watcher.is_gone(5))
+        for _ in range(8):
+            time.sleep(0.04)
+            watcher.look()
+        self.assertTrue(watcher.is_gone(5))
+
     def test_a_pause(self):
         """Whose process stood still for long thinks nobody gone by that alone."""
-        from cf.shared import Watcher
         store, watcher = Memory(), None
         store.beat(5)
         watcher = Watcher(store, 0.05)
@@ -493,7 +703,6 @@ class Desks(Case):
             self.desk(store).catch_up()
         self.assertEqual((told.exception.request, told.exception.place), ("r", 2))
         self.assertIn("'r', place 2", str(told.exception))
-
 
     def test_a_word_that_doesnt_fit(self):
         """An event of a stage that isn't there, and a plan of another version: the errors name request and place."""

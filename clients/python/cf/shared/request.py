@@ -338,7 +338,7 @@ class Request:
             return FAIL, self._desk.payload(told.code)
         error = self._outcome(told)[1]
         assert error is not None
-        return FAIL, self._service.codec.write_error(error)
+        return FAIL, self._service._error(error)
 
     def _tree(self, form: Form, of: "Sequence[Stage[Any]]", name: str) -> "Stage[Any]":
         """An attached stage has at most two sources; a tree of them tells what one stage of all would."""

@@ -379,7 +379,7 @@ class DurableService(concurrent.futures.Executor):
         for stage, session in list(request._desk.open_claims().items()):
             if self._is_gone(session):
                 said = f"the worker that ran {request._desk.said(stage)['name']} is gone, and it may have run"
-                payload = self.codec.write_error(Abandoned(said))
+                payload = self._error(Abandoned(said))
 
                 def decide(desk: Desk, stage: int = stage, session: int = session, payload: bytes = payload) -> Any:
                     if desk.open_claims().get(stage) != session:
