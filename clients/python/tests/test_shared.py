@@ -1364,9 +1364,9 @@ class Services(Case):
         stage, cancel = request.promise(), Future.cancel
 
         def meets(future):
+            both.wait(20)
             told = cancel(future)
-            with contextlib.suppress(threading.BrokenBarrierError):
-                both.wait(10)
+            both.wait(20)
             return told
 
         def show():

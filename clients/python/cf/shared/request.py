@@ -273,7 +273,7 @@ class Request:
             number, (first, second) = len(desk.forms), (*sources, 0, 0)[:2]
             low = form << 24 | second << 12 | (0 if call is None else number)
             return [(ATTACH << 56 | desk.who << 48 | first << 36 | len(sources) << 32 | low, payload)]
-        return self._attached(self._act(decide))
+        return self._attached(decide)
 
     def _compose(self, source: "Stage[Any]", call: Callable[..., Any]) -> "Stage[Any]":
         if source.request._desk is not self._desk:
@@ -286,16 +286,22 @@ class Request:
             promise = json.dumps({"name": f"what {said['fn']} gives"}).encode()
             own = json.dumps({"name": said["fn"], "to": number, **said}).encode()
             return [(head | Form.SOURCE << 24, promise), (head | source.number << 36 | 1 << 32 | Form.COMPOSE << 24 | number + 1, own)]
-        return self._attached(self._act(decide))
+        return self._attached(decide)
 
-    def _attached(self, done: Optional[List[Done]]) -> "Stage[Any]":
-        """The last of the stages that were attached."""
-        assert done is not None
-        if self._desk.plan.rows or self.is_closed:
+    def _attached(self, decide: Callable[[Desk], Any]) -> "Stage[Any]":
+        """Puts words that attach stages, and gives the last of these. A request that may be closed in the store is opened again behind that,
+        by a worker where this call fails."""
+        may_be_closed = bool(self._desk.plan.rows) or self.is_closed
+        if may_be_closed:
             self.reopens = True
             self._service._keep(self)
+        try:
+            done = self._act(decide)
+            self.reopens = may_be_closed
             self._reopen()
-        self._service._serve(self)
+        finally:
+            self._service._serve(self)
+        assert done is not None
         return self._stage(done[-1].reply[NUMBER])
 
     def _reopen(self) -> None:
@@ -356,8 +362,10 @@ class Request:
                 return None
             low = 0 if payload is None else (GIVES << 32 if kind == COMPLETE else 0) | desk.place
             return [(kind << 56 | desk.who << 48 | stage << 36 | low, payload)]
-        done = self._act(decide)
-        self._service._serve(self)
+        try:
+            done = self._act(decide)
+        finally:
+            self._service._serve(self)
         if done is None:
             return kind == CANCEL and self._desk.told[stage].kind == CANCELLED and not self._desk.told[stage].wrapped
         return bool(done[0].reply[ANSWER])
