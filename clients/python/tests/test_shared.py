@@ -1382,6 +1382,15 @@ class Services(Case):
                 thread.join(20)
         self.assertEqual((wrong, stage.cancelled(), stage._state), ([], True, "CANCELLED_AND_NOTIFIED"))
 
+    def test_what_a_finish_makes_ready(self):
+        """Its process goes on with it at once, also where it has two sources, or came of what was composed."""
+        service = DurableService(Memory(), 1, functions=f.functions, lease=1000)
+        self.services.append(service)
+        request = service.request("r")
+        number = request.supply(f.inc, 1)
+        stage = number.combine(number.then(f.inc), f.add).then(f.inc).compose(f.loading)
+        self.assertEqual(stage.then(f.number).result(20), 6)
+
     def test_a_thread_that_cant_be_started(self):
         """What it was to do is done once one can be: stages, timers, and forgetting what is closed."""
         service = DurableService(Memory(), 2, functions=f.functions, lease=0.5)

@@ -370,7 +370,7 @@ class DurableService(concurrent.futures.Executor):
         request._relay()
         claimed = self._found(request) or self._next(request, None)
         while claimed is not None:
-            claimed = self._run(request, claimed) or self._found(request)
+            claimed = self._run(request, claimed) or self._found(request) or self._next(request, None)
         request._relay()
         request._end_if_done()
 
