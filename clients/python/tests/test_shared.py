@@ -285,11 +285,18 @@ class Rows(Case):
         store.open("r", "plan")
         stopped = os.open(f"{self.folder.name}/db-line", os.O_RDWR)
         fcntl.flock(stopped, fcntl.LOCK_EX)
-        with unittest.mock.patch.object(shared_sqlite, "LONGEST_WAIT", 0.1):
+        told = []
+
+        def puts():
             for _ in range(3):
-                with self.assertRaises(Unknown) as told:
+                try:
                     store.append(Put("r", 0, [(1, 1)], {}))
-                self.assertIn("another process has the file", str(told.exception))
+                except Unknown as error:
+                    told.append(str(error))
+        with unittest.mock.patch.object(shared_sqlite, "LONGEST_WAIT", 0.1):
+            threading.Thread(target=puts, daemon=True).start()
+            self.until(lambda: len(told) == 3)
+        self.assertTrue(all("another process has the file" in it for it in told), told)
         fcntl.flock(stopped, fcntl.LOCK_UN)
         for at in range(3):
             self.assertIsNone(store.append(Put("r", at, [(1, at)], {})))
@@ -331,10 +338,11 @@ class Rows(Case):
             with self.assertRaises(kind), postgres.Postgres._telling(None):
                 raise getattr(postgres.errors, name, getattr(postgres.psycopg2, name, None))("why")
 
-    @unittest.skipIf(importlib.util.find_spec("psycopg2") is None, "no psycopg2")
     def test_a_notice_that_cant_be_sent(self):
         """It is sent later, whatever was in its way: no thread, or a server that is refused for now."""
-        from cf.shared import postgres
+        absent = importlib.util.find_spec("psycopg2") is None
+        with unittest.mock.patch.dict(sys.modules, {it: unittest.mock.MagicMock() for it in ("psycopg2", "psycopg2.errors") if absent}):
+            from cf.shared import postgres
         store, sent, left = postgres.Postgres.__new__(postgres.Postgres), threading.Event(), [StoreError("refused"), ValueError("odd"), Unknown("away")]
         store._changes, store._notifier, store._lock, store._is_closed = threading.Event(), None, threading.Lock(), False
         db = unittest.mock.MagicMock(closed=0)
@@ -439,9 +447,7 @@ class Rows(Case):
         with store._change:  # so that all wait for one commit
             for thread in threads:
                 thread.start()
-        for thread in threads:
-            thread.join(20)
-        self.assertEqual(sorted(told), [1, 2, 3])
+        self.until(lambda: len(told) == 3)
         stands = store.read("r")
         self.assertEqual(len(stands), 1)
         self.assertEqual([told[k] for k in sorted(told) if (k, k) not in stands], [stands, stands])
@@ -792,13 +798,19 @@ class Effects(Memory):
 
             @staticmethod
             def commit():
-                if store.append(put[0]) is not None:
-                    raise Unknown("cut")
+                store.append(put[0])
                 store.effects.extend(done)
         yield Open
 
 
 class Services(Case):
+    def impatient(self):
+        """A thread that waits for itself is told so before the test gives up."""
+        for of, name in ((shared_sqlite, "LONGEST_WAIT"), (shared_service, "PATIENCE")):
+            patch = unittest.mock.patch.object(of, name, 5)
+            patch.start()
+            self.addCleanup(patch.stop)
+
     def transactional(self):
         """Each transactional store, with and without one writer, by its address."""
         for address in [self.address, *STORES]:
@@ -823,6 +835,7 @@ class Services(Case):
 
     def test_two_of_a_request_and_one_transacts(self):
         """Another thread puts to the request while its transactional function runs: neither waits for the other's lock."""
+        self.impatient()
         for service, name, _ in self.transactional():
             begun, request = threading.Event(), service.request(name)
 
@@ -846,6 +859,7 @@ class Services(Case):
 
     def test_a_transactional_function_that_puts(self):
         """To its own request, to another, or by another service on the file: that would wait for itself, and fails at once."""
+        self.impatient()
         for groups in (False, True):
             with self.subTest(groups=groups):
                 service, other = self.service(groups=groups), self.service()
@@ -890,6 +904,7 @@ class Services(Case):
                     connection.append("paid")
                     if meanwhile:
                         settle()
+                    assert len(called) < 5
                 store.transaction = transaction
                 service = DurableService(store, 1, functions=functions)
                 pay = service.function("pay", transactional=True)(pay)
@@ -1251,7 +1266,7 @@ class Services(Case):
         late = request.promise("late").or_timeout(0.3)
         self.assertIn("r", store.ends())
         service._let_go(request, kept)
-        self.assertIs(service.open("r"), request)
+        self.assertIs(service._requests.get("r"), request)
         self.assertIsInstance(late.exception(20), TimeoutError)
         self.assertEqual(request[step].result(5), 1)
 
@@ -1387,9 +1402,11 @@ class Services(Case):
         service = DurableService(Memory(), 1, functions=f.functions, lease=1000)
         self.services.append(service)
         request = service.request("r")
-        number = request.supply(f.inc, 1)
-        stage = number.combine(number.then(f.inc), f.add).then(f.inc).compose(f.loading)
-        self.assertEqual(stage.then(f.number).result(20), 6)
+        first, second = request.promise(), request.promise()
+        stage = first.then(f.inc).combine(second, f.add).compose(f.loading).then(f.number)
+        second.complete(3)
+        first.complete(1)
+        self.assertEqual(stage.result(20), 5)
 
     def test_a_thread_that_cant_be_started(self):
         """What it was to do is done once one can be: stages, timers, and forgetting what is closed."""

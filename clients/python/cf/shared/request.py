@@ -149,16 +149,16 @@ class Stage(_Future[T]):
 
     def _invoke_callbacks(self) -> None:
         """Calls each, also behind one that raised what isn't an `Exception`. That is raised then."""
-        raised: Optional[BaseException] = None
+        ended: Optional[BaseException] = None
         for callback in self._done_callbacks:
             try:
                 callback(self)
             except Exception:
                 LOGGER.exception("exception calling callback for %r", self)
             except BaseException as error:
-                raised = raised or error
-        if raised is not None:
-            raise raised
+                ended = ended or error
+        if ended is not None:
+            raise ended
 
 
 class Request:

@@ -264,7 +264,7 @@ class DurableService(concurrent.futures.Executor):
                 if is_mine and timer[:3] not in self._firing:
                     self._firing.add(timer[:3])
                     if not self._submit(timer.request, self._fire, timer):
-                        self._firing.discard(timer[:3])
+                        self._firing.remove(timer[:3])
         known = [(request, request.kept) for request in list(self._requests.values())]  # (before the store is asked: what is opened
         ends, mark = self.store.news(None if looks else self._mark)                     # meanwhile, or again, isn't in its answer)
         for request, kept in known if looks else ():
