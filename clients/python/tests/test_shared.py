@@ -1481,6 +1481,20 @@ class Services(Case):
             self.assertEqual(behind.result(20), 2)
             shared_service.LOGGER.warning("at least one")
 
+    def test_a_claim_that_is_found_late(self):
+        """It is finished late, and what is claimed with that is run."""
+        service = DurableService(Memory(), 0, functions=f.functions, lease=1000)
+        self.services.append(service)
+        request = service.request("r")
+        first, second = request.supply(f.inc, 1), request.supply(f.inc, 2)
+        done = request._act(lambda desk: [(4 << 56 | desk.who << 48, None)])  # as by a put whose reply was lost
+        self.assertTrue(first.abandon())
+        request._desk.found[0] = done[0]
+        service._workers = 1
+        service._serve(request)
+        self.assertEqual(second.result(20), 3)
+        self.until(lambda: not request._desk.claims)
+
     def test_a_codec_that_ends(self):
         """Whatever a codec raises, its stage is shown, and no claim is left."""
         class Ends(Json):
@@ -1510,9 +1524,16 @@ class Services(Case):
         asks, works = DurableService(store, 0, functions=f.functions, lease=0.5), DurableService(store, 1, functions=f.functions, lease=0.5, takes_all=True)
         self.services += [asks, works]
         old = asks.request("r")
+        other = old.promise()
+
+        def ends(_):
+            raise SystemExit("of a callback")
+        other.add_done_callback(ends)
         waits, done = old.promise(), [old.supply(f.inc, k).result(20) for k in range(3)]
         self.assertEqual(done, [1, 2, 3])
         store.drop("r")
+        with contextlib.suppress(SystemExit):  # (or a worker has seen it, which logs it)
+            asks.request("r")
         new = asks.request("r")
         self.assertEqual(new.supply(f.inc, 16).result(20), 17)
         self.assertIsInstance(waits.exception(5), Broken)

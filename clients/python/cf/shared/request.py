@@ -142,10 +142,12 @@ class Stage(_Future[T]):
             with self._condition:
                 if self._state == "CANCELLED":  # (another thread may show it, too)
                     super().set_running_or_notify_cancel()
-        elif error is not None:
-            super().set_exception(error)
-        else:
-            super().set_result(value)
+            return
+        with contextlib.suppress(InvalidStateError):  # (so it may)
+            if error is not None:
+                super().set_exception(error)
+            else:
+                super().set_result(value)
 
     def _invoke_callbacks(self) -> None:
         """Calls each, also behind one that raised what isn't an `Exception`. That is raised then."""
@@ -444,8 +446,7 @@ class Request:
                 stage.cancel()
 
     def _fail_all(self, error: BaseException) -> None:
-        for stage in list(self._stages.values()):
-            stage._show(None, error, False)
+        self._each(list(self._stages), lambda stage: stage._show(None, error, False))
 
     # What the row's numbers stand for.
 
@@ -465,13 +466,17 @@ class Request:
         self._show_these(list(self._stages))
 
     def _show_these(self, numbers: Iterable[int]) -> None:
-        """Shows those of these stages that are settled, each whatever the callbacks of another raise."""
+        """Shows those of these stages that are settled."""
+        self._each(numbers, self._show_one)
+
+    def _each(self, numbers: Iterable[int], show: "Callable[[Stage[Any]], None]") -> None:
+        """Shows each of these stages, whatever the callbacks of another raise."""
         raised: Optional[BaseException] = None
         for number in numbers:
             stage = self._stages.get(number)
             try:
                 if stage is not None:
-                    self._show_one(stage)
+                    show(stage)
             except BaseException as error:
                 raised = raised or error
                 if stage is not None and not stage.done():
@@ -492,10 +497,7 @@ class Request:
             self._unshown.add(stage.number)
             return
         self._unshown.discard(stage.number)
-        try:
-            stage._show(value, error, is_cancelled)
-        except InvalidStateError:  # another thread has shown it meanwhile
-            pass
+        stage._show(value, error, is_cancelled)
 
     def _outcome(self, told: Told) -> Tuple[Any, Optional[BaseException]]:
         if told.kind == VALUE:

@@ -423,14 +423,18 @@ class DurableService(concurrent.futures.Executor):
         return None
 
     def _found(self, request: Request) -> Optional[Claimed]:
-        """A claim of this session's that was granted without its being told."""
+        """A claim of this session's that was granted without its being told, or one that was put with the end of such."""
         found = request._desk.found
         while found and not self._stops.is_set():
-            with contextlib.suppress(KeyError):  # (another thread may have taken it)
+            try:
                 stage, done = found.popitem()
-                if request._is_held(stage) and not request._desk.is_settled(stage):
-                    return self._claimed(request, stage, done)
-                self._next(request, Finish(stage, GIVES, None))  # late: it does nothing
+            except KeyError:  # another thread has taken it
+                return None
+            if request._is_held(stage) and not request._desk.is_settled(stage):
+                return self._claimed(request, stage, done)
+            claimed = self._next(request, Finish(stage, GIVES, None))  # late: it does nothing
+            if claimed is not None:
+                return claimed
         return None
 
     def _choice(self, request: Request, desk: Desk, finish: Optional[Finish]) -> List[int]:
@@ -536,8 +540,10 @@ class DurableService(concurrent.futures.Executor):
         """The function's effect and the word of its finish stand or fall together. Where the finish's place was taken meanwhile, or the
         connection is lost, all of it is done again, unless it stands. What comes next is put once the transaction has ended."""
         while True:
+            is_open = False
             try:
                 with request._transacting(), self.store.transaction() as transaction:
+                    is_open = True
                     finish = self._tried(request, claimed, transaction)
             except Unknown as error:
                 if self._stops.is_set():
@@ -548,7 +554,12 @@ class DurableService(concurrent.futures.Executor):
             except Broken:
                 raise
             except Exception as error:  # what the function did to the connection lets no word be put, say
-                finish = Finish(claimed.stage, THROWS, self._error(error))
+                if not is_open and self._stops.is_set():
+                    raise
+                finish = Finish(claimed.stage, THROWS, self._error(error)) if is_open else LOST
+                if not is_open:  # it was the store, and no function was called
+                    LOGGER.warning("request %r, stage %d: %s", request.name, claimed.stage, error)
+                    self._stops.wait(0.5)
             finally:
                 request._show_settled()
             if finish is not LOST:
