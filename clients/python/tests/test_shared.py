@@ -1371,6 +1371,11 @@ class Services(Case):
             self.until(lambda: len(heard) == 8 and logs.output)
         self.assertEqual(stages[3].result(20), 3)
         self.assertFalse(request._desk.claims)
+        waits = [request.promise() for _ in range(3)]
+        waits[0].add_done_callback(ends)
+        with self.assertRaises(SystemExit):
+            request._fail_all(KeyError("all"))
+        self.assertEqual([repr(it.exception(0)) for it in waits], ["KeyError('all')"] * 3)
 
     def test_two_threads_that_show_a_stage(self):
         """Both have found it cancelled: none raises."""
@@ -1489,6 +1494,7 @@ class Services(Case):
         first, second = request.supply(f.inc, 1), request.supply(f.inc, 2)
         done = request._act(lambda desk: [(4 << 56 | desk.who << 48, None)])  # as by a put whose reply was lost
         self.assertTrue(first.abandon())
+        service._pool.submit(int).result(20)  # (so that the one thread has nothing to do)
         request._desk.found[0] = done[0]
         service._workers = 1
         service._serve(request)
