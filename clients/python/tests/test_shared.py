@@ -340,8 +340,8 @@ class Rows(Case):
 
     def test_a_notice_that_cant_be_sent(self):
         """It is sent later, whatever was in its way: no thread, or a server that is refused for now."""
-        absent = importlib.util.find_spec("psycopg2") is None
-        with unittest.mock.patch.dict(sys.modules, {it: unittest.mock.MagicMock() for it in ("psycopg2", "psycopg2.errors") if absent}):
+        absent = {it: unittest.mock.MagicMock() for it in ("psycopg2", "psycopg2.errors")}
+        with unittest.mock.patch.dict(sys.modules, absent) if importlib.util.find_spec("psycopg2") is None else contextlib.nullcontext():
             from cf.shared import postgres
         store, sent, left = postgres.Postgres.__new__(postgres.Postgres), threading.Event(), [StoreError("refused"), ValueError("odd"), Unknown("away")]
         store._changes, store._notifier, store._lock, store._is_closed = threading.Event(), None, threading.Lock(), False

@@ -345,27 +345,25 @@ class _Line:
 
     def take(self) -> None:
         """`Unknown` where others have it for too long."""
-        until = time.monotonic() + LONGEST_WAIT
-        if not self._turn.acquire(timeout=LONGEST_WAIT):
+        if not self._turn.acquire(blocking=False) and not self._turn.acquire(timeout=LONGEST_WAIT):
             raise Unknown(f"{self._path}: a thread of this process has the file for long")
         try:
             if self._is_closed:
                 raise StoreError("the store is closed")
             if self._waits or not self._is_free():
-                self._wait(until)
+                self._wait()
         except BaseException:
             self._turn.release()
             raise
 
     def give(self) -> None:
         """Lets the next one have it."""
-        with self._change:
-            try:
-                fcntl.flock(self._file, fcntl.LOCK_UN)
-                if self._is_closed:
-                    os.close(self._file)
-            finally:
-                self._turn.release()
+        try:
+            fcntl.flock(self._file, fcntl.LOCK_UN)
+        finally:
+            self._turn.release()
+        if self._is_closed:
+            self._let_go()
 
     def _is_free(self) -> bool:
         try:
@@ -374,7 +372,7 @@ class _Line:
         except BlockingIOError:
             return False
 
-    def _wait(self, until: float) -> None:
+    def _wait(self) -> None:
         with self._change:
             if self._waiter is None:
                 waiter = threading.Thread(target=self._run, name="cf-line", daemon=True)
@@ -387,7 +385,7 @@ class _Line:
             self._change.notify_all()
             has = False
             try:
-                has = self._change.wait_for(lambda: self._has, until - time.monotonic())
+                has = self._change.wait_for(lambda: self._has, LONGEST_WAIT)
             finally:
                 if self._has and not has:  # by a signal's handler that raised
                     fcntl.flock(self._file, fcntl.LOCK_UN)
@@ -406,20 +404,23 @@ class _Line:
                 self._has = self._is_wanted
                 if not self._has:  # it was given up meanwhile
                     fcntl.flock(self._file, fcntl.LOCK_UN)
-                    if self._is_closed:
-                        os.close(self._file)
                 self._waits = False  # (last: until then nobody else may take it)
                 self._change.notify_all()
+                if self._is_closed:
+                    self._let_go()
 
     def close(self) -> None:
         """Lets the file go, or lets the last one do it who has it or waits for it."""
         with self._change:
-            if self._is_closed:
-                return
             self._is_closed = True
             self._change.notify_all()
-            if not self._waits and self._turn.acquire(blocking=False):
+        self._let_go()
+
+    def _let_go(self) -> None:
+        with self._change:
+            if self._file >= 0 and not self._waits and self._turn.acquire(blocking=False):
                 os.close(self._file)
+                self._file = -1
                 self._turn.release()
 
 
