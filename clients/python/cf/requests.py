@@ -16,6 +16,7 @@ from typing import Any, List, Optional
 
 from .service.words import CANCEL, IS_CLAIMED, IS_PENDING, IS_READY
 from .shared import Broken, Desk, Json, Store, StoreError, Unknown, connect, new_session
+from .shared.rows import Gone
 
 MOST_NAMED = 3  # stages that a line of the list names
 
@@ -33,6 +34,8 @@ def main(words: Optional[List[str]] = None) -> int:
     except (StoreError, Unknown, OSError, subprocess.CalledProcessError) as error:
         print(f"cf.requests: {error}", file=sys.stderr)
         return 1
+    finally:
+        store.close()
     print(*lines, sep="\n")
     return 0
 
@@ -56,7 +59,7 @@ def _parser() -> argparse.ArgumentParser:
 def _desk(store: Store, name: str) -> Desk:
     found = store.find(name)
     if found is None:
-        raise StoreError(f"no request {name!r}")
+        raise Gone(name)
     desk = Desk(store, found, new_session(), patience=5)
     desk.catch_up()
     return desk
@@ -69,6 +72,8 @@ def _list(store: Store, at: argparse.Namespace) -> List[str]:
             continue
         try:
             state = _state(_desk(store, it.name)) if it.closed is None else "closed"
+        except Gone:  # it was dropped meanwhile
+            continue
         except Broken as error:
             state = f"broken at place {error.place}: {error.why}"
         lines.append(f"{it.name}  {now - it.opened:.0f} s  {it.words} words  {state}")
@@ -91,9 +96,9 @@ def _show(store: Store, at: argparse.Namespace) -> List[str]:
 
 
 def _end(store: Store, at: argparse.Namespace) -> List[str]:
-    many, words = 0, next((it.words for it in store.listing() if it.name == at.name), None)
-    if words is None:
-        raise StoreError(f"no request {at.name!r}")
+    many, words, found = 0, next((it.words for it in store.listing() if it.name == at.name), None), store.find(at.name)
+    if words is None or found is None:
+        raise Gone(at.name)
     if at.cancel:
         desk = _desk(store, at.name)
         for stage in range(len(desk.kinds)):
@@ -101,7 +106,7 @@ def _end(store: Store, at: argparse.Namespace) -> List[str]:
                 return None if desk.is_settled(stage) else [(CANCEL << 56 | desk.who << 48 | stage << 36, None)]
             many += desk.act(decide)[0] is not None
         words = desk.seen
-    store.end(at.name, words)
+    store.end(at.name, words, found.number)
     if at.name in store.ends():
         raise StoreError(f"request {at.name!r} isn't closed: words were put meanwhile")
     return [f"{at.name} is closed, {many} stages were cancelled"]

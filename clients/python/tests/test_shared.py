@@ -7,6 +7,9 @@ They are over SQLite in a temporary folder. With CF_STORES="postgresql://.. etcd
 have to be empty.
 """
 import asyncio
+import contextlib
+import fcntl
+import importlib.util
 import json
 import os
 import signal
@@ -30,7 +33,9 @@ from cf import requests  # noqa: E402
 from cf.service import Flow, RequestFull, Service, describe_nothing, describe_types  # noqa: E402
 from cf.shared import (Abandoned, Broken, Desk, DurableService, Functions, Grouped, Json, Memory, Put, RemoteError, StoreError, Timer,  # noqa: E402
                        Unknown, connect, new_session)
+from cf.shared import Watcher  # noqa: E402
 from cf.shared import service as shared_service  # noqa: E402
+from cf.shared import sqlite as shared_sqlite  # noqa: E402
 from cf.shared.plans import text_of  # noqa: E402
 
 STORES = os.environ.get("CF_STORES", "").split()
@@ -142,7 +147,6 @@ class Rows(Case):
 
     def test_forgotten_beats(self):
         """A session that ends drops its beat, and one that is long gone is forgotten by others; one that comes back beats anew."""
-        from cf.shared import Watcher
         for store in self.stores():
             with self.subTest(type(store).__name__):
                 gone, there = new_session(), new_session()
@@ -231,6 +235,133 @@ class Rows(Case):
                 store.drop(name)
                 store.close()
 
+    def test_a_later_request_of_the_name(self):
+        """Who has the number of one that was dropped reads, closes and times nothing of the one that has its name now."""
+        for store in self.stores():
+            with self.subTest(type(store).__name__):
+                name = self.name
+                old = store.open(name, "plan").number
+                store.append(Put(name, 0, [(1, 11)], {1: b"old"}, old))
+                self.assertTrue(store.again().drop(name))
+                number = store.again().open(name, "plan").number
+                store.again().append(Put(name, 0, [(2, 12)], {1: b"new"}, number))
+                calls = [lambda: store.read(name, 0, old), lambda: store.read(name, 1, old), lambda: store.payloads(name, [1], old),
+                         lambda: store.end(name, 1, old), lambda: store.set_timer(Timer(name, 0, 0.0, b"N", old)), lambda: store.reopen(name, old)]
+                for call in calls:
+                    with self.assertRaises(Broken) as told:
+                        call()
+                    self.assertIn("no such request", str(told.exception))
+                self.assertEqual(store.read(name, 0, number), [(2, 12)])
+                self.assertEqual(store.payloads(name, [1, 2], number), {1: b"new"})
+                self.assertEqual(store.read(name, 1, number), [])
+                self.assertIn(name, store.ends())
+                store.set_timer(Timer(name, 3, 1.0, b"N", number))
+                self.assertEqual([it for it in store.due(2.0) if it.request == name], [Timer(name, 3, 1.0, b"N", number)])
+                store.drop_timer(name, 3, number)
+                self.assertEqual([it for it in store.due(2.0) if it.request == name], [])
+                store.end(name, 1, number)
+                self.assertNotIn(name, store.ends())
+                store.drop(name)
+                store.close()
+
+    def test_files_that_are_let_go(self):
+        """A store that is closed, or that couldn't be opened, keeps no file."""
+        Path(self.folder.name, "text").write_text("no database, but a text that is long enough to be one" * 100)
+        before = len(os.listdir("/proc/self/fd"))
+        for _ in range(20):
+            store = connect(self.address)
+            store.open("r", "plan")
+            store.close()
+            store.close()
+            with self.assertRaises(StoreError):
+                connect(f"sqlite:///{self.folder.name}/text")
+        self.assertLess(len(os.listdir("/proc/self/fd")), before + 5)
+        with self.assertRaises(StoreError):
+            store.append(Put("r", 0, [(1, 1)], {}))
+
+    def test_a_process_that_is_stopped_in_the_line(self):
+        """Others are told so after some time, keep their place in the line, and go on once it does."""
+        store = connect(self.address)
+        store.open("r", "plan")
+        stopped = os.open(f"{self.folder.name}/db-line", os.O_RDWR)
+        fcntl.flock(stopped, fcntl.LOCK_EX)
+        told = []
+
+        def puts():
+            for _ in range(3):
+                try:
+                    store.append(Put("r", 0, [(1, 1)], {}))
+                except Unknown as error:
+                    told.append(str(error))
+        with unittest.mock.patch.object(shared_sqlite, "LONGEST_WAIT", 0.1):
+            threading.Thread(target=puts, daemon=True).start()
+            self.until(lambda: len(told) == 3)
+        self.assertTrue(all("another process has the file" in it for it in told), told)
+        fcntl.flock(stopped, fcntl.LOCK_UN)
+        for at in range(3):
+            self.assertIsNone(store.append(Put("r", at, [(1, at)], {})))
+        fcntl.flock(stopped, fcntl.LOCK_EX)
+        thread = threading.Thread(target=store.append, args=[Put("r", 3, [(1, 3)], {})])
+        thread.start()
+        self.until(lambda: store._line._waits)
+        fcntl.flock(stopped, fcntl.LOCK_UN)
+        thread.join(20)
+        self.until(lambda: not store._line._waits)
+        fcntl.flock(stopped, fcntl.LOCK_EX | fcntl.LOCK_NB)  # nobody kept it
+        os.close(stopped)
+        self.assertEqual(len(store.read("r")), 4)
+        store.close()
+
+    def test_an_undoing_that_fails(self):
+        """A connection whose transaction can't be undone is let go, so that others can put."""
+        store = connect(self.address)
+        store.open("r", "plan")
+
+        def act(db):
+            db.execute("insert into cf_beat values (1, 1)")
+            db.set_authorizer(lambda *_: sqlite3.SQLITE_DENY)
+            raise KeyError("what the act raises")
+        with self.assertRaises((KeyError, StoreError)):
+            store._in_turn(act)
+        self.assertIsNone(connect(self.address).append(Put("r", 0, [(1, 1)], {})))
+        self.assertIsNone(store.append(Put("r", 1, [(2, 2)], {})))
+        self.assertEqual(store.beats(), {})
+        store.close()
+
+    @unittest.skipIf(importlib.util.find_spec("psycopg2") is None, "no psycopg2")
+    def test_what_a_server_of_postgresql_says(self):
+        """One that can only be read for now is away; what it refuses for good is told as such, also at a commit."""
+        from cf.shared import postgres
+        said = {"ReadOnlySqlTransaction": Unknown, "AdminShutdown": Unknown, "UniqueViolation": StoreError, "DataError": StoreError,
+                "ProgramLimitExceeded": StoreError, "InFailedSqlTransaction": StoreError}
+        for name, kind in said.items():
+            with self.assertRaises(kind), postgres.Postgres._telling(None):
+                raise getattr(postgres.errors, name, getattr(postgres.psycopg2, name, None))("why")
+
+    def test_a_notice_that_cant_be_sent(self):
+        """It is sent later, whatever was in its way: no thread, or a server that is refused for now."""
+        absent = {it: unittest.mock.MagicMock() for it in ("psycopg2", "psycopg2.errors")}
+        with unittest.mock.patch.dict(sys.modules, absent) if importlib.util.find_spec("psycopg2") is None else contextlib.nullcontext():
+            from cf.shared import postgres
+        store, sent, left = postgres.Postgres.__new__(postgres.Postgres), threading.Event(), [StoreError("refused"), ValueError("odd"), Unknown("away")]
+        store._changes, store._notifier, store._lock, store._is_closed = threading.Event(), None, threading.Lock(), False
+        db = unittest.mock.MagicMock(closed=0)
+        db.cursor().__enter__().execute = lambda *_: sent.set()
+
+        def connected():
+            if left:
+                raise left.pop()
+            return db
+        store._connected = connected
+        with unittest.mock.patch.object(threading.Thread, "start", side_effect=RuntimeError("can't start new thread")):
+            store._notify()
+        with unittest.mock.patch.object(postgres, "BETWEEN_TRIES", 0.01):
+            store._notify()
+            self.assertTrue(sent.wait(20))
+        store._is_closed = True
+        store._changes.set()
+        store._notifier.join(20)
+
     def test_rows_with_gaps(self):
         """A word that somebody took out is missed by whoever reads, at its place."""
         store = connect(self.address)
@@ -306,6 +437,20 @@ class Rows(Case):
         self.assertIn("no such request", told.pop("r3"))
         self.assertEqual({len(store.read(name)) for name in told}, {2})
         self.assertTrue(all(it in (None, [(1, 11), (2, 12)]) for it in told.values()), told)
+        store.close()
+
+    def test_two_puts_of_one_request(self):
+        """One writer puts them one after the other, since both are for one place: each is told what came of its own."""
+        store, told = Grouped(connect(self.address)), {}
+        store.open("r", "plan")
+        threads = [threading.Thread(target=lambda k=k: told.update({k: store.append(Put("r", 0, [(k, k)], {}))}), daemon=True) for k in (1, 2, 3)]
+        with store._change:  # so that all wait for one commit
+            for thread in threads:
+                thread.start()
+        self.until(lambda: len(told) == 3)
+        stands = store.read("r")
+        self.assertEqual(len(stands), 1)
+        self.assertEqual([told[k] for k in sorted(told) if (k, k) not in stands], [stands, stands])
         store.close()
 
     def test_stores_that_are_away(self):
@@ -422,8 +567,8 @@ class Desks(Case):
     def test_a_stale_read(self):
         """Reads that lack the last words change nothing: the put decides, and who loses is told what stands."""
         class Stale(Memory):
-            def read(self, name, at=0):
-                return super().read(name, at)[:1] if at == 0 else []
+            def read(self, name, at=0, number=0):
+                return super().read(name, at, number)[:1] if at == 0 else []
         store = Stale()
         first, second = self.desk(store), self.desk(store)
         first.act(lambda desk: [(7 << 56 | desk.who << 48, b'{"name":"one"}'), (7 << 56 | desk.who << 48, b'{"name":"two"}')])
@@ -468,9 +613,80 @@ class Desks(Case):
     def silent(self):
         raise Unknown("silent")
 
+    def test_a_session_keeps_its_number(self):
+        """Also by a desk that it opens later."""
+        store, session = Memory(), new_session()
+        for of in (session, new_session(), session):
+            desk = self.desk(store, of)
+            desk.catch_up()
+            desk.act(lambda desk: [(1 << 56 | desk.who << 48, None)])
+        self.assertEqual([word >> 48 & 0xFF for word, _ in store.read("r")], [0, 1, 0])
+
+    def test_tokens_of_lost_puts(self):
+        """Whose place was taken is forgotten: a later word of the same token isn't that one."""
+        store = Silent(False)
+        desk, other = self.desk(store), self.desk(store)
+        desk._patience, store.append = 0, lambda put: self.silent()
+        with self.assertRaises(Unknown):
+            self.claim(desk)
+        del store.append
+        store.lands = None
+        lost = desk._count - 1
+        other.act(lambda desk: [(1 << 56 | desk.who << 48, None)])
+        desk.catch_up()
+        self.assertEqual(desk._doubt, {})
+        store.append(Put("r", 1, [(4 << 56, desk.session << 23 | lost)], {}))
+        desk.catch_up()
+        self.assertEqual(desk.found, {})
+
+    def test_two_that_put_one_token(self):
+        """Whose token stands with other words has lost, and replays what stands."""
+        store, session = Memory(), new_session()
+        plan = {"cf": 3, "flow": "", "stages": [{"form": "source", "name": "p"}, {"form": "source", "name": "q"}]}
+        first, second = (Desk(store, store.open("r", json.dumps(plan)), session) for _ in range(2))
+        second._count = first._count
+        first.act(lambda desk: [(1 << 56 | desk.who << 48, None)])
+        done, others = second.act(lambda desk: [(1 << 56 | desk.who << 48 | 1 << 36, None)])
+        first.catch_up()
+        self.assertEqual(([it.place for it in others], [it.place for it in done]), ([1], [2]))
+        self.assertEqual((list(first.words), list(second.words)), ([word for word, _ in store.read("r")],) * 2)
+        self.assertEqual((first.kinds, first.who), (second.kinds, second.who))
+
+    def test_words_are_tested(self):
+        """One that fits no graph isn't put, nor its group: it would break the row for everybody."""
+        store = Memory()
+        desk = self.desk(store)
+        attach = (7 << 56, b'{"name":"p"}')
+        for words in ([(99 << 56, None)], [(4 << 56 | 7 << 36, None)], [(1 << 56 | 5 << 48, None)], [(1 << 56, None), (5 << 56 | 1 << 36, None)],
+                      [(7 << 56 | 1 << 32 | 3 << 24 | 1 | 2 << 36, None)], [attach, attach, (1 << 56 | 3 << 36, None)], [(-1, None)]):
+            with self.subTest(words), self.assertRaises(ValueError) as told:
+                desk.act(lambda desk: words)
+            self.assertIn("'r', place 1: the word", str(told.exception))
+        self.assertEqual(store.read("r"), [])
+        self.assertEqual(len(desk.act(lambda desk: [attach, attach, (1 << 56 | 2 << 36, None)])[0]), 3)
+        with self.assertRaises(RequestFull):
+            desk.act(lambda desk: [attach] * 4094)
+        self.assertEqual(len(store.read("r")), 3)
+
+    def test_silence_isnt_absence(self):
+        """While the store was silent nobody could say that he is there: nobody is thought gone by that."""
+        store = Memory()
+        store.beat(5)
+        watcher = Watcher(store, 0.1)
+        watcher.look()
+        with unittest.mock.patch.object(store, "beats", side_effect=Unknown("away")):
+            for _ in range(8):
+                time.sleep(0.04)
+                watcher.look()
+        watcher.look()
+        self.assertFalse(watcher.is_gone(5))
+        for _ in range(8):
+            time.sleep(0.04)
+            watcher.look()
+        self.assertTrue(watcher.is_gone(5))
+
     def test_a_pause(self):
         """Whose process stood still for long thinks nobody gone by that alone."""
-        from cf.shared import Watcher
         store, watcher = Memory(), None
         store.beat(5)
         watcher = Watcher(store, 0.05)
@@ -493,7 +709,6 @@ class Desks(Case):
             self.desk(store).catch_up()
         self.assertEqual((told.exception.request, told.exception.place), ("r", 2))
         self.assertIn("'r', place 2", str(told.exception))
-
 
     def test_a_word_that_doesnt_fit(self):
         """An event of a stage that isn't there, and a plan of another version: the errors name request and place."""
@@ -532,7 +747,7 @@ class Desks(Case):
         store = Away()
         desk = Desk(store, store.open("r", EMPTY), new_session(), patience=0.1)
         with self.assertRaises(Unknown) as told:
-            desk.act(lambda desk: [(1 << 56, None)])
+            desk.act(lambda desk: [(7 << 56, b'{"name":"p"}')])
         self.assertIn("'r', place 1: the store doesn't answer: no connection", str(told.exception))
 
     def test_an_account_by_sessions(self):
@@ -559,7 +774,163 @@ class Desks(Case):
             self.assertEqual(done.stdout, "fits\n")
 
 
+class Effects(Memory):
+    """Has transactions in memory: what a function adds to its list is an effect once that is committed. Others can put meanwhile."""
+
+    is_transactional = True
+
+    def __init__(self):
+        super().__init__()
+        self.effects = []
+
+    @contextlib.contextmanager
+    def transaction(self):
+        store, put, done = self, [], []
+
+        class Open:
+            connection = done
+            is_away = staticmethod(lambda: False)
+
+            @staticmethod
+            def append(its):
+                put.append(its)
+                return len(store.read(its.request)) == its.at
+
+            @staticmethod
+            def commit():
+                store.append(put[0])
+                store.effects.extend(done)
+        yield Open
+
+
 class Services(Case):
+    def impatient(self):
+        """A thread that waits for itself is told so before the test gives up."""
+        for of, name in ((shared_sqlite, "LONGEST_WAIT"), (shared_service, "PATIENCE")):
+            patch = unittest.mock.patch.object(of, name, 5)
+            patch.start()
+            self.addCleanup(patch.stop)
+
+    def transactional(self):
+        """Each transactional store, with and without one writer, by its address."""
+        for address in [self.address, *STORES]:
+            for groups in (False, True) if not address.startswith("etcd") else ():
+                with self.subTest(address, groups=groups):
+                    yield self.service(address, groups=groups), f"{self.name} {groups}", address
+
+    def test_what_follows_a_transaction(self):
+        """A stage behind a transactional function, and a callback that puts: both come once its transaction has ended."""
+        for service, name, address in self.transactional():
+            same = service.function(name, transactional=True)(lambda connection, x: x)
+            flow = Flow("order")
+            first = flow.promise()
+            paid = first.then(same)
+            last = paid.then(f.inc)
+            request, heard = service.start(flow, name=name), []
+            request[paid].add_done_callback(lambda _: heard.append(service.request(f"{name} mail").promise("sent").number))
+            request[first].complete(1)
+            self.assertEqual(request[last].result(20), 2)
+            self.until(lambda: heard)
+            self.assertEqual(self.service(address).request(f"{name} else").supply(f.inc, 1).result(20), 2)
+
+    def test_two_of_a_request_and_one_transacts(self):
+        """Another thread puts to the request while its transactional function runs: neither waits for the other's lock."""
+        self.impatient()
+        for service, name, _ in self.transactional():
+            begun, request = threading.Event(), service.request(name)
+
+            def slow(connection, x):
+                begun.set()
+                time.sleep(0.3)
+                return x
+            slow = service.function(name, transactional=True)(slow)
+            stage, other, gate = request.promise(), request.promise(), request.promise()
+            behind = stage.then(slow)
+            stage.complete(1)
+            self.assertTrue(begun.wait(20))
+            told = []
+            threads = [threading.Thread(target=lambda it=it: told.append(it.complete(2)), daemon=True) for it in (other, gate)]
+            for thread in threads:
+                thread.start()
+            for thread in threads:
+                thread.join(15)
+            self.assertEqual((told, behind.result(20)), ([True, True], 1))
+            self.assertEqual(other.then(f.inc).result(20), 3)
+
+    def test_a_transactional_function_that_puts(self):
+        """To its own request, to another, or by another service on the file: that would wait for itself, and fails at once."""
+        self.impatient()
+        for groups in (False, True):
+            with self.subTest(groups=groups):
+                service, other = self.service(groups=groups), self.service()
+                request = service.request(self.name)
+                puts = [lambda: request.promise(), lambda: service.request(f"{self.name} another").promise(), lambda: other.request(self.name).promise()]
+                puts = puts + [service.request("there").promise] if groups else puts
+                function = service.function(f"puts {groups}", transactional=True)(lambda connection, k: puts[k]().number)
+                for k in range(len(puts)):
+                    error = request.supply(function, k).exception(20)
+                    self.assertIn("transactional function", str(error))
+                self.assertEqual(request.supply(f.inc, 1).result(20), 2)
+
+    def test_what_a_transactional_function_does_to_its_connection(self):
+        """Whatever it is, its stage ends and others can put."""
+        service = self.service()
+        request, acts = service.request(self.name), [lambda db: db.close(), lambda db: db.execute("no statement"), lambda db: db.rollback()]
+        function = service.function("acts", transactional=True)(lambda connection, k: acts[k](connection))
+        for k in range(len(acts)):
+            self.assertTrue(request.supply(function, k).exception(20) is not None or k == 2)
+        self.assertEqual(self.service().request(f"{self.name} 2").supply(f.inc, 1).result(20), 2)
+
+    def test_no_effect_is_for_nothing(self):
+        """Where the stage was settled by others, before its transactional function is called or while it runs, no effect stands."""
+        for meanwhile in (False, True):
+            with self.subTest(meanwhile=meanwhile):
+                store, functions, called = Effects(), Functions(), []
+                other, real = DurableService(store, 0), store.transaction
+
+                def settle():
+                    if not called or meanwhile:
+                        other.open("r")[0].fail(KeyError("somebody else's"))
+
+                @contextlib.contextmanager
+                def transaction():
+                    if not meanwhile:
+                        settle()
+                    with real() as made:
+                        yield made
+
+                def pay(connection):
+                    called.append(1)
+                    connection.append("paid")
+                    if meanwhile:
+                        settle()
+                    assert len(called) < 5
+                store.transaction = transaction
+                service = DurableService(store, 1, functions=functions)
+                pay = service.function("pay", transactional=True)(pay)
+                request = service.request("r")
+                self.assertIsInstance(request.supply(pay).exception(20), KeyError)
+                self.until(lambda: not request._desk.claims)
+                self.assertEqual((store.effects, len(called)), ([], int(meanwhile)))
+                service.shutdown(), other.shutdown()
+
+    def test_a_place_that_a_transaction_loses(self):
+        """Its effect is undone and done again, and stands once."""
+        store, functions, called = Effects(), Functions(), []
+        other = DurableService(store, 0)
+
+        def pay(connection):
+            called.append(1)
+            connection.append("paid")
+            if len(called) == 1:
+                other.open("r").promise()
+        service = DurableService(store, 1, functions=functions)
+        pay = service.function("pay", transactional=True)(pay)
+        request = service.request("r")
+        self.assertIsNone(request.supply(pay).result(20))
+        self.assertEqual((store.effects, len(called)), (["paid"], 2))
+        service.shutdown(), other.shutdown()
+
     def each(self):
         for address in [self.address, "memory://", *STORES]:
             with self.subTest(address):
@@ -624,6 +995,7 @@ class Services(Case):
             self.assertIsInstance(again.exception(20) if not again.cancelled() else CancelledError(), CancelledError)
             with self.assertRaises(TypeError):
                 late.again()
+            self.until(lambda r=r: not r._desk.links and not r._desk.unlinked)
 
     def test_a_promise_that_nothing_comes_of(self):
         """Where a stage that composes fails, its promise is cancelled: a flow's request is closed all the same."""
@@ -710,6 +1082,70 @@ class Services(Case):
                     ran.clear()
                     works.shutdown(), asks.shutdown()
 
+    def test_a_store_that_takes_nothing_for_a_while(self):
+        """What a function came to is kept and put once the store takes words again: it wasn't the value that it refused."""
+        class Shut(Memory):
+            is_shut = False
+
+            def append_groups(self, puts):
+                if self.is_shut:
+                    refused.append(puts)
+                    raise StoreError("it can only be read")
+                return super().append_groups(puts)
+        functions, refused, ran = Functions(), [], []
+
+        def function(k, fails):
+            store.is_shut = True
+            ran.append(k)
+            if fails:
+                raise KeyError(k)
+            return k
+        store, function = Shut(), functions.function("f")(function)
+        service = DurableService(store, 1, functions=functions)
+        self.services.append(service)
+        request = service.request("r")
+        for fails in (False, True):
+            with self.assertLogs("cf.shared", "WARNING") as logs:
+                stage = request.supply(function, 17, fails)
+                self.until(lambda: len(refused) > 1)  # what it came to, and that it was refused
+                store.is_shut = False
+                self.assertEqual(repr(stage.exception(20)) if fails else stage.result(20), "KeyError(17)" if fails else 17)
+            self.assertIn("nothing can be put: it can only be read", "".join(logs.output))
+            refused.clear()
+        self.assertEqual(ran, [17, 17])
+        self.assertTrue(request.promise().complete(1))
+
+    def test_a_server_that_can_only_be_read_for_a_while(self):
+        """As in a switch-over of PostgreSQL, while a function ends. For CF_STORES."""
+        for address in STORES:
+            if address.startswith("etcd"):
+                continue
+            with self.subTest(address), contextlib.closing(__import__("psycopg2").connect(address)) as db:
+                db.autocommit = True
+                cursor = db.cursor()
+                cursor.execute("set default_transaction_read_only = off")
+                functions, service = Functions(), None
+
+                def shut():
+                    cursor.execute("alter system set default_transaction_read_only = on")
+                    cursor.execute("select pg_reload_conf()")
+                    time.sleep(0.5)
+                    return "done"
+                shut = functions.function("shut")(shut)
+                service = DurableService(connect(address), 1, functions=functions, lease=1)
+                self.services.append(service)
+                try:
+                    stage = service.request(self.name).supply(shut)
+                    time.sleep(2)
+                finally:
+                    cursor.execute("alter system reset default_transaction_read_only")
+                    cursor.execute("select pg_reload_conf()")
+                self.assertEqual(stage.result(30), "done")
+                cursor.execute("create table if not exists one (k int unique deferrable initially deferred)")
+                twice = service.function("twice", transactional=True)(lambda it: it.execute("insert into one values (1), (1)"))
+                self.assertIn("one", str(service.request(self.name).supply(twice).exception(20)))
+                cursor.execute("drop table one")
+
     def test_what_a_store_refuses(self):
         """A value that is too large for the store fails its stage; the function isn't run again, and others go on."""
         class Small(Memory):
@@ -725,6 +1161,10 @@ class Services(Case):
         stage = r.supply(large)
         self.assertIn("it is too large", str(stage.exception(20)))
         self.assertEqual(len(ran), 1)
+
+        def raises():
+            raise KeyError("x" * 2000)
+        self.assertIn("it is too large", str(r.supply(service.function("raises")(raises)).exception(20)))
         with self.assertRaises(StoreError):
             r.promise("p").complete("y" * 2000)
         self.assertTrue(r["p"].complete("y"))
@@ -797,9 +1237,9 @@ class Services(Case):
     def test_a_long_start(self):
         """Who reads many long rows for the first time says meanwhile that he is there."""
         class Slow(Memory):
-            def read(self, name, at=0):
+            def read(self, name, at=0, number=0):
                 time.sleep(0.02)
-                return super().read(name, at)
+                return super().read(name, at, number)
 
             def beat(self, session):
                 times.append(time.monotonic())
@@ -812,6 +1252,303 @@ class Services(Case):
         self.until(lambda: len(service._requests) == 100)
         self.assertLess(max(b - a for a, b in zip(times, times[1:])), 1)
         self.assertGreater(len(times), 4)
+
+    def test_a_request_that_goes_on_as_it_is_let_go(self):
+        """Who attaches to a closed request opens it again, and nobody forgets it who has seen it closed before."""
+        store = Memory()
+        service = DurableService(store, 1, functions=f.functions, lease=1)
+        self.services.append(service)
+        flow = Flow("order")
+        step = flow.promise("p")
+        request = service.start(flow, 1, name="r")
+        self.until(lambda: "r" not in store.ends())
+        kept = request.kept
+        late = request.promise("late").or_timeout(0.3)
+        self.assertIn("r", store.ends())
+        service._let_go(request, kept)
+        self.assertIs(service._requests.get("r"), request)
+        self.assertIsInstance(late.exception(20), TimeoutError)
+        self.assertEqual(request[step].result(5), 1)
+
+    def test_a_request_that_others_open_again(self):
+        """It was let go here, and who waits for one of its stages is told all the same. A plain request that was ended is opened again, too."""
+        store = Memory()
+        asks, works = DurableService(store, 0, functions=f.functions, lease=0.5), DurableService(store, 1, functions=f.functions, lease=0.5, takes_all=True)
+        self.services += [asks, works]
+        request = asks.request("r")
+        promise = request.promise("p")
+        request.end()
+        self.until(lambda: "r" not in asks._requests and "r" not in works._requests)
+        self.assertIs(asks.open("r"), request)
+        self.until(lambda: "r" not in asks._requests)
+        other = works.open("r")
+        self.assertEqual(request.supply(f.inc, 1).result(20), 2)
+        self.assertIn("r", store.ends())
+        request.end()
+        self.until(lambda: "r" not in asks._requests and "r" not in works._requests)
+        other.promise()
+        other["p"].complete(17)
+        self.assertEqual(promise.result(20), 17)
+
+    def test_a_reopening_that_the_store_is_silent_about(self):
+        """It is done later: the stage stands."""
+        class Away(Memory):
+            left = 0
+
+            def reopen(self, name, number=0):
+                self.left -= 1
+                if self.left >= 0:
+                    raise Unknown("away")
+                super().reopen(name, number)
+        store, flow = Away(), Flow("order")
+        flow.promise("p")
+        service = DurableService(store, 1, functions=f.functions, lease=0.5)
+        self.services.append(service)
+        with unittest.mock.patch.object(shared_service, "PATIENCE", 0):
+            request = service.start(flow, 1, name="r")
+            self.until(lambda: "r" not in store.ends())
+            store.left = 2
+            with self.assertRaises(Unknown):
+                request.supply(f.inc, 1)
+            self.assertEqual(request[1].result(20), 2)
+            self.until(lambda: store.left < 0 and "r" not in store.ends())
+
+    def test_what_was_read_before_a_call_failed(self):
+        """A put loses its place, and then the store is silent or its row is at fault: what others have settled is shown."""
+        class Loses(Memory):
+            meanwhile = None
+
+            def append_groups(self, puts):
+                if self.meanwhile is None:
+                    return super().append_groups(puts)
+                meanwhile, self.meanwhile = self.meanwhile, self.silent
+                return super().append_groups(puts) if meanwhile() else []
+
+            def silent(self):
+                raise Unknown("away")
+        for at_fault in (False, True):
+            store = Loses()
+            service = DurableService(store, 0, functions=f.functions, lease=1e6)
+            with unittest.mock.patch.object(shared_service, "PATIENCE", 0.1):
+                request = service.request("r")
+            answer, heard = request.promise("answer"), threading.Event()
+            answer.add_done_callback(lambda _: heard.set())
+            other = Desk(store, store.find("r"), new_session())
+            other.catch_up()
+
+            def meanwhile():
+                other.who = 1
+                Memory.append_groups(store, [other.put_of([(1 << 56 | 1 << 48, None)])])
+                if at_fault:
+                    store._rows["r"].append((99 << 56, 1))
+                return True
+            store.meanwhile = meanwhile
+            with self.assertRaises(Broken if at_fault else Unknown):
+                request.promise("more")
+            self.assertTrue(heard.is_set())
+            self.assertIsNone(answer.result(0))
+            store.meanwhile = None
+            service.shutdown()
+
+    def test_callbacks_that_raise_anything(self):
+        """The other callbacks are called all the same, and a worker goes on with what it has claimed."""
+        service, heard = self.service(), []
+
+        def ends(stage):
+            heard.append(stage)
+            raise SystemExit("of a callback")
+        request = service.request("r")
+        promise, other = request.promise(), request.promise()
+        stages = [promise, promise.then(f.inc), other, promise.then(f.inc).then(f.inc)]
+        for stage in stages * 2:
+            stage.add_done_callback(ends)
+        with self.assertRaises(SystemExit):
+            other.complete(0)
+        self.assertEqual(heard, [other, other])
+        with self.assertLogs("cf.shared", "CRITICAL") as logs:
+            with self.assertRaises(SystemExit):
+                promise.complete(1)
+            self.until(lambda: len(heard) == 8 and logs.output)
+        self.assertEqual(stages[3].result(20), 3)
+        self.assertFalse(request._desk.claims)
+        waits = [request.promise() for _ in range(3)]
+        waits[0].add_done_callback(ends)
+        with self.assertRaises(SystemExit):
+            request._fail_all(KeyError("all"))
+        self.assertEqual([repr(it.exception(0)) for it in waits], ["KeyError('all')"] * 3)
+
+    def test_two_threads_that_show_a_stage(self):
+        """Both have found it cancelled: none raises."""
+        from concurrent.futures import Future
+        request, both, wrong = self.service().request("r"), threading.Barrier(2), []
+        stage, cancel = request.promise(), Future.cancel
+
+        def meets(future):
+            both.wait(20)
+            told = cancel(future)
+            both.wait(20)
+            return told
+
+        def show():
+            try:
+                stage._show(None, None, True)
+            except BaseException as error:
+                wrong.append(error)
+        with unittest.mock.patch.object(Future, "cancel", meets):
+            threads = [threading.Thread(target=show) for _ in range(2)]
+            for thread in threads:
+                thread.start()
+            for thread in threads:
+                thread.join(20)
+        self.assertEqual((wrong, stage.cancelled(), stage._state), ([], True, "CANCELLED_AND_NOTIFIED"))
+
+    def test_what_a_finish_makes_ready(self):
+        """Its process goes on with it at once, also where it has two sources, or came of what was composed."""
+        service = DurableService(Memory(), 1, functions=f.functions, lease=1000)
+        self.services.append(service)
+        request = service.request("r")
+        first, second = request.promise(), request.promise()
+        stage = first.then(f.inc).combine(second, f.add).compose(f.loading).then(f.number)
+        second.complete(3)
+        first.complete(1)
+        self.assertEqual(stage.result(20), 5)
+
+    def test_a_thread_that_cant_be_started(self):
+        """What it was to do is done once one can be: stages, timers, and forgetting what is closed."""
+        service = DurableService(Memory(), 2, functions=f.functions, lease=0.5)
+        self.services.append(service)
+        submit, refused = service._pool.submit, []
+
+        def submits(call, name, act, *given):
+            if act.__name__ not in refused:
+                refused.append(act.__name__)
+                raise RuntimeError("can't start new thread")
+            return submit(call, name, act, *given)
+        with unittest.mock.patch.object(service._pool, "submit", submits), self.assertLogs("cf.shared", "WARNING"):
+            request = service.request("r")
+            self.assertEqual(request.supply(f.inc, 1).result(20), 2)
+            self.assertIsInstance(request.promise().or_timeout(0.05).exception(20), TimeoutError)
+            service.store.end("r", request.seen)
+            self.until(lambda: "r" not in service._requests)
+        self.assertEqual(sorted(refused), ["_fire", "_let_go", "_work"])
+
+    def test_a_timer_that_fails_once(self):
+        """It stays until it has fired."""
+        class Away(Memory):
+            left = 0
+
+            def append_groups(self, puts):
+                self.left -= 1
+                if self.left >= 0:
+                    raise Unknown("away")
+                return super().append_groups(puts)
+
+            def drop_timer(self, request, stage, number=0):
+                dropped.append(self.left)
+                super().drop_timer(request, stage, number)
+        store, dropped = Away(), []
+        with unittest.mock.patch.object(shared_service, "PATIENCE", 0):
+            service = DurableService(store, 1, functions=f.functions, lease=5)
+            self.services.append(service)
+            promise = service.request("r").promise()
+            with self.assertLogs("cf.shared", "WARNING"):
+                store.left = 3
+                self.assertIsInstance(promise.or_timeout(0.01).exception(20), TimeoutError)
+            self.until(lambda: not store._timers)
+            self.assertEqual(dropped, [-1])
+
+    def test_a_payload_that_cant_be_read_for_a_while(self):
+        """A value is shown once the store answers, and what a claim is called with is read then."""
+        class Away(Memory):
+            left = 0
+
+            def payloads(self, name, places, number=0):
+                self.left -= 1
+                if self.left >= 0:
+                    raise Unknown("away")
+                return super().payloads(name, places, number)
+        store = Away()
+        asks = DurableService(store, 0, functions=f.functions)
+        self.services.append(asks)
+        asks.request("r").promise("p").complete(1)
+        with unittest.mock.patch.object(shared_service, "PATIENCE", 0), self.assertLogs("cf.shared", "WARNING"):
+            works = DurableService(store, 1, functions=f.functions, lease=0.5)
+            self.services.append(works)
+            stage = works.open("r")
+            stage._desk.said(0)
+            store.left = 2
+            self.assertEqual(stage[0].result(20), 1)
+            behind = asks.open("r")[0].then(f.inc)
+            stage._catch_up()
+            stage._desk.said(1)
+            store.left = 1
+            works._serve(stage)
+            self.assertEqual(behind.result(20), 2)
+            shared_service.LOGGER.warning("at least one")
+
+    def test_a_claim_that_is_found_late(self):
+        """It is finished late, and what is claimed with that is run."""
+        service = DurableService(Memory(), 0, functions=f.functions, lease=1000)
+        self.services.append(service)
+        request = service.request("r")
+        first, second = request.supply(f.inc, 1), request.supply(f.inc, 2)
+        done = request._act(lambda desk: [(4 << 56 | desk.who << 48, None)])  # as by a put whose reply was lost
+        self.assertTrue(first.abandon())
+        service._pool.submit(int).result(20)  # (so that the one thread has nothing to do)
+        request._desk.found[0] = done[0]
+        service._workers = 1
+        service._serve(request)
+        self.assertEqual(second.result(20), 3)
+        self.until(lambda: not request._desk.claims)
+
+    def test_a_codec_that_ends(self):
+        """Whatever a codec raises, its stage is shown, and no claim is left."""
+        class Ends(Json):
+            def read(self, given):
+                return sys.exit("of a codec") if b"unread" in given else super().read(given)
+
+            def write_error(self, error):
+                return sys.exit("of a codec") if isinstance(error, KeyError) else super().write_error(error)
+        functions = Functions()
+
+        def fails():
+            raise KeyError(1)
+        fails = functions.function("fails")(fails)
+        service = DurableService(Memory(), 1, functions=functions, codec=Ends())
+        self.services.append(service)
+        request = service.request("r")
+        promise = request.promise()
+        promise.complete("unread")
+        self.assertIsInstance(promise.exception(5), Broken)
+        error = request.supply(fails).exception(20)
+        self.assertIn("it can't be written", str(error))
+        self.assertFalse(request._desk.claims)
+
+    def test_a_name_that_began_anew_with_fewer_words(self):
+        """A worker that has seen more words of an earlier request of the name works on the new one; who has the old one is told."""
+        store = Memory()
+        asks, works = DurableService(store, 0, functions=f.functions, lease=0.5), DurableService(store, 1, functions=f.functions, lease=0.5, takes_all=True)
+        self.services += [asks, works]
+        old = asks.request("r")
+        other = old.promise()
+
+        def ends(_):
+            raise SystemExit("of a callback")
+        other.add_done_callback(ends)
+        waits, done = old.promise(), [old.supply(f.inc, k).result(20) for k in range(3)]
+        self.assertEqual(done, [1, 2, 3])
+        store.drop("r")
+        with contextlib.suppress(SystemExit):  # (or a worker has seen it, which logs it)
+            asks.request("r")
+        new = asks.request("r")
+        self.assertEqual(new.supply(f.inc, 16).result(20), 17)
+        self.assertIsInstance(waits.exception(5), Broken)
+        for call in (lambda: old[0], old.history, old.end, old.promise):
+            with self.assertRaises(Broken):
+                call()
+        self.assertIn("r", store.ends())
+        self.assertIs(asks._kept(old), new)
+        self.assertIs(asks.open("r"), new)
 
     def test_rules(self):
         service = self.service()
@@ -1041,7 +1778,7 @@ class Processes(Case):
     def test_a_commit_whose_reply_is_lost(self):
         """The connection drops around the commit: the effect stands exactly once, whether it had landed or not."""
         from cf.shared import sqlite as store_of
-        path, real = f"{self.folder.name}/db", store_of._Transaction.commit
+        path, real, notes = f"{self.folder.name}/db", store_of._Transaction.commit, []
         db = sqlite3.connect(path, isolation_level=None)
         db.execute("create table paid (account text)")
         try:
@@ -1057,7 +1794,9 @@ class Processes(Case):
                 store_of._Transaction.commit = commit
                 name = f"lands {lands}"
                 with self.assertLogs("cf.shared", "WARNING"):
-                    self.assertEqual(self.service().request(name).supply(f.pay, name).result(30), name)
+                    service = self.service(note=lambda *said: notes.append(said))
+                    self.assertEqual(service.request(name).supply(f.pay, name).result(30), name)
+                self.assertEqual([said[3] >> 56 for said in notes if said[0] == "did" and said[1] == name], [7, 4, 5])
         finally:
             store_of._Transaction.commit = real
         self.assertEqual(sorted(db.execute("select account from paid").fetchall()), [("lands False",), ("lands True",)])

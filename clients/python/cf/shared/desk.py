@@ -1,20 +1,22 @@
 """A session's view of one request's row: it replays the words that it lacks, decides, puts at the end that it saw, and where it loses
 replays and decides again."""
+import contextlib
 import json
 import os
 import time
 from array import array
-from typing import Any, Callable, Dict, List, NamedTuple, Optional, Sequence, Set, Tuple, TypeVar
+from typing import Any, Callable, ContextManager, Dict, List, NamedTuple, Optional, Sequence, Set, Tuple, TypeVar
 
 from .. import values
 from .._library import CNews
+from ..events import _known
 from ..service._plain import PlanCore, _grow, _Ledger, _told
 from ..service.history import History, Told
 from ..service.words import (ANSWER, ATTACH, CLAIM, COMPOSE_FORMS, FINISH, IS_CLAIMED, IS_READY, IS_SETTLED, LINKS, MOST_STAGES, NUMBER, PENDING,
-                             RequestFull)
+                             TICK, RequestFull)
 from .codec import Json
 from .plans import SharedPlan, said_in
-from .rows import COUNT_BITS, Broken, Gone, Opened, Put, Store, Unknown, sure
+from .rows import COUNT_BITS, Broken, Entry, Gone, Opened, Put, Store, Unknown, sure
 
 CALLERS = int(os.environ.get("CF_CALLERS", "64"))  # fewer, for tests of sessions that share a number
 COUNTS = 1 << COUNT_BITS
@@ -108,7 +110,7 @@ class Desk:
         self._behind: Dict[int, List[int]] = {}
         self._own: Dict[int, bytes] = {}  # the payloads that this desk put
         self._said: Dict[int, Dict[str, Any]] = {}
-        self._doubt: Set[int] = set()  # the tokens of words of which it isn't known whether they stand
+        self._doubt: Dict[int, int] = {}  # the tokens of words of which it isn't known whether they stand, and the places where they would
         self.found: Dict[int, Done] = {}  # claims of this session's that were granted, as it found when it read them
         for number, (_, of) in enumerate(self.forms):
             self._follow(number, of)
@@ -139,7 +141,7 @@ class Desk:
 
     def catch_up(self) -> List[Done]:
         """Replays what others have put."""
-        return [self._take(*entry) for entry in self.sure(lambda: self.store.read(self.name, self.seen))]
+        return [self._take(*entry) for entry in self.sure(lambda: self.store.read(self.name, self.seen, self.opened.number))]
 
     def act(self, decide: "Callable[[Desk], Optional[Wanted]]") -> Tuple[Optional[List[Done]], List[Done]]:
         """Puts the words that `decide` wants, or none where it gives None; it is asked again after each loss. What was done by them, and
@@ -152,42 +154,60 @@ class Desk:
             if not wanted:
                 return None, others
             put = self.put_of(wanted)
-            try:
-                stands = self.store.append(put)
-            except Unknown:
-                self.unknown += 1
-                stands = self._put_again(put)
+            stands = self._append(put)
             if stands == []:
                 raise Gone(self.name)
-            if stands is None or stands[0][1] == put.entries[0][1]:  # the second: its token stands, so it had landed
-                done = self.landed(put)
+            if stands is None or stands[0][1] == put.entries[0][1] and _has_words_of(stands, put):  # the second: it had landed
+                done = self.landed(put, stands)
                 others += [self._take(*entry) for entry in (stands or [])[len(put.entries):]]
                 return done, others
             self.lost += 1
             others += [self._take(*entry) for entry in stands]
 
-    def _put_again(self, put: Put) -> Optional[List[Tuple[int, int]]]:
+    def _append(self, put: Put) -> Optional[List[Entry]]:
+        """None where a put stands now, else what stands from its first place on."""
         try:
             return self.sure(lambda: self.store.append(put))  # type: ignore[no-any-return]
-        except Unknown:
-            self._doubt.update(token for _, token in put.entries)
+        except BaseException:
+            self.doubt(put)
             raise
 
+    def doubt(self, put: Put) -> None:
+        """Remembers that a put may stand, until the words at its places are read."""
+        self._doubt.update((token, put.at + k) for k, (_, token) in enumerate(put.entries, 1))
+
     def put_of(self, wanted: Wanted) -> Put:
-        """A put of these words behind what is seen, with new tokens."""
+        """A put of these words behind what is seen, with new tokens. `ValueError` where one of them fits no graph here: it would break the
+        row for everybody."""
+        self._check([word for word, _ in wanted])
         entries = [(word, self.session << COUNT_BITS | (self._count + k) % COUNTS) for k, (word, _) in enumerate(wanted)]
         self._count += len(wanted)
         payloads = {self.place + k: it for k, (_, it) in enumerate(wanted) if it is not None}
         return Put(self.name, self.seen, entries, payloads, self.opened.number)
 
-    def landed(self, put: Put) -> List[Done]:
-        """Does the words of a put that stands."""
+    def landed(self, put: Put, stands: Optional[Sequence[Entry]] = None) -> List[Done]:
+        """Does the words of a put that stands, as they stand."""
         self._landed = True
         self._own.update(put.payloads)
-        done = [self._take(*entry) for entry in put.entries]
+        done = [self._take(*entry) for entry in (stands or put.entries)[:len(put.entries)]]
         for it in done:
             self._note("did", self.name, it.place, it.word, it.reply)
         return done
+
+    def _check(self, words: Sequence[int]) -> None:
+        many = len(self.forms)
+        for word in words:
+            try:
+                event = _known(word)
+            except (values.Refused, OverflowError):
+                raise ValueError(f"request {self.name!r}, place {self.place}: the word {word} is no event's") from None
+            kind, stage = word >> 56, word >> 36 & 0xFFF
+            named = (event.first, event.second)[:event.sources] if kind == ATTACH else () if kind == TICK else (stage,)
+            if event.who != self.who or any(it >= many for it in named):
+                raise ValueError(f"request {self.name!r}, place {self.place}: the word {word} is another caller's, or names a stage that isn't there")
+            many += kind == ATTACH
+        if many > len(self.forms):
+            self.make_room(many - len(self.forms))
 
     def sure(self, call: Callable[[], Any]) -> Any:
         """What a call is answered that may be made again, whatever became of it before."""
@@ -212,12 +232,15 @@ class Desk:
         reply, place = tuple(self._ledger.reply), self.place
         self.words.append(word)
         self._replies += self._ledger.reply
-        self._sessions.append(token >> COUNT_BITS)
-        self._numbers.setdefault(who, token >> COUNT_BITS)
+        session = token >> COUNT_BITS
+        self._sessions.append(session)
+        self._numbers.setdefault(who, session)
+        if session == self.session and not self._landed:  # by an earlier desk of this session's
+            self._landed, self.who = True, who
         if kind == ATTACH and not reply[ANSWER]:
             self._add(reply[NUMBER], word, place)
         elif kind == CLAIM and not reply[ANSWER]:
-            self.claims[stage] = token >> COUNT_BITS
+            self.claims[stage] = session
         elif kind == FINISH and reply[ANSWER] != 2:
             self.claims.pop(stage, None)
             if word >> 32 & 0xF == LINKS and not reply[ANSWER]:
@@ -225,11 +248,12 @@ class Desk:
         done = Done(place, word, token, reply, self._changed(self._ledger.news[:self._ledger.changed.value], place))
         if token in self._doubt:
             self._find(done, who)
+        if self._doubt:  # what was to stand here and doesn't never will
+            self._doubt = {token: its for token, its in self._doubt.items() if its > place}
         return done
 
     def _find(self, done: Done, who: int) -> None:
         """A word of this desk's stands, of which it wasn't told: its number is this desk's, and what it claimed is for this desk to run."""
-        self._doubt.discard(done.token)
         self._landed, self.who = True, who
         self._note("did", self.name, done.place, done.word, done.reply)
         if done.word >> 56 == CLAIM and not done.reply[ANSWER]:
@@ -308,15 +332,22 @@ class Desk:
 
     def read(self, place: int, reader: Callable[[bytes], T]) -> T:
         """What a payload says. `Broken` where it can't be read."""
-        given = self.payload(place)
+        return self._reading(place, self.payload(place), reader)
+
+    def _reading(self, place: int, given: bytes, reader: Callable[[bytes], T]) -> T:
         try:
             return reader(given)
-        except Exception as error:
+        except KeyboardInterrupt:  # it isn't the reader's
+            raise
+        except BaseException as error:
             raise Broken(self.name, place, f"its payload can't be read: {error!r}") from None
+
+    def _payloads(self, places: Sequence[int]) -> Dict[int, bytes]:
+        return self.sure(lambda: self.store.payloads(self.name, places, self.opened.number))  # type: ignore[no-any-return]
 
     def payload(self, place: int) -> bytes:
         """The payload of a word. `Broken` where there is none."""
-        found: Dict[int, bytes] = self._own if place in self._own else self.sure(lambda: self.store.payloads(self.name, [place]))
+        found: Dict[int, bytes] = self._own if place in self._own else self._payloads([place])
         if place not in found:
             raise Broken(self.name, place, "no payload is there, and a word names it")
         return found[place]
@@ -327,31 +358,33 @@ class Desk:
         self._note("saw", self.name, self.seen, stage, told)
         return told
 
-    def history(self, codec: Json) -> History:
-        """All that is seen, as it was done."""
-        places = list(range(1, self.place))
-        found: Dict[int, bytes] = self.sure(lambda: self.store.payloads(self.name, [it for it in places if _names(self.words[it - 1])]))
-        values_: List[Any] = [None] * self.place
-        errors: List[BaseException] = [RuntimeError("no payload")] * self.place
+    def history(self, codec: Json, lock: ContextManager[Any] = contextlib.nullcontext()) -> History:
+        """All that is seen, as it was done. What others may change is read under the lock, and the codec is called without it."""
+        with lock:
+            words, replies, sessions, told = self.words[:], bytes(self._replies), self._sessions[:], array("I")
+            for number, it in enumerate(self.told):
+                told.extend((self.places[number], number, *it[:4], it.number % 2**32))
+            many = len(self.forms)
+        found = self._payloads([place for place, word in enumerate(words, 1) if _names(word)])
+        values_: List[Any] = [None] * (len(words) + 1)
+        errors: List[BaseException] = [RuntimeError("no payload")] * (len(words) + 1)
         for place, given in found.items():
-            is_error = self.words[place - 1] >> 56 == 2 or self.words[place - 1] >> 32 & 0xF == 2
-            try:
-                if is_error:
-                    errors[place] = codec.read_error(given)
-                else:
-                    values_[place] = codec.read(given)
-            except Exception as error:
-                raise Broken(self.name, place, f"its payload can't be read: {error!r}") from None
-        told = array("I")
-        for number, it in enumerate(self.told):
-            told.extend((self.places[number], number, *it[:4], it.number % 2**32))
-        facts = (self.words[:], array("q", [0] * self.seen), bytes(self._replies), told, [str(self.said(k)["name"]) for k in range(len(self.forms))],
-                 values_, errors)
-        return RowHistory(self.name, self.plan.core, facts, self._sessions[:])
+            is_error = words[place - 1] >> 56 == 2 or words[place - 1] >> 32 & 0xF == 2
+            if is_error:
+                errors[place] = self._reading(place, given, codec.read_error)
+            else:
+                values_[place] = self._reading(place, given, codec.read)
+        facts = (words, array("q", [0] * len(words)), replies, told, [str(self.said(k)["name"]) for k in range(many)], values_, errors)
+        return RowHistory(self.name, self.plan.core, facts, sessions)
 
     def open_claims(self) -> Dict[int, int]:
         """The stages whose function runs somewhere: claimed and not settled, with the session that has it."""
         return {stage: session for stage, session in list(self.claims.items()) if self.kinds[stage] == IS_CLAIMED}
+
+
+def _has_words_of(stands: Sequence[Entry], put: Put) -> bool:
+    """Whether what stands are a put's words: another's may have a token of the same number."""
+    return [word for word, _ in stands[:len(put.entries)]] == [word for word, _ in put.entries]
 
 
 def _names(word: int) -> bool:

@@ -50,8 +50,7 @@ class Etcd(Store):
         raise Unknown(f"etcd: {why}")
 
     def _get(self, key: bytes, end: Optional[bytes] = None, **more: Any) -> List[Tuple[bytes, bytes]]:
-        told = self._post("/v3/kv/range", _range(key, end, **more)).get("kvs", [])
-        return [(base64.b64decode(it["key"]), base64.b64decode(it.get("value", ""))) for it in told]
+        return _pairs(self._post("/v3/kv/range", _range(key, end, **more)))
 
     def _txn(self, compares: List[Any], success: List[Any], failure: Sequence[Any] = ()) -> Any:
         return self._post("/v3/kv/txn", {"compare": compares, "success": success, "failure": list(failure)})
@@ -60,9 +59,10 @@ class Etcd(Store):
 
     def open(self, name: str, plan: str) -> Opened:
         key, said = _key("r", name), json.dumps({"plan": plan, "opened": time.time()}).encode()
-        self._txn([_absent(key)], [_put(key, said), _put(_key("o", name), b"0")])
-        found = self.find(name)
-        assert found is not None
+        found = None
+        while found is None:  # (it may be dropped meanwhile)
+            self._txn([_absent(key)], [_put(key, said), _put(_key("o", name), b"0")])
+            found = self.find(name)
         return found
 
     def find(self, name: str) -> Optional[Opened]:
@@ -78,21 +78,32 @@ class Etcd(Store):
         """Compares whether a request is the one that was opened."""
         return {"key": _b64(_key("r", name)), "target": "CREATE", "create_revision": revision}
 
+    def _gone(self, name: str) -> Gone:
+        """Says that a request isn't there. Another of its name may be."""
+        self._born.pop(name, None)
+        return Gone(name)
+
     def _revision(self, name: str) -> str:
         if name not in self._born and self.find(name) is None:
-            raise Gone(name)
+            raise self._gone(name)
         return self._born[name]
 
     def _row(self, kind: str, name: str, revision: str = "") -> bytes:
         """What the keys of a request's words or payloads begin with: another request of the same name has others."""
         return _key(kind, name) + f"/{revision or self._revision(name)}/".encode()
 
+    def _is_dropped(self, name: str, revision: str) -> bool:
+        """Whether a request is there no more, by a majority: a member that lags behind may not know it yet."""
+        found = self.find(name)
+        return found is None or str(found.number) != revision
+
     def ends(self) -> Dict[str, int]:
-        return {_name(key): int(value) for key, value in self._get(b"cf/o/", b"cf/o0", serializable=True)}
+        return self.news(None)[0]
 
     def news(self, mark: Any) -> Tuple[Dict[str, int], Any]:
-        more = {} if mark is None else {"min_mod_revision": str(mark + 1)}
-        told = self._post("/v3/kv/range", _range(b"cf/o/", b"cf/o0", serializable=True, **more))
+        # Since a mark any member's answer will do. Of all, a request that a member that lags behind doesn't know yet would seem closed.
+        more = {} if mark is None else {"min_mod_revision": str(mark + 1), "serializable": True}
+        told = self._post("/v3/kv/range", _range(b"cf/o/", b"cf/o0", **more))
         ends = {_name(base64.b64decode(it["key"])): int(base64.b64decode(it["value"])) for it in told.get("kvs", [])}
         return ends, max(mark or 0, int(told["header"]["revision"]))  # (a member that lags behind has a lower one)
 
@@ -106,15 +117,21 @@ class Etcd(Store):
             told.append(Listed(name, json.loads(value)["opened"], None if name in ends else at, ends.get(name, words)))
         return sorted(told)
 
-    def end(self, name: str, at: int) -> None:
-        key, timers = _key("o", name), _key("t", name) + b"/"
-        self._txn([{"key": _b64(key), "target": "VALUE", "value": _b64(b"%d" % at)}],
-                  [{"request_delete_range": {"key": _b64(key)}}, {"request_delete_range": _range(timers, _after(timers))},
-                   _put(_key("c", name), json.dumps([time.time(), at]).encode())])
+    def end(self, name: str, at: int, number: int = 0) -> None:
+        key, timers, revision = _key("o", name), _key("t", name) + b"/", str(number or self._revision(name))
+        told = self._txn([self._is_there(name, revision), {"key": _b64(key), "target": "VALUE", "value": _b64(b"%d" % at)}],
+                         [{"request_delete_range": {"key": _b64(key)}}, {"request_delete_range": _range(timers, _after(timers))},
+                          _put(_key("c", name), json.dumps([time.time(), at]).encode())])
+        if not told.get("succeeded") and self._is_dropped(name, revision):
+            raise self._gone(name)
 
-    def reopen(self, name: str) -> None:
-        many = len(self.read(name))
-        self._txn([_absent(_key("o", name))], [_put(_key("o", name), b"%d" % many)])
+    def reopen(self, name: str, number: int = 0) -> None:
+        revision = str(number or self._revision(name))
+        row = self._row("w", name, revision)
+        many = len(self._get(row, _after(row), keys_only=True))
+        told = self._txn([self._is_there(name, revision), _absent(_key("o", name))], [_put(_key("o", name), b"%d" % many)])
+        if not told.get("succeeded") and self._is_dropped(name, revision):
+            raise self._gone(name)
 
     def drop(self, name: str, at: Optional[int] = None) -> bool:
         ranges = [_range(key, _after(key)) for key in (_key(kind, name) + b"/" for kind in "wpt")] + [_range(_key(kind, name)) for kind in "roc"]
@@ -145,22 +162,33 @@ class Etcd(Store):
         told = self._txn([_absent(key), self._is_there(put.request, revision)], puts, [{"request_range": _range(key, end)}])
         if told.get("succeeded"):
             return None
-        stands = told["responses"][0]["response_range"].get("kvs", [])
+        stands = _pairs(told["responses"][0]["response_range"])
         if not stands:
-            raise Gone(put.request)
-        return _entries(put.request, put.at, [(base64.b64decode(it["key"]), base64.b64decode(it["value"])) for it in stands])
+            raise self._gone(put.request)
+        return _entries(put.request, put.at, stands)
 
-    def read(self, name: str, at: int = 0) -> List[Entry]:
+    def read(self, name: str, at: int = 0, number: int = 0) -> List[Entry]:
         # Any member's answer will do: a stale one is a shorter prefix.
-        row = self._row("w", name)
-        return _entries(name, at, self._get(_place(row, at), _after(row), serializable=True))
+        revision = str(number or self._revision(name))
+        row = self._row("w", name, revision)
+        told = self._txn([self._is_there(name, revision)], [{"request_range": _range(_place(row, at), _after(row), serializable=True)}])
+        if not told.get("succeeded"):
+            if self._is_dropped(name, revision):
+                raise self._gone(name)
+            return []
+        return _entries(name, at, _pairs(told["responses"][0]["response_range"]))
 
-    def payloads(self, name: str, places: Sequence[int]) -> Dict[int, bytes]:
-        row = self._row("p", name)
+    def payloads(self, name: str, places: Sequence[int], number: int = 0) -> Dict[int, bytes]:
+        revision = str(number or self._revision(name))
+        row = self._row("p", name, revision)
         if len(places) > 8:
-            told = {int(key[-6:]): value for key, value in self._get(row, _after(row))}
-            return {place: told[place] for place in places if place in told}
-        return {place: found[0][1] for place in places for found in [self._get(_place(row, place))] if found}
+            pairs = {int(key[-6:]): value for key, value in self._get(row, _after(row))}
+            told = {place: pairs[place] for place in places if place in pairs}
+        else:
+            told = {place: found[0][1] for place in places for found in [self._get(_place(row, place))] if found}
+        if len(told) < len(places) and self._is_dropped(name, revision):
+            raise self._gone(name)
+        return told
 
     def changed(self, seconds: float) -> None:
         """By a watch of this thread's own, a stream that stays open."""
@@ -210,18 +238,23 @@ class Etcd(Store):
 
     def set_timer(self, timer: Timer) -> None:
         value = json.dumps([timer.due, _b64(timer.payload)]).encode()
-        self._post("/v3/kv/put", {"key": _b64(_place(_key("t", timer.request) + b"/", timer.stage)), "value": _b64(value)})
+        revision = str(timer.number or self._revision(timer.request))
+        key = _place(self._row("t", timer.request, revision), timer.stage)
+        if not self._txn([self._is_there(timer.request, revision)], [_put(key, value)]).get("succeeded"):
+            raise self._gone(timer.request)
 
     def due(self, now: float) -> List[Timer]:
         told = []
         for key, value in self._get(b"cf/t/", b"cf/t0", serializable=True):
             due, payload = json.loads(value)
             if due <= now:
-                told.append(Timer(_name(key[:-7]), int(key[-6:]), due, base64.b64decode(payload)))
+                name, *number, stage = key[5:].decode().split("/")  # (without a number where an earlier version has set it)
+                told.append(Timer(unquote(name), int(stage), due, base64.b64decode(payload), int(number[0]) if number else 0))
         return sorted(told, key=lambda timer: timer.due)
 
-    def drop_timer(self, request: str, stage: int) -> None:
-        self._post("/v3/kv/deleterange", {"key": _b64(_place(_key("t", request) + b"/", stage))})
+    def drop_timer(self, request: str, stage: int, number: int = 0) -> None:
+        rows = (self._row("t", request, str(number or self._revision(request))), _key("t", request) + b"/")
+        self._txn([], [{"request_delete_range": {"key": _b64(_place(row, stage))}} for row in rows])
 
 
 def _b64(data: bytes) -> str:
@@ -256,6 +289,11 @@ def _put(key: bytes, value: bytes) -> Any:
 
 def _absent(key: bytes) -> Any:
     return {"key": _b64(key), "target": "VERSION", "version": 0}
+
+
+def _pairs(told: Any) -> List[Tuple[bytes, bytes]]:
+    """The keys and values of a range."""
+    return [(base64.b64decode(it["key"]), base64.b64decode(it.get("value", ""))) for it in told.get("kvs", [])]
 
 
 def _entries(name: str, at: int, pairs: Sequence[Tuple[bytes, bytes]]) -> List[Entry]:

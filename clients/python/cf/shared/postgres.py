@@ -1,13 +1,15 @@
 """Rows in tables of a PostgreSQL database, by psycopg2."""
 import contextlib
+import importlib
 import select
 import threading
 import time
-from typing import Any, Dict, Generator, Iterator, List, Optional, Sequence, Tuple
-
-import psycopg2  # type: ignore[import]
+from typing import Any, Dict, Generator, Iterator, List, NoReturn, Optional, Sequence, Tuple
 
 from .rows import Entry, Gone, Listed, Opened, Put, Store, StoreError, Timer, Transaction, Unknown, in_a_row
+
+psycopg2: Any = importlib.import_module("psycopg2")  # (its types are installed on some machines only)
+errors: Any = importlib.import_module("psycopg2.errors")
 
 SCHEMA = """
     create table if not exists cf_request (id bigserial primary key, name text not null unique, plan text not null,
@@ -29,7 +31,8 @@ PREPARED = """
         on conflict do nothing;
     prepare cf_two(bigint, int, bigint, bigint, bytea, bigint, bigint, bytea) as insert into cf_word select id, v.* from cf_request,
         (values ($2, $3, $4, $5), ($2 + 1, $6, $7, $8)) as v where id = $1;
-    prepare cf_read(bigint, int) as select at, word, token from cf_word where request = $1 and at >= $2 order by at;
+    prepare cf_read(bigint, int) as select at, word, token from cf_request left join cf_word on request = id and at >= $2 where id = $1
+        order by at;
 """
 HAS = "(select coalesce(max(at) + 1, 0) from cf_word where request = id) = %s"  # so many words
 PUT_ALL = "insert into cf_word select id, at, word, token, payload from (values %s) as v(request, at, word, token, payload) join cf_request on id = request"
@@ -37,11 +40,13 @@ SAFE = {"fsync": ("on",), "full_page_writes": ("on",), "transaction_read_only": 
 # A network that lets nothing through is told after 20 s: else a call would wait for many minutes.
 NOTICES_SILENCE = {"tcp_user_timeout": 20_000, "keepalives_idle": 10, "keepalives_interval": 5, "keepalives_count": 2}
 LEAST_BETWEEN = 0.01  # seconds between two notices: the first goes at once
+BETWEEN_TRIES = 0.2  # seconds between two tries of a notice that couldn't be sent
 
 
 class Postgres(Store):
     """A database. Each connection sets `synchronous_commit` to on, where the server hasn't more; a server without `fsync` or
-    `full_page_writes`, or one that can only be read, is refused. With `is_unsafe` it answers before it has written.
+    `full_page_writes`, or one that can only be read, is refused; one that can only be read later, as in a switch-over, is waited for. With
+    `is_unsafe` it answers before it has written.
 
     Waiters are woken by NOTIFY of a connection of its own, behind the commit: within the put it takes a lock of the whole database. That
     connection doesn't wait for the disk, since a notice that a crash has lost was for nobody."""
@@ -55,31 +60,34 @@ class Postgres(Store):
         self._local = threading.local()
         self._changes = threading.Event()
         self._notifier: Optional[threading.Thread] = None
-        self._is_closed = False
+        self._is_closed = self._is_made = False
         self._lock = threading.Lock()
-        with self._telling():
-            db = self._connected()
-            with db.cursor() as cursor:
-                cursor.execute(f"select pg_advisory_lock({SET_UP})")  # (two that make a table at once are refused)
-                cursor.execute(SCHEMA)
-            db.close()
+        with self._telling(), contextlib.closing(self._connected()) as db, db.cursor() as cursor:
+            cursor.execute(f"select pg_advisory_lock({SET_UP})")  # (two that make a table at once are refused)
+            cursor.execute(SCHEMA)
+        self._is_made = True
 
     # Connections.
 
     def _connected(self) -> Any:
         db = psycopg2.connect(self._address, connect_timeout=5, **NOTICES_SILENCE)
-        db.autocommit = True
-        with db.cursor() as cursor:
-            for name, wanted in {} if self._is_unsafe else SAFE.items():
-                cursor.execute(f"show {name}")
-                found = cursor.fetchone()[0]
-                if found not in wanted:
-                    db.close()
-                    raise StoreError(f"{db.info.host}:{db.info.port}: {name} is {found}, with which words are lost or can't be put")
-            cursor.execute("show synchronous_commit")
-            if self._is_unsafe or cursor.fetchone()[0] in ("off", "local"):
-                cursor.execute(f"set synchronous_commit = {'off' if self._is_unsafe else 'on'}")
-        return db
+        try:
+            db.autocommit = True
+            with db.cursor() as cursor:
+                for name, wanted in {} if self._is_unsafe else SAFE.items():
+                    cursor.execute(f"show {name}")
+                    found = cursor.fetchone()[0]
+                    if found not in wanted:
+                        is_away = self._is_made and name == "transaction_read_only"
+                        raise (Unknown if is_away else StoreError)(
+                            f"{db.info.host}:{db.info.port}: {name} is {found}, with which words are lost or can't be put")
+                cursor.execute("show synchronous_commit")
+                if self._is_unsafe or cursor.fetchone()[0] in ("off", "local"):
+                    cursor.execute(f"set synchronous_commit = {'off' if self._is_unsafe else 'on'}")
+            return db
+        except BaseException:
+            db.close()
+            raise
 
     @contextlib.contextmanager
     def _telling(self) -> Iterator[None]:
@@ -100,12 +108,13 @@ class Postgres(Store):
                 cursor.execute(PREPARED)
             cursor.execute(statement, values)
             return cursor.rowcount, cursor.fetchall() if cursor.description else []
+        except errors.UniqueViolation:  # a place that is taken
+            raise
         except psycopg2.Error as error:
             if cursor is not None and _is_lost(error):
                 with contextlib.suppress(psycopg2.Error):
                     cursor.connection.close()
             _tell(error)
-            raise
         finally:
             if cursor is not None and not cursor.connection.closed:
                 self._free.append(cursor)
@@ -124,6 +133,11 @@ class Postgres(Store):
             found = self._ids[name] = int(rows[0][0])
         return found
 
+    def _gone(self, name: str) -> Gone:
+        """Says that a request isn't there. Another of its name may be."""
+        self._ids.pop(name, None)
+        return Gone(name)
+
     def _id_of(self, put: Put) -> int:
         number = self._id(put.request)
         if put.number not in (0, number):
@@ -134,10 +148,9 @@ class Postgres(Store):
 
     def open(self, name: str, plan: str) -> Opened:
         found = self.find(name)
-        if found is None:
+        while found is None:  # (it may be dropped meanwhile)
             self._ask(f"insert into cf_request (name, plan, opened) values (%s, %s, {NOW}) on conflict do nothing", name, plan)
             found = self.find(name)
-            assert found is not None
         return found
 
     def find(self, name: str) -> Optional[Opened]:
@@ -172,12 +185,18 @@ class Postgres(Store):
         return [Listed(str(name), float(opened), closed, int(many or 0)) for name, opened, closed, many in self._ask(
             "select name, opened, closed, (select max(at) + 1 from cf_word where request = id) from cf_request order by name")]
 
-    def end(self, name: str, at: int) -> None:
-        self._ask(f"with closed as (update cf_request set closed = {NOW} where id = %s and closed is null and {HAS} returning id) "
-                  "delete from cf_timer where request in (select id from closed)", self._id(name), at)
+    def end(self, name: str, at: int, number: int = 0) -> None:
+        number = number or self._id(name)
+        if not self._ask(f"with closed as (update cf_request set closed = {NOW} where id = %s and closed is null and {HAS} returning id), "
+                         "timers as (delete from cf_timer where request in (select id from closed)) "
+                         "select 1 from cf_request where id = %s", number, at, number):
+            raise self._gone(name)
 
-    def reopen(self, name: str) -> None:
-        self._ask("update cf_request set closed = null, made_by = pg_current_xact_id() where name = %s and closed is not null", name)
+    def reopen(self, name: str, number: int = 0) -> None:
+        number = number or self._id(name)
+        if not self._ask("with opened as (update cf_request set closed = null, made_by = pg_current_xact_id() where id = %s "
+                         "and closed is not null returning id) select 1 from cf_request where id = %s", number, number):
+            raise self._gone(name)
 
     def drop(self, name: str, at: Optional[int] = None) -> bool:
         is_so = "" if at is None else f" and closed is not null and {HAS}"
@@ -207,9 +226,9 @@ class Postgres(Store):
         return None if self._do("execute cf_put(%s, %s, %s, %s, %s)", row)[0] == 1 else self._stands(put)
 
     def _stands(self, put: Put) -> List[Entry]:
-        stands = self.read(put.request, put.at)
+        stands = self.read(put.request, put.at, put.number)
         if not stands:
-            raise Gone(put.request)
+            raise self._gone(put.request)
         return stands
 
     def _append_all(self, puts: Sequence[Put], rows: Sequence[Tuple[Any, ...]]) -> List[Optional[List[Entry]]]:
@@ -221,30 +240,37 @@ class Postgres(Store):
                 many, _ = self._do(PUT_ALL % ",".join(["(%s,%s,%s,%s,%s::bytea)"] * len(rows)), [it for row in rows for it in row])
             if many == len(rows):
                 return [None] * len(puts)
-        except psycopg2.errors.UniqueViolation:
+        except errors.UniqueViolation:
             pass
         if len(puts) == 1:
             return [self._stands(puts[0])]
         return [self._append_all([put], [(self._id(put.request), put.at + k, *entry, put.payloads.get(put.at + 1 + k))
                                          for k, entry in enumerate(put.entries)])[0] for put in puts]
 
-    def read(self, name: str, at: int = 0) -> List[Entry]:
-        return in_a_row(name, at, self._ask("execute cf_read(%s, %s)", self._id(name), at))
+    def read(self, name: str, at: int = 0, number: int = 0) -> List[Entry]:
+        rows = self._ask("execute cf_read(%s, %s)", number or self._id(name), at)
+        if not rows:
+            raise self._gone(name)
+        return in_a_row(name, at, rows if rows[0][0] is not None else [])
 
-    def payloads(self, name: str, places: Sequence[int]) -> Dict[int, bytes]:
-        rows = self._ask("select at + 1, payload from cf_word where request = %s and at = any(%s) and payload is not null", self._id(name),
-                         [place - 1 for place in places])
-        return {int(place): bytes(payload) for place, payload in rows}
+    def payloads(self, name: str, places: Sequence[int], number: int = 0) -> Dict[int, bytes]:
+        rows = self._ask("select at + 1, payload from cf_request left join cf_word on request = id and at = any(%s) and payload is not null "
+                         "where id = %s", [place - 1 for place in places], number or self._id(name))
+        if not rows:
+            raise self._gone(name)
+        return {int(place): bytes(payload) for place, payload in rows if place is not None}
 
     # Waking.
 
     def _notify(self) -> None:
+        """Wakes who waits. What was put stands, so nothing is raised here: who gets no notice looks by himself."""
         self._changes.set()
         if self._notifier is None:
-            with self._lock:
+            with self._lock, contextlib.suppress(RuntimeError):  # no thread can be started now: the next put tries again
                 if self._notifier is None:
-                    self._notifier = threading.Thread(target=self._run_notifier, name="cf-notify", daemon=True)
-                    self._notifier.start()
+                    notifier = threading.Thread(target=self._run_notifier, name="cf-notify", daemon=True)
+                    notifier.start()
+                    self._notifier = notifier
 
     def _run_notifier(self) -> None:
         db = None
@@ -253,12 +279,15 @@ class Postgres(Store):
             if self._is_closed:
                 break
             self._changes.clear()
-            with contextlib.suppress(Unknown), self._telling():
+            try:
                 if db is None or db.closed:
                     db = self._connected()
                 with db.cursor() as cursor:
                     cursor.execute("set synchronous_commit = off; notify cf")
-            time.sleep(LEAST_BETWEEN)
+                time.sleep(LEAST_BETWEEN)
+            except Exception:  # whatever it is, the notice goes once the server takes it
+                self._changes.set()
+                time.sleep(BETWEEN_TRIES)
         if db is not None:
             db.close()
 
@@ -294,15 +323,16 @@ class Postgres(Store):
         return float(self._ask(f"select {NOW}")[0][0])
 
     def set_timer(self, timer: Timer) -> None:
-        self._ask("insert into cf_timer values (%s, %s, %s, %s) on conflict (request, stage) do update "
-                  "set due = excluded.due, payload = excluded.payload", self._id(timer.request), *timer[1:])
+        if not self._do("insert into cf_timer select id, %s, %s, %s from cf_request where id = %s on conflict (request, stage) do update "
+                        "set due = excluded.due, payload = excluded.payload", (*timer[1:4], timer.number or self._id(timer.request)))[0]:
+            raise self._gone(timer.request)
 
     def due(self, now: float) -> List[Timer]:
-        return [Timer(str(name), int(stage), float(due), bytes(payload)) for name, stage, due, payload in self._ask(
-            "select name, stage, due, payload from cf_timer join cf_request on id = request where due <= %s order by due", now)]
+        return [Timer(str(name), int(stage), float(due), bytes(payload), int(number)) for name, stage, due, payload, number in self._ask(
+            "select name, stage, due, payload, id from cf_timer join cf_request on id = request where due <= %s order by due", now)]
 
-    def drop_timer(self, request: str, stage: int) -> None:
-        self._ask("delete from cf_timer where request = %s and stage = %s", self._id(request), stage)
+    def drop_timer(self, request: str, stage: int, number: int = 0) -> None:
+        self._ask("delete from cf_timer where request = %s and stage = %s", number or self._id(request), stage)
 
     # A function's own transaction.
 
@@ -320,35 +350,46 @@ class Postgres(Store):
     def close(self) -> None:
         self._is_closed = True
         self._changes.set()
+        listens, self._local.listens = getattr(self._local, "listens", None), None
+        if listens is not None:
+            listens.close()
         with self._lock:
             for cursor in self._free:
                 cursor.connection.close()
             self._free.clear()
 
 
-def _is_lost(error: psycopg2.Error) -> bool:
-    """Whether it isn't known what became of a statement: a cut connection may come as a `DatabaseError` without a kind."""
-    if isinstance(error, psycopg2.errors.ProgramLimitExceeded):  # a name that is too long, say: asked again it is refused again
+def _is_lost(error: Any) -> bool:
+    """Whether it isn't known what became of a statement, or the server can only be read for now: a cut connection may come as a
+    `DatabaseError` without a kind."""
+    if isinstance(error, errors.ProgramLimitExceeded):  # a name that is too long, say: asked again it is refused again
         return False
-    return isinstance(error, (psycopg2.OperationalError, psycopg2.InterfaceError)) or type(error) is psycopg2.DatabaseError
+    is_away = isinstance(error, (psycopg2.OperationalError, psycopg2.InterfaceError, errors.ReadOnlySqlTransaction))
+    return is_away or type(error) is psycopg2.DatabaseError
 
 
-def _tell(error: psycopg2.Error) -> None:
-    """Raises what an error of psycopg2's is here, but for a place that is taken."""
-    if not isinstance(error, psycopg2.errors.UniqueViolation):
-        raise (Unknown if _is_lost(error) else StoreError)(str(error).strip()) from None
+def _tell(error: Any) -> NoReturn:
+    """Raises what an error of psycopg2's is here."""
+    raise (Unknown if _is_lost(error) else StoreError)(str(error).strip()) from None
 
 
 class _Transaction(Transaction):
     def __init__(self, store: Postgres, db: Any, cursor: Any) -> None:
         self.connection, self._store, self._db = cursor, store, db
 
-    @property
-    def is_lost(self) -> bool:
-        return bool(self._db.closed)
+    def is_away(self) -> bool:
+        try:
+            self._db.rollback()
+            with self._db.cursor() as cursor:
+                cursor.execute("show transaction_read_only")
+                return bool(cursor.fetchone()[0] == "on")
+        except psycopg2.Error:
+            return True
 
     def append(self, put: Put) -> bool:
         number = self._store._id_of(put)
+        if self.connection.closed and not self._db.closed:
+            raise StoreError("the function has closed its cursor")
         with self._store._telling():
             for k, entry in enumerate(put.entries):
                 self.connection.execute("insert into cf_word select id, %s, %s, %s, %s from cf_request where id = %s on conflict do nothing",

@@ -1,10 +1,12 @@
 """A request whose row stands in a store, and its stages as futures."""
 import asyncio
 import concurrent.futures
+import contextlib
 import json
+import logging
 import threading
 from concurrent.futures import CancelledError, InvalidStateError
-from typing import TYPE_CHECKING, Any, Callable, Dict, Generator, Generic, List, Optional, Sequence, Set, Tuple, TypeVar
+from typing import TYPE_CHECKING, Any, Callable, ContextManager, Dict, Generator, Generic, Iterable, List, Optional, Sequence, Set, Tuple, TypeVar
 
 from ..service.flow import Again, Step, _alone
 from ..service.history import Describe, History, Told, escaped
@@ -20,11 +22,14 @@ if TYPE_CHECKING:
 T = TypeVar("T")
 U = TypeVar("U")
 V = TypeVar("V")
+LOGGER = logging.getLogger("concurrent.futures")
 
 if TYPE_CHECKING:
 
     class _Future(concurrent.futures.Future[T]):
         _state: str
+        _condition: threading.Condition
+        _done_callbacks: "List[Callable[[Any], object]]"
 else:
 
     class _Future(concurrent.futures.Future, Generic[T]):
@@ -134,11 +139,28 @@ class Stage(_Future[T]):
             return
         if is_cancelled:
             super().cancel()
-            super().set_running_or_notify_cancel()
-        elif error is not None:
-            super().set_exception(error)
-        else:
-            super().set_result(value)
+            with self._condition:
+                if self._state == "CANCELLED":  # (another thread may show it, too)
+                    super().set_running_or_notify_cancel()
+            return
+        with contextlib.suppress(InvalidStateError):  # (so it may)
+            if error is not None:
+                super().set_exception(error)
+            else:
+                super().set_result(value)
+
+    def _invoke_callbacks(self) -> None:
+        """Calls each, also behind one that raised what isn't an `Exception`. That is raised then."""
+        ended: Optional[BaseException] = None
+        for callback in self._done_callbacks:
+            try:
+                callback(self)
+            except Exception:
+                LOGGER.exception("exception calling callback for %r", self)
+            except BaseException as error:
+                ended = ended or error
+        if ended is not None:
+            raise ended
 
 
 class Request:
@@ -147,9 +169,14 @@ class Request:
     def __init__(self, service: "DurableService", desk: Desk) -> None:
         self._service, self._desk = service, desk
         self.name: str = desk.name
+        self.number: int = desk.opened.number
         self._lock = threading.RLock()
+        self._writes = threading.RLock()  # taken before the other one by who puts
+        self._transacts: Set[int] = set()  # the threads that run a transactional function of it
         self._stages: Dict[int, Stage[Any]] = {}
         self.is_queued = self.is_leaving = False
+        self.is_closed = self.reopens = False  # in the store, as far as is known; and whether that has yet to be taken back
+        self.kept = 0  # how often it was asked for again
         self._unshown: Set[int] = set()  # settled stages whose payload couldn't be read yet
         self._describe: Describe = service._describe
 
@@ -204,26 +231,36 @@ class Request:
     def history(self) -> History:
         """All that happened until now, as the row tells it. It takes time by the number of words."""
         self._catch_up()
-        with self._lock:
-            history = self._desk.history(self._service.codec)
-        return history._described(self._describe)
+        return self._desk.history(self._service.codec, self._lock)._described(self._describe)
 
     def end(self) -> None:
-        """Closes it: nothing is left to do in it, and workers look at it no more. A flow's request does so by itself."""
+        """Closes it: nothing is left to do in it, and workers look at it no more. A flow's request does so by itself. A stage that is
+        attached opens it again."""
         self._catch_up()
-        self._desk.sure(lambda: self._service.store.end(self.name, self.seen))
+        self._desk.sure(lambda: self._service.store.end(self.name, self.seen, self.number))
+        self.is_closed = True
 
     # Acting on the row.
 
     def _act(self, decide: Callable[[Desk], Any]) -> Optional[List[Done]]:
-        with self._lock:
-            done, others = self._desk.act(decide)
+        if threading.get_ident() in self._transacts:
+            raise StoreError(f"request {self.name!r}: its transactional function can't put to it: that takes the place of its finish")
+        try:
+            with self._writes, self._lock:
+                done, others = self._desk.act(decide)
+        except BaseException:
+            self._show_settled()
+            raise
         self._show(others + (done or []))
         return done
 
     def _catch_up(self) -> None:
-        with self._lock:
-            news = self._desk.catch_up()
+        try:
+            with self._lock:
+                news = self._desk.catch_up()
+        except BaseException:
+            self._show_settled()
+            raise
         self._show(news)
 
     def _attach(self, form: Form, of: "Sequence[Stage[Any]]", call: Optional[Callable[..., Any]], args: Tuple[Any, ...] = (),
@@ -239,7 +276,7 @@ class Request:
             number, (first, second) = len(desk.forms), (*sources, 0, 0)[:2]
             low = form << 24 | second << 12 | (0 if call is None else number)
             return [(ATTACH << 56 | desk.who << 48 | first << 36 | len(sources) << 32 | low, payload)]
-        return self._attached(self._act(decide))
+        return self._attached(decide)
 
     def _compose(self, source: "Stage[Any]", call: Callable[..., Any]) -> "Stage[Any]":
         if source.request._desk is not self._desk:
@@ -252,16 +289,30 @@ class Request:
             promise = json.dumps({"name": f"what {said['fn']} gives"}).encode()
             own = json.dumps({"name": said["fn"], "to": number, **said}).encode()
             return [(head | Form.SOURCE << 24, promise), (head | source.number << 36 | 1 << 32 | Form.COMPOSE << 24 | number + 1, own)]
-        return self._attached(self._act(decide))
+        return self._attached(decide)
 
-    def _attached(self, done: Optional[List[Done]]) -> "Stage[Any]":
-        """The last of the stages that were attached."""
+    def _attached(self, decide: Callable[[Desk], Any]) -> "Stage[Any]":
+        """Puts words that attach stages, and gives the last of these. A request that may be closed in the store is opened again behind that,
+        by a worker where this call fails."""
+        may_be_closed = bool(self._desk.plan.rows) or self.is_closed
+        if may_be_closed:
+            self.reopens = True
+            self._service._keep(self)
+        try:
+            done = self._act(decide)
+            self.reopens = may_be_closed
+            self._reopen()
+        finally:
+            self._service._serve(self)
         assert done is not None
-        if self._desk.plan.rows:
-            self._desk.sure(lambda: self._service.store.reopen(self.name))
-            self._service._requests.setdefault(self.name, self)
-        self._service._serve(self)
         return self._stage(done[-1].reply[NUMBER])
+
+    def _reopen(self) -> None:
+        """Opens it again in the store, where it may be closed and stages were attached."""
+        if self.reopens:
+            self._desk.sure(lambda: self._service.store.reopen(self.name, self.number))
+            self.reopens = self.is_closed = False
+            self._service._keep(self)  # (behind that: who thought it closed before doesn't forget it)
 
     def _relay(self) -> None:
         """Settles the promises of stages that composed as the stages are that their functions gave, where those are settled, and cancels
@@ -296,7 +347,7 @@ class Request:
             return FAIL, self._desk.payload(told.code)
         error = self._outcome(told)[1]
         assert error is not None
-        return FAIL, self._service.codec.write_error(error)
+        return FAIL, self._service._error(error)
 
     def _tree(self, form: Form, of: "Sequence[Stage[Any]]", name: str) -> "Stage[Any]":
         """An attached stage has at most two sources; a tree of them tells what one stage of all would."""
@@ -314,8 +365,10 @@ class Request:
                 return None
             low = 0 if payload is None else (GIVES << 32 if kind == COMPLETE else 0) | desk.place
             return [(kind << 56 | desk.who << 48 | stage << 36 | low, payload)]
-        done = self._act(decide)
-        self._service._serve(self)
+        try:
+            done = self._act(decide)
+        finally:
+            self._service._serve(self)
         if done is None:
             return kind == CANCEL and self._desk.told[stage].kind == CANCELLED and not self._desk.told[stage].wrapped
         return bool(done[0].reply[ANSWER])
@@ -334,7 +387,7 @@ class Request:
     def _later(self, stage: "Stage[T]", seconds: float, payload: bytes) -> "Stage[T]":
         if not stage.done():
             store = self._service.store
-            self._desk.sure(lambda: store.set_timer(Timer(self.name, stage.number, store.now() + seconds, payload)))
+            self._desk.sure(lambda: store.set_timer(Timer(self.name, stage.number, store.now() + seconds, payload, self.number)))
         return stage
 
     def _fire(self, timer: Timer) -> None:
@@ -343,21 +396,38 @@ class Request:
             raise StoreError(f"place {self._desk.place}: a timer is set for stage {timer.stage}, which isn't there")
         self._settle(FAIL if kind == b"E" else COMPLETE, timer.stage, None if kind == b"N" else payload)
 
+    @contextlib.contextmanager
+    def _transacting(self) -> Generator[None, None, None]:
+        """While a transactional function runs. Where the store lets nobody else put meanwhile, this process's threads don't wait for it with
+        the lock of the request, which the finish takes."""
+        writes: ContextManager[Any] = contextlib.nullcontext()
+        if self._service.store.locks_out:
+            writes = self._writes
+        with writes:
+            self._transacts.add(threading.get_ident())
+            try:
+                yield
+            finally:
+                self._transacts.discard(threading.get_ident())
+
     def _act_within(self, transaction: Transaction, finish: "Finish") -> bool:
-        """Puts a finish within a transaction, and says whether that stands. `Unknown` where it may."""
+        """Puts a finish within a transaction, and says whether that stands. `Unknown` where it may. What it settled isn't shown yet."""
         with self._lock:
             put: Put = self._desk.put_of([finish.word(self._desk)])
             if self._desk.is_settled(finish.stage) or not transaction.append(put):
                 return False
-            transaction.commit()
-            done = self._desk.landed(put)
-        self._show(done)
-        return True
+            try:
+                transaction.commit()
+            except BaseException:
+                self._desk.doubt(put)
+                raise
+            self._desk.landed(put)
+            return True
 
-    def _stands(self, stage: int) -> bool:
-        """Whether this session's claim of a stage was finished."""
-        self._catch_up()
-        return not self._is_held(stage)
+    def _read(self) -> None:
+        """Replays what others have put, which isn't shown yet."""
+        with self._lock:
+            self._desk.catch_up()
 
     def _is_held(self, stage: int) -> bool:
         """Whether this session has a claim of a stage that isn't finished, by what is seen."""
@@ -369,7 +439,7 @@ class Request:
 
     def _end_if_done(self) -> None:
         if self._is_over():
-            self._service.store.end(self.name, self.seen)
+            self._service.store.end(self.name, self.seen, self.number)
 
     def _cancel_all(self) -> None:
         for number, stage in list(self._stages.items()):
@@ -377,8 +447,7 @@ class Request:
                 stage.cancel()
 
     def _fail_all(self, error: BaseException) -> None:
-        for stage in list(self._stages.values()):
-            stage._show(None, error, False)
+        self._each(list(self._stages), lambda stage: stage._show(None, error, False))
 
     # What the row's numbers stand for.
 
@@ -387,14 +456,34 @@ class Request:
             stage = self._stages.get(number)
             if stage is None:
                 stage = self._stages[number] = Stage(self, number)
-        self._show_one(stage)
+        self._show_these([number])
         return stage
 
     def _show(self, news: List[Done]) -> None:
-        for number in [*self._unshown, *(number for done in news for number in done.settled)]:
+        self._show_these([*self._unshown, *(number for done in news for number in done.settled)])
+
+    def _show_settled(self) -> None:
+        """Shows all that is settled, where it isn't known what was read: a call has failed."""
+        self._show_these(list(self._stages))
+
+    def _show_these(self, numbers: Iterable[int]) -> None:
+        """Shows those of these stages that are settled."""
+        self._each(numbers, self._show_one)
+
+    def _each(self, numbers: Iterable[int], show: "Callable[[Stage[Any]], None]") -> None:
+        """Shows each of these stages, whatever the callbacks of another raise."""
+        raised: Optional[BaseException] = None
+        for number in numbers:
             stage = self._stages.get(number)
-            if stage is not None:
-                self._show_one(stage)
+            try:
+                if stage is not None:
+                    show(stage)
+            except BaseException as error:
+                raised = raised or error
+                if stage is not None and not stage.done():
+                    self._unshown.add(number)
+        if raised is not None:
+            self._service._raise(raised)
 
     def _show_one(self, stage: "Stage[Any]") -> None:
         if stage.done() or not self._desk.is_settled(stage.number):
@@ -409,10 +498,7 @@ class Request:
             self._unshown.add(stage.number)
             return
         self._unshown.discard(stage.number)
-        try:
-            stage._show(value, error, is_cancelled)
-        except InvalidStateError:  # another thread has shown it meanwhile
-            pass
+        stage._show(value, error, is_cancelled)
 
     def _outcome(self, told: Told) -> Tuple[Any, Optional[BaseException]]:
         if told.kind == VALUE:

@@ -15,7 +15,7 @@ COUNT_BITS = 23  # of a token
 
 
 class Unknown(ConnectionError):
-    """The engine didn't answer: what was asked may have been done. The same may be asked again."""
+    """The engine didn't answer, or can't write now: what was asked may have been done. The same may be asked again."""
 
 
 class StoreError(RuntimeError):
@@ -99,12 +99,13 @@ class Listed(NamedTuple):
 
 
 class Timer(NamedTuple):
-    """What is to become of a stage at a moment, unless it is settled then."""
+    """What is to become of a stage at a moment, unless it is settled then. `number` is the request's own, or 0 for whichever has the name."""
 
     request: str
     stage: int
     due: float
     payload: bytes
+    number: int = 0
 
 
 class Transaction(abc.ABC):
@@ -112,9 +113,8 @@ class Transaction(abc.ABC):
 
     connection: Any  # what the function is called with
 
-    @property
-    def is_lost(self) -> bool:
-        """Whether the connection was seen to be gone."""
+    def is_away(self) -> bool:
+        """Whether the connection is gone, or the engine can't write now, once what the function raised may be due to that. All is undone."""
         return False
 
     @abc.abstractmethod
@@ -127,9 +127,13 @@ class Transaction(abc.ABC):
 
 
 class Store(abc.ABC):
-    """Rows in an engine. Any thread may use it. Each call but `close` may raise `Unknown`."""
+    """Rows in an engine. Any thread may use it. Each call but `close` may raise `Unknown`.
+
+    Where a call takes the number of a request beside its name, it is for that request alone, and `Gone`, which is a `Broken`, is raised
+    once that was dropped, also where another has its name. 0 is for whichever has the name."""
 
     is_transactional = False  # whether `transaction` is there
+    locks_out = False  # whether nobody else can put while a transaction is open
 
     @abc.abstractmethod
     def open(self, name: str, plan: str) -> Opened:
@@ -145,11 +149,11 @@ class Store(abc.ABC):
         stands now, else the entries that stand from its first place on. `Broken` where a request isn't there; the others' may stand then."""
 
     @abc.abstractmethod
-    def read(self, name: str, at: int = 0) -> List[Entry]:
+    def read(self, name: str, at: int = 0, number: int = 0) -> List[Entry]:
         """The entries behind `at` words. A stale answer is a shorter one."""
 
     @abc.abstractmethod
-    def payloads(self, name: str, places: Sequence[int]) -> Dict[int, bytes]:
+    def payloads(self, name: str, places: Sequence[int], number: int = 0) -> Dict[int, bytes]:
         """The payloads of these places; those that aren't there are left out."""
 
     @abc.abstractmethod
@@ -157,8 +161,8 @@ class Store(abc.ABC):
         """How many words each open request has."""
 
     def news(self, mark: Any) -> Tuple[Dict[str, int], Any]:
-        """How many words those open requests have that may have changed since a mark, and the next mark; since None, all of them. A request
-        that was opened again is only told since None. A store that can't tell them apart gives all."""
+        """How many words those open requests have that may have changed since a mark, and the next mark; since None, all of them, and none
+        is missing then. A request that was opened again is only told since None. A store that can't tell them apart gives all."""
         return self.ends(), None
 
     @abc.abstractmethod
@@ -170,11 +174,11 @@ class Store(abc.ABC):
         """All requests, by name."""
 
     @abc.abstractmethod
-    def end(self, name: str, at: int) -> None:
+    def end(self, name: str, at: int, number: int = 0) -> None:
         """Marks a request as closed, where it has just so many words: nothing is left to do in it. Its timers are forgotten."""
 
     @abc.abstractmethod
-    def reopen(self, name: str) -> None:
+    def reopen(self, name: str, number: int = 0) -> None:
         """Takes that back."""
 
     @abc.abstractmethod
@@ -206,7 +210,7 @@ class Store(abc.ABC):
         """The timers of moments up to this one."""
 
     @abc.abstractmethod
-    def drop_timer(self, request: str, stage: int) -> None:
+    def drop_timer(self, request: str, stage: int, number: int = 0) -> None:
         """Forgets a stage's timer."""
 
     def append(self, put: Put) -> Optional[List[Entry]]:
@@ -222,6 +226,9 @@ class Store(abc.ABC):
                 return False
             self.changed(left)
         return True
+
+    def may_put(self) -> None:
+        """`StoreError` in a thread whose own open transaction a put would wait for."""
 
     def transaction(self) -> ContextManager[Transaction]:
         """A transaction of the engine, in which a function's effect and the word of its finish stand or fall together."""
@@ -259,15 +266,19 @@ class Memory(Store):
 
     def append_groups(self, puts: Sequence[Put]) -> List[Optional[List[Entry]]]:
         with self._change:
-            told = [self._append(put) for put in puts]
-            self._puts += 1
-            self._last.update((put.request, self._puts) for put in puts)
-            self._change.notify_all()
-        return told
+            try:
+                return [self._append(put) for put in puts]
+            finally:  # (where one is refused those before it stand)
+                self._puts += 1
+                self._last.update((put.request, self._puts) for put in puts)
+                self._change.notify_all()
+
+    def _is_there(self, name: str, number: int) -> None:
+        if name not in self._opened or number not in (0, self._opened[name].number):
+            raise Gone(name)
 
     def _append(self, put: Put) -> Optional[List[Entry]]:
-        if put.request not in self._opened or put.number not in (0, self._opened[put.request].number):
-            raise Gone(put.request)
+        self._is_there(put.request, put.number)
         row = self._rows.setdefault(put.request, [])
         if len(row) > put.at:
             return row[put.at:]
@@ -275,11 +286,15 @@ class Memory(Store):
         self._payloads.update(((put.request, place), payload) for place, payload in put.payloads.items())
         return None
 
-    def read(self, name: str, at: int = 0) -> List[Entry]:
-        return self._rows.get(name, [])[at:]
+    def read(self, name: str, at: int = 0, number: int = 0) -> List[Entry]:
+        with self._change:
+            self._is_there(name, number)
+            return self._rows.get(name, [])[at:]
 
-    def payloads(self, name: str, places: Sequence[int]) -> Dict[int, bytes]:
-        return {place: self._payloads[name, place] for place in places if (name, place) in self._payloads}
+    def payloads(self, name: str, places: Sequence[int], number: int = 0) -> Dict[int, bytes]:
+        with self._change:
+            self._is_there(name, number)
+            return {place: self._payloads[name, place] for place in places if (name, place) in self._payloads}
 
     def ends(self) -> Dict[str, int]:
         with self._change:
@@ -299,14 +314,16 @@ class Memory(Store):
         with self._change:
             return [Listed(name, it.opened, self._closed.get(name), len(self._rows.get(name, []))) for name, it in sorted(self._opened.items())]
 
-    def end(self, name: str, at: int) -> None:
+    def end(self, name: str, at: int, number: int = 0) -> None:
         with self._change:
+            self._is_there(name, number)
             if len(self._rows.get(name, [])) == at:
                 self._closed.setdefault(name, time.time())
                 self._timers = {key: it for key, it in self._timers.items() if key[0] != name}
 
-    def reopen(self, name: str) -> None:
+    def reopen(self, name: str, number: int = 0) -> None:
         with self._change:
+            self._is_there(name, number)
             self._closed.pop(name, None)
 
     def drop(self, name: str, at: Optional[int] = None) -> bool:
@@ -336,14 +353,16 @@ class Memory(Store):
 
     def set_timer(self, timer: Timer) -> None:
         with self._change:
+            self._is_there(timer.request, timer.number)
             self._timers[timer.request, timer.stage] = timer
 
     def due(self, now: float) -> List[Timer]:
         with self._change:
             return [timer for timer in self._timers.values() if timer.due <= now]
 
-    def drop_timer(self, request: str, stage: int) -> None:
+    def drop_timer(self, request: str, stage: int, number: int = 0) -> None:
         with self._change:
+            self._is_there(request, number)
             self._timers.pop((request, stage), None)
 
 
@@ -353,6 +372,7 @@ class Grouped(Store):
     def __init__(self, store: Store, most: int = 64) -> None:
         self._store, self._most = store, most
         self.is_transactional: bool = store.is_transactional
+        self.locks_out: bool = store.locks_out
         self._waiting: List[Tuple[Put, "_Slot"]] = []
         self._change = threading.Condition()
         self._is_closed = False
@@ -362,6 +382,7 @@ class Grouped(Store):
         self._thread.start()
 
     def append_groups(self, puts: Sequence[Put]) -> List[Optional[List[Entry]]]:
+        self._store.may_put()
         slots = [(put, _Slot()) for put in puts]
         with self._change:
             if self._is_closed:
@@ -409,11 +430,11 @@ class Grouped(Store):
     def find(self, name: str) -> Optional[Opened]:
         return self._store.find(name)
 
-    def read(self, name: str, at: int = 0) -> List[Entry]:
-        return self._store.read(name, at)
+    def read(self, name: str, at: int = 0, number: int = 0) -> List[Entry]:
+        return self._store.read(name, at, number)
 
-    def payloads(self, name: str, places: Sequence[int]) -> Dict[int, bytes]:
-        return self._store.payloads(name, places)
+    def payloads(self, name: str, places: Sequence[int], number: int = 0) -> Dict[int, bytes]:
+        return self._store.payloads(name, places, number)
 
     def ends(self) -> Dict[str, int]:
         return self._store.ends()
@@ -427,11 +448,11 @@ class Grouped(Store):
     def listing(self) -> List[Listed]:
         return self._store.listing()
 
-    def end(self, name: str, at: int) -> None:
-        self._store.end(name, at)
+    def end(self, name: str, at: int, number: int = 0) -> None:
+        self._store.end(name, at, number)
 
-    def reopen(self, name: str) -> None:
-        self._store.reopen(name)
+    def reopen(self, name: str, number: int = 0) -> None:
+        self._store.reopen(name, number)
 
     def drop(self, name: str, at: Optional[int] = None) -> bool:
         return self._store.drop(name, at)
@@ -454,8 +475,11 @@ class Grouped(Store):
     def due(self, now: float) -> List[Timer]:
         return self._store.due(now)
 
-    def drop_timer(self, request: str, stage: int) -> None:
-        self._store.drop_timer(request, stage)
+    def drop_timer(self, request: str, stage: int, number: int = 0) -> None:
+        self._store.drop_timer(request, stage, number)
+
+    def may_put(self) -> None:
+        self._store.may_put()
 
     def transaction(self) -> ContextManager[Transaction]:
         return self._store.transaction()

@@ -7,6 +7,7 @@ import math
 import os
 import threading
 import time
+import weakref
 from typing import Any, Callable, Dict, List, NamedTuple, Optional, Sequence, Set, Tuple, TypeVar
 
 from ..service.flow import Flow
@@ -14,16 +15,17 @@ from ..service.history import Describe, Told, describe_all
 from ..service.words import (ANSWER, ARGS, CLAIM, COMPOSE_FORMS, FAIL, FINISH, FIRST, FIRST_SOME, GIVES, GOT, LINKS, ONE, OUTCOME, SECOND,
                              SECOND_SOME, THROWS, TWO, VALUE)
 from ..values import Form
-from .codec import Abandoned, Json
+from .codec import Abandoned, Json, RemoteError
 from .desk import Desk, Done, Watcher, new_session
 from .functions import F, Functions, Known
 from .plans import text_of, tried_again
 from .request import Request, Stage
-from .rows import Broken, Gone, Grouped, Store, StoreError, Timer, Unknown, sure
+from .rows import Broken, Gone, Grouped, Store, StoreError, Timer, Transaction, Unknown, sure
 
 T = TypeVar("T")
 LOGGER = logging.getLogger("cf.shared")
 PATIENCE = 60  # seconds
+LONGEST_WHY = 500  # characters of what a store says that takes no value
 ONLY_FAULT = (int(Form.EXCEPTIONALLY), int(Form.EXCEPTIONALLY_COMPOSE))
 GOES_ON = {  # the forms that a finish which gives or throws makes ready, where it is their only source
     GIVES: (int(Form.APPLY), int(Form.HANDLE), int(Form.WHEN_COMPLETE)),
@@ -53,6 +55,9 @@ class Finish(NamedTuple):
             return FINISH << 56 | desk.who << 48 | self.stage << 36 | LINKS << 32 | int(desk.said(self.stage)["to"]), self.payload
         tag, low = (self.kind, desk.place) if self.payload is not None else (0, 0)
         return FINISH << 56 | desk.who << 48 | self.stage << 36 | tag << 32 | low, self.payload
+
+
+LOST = Finish(-1, GIVES, None)  # that of a transaction whose place was taken
 
 
 class DurableService(concurrent.futures.Executor):
@@ -91,6 +96,8 @@ class DurableService(concurrent.futures.Executor):
         self._workers, self._takes_all, self._lease, self._note, self._describe = workers, takes_all, lease, note, describe
         self._pool = concurrent.futures.ThreadPoolExecutor(max(workers, 1), f"cf-shared-{next(self._numbers)}")
         self._requests: Dict[str, Request] = {}
+        self._left: "weakref.WeakValueDictionary[str, Request]" = weakref.WeakValueDictionary()  # those that were closed
+        self._works = threading.local()  # whether this thread is one of the pool's
         self._unknown: Dict[str, Tuple[str, int]] = {}
         self.broken: Dict[str, BaseException] = {}  # requests that can't be gone on with here, and why
         self._lock, self._stops, self._process = threading.Lock(), threading.Event(), os.getpid()
@@ -151,14 +158,16 @@ class DurableService(concurrent.futures.Executor):
     def shutdown(self, wait: bool = True, *, cancel_futures: bool = False) -> None:
         """Begins no more functions. Those that run are finished; what is open stays in the store, and others go on with it. With
         `cancel_futures` stages of flows, as by `submit`, that were asked for here and that nobody has claimed are cancelled."""
-        if cancel_futures:
-            for request in list(self._requests.values()):
+        for request in list(self._requests.values()) if cancel_futures else ():
+            try:
                 request._cancel_all()
+            except (Unknown, StoreError) as error:
+                LOGGER.warning("request %r: %s", request.name, error)
         self._stops.set()
         self._pool.shutdown(wait)
         if wait and threading.current_thread() is not self._pump:
             self._pump.join()
-            with contextlib.suppress(Unknown):  # others see it by its silence
+            with contextlib.suppress(Unknown, StoreError):  # others see it by its silence
                 self.store.drop_beat(self.session)
             self.store.close()
 
@@ -172,22 +181,46 @@ class DurableService(concurrent.futures.Executor):
         found = sure(lambda: self.store.open(name, plan), name, 0, PATIENCE)
         if same and found.plan != plan:
             raise Broken(name, 0, "it was begun with another plan")
-        return self._kept(Request(self, Desk(self.store, found, self.session, PATIENCE, self._note)))
+        kept = self._kept(Request(self, Desk(self.store, found, self.session, PATIENCE, self._note)))
+        if kept.number != found.number:  # it was dropped meanwhile, and another of its name begun
+            return self._opened(name, plan, same)
+        return kept
 
     def _kept(self, request: Request) -> Request:
+        """The one object of a request that this service has: this one, or the one that was there before."""
         with self._lock:
-            known = self._requests.setdefault(request.name, request)
-            if known._desk.opened != request._desk.opened:
-                self._requests[request.name] = request
-        if known._desk.opened != request._desk.opened:
+            known = self._requests.get(request.name) or self._left.get(request.name)
+            is_newer = known is None or known.number < request.number
+            kept = request if known is None or is_newer else known
+            self._put_back(kept)
+        if known is not None and is_newer:
             known._fail_all(Gone(request.name))  # it was dropped, and another of its name begun
-            known = request
-        known._catch_up()
+        kept._catch_up()
+        return kept
+
+    def _keep(self, request: Request) -> None:
+        """Goes on with a request, unless there is another of its name by now."""
+        with self._lock:
+            if self._requests.get(request.name, request) is request:
+                self._put_back(request)
+
+    def _put_back(self, request: Request) -> None:
+        request.kept += 1
+        self._requests[request.name] = request
+        self._left.pop(request.name, None)
+
+    def _known_again(self, name: str) -> Optional[Request]:
+        """A request that is known here: also one that was closed, and that others have opened again."""
+        known = self._requests.get(name)
+        if known is None:
+            known = self._left.get(name)
+            if known is not None:
+                self._keep(known)
         return known
 
     def _taken(self, name: str) -> Optional[Request]:
         """A request of the store, or None where it is broken or gone."""
-        known = self._requests.get(name)
+        known = self._known_again(name)
         if known is not None or name in self.broken:
             return known
         try:
@@ -207,6 +240,8 @@ class DurableService(concurrent.futures.Executor):
             request = request or self._requests.get(name)
             if self._requests.get(name) is request:
                 self._requests.pop(name, None)
+            if self._left.get(name) is request:
+                self._left.pop(name, None)
         if request is not None:
             request._fail_all(error)
 
@@ -220,7 +255,7 @@ class DurableService(concurrent.futures.Executor):
             except Unknown as error:
                 LOGGER.warning("the store doesn't answer: %s", error)
                 self._stops.wait(0.2)
-            except Exception:
+            except BaseException:
                 if self._stops.is_set():
                     return
                 LOGGER.critical("cf.shared", exc_info=True)
@@ -234,17 +269,19 @@ class DurableService(concurrent.futures.Executor):
                 is_mine = timer.request in self._requests or self._takes_all and timer.request not in self.broken
                 if is_mine and timer[:3] not in self._firing:
                     self._firing.add(timer[:3])
-                    self._submit(timer.request, self._fire, timer)
-        known = list(self._requests.values())  # (before the store is asked: what is opened meanwhile isn't in its answer)
-        ends, mark = self.store.news(None if looks else self._mark)
-        for request in known if looks else ():
+                    if not self._submit(timer.request, self._fire, timer):
+                        self._firing.remove(timer[:3])
+        known = [(request, request.kept) for request in list(self._requests.values())]  # (before the store is asked: what is opened
+        ends, mark = self.store.news(None if looks else self._mark)                     # meanwhile, or again, isn't in its answer)
+        for request, kept in known if looks else ():
             if request.name not in ends and not request.is_leaving:
                 request.is_leaving = True
-                self._submit(request.name, self._let_go, request)
+                if not self._submit(request.name, self._let_go, request, kept):
+                    request.is_leaving = False
         for name, end in ends.items():
-            taken = self._taken(name) if self._takes_all else self._requests.get(name)
-            if taken is not None and (end > taken.seen or (looks or not end) and self._needs(taken)):
-                self._serve(taken)
+            taken = self._taken(name) if self._takes_all else self._known_again(name)
+            if taken is not None and (end > taken.seen or (looks or not end) and (end < taken.seen or self._needs(taken))):
+                self._serve(taken)  # (a row gets no shorter: where it has, it is another's of the name)
             self._beat()  # (rows that are read for the first time may be many and long)
         self._mark = mark
 
@@ -263,28 +300,33 @@ class DurableService(concurrent.futures.Executor):
         """Whether something is to do in a request without a new word."""
         desk = request._desk
         gone = [self._is_gone(session) for session in desk.open_claims().values()]
-        return bool(desk.ready or desk.links or desk.unlinked or desk.found or request._unshown) or any(gone) or request._is_over()
+        is_due = desk.ready or desk.links or desk.unlinked or desk.found or request._unshown or request.reopens
+        return bool(is_due) or any(gone) or request._is_over()
 
     def _is_gone(self, session: int) -> bool:
         return session != self.session and self._watcher.is_gone(session)
 
-    def _let_go(self, request: Request) -> None:
-        """Forgets a request that is closed, once all is told."""
+    def _let_go(self, request: Request, kept: int) -> None:
+        """Forgets a request that is closed, once all is told, unless it was asked for again since the store was asked."""
         try:
             request._catch_up()
+            request._reopen()
             with self._lock:
-                self._requests.pop(request.name, None)
+                if request.kept == kept and self._requests.get(request.name) is request:
+                    del self._requests[request.name]
+                    self._left[request.name] = request
+                    request.is_closed = True
         finally:
             request.is_leaving = False
 
     def _fire(self, timer: Timer) -> None:
         try:
             request = self._taken(timer.request)
-            if request is not None:
+            if request is not None and timer.number in (0, request.number):
                 request._catch_up()  # (a timer is set behind the word of its stage)
                 request._fire(timer)
             if timer.request not in self.broken:  # (others may go on with it)
-                self.store.drop_timer(timer.request, timer.stage)
+                self.store.drop_timer(timer.request, timer.stage, timer.number)
         finally:
             self._firing.discard(timer[:3])
 
@@ -293,13 +335,28 @@ class DurableService(concurrent.futures.Executor):
         if request.is_queued or self._stops.is_set():
             return
         request.is_queued = True
-        self._submit(request.name, self._work, request)
+        if not self._submit(request.name, self._work, request):
+            request.is_queued = False
 
-    def _submit(self, name: str, call: Callable[..., None], *given: Any) -> None:
-        with contextlib.suppress(RuntimeError):  # it is shut down, or the interpreter ends
+    def _submit(self, name: str, call: Callable[..., None], *given: Any) -> bool:
+        """Hands it to a thread, and says whether one takes it: none does while none can be started, and after the end. It is asked again
+        later, then; if a thread comes after all, that is done twice, which does no harm."""
+        try:
             self._pool.submit(self._guarded, name, call, *given)
+            return True
+        except Exception as error:
+            if not self._stops.is_set():
+                LOGGER.warning("request %r: %s", name, error)
+            return False
+
+    def _raise(self, error: BaseException) -> None:
+        """Tells what a callback raised: who called, or the log where that is a thread of the pool, which has more to do."""
+        if not getattr(self._works, "is_here", False):
+            raise error
+        LOGGER.critical("a callback has raised", exc_info=error)
 
     def _guarded(self, name: str, call: Callable[..., None], *given: Any) -> None:
+        self._works.is_here = True
         try:
             call(*given)
         except Broken as error:
@@ -314,11 +371,12 @@ class DurableService(concurrent.futures.Executor):
     def _work(self, request: Request) -> None:
         request.is_queued = False
         request._catch_up()
+        request._reopen()
         self._abandon(request)
         request._relay()
         claimed = self._found(request) or self._next(request, None)
         while claimed is not None:
-            claimed = self._run(request, claimed) or self._found(request)
+            claimed = self._run(request, claimed) or self._found(request) or self._next(request, None)
         request._relay()
         request._end_if_done()
 
@@ -327,7 +385,7 @@ class DurableService(concurrent.futures.Executor):
         for stage, session in list(request._desk.open_claims().items()):
             if self._is_gone(session):
                 said = f"the worker that ran {request._desk.said(stage)['name']} is gone, and it may have run"
-                payload = self.codec.write_error(Abandoned(said))
+                payload = self._error(Abandoned(said))
 
                 def decide(desk: Desk, stage: int = stage, session: int = session, payload: bytes = payload) -> Any:
                     if desk.open_claims().get(stage) != session:
@@ -337,12 +395,13 @@ class DurableService(concurrent.futures.Executor):
 
     def _next(self, request: Request, finish: Optional[Finish]) -> Optional[Claimed]:
         """Puts a finish, and with it the claim of the next stage, if there is one; what was claimed. While the store is away a finish is put
-        again and again: its function has run."""
+        again and again: its function has run. A value that it refuses fails its stage, if the store takes that."""
         chosen: List[int] = []
+        told = finish
 
         def decide(desk: Desk) -> Any:
-            made = [finish.word(desk)] if finish is not None and request._is_held(finish.stage) else []
-            chosen[:] = self._choice(request, desk, finish)
+            made = [told.word(desk)] if told is not None and request._is_held(told.stage) else []
+            chosen[:] = self._choice(request, desk, told)
             return made + [(CLAIM << 56 | desk.who << 48 | stage << 36, None) for stage in chosen[:1]]
         while True:
             try:
@@ -354,10 +413,15 @@ class DurableService(concurrent.futures.Executor):
                 LOGGER.warning("%s", error)
             except Broken:
                 raise
-            except StoreError as error:  # the engine refuses it: it is too large, say
-                if finish is None or finish.kind == THROWS:
+            except Exception as error:
+                if finish is None or told is not finish and self._stops.is_set():
                     raise
-                finish = Finish(finish.stage, THROWS, self.codec.write_error(error))
+                if told is finish:  # it is too large, say
+                    told = Finish(finish.stage, THROWS, self._error(RemoteError(type(error).__name__, str(error)[:LONGEST_WHY])))
+                else:  # nothing is taken now, so that it wasn't the value
+                    told = finish
+                    LOGGER.warning("request %r, stage %d: nothing can be put: %s", request.name, finish.stage, error)
+                    self._stops.wait(0.5)
         if len(chosen) > 1:
             self._serve(request)
         if done and chosen and not done[-1].reply[ANSWER]:
@@ -365,14 +429,18 @@ class DurableService(concurrent.futures.Executor):
         return None
 
     def _found(self, request: Request) -> Optional[Claimed]:
-        """A claim of this session's that was granted without its being told."""
+        """A claim of this session's that was granted without its being told, or one that was put with the end of such."""
         found = request._desk.found
         while found and not self._stops.is_set():
-            with contextlib.suppress(KeyError):  # (another thread may have taken it)
+            try:
                 stage, done = found.popitem()
-                if request._is_held(stage) and not request._desk.is_settled(stage):
-                    return self._claimed(request, stage, done)
-                self._next(request, Finish(stage, GIVES, None))  # late: it does nothing
+            except KeyError:  # another thread has taken it
+                return None
+            if request._is_held(stage) and not request._desk.is_settled(stage):
+                return self._claimed(request, stage, done)
+            claimed = self._next(request, Finish(stage, GIVES, None))  # late: it does nothing
+            if claimed is not None:
+                return claimed
         return None
 
     def _choice(self, request: Request, desk: Desk, finish: Optional[Finish]) -> List[int]:
@@ -403,7 +471,7 @@ class DurableService(concurrent.futures.Executor):
     def _claimed(self, request: Request, stage: int, done: Done) -> Claimed:
         try:
             return self._with_args(request, stage, done)
-        except Unknown:
+        except BaseException:  # it is tried again later
             request._desk.found[stage] = done
             raise
 
@@ -456,7 +524,7 @@ class DurableService(concurrent.futures.Executor):
                 raise TypeError(f"{claimed.known.name} has to give a stage of the request")
             return Finish(claimed.stage, LINKS, self.codec.write({"stage": given.number}))
         except BaseException as error:
-            return Finish(claimed.stage, THROWS, self.codec.write_error(error))
+            return Finish(claimed.stage, THROWS, self._error(error))
 
     def _called(self, claimed: Claimed, *first: Any) -> Finish:
         try:
@@ -465,34 +533,55 @@ class DurableService(concurrent.futures.Executor):
             value = claimed.known.call(*first, *claimed.args, **claimed.kwargs)
             return Finish(claimed.stage, GIVES, None if value is None else self.codec.write(value))
         except BaseException as error:
-            return Finish(claimed.stage, THROWS, self.codec.write_error(error))
+            return Finish(claimed.stage, THROWS, self._error(error))
+
+    def _error(self, error: BaseException) -> bytes:
+        """The bytes of an exception, or of one that says that the codec has none for it."""
+        try:
+            return self.codec.write_error(error)
+        except BaseException as fault:
+            return Json().write_error(RemoteError(type(error).__name__, f"(it can't be written: {type(fault).__name__})"))
 
     def _in_transaction(self, request: Request, claimed: Claimed) -> Optional[Claimed]:
         """The function's effect and the word of its finish stand or fall together. Where the finish's place was taken meanwhile, or the
-        connection is lost, all of it is done again, unless it stands."""
+        connection is lost, all of it is done again, unless it stands. What comes next is put once the transaction has ended."""
         while True:
+            is_open = False
             try:
-                if request._stands(claimed.stage):
-                    return self._next(request, None)
-                if request._desk.is_settled(claimed.stage):
-                    return self._next(request, Finish(claimed.stage, GIVES, None))  # late: it does nothing
-                with self.store.transaction() as transaction:
-                    finish = self._called(claimed, transaction.connection)
-                    if finish.kind == THROWS and transaction.is_lost:
-                        raise Unknown("the connection was lost")
-                    if finish.kind == THROWS:
-                        break
-                    if request._act_within(transaction, finish):
-                        return self._next(request, None)
+                with request._transacting(), self.store.transaction() as transaction:
+                    is_open = True
+                    finish = self._tried(request, claimed, transaction)
             except Unknown as error:
                 if self._stops.is_set():
                     raise
                 LOGGER.warning("request %r, stage %d: %s", request.name, claimed.stage, error)
                 time.sleep(0.05)
+                finish = LOST
             except Broken:
                 raise
-            except StoreError as error:  # what the function did to the connection lets no word be put
-                finish = Finish(claimed.stage, THROWS, self.codec.write_error(error))
-                break
-        return self._next(request, finish)
+            except Exception as error:  # what the function did to the connection lets no word be put, say
+                if not is_open and self._stops.is_set():
+                    raise
+                finish = Finish(claimed.stage, THROWS, self._error(error)) if is_open else LOST
+                if not is_open:  # it was the store, and no function was called
+                    LOGGER.warning("request %r, stage %d: %s", request.name, claimed.stage, error)
+                    self._stops.wait(0.5)
+            finally:
+                request._show_settled()
+            if finish is not LOST:
+                return self._next(request, finish)
 
+    def _tried(self, request: Request, claimed: Claimed, transaction: Transaction) -> Optional[Finish]:
+        """Calls a function in a transaction and puts its finish there; what has to be put behind that, `LOST` where it has to be done again.
+        What others have put is read first: where the stage isn't this session's any more, no effect is for nothing."""
+        request._read()
+        if not request._is_held(claimed.stage):
+            return None  # it stands
+        if request._desk.is_settled(claimed.stage):
+            return Finish(claimed.stage, GIVES, None)  # late: it does nothing
+        finish = self._called(claimed, transaction.connection)
+        if finish.kind == THROWS:
+            if transaction.is_away():
+                raise Unknown("the connection was lost")
+            return finish
+        return None if request._act_within(transaction, finish) else LOST

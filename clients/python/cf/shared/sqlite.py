@@ -24,10 +24,12 @@ SCHEMA = """
 """
 PUT = "insert or ignore into cf_word (request, at, word, token, payload) select id, ?, ?, ?, ? from cf_request where id = ?"
 PUT_GROUP = "insert into cf_word (request, at, word, token, payload) select id, v.* from cf_request, (values %s) v where id = ?"
+READ = "select at, word, token from cf_request left join cf_word on request = id and at >= ? where id = ? order by at"
 HAS = "(select coalesce(max(at) + 1, 0) from cf_word where request = id) = ?"  # so many words
 MOST_AT_ONCE = 64  # words in one statement
 SMALL = 512  # bytes: a larger payload would make the words' own pages large
 BETWEEN_LOOKS = 0.001  # seconds between two looks at the file's version
+LONGEST_WAIT = 20.0  # seconds in the line: who has it may have been stopped
 
 
 class SQLite(Store):
@@ -35,24 +37,24 @@ class SQLite(Store):
     refused. With `is_unsafe` it answers before it has written, which tests of tests need.
 
     SQLite's own wait for a lock sleeps longer and longer, and is unfair: writers stand in line at a lock of the system's on `PATH-line`,
-    which a killed process leaves."""
+    which a killed process leaves. A stopped one keeps it: who waits for long is told `Unknown`."""
 
-    is_transactional = True
+    is_transactional = locks_out = True
 
     def __init__(self, path: str, is_unsafe: bool = False) -> None:
         self._path, self._synchronous = path, "off" if is_unsafe else "full"
         self._local = threading.local()
         self._ids: Dict[str, int] = {}
-        self._turn = threading.Lock()
+        self._line = _Line(path)
+        self._in_line, self._telling = _InLine(self), _Telling(self)
         try:
-            self._line = os.open(path + "-line", os.O_RDWR | os.O_CREAT, 0o644)
-        except OSError as error:
-            raise StoreError(f"{path}: {error}") from None
-        self._in_line, self._telling = _Line(self, self._line, self._turn), _Telling(self)
-        with self._in_line:
-            db = self._db
-            for statement in SCHEMA.split(";"):
-                db.execute(statement)
+            with self._in_line:
+                db = self._db
+                for statement in SCHEMA.split(";"):
+                    db.execute(statement)
+        except BaseException:
+            self.close()
+            raise
 
     @property
     def _db(self) -> sqlite3.Connection:
@@ -64,23 +66,23 @@ class SQLite(Store):
         return db
 
     def _connected(self) -> sqlite3.Connection:
-        try:
-            db = sqlite3.connect(self._path, timeout=60, isolation_level=None)
-            mode = db.execute("pragma journal_mode=wal").fetchone()[0]
-            db.execute(f"pragma synchronous={self._synchronous}")
-        except sqlite3.OperationalError as error:
-            raise Unknown(f"{self._path}: {error}") from None
-        except sqlite3.DatabaseError as error:
-            raise StoreError(f"{self._path}: {error}") from None
-        if mode not in ("wal", "delete", "truncate", "persist"):
-            raise StoreError(f"{self._path}: journal_mode is {mode}, with which a crash loses words")
-        return db
+        with self._telling:
+            db = sqlite3.connect(self._path, timeout=LONGEST_WAIT, isolation_level=None)
+            try:
+                mode = db.execute("pragma journal_mode=wal").fetchone()[0]
+                db.execute(f"pragma synchronous={self._synchronous}")
+                if mode not in ("wal", "delete", "truncate", "persist"):
+                    raise StoreError(f"{self._path}: journal_mode is {mode}, with which a crash loses words")
+                return db
+            except BaseException:
+                db.close()
+                raise
 
     def _tell(self, error: Optional[BaseException]) -> None:
         """Raises what an error of SQLite's is here."""
         if isinstance(error, sqlite3.OperationalError):  # the disk is full, or can't be written
             raise Unknown(f"{self._path}: {error}") from None
-        if isinstance(error, sqlite3.DatabaseError):
+        if isinstance(error, sqlite3.Error):
             raise StoreError(f"{self._path}: {error}") from None
 
     def _in_turn(self, act: Callable[[sqlite3.Connection], T]) -> T:
@@ -95,11 +97,19 @@ class SQLite(Store):
                 if db.in_transaction:
                     db.execute("rollback")
                 raise
+            finally:
+                if db.in_transaction:  # it can't even be undone: nobody could put any more
+                    db.close()
+                    self._local.db = None
             return told
 
     def _ask(self, statement: str, *values: Any) -> List[Tuple[Any, ...]]:
         with self._telling:
             return self._db.execute(statement, values).fetchall()
+
+    def may_put(self) -> None:
+        if self._path in _within.paths:
+            raise StoreError(f"{self._path}: a transactional function can't put: its own transaction has the file")
 
     def _id(self, name: str) -> int:
         found = self._ids.get(name)
@@ -109,6 +119,11 @@ class SQLite(Store):
                 raise Gone(name)
             found = self._ids[name] = int(rows[0][0])
         return found
+
+    def _gone(self, name: str) -> Gone:
+        """Says that a request isn't there. Another of its name may be."""
+        self._ids.pop(name, None)
+        return Gone(name)
 
     def _id_of(self, put: Put) -> int:
         number = self._id(put.request)
@@ -120,11 +135,10 @@ class SQLite(Store):
 
     def open(self, name: str, plan: str) -> Opened:
         found = self.find(name)
-        if found is None:
+        while found is None:  # (it may be dropped meanwhile)
             now = time.time()
             self._in_turn(lambda db: db.execute("insert or ignore into cf_request (name, plan, opened) values (?, ?, ?)", (name, plan, now)))
             found = self.find(name)
-            assert found is not None
         return found
 
     def find(self, name: str) -> Optional[Opened]:
@@ -153,16 +167,24 @@ class SQLite(Store):
         return [Listed(str(name), float(opened), closed, int(many or 0)) for name, opened, closed, many in self._ask(
             "select name, opened, closed, (select max(at) + 1 from cf_word where request = id) from cf_request order by name")]
 
-    def end(self, name: str, at: int) -> None:
-        number = self._id(name)
+    def end(self, name: str, at: int, number: int = 0) -> None:
+        number = number or self._id(name)
 
-        def act(db: sqlite3.Connection) -> None:
+        def act(db: sqlite3.Connection) -> bool:
             if db.execute(f"update cf_request set closed = ? where id = ? and closed is null and {HAS}", (time.time(), number, at)).rowcount:
                 db.execute("delete from cf_timer where request = ?", (number,))
-        self._in_turn(act)
+            return _is_there(db, number)
+        if not self._in_turn(act):
+            raise self._gone(name)
 
-    def reopen(self, name: str) -> None:
-        self._in_turn(lambda db: db.execute("update cf_request set closed = null where name = ? and closed is not null", (name,)))
+    def reopen(self, name: str, number: int = 0) -> None:
+        number = number or self._id(name)
+
+        def act(db: sqlite3.Connection) -> bool:
+            db.execute("update cf_request set closed = null where id = ? and closed is not null", (number,))
+            return _is_there(db, number)
+        if not self._in_turn(act):
+            raise self._gone(name)
 
     def drop(self, name: str, at: Optional[int] = None) -> bool:
         number = self._id(name)
@@ -187,7 +209,7 @@ class SQLite(Store):
             landed = [self._put_at_once(ids[0], puts[0])]
         else:
             landed = self._in_turn(lambda db: [_put(db, number, put) for number, put in zip(ids, puts)])
-        return [None if it else self._stands(put) for it, put in zip(landed, puts)]
+        return [None if it else self._stands(put, number) for it, put, number in zip(landed, puts, ids)]
 
     def _put_at_once(self, number: int, put: Put) -> bool:
         """Puts a group by one statement, which is a transaction of its own: all or none."""
@@ -203,23 +225,28 @@ class SQLite(Store):
             except sqlite3.IntegrityError:
                 return False
 
-    def _stands(self, put: Put) -> List[Entry]:
-        stands = self.read(put.request, put.at)
+    def _stands(self, put: Put, number: int) -> List[Entry]:
+        stands = self.read(put.request, put.at, number)
         if not stands:
-            raise Gone(put.request)
+            raise self._gone(put.request)
         return stands
 
-    def read(self, name: str, at: int = 0) -> List[Entry]:
-        return in_a_row(name, at, self._ask("select at, word, token from cf_word where request = ? and at >= ? order by at", self._id(name), at))
+    def read(self, name: str, at: int = 0, number: int = 0) -> List[Entry]:
+        rows = self._ask(READ, at, number or self._id(name))
+        if not rows:
+            raise self._gone(name)
+        return in_a_row(name, at, rows if rows[0][0] is not None else [])
 
-    def payloads(self, name: str, places: Sequence[int]) -> Dict[int, bytes]:
-        number, told = self._id(name), {}
+    def payloads(self, name: str, places: Sequence[int], number: int = 0) -> Dict[int, bytes]:
+        number, told = number or self._id(name), {}
         for place in places:
             rows = self._ask("select payload from cf_word where request = ? and at = ?", number, place - 1)
             if rows and rows[0][0] is None:
                 rows = self._ask("select payload from cf_large where request = ? and place = ?", number, place)
             if rows:
                 told[place] = _bytes(rows[0][0])
+        if len(told) < len(places) and not self._ask("select 1 from cf_request where id = ?", number):
+            raise self._gone(name)
         return told
 
     def changed(self, seconds: float) -> None:
@@ -249,57 +276,167 @@ class SQLite(Store):
         return time.time()
 
     def set_timer(self, timer: Timer) -> None:
-        number = self._id(timer.request)
-        self._in_turn(lambda db: db.execute("insert or replace into cf_timer values (?, ?, ?, ?)", (number, *timer[1:])))
+        values = (timer.stage, timer.due, timer.payload, timer.number or self._id(timer.request))
+        if not self._in_turn(lambda db: db.execute("insert or replace into cf_timer select id, ?, ?, ? from cf_request where id = ?", values).rowcount):
+            raise self._gone(timer.request)
 
     def due(self, now: float) -> List[Timer]:
-        return [Timer(str(name), int(stage), float(due), _bytes(payload)) for name, stage, due, payload in self._ask(
-            "select name, stage, due, payload from cf_timer join cf_request on id = request where due <= ? order by due", now)]
+        return [Timer(str(name), int(stage), float(due), _bytes(payload), int(number)) for name, stage, due, payload, number in self._ask(
+            "select name, stage, due, payload, id from cf_timer join cf_request on id = request where due <= ? order by due", now)]
 
-    def drop_timer(self, request: str, stage: int) -> None:
-        number = self._id(request)
+    def drop_timer(self, request: str, stage: int, number: int = 0) -> None:
+        number = number or self._id(request)
         self._in_turn(lambda db: db.execute("delete from cf_timer where request = ? and stage = ?", (number, stage)))
 
     # A function's own transaction.
 
     @contextlib.contextmanager
     def transaction(self) -> Generator[Transaction, None, None]:
-        with _Line(None, self._line, self._turn):
+        self.may_put()
+        self._line.take()
+        try:
             db = self._connected()
+            _within.paths.append(self._path)
             try:
                 with self._telling:
                     db.execute("begin immediate")
                 yield _Transaction(self, db)
             finally:
-                if db.in_transaction:
-                    db.execute("rollback")
+                _within.paths.remove(self._path)
+                with contextlib.suppress(sqlite3.Error):  # the function may have closed it
+                    if db.in_transaction:
+                        db.execute("rollback")
                 db.close()
+        finally:
+            self._line.give()
 
     def close(self) -> None:
         db = getattr(self._local, "db", None)
         if db is not None:
             db.close()
             self._local.db = None
+        self._line.close()
+
+
+class _Within(threading.local):
+    """In which files this thread has a transaction open."""
+
+    def __init__(self) -> None:
+        self.paths: List[str] = []
+
+
+_within = _Within()
 
 
 class _Line:
-    """One's turn in this process, and then the line's lock. What a store is given raises is told as its own."""
+    """One's turn in this process, and then the system's lock on `PATH-line`.
 
-    def __init__(self, store: Optional[SQLite], line: int, turn: threading.Lock) -> None:
-        self._store, self._line, self._turn = store, line, turn
+    A wait for that lock can't be given up, and who has it may have been stopped. Where it isn't free, a thread of the line's own waits for
+    it in this one's place, so that this one can give up; whoever comes next finds the thread there."""
 
-    def __enter__(self) -> None:
-        self._turn.acquire()
+    def __init__(self, path: str) -> None:
+        self._path, self._turn, self._change = path, threading.Lock(), threading.Condition()
+        self._waiter: Optional[threading.Thread] = None
+        self._waits = self._is_wanted = self._has = self._is_closed = False
         try:
-            fcntl.flock(self._line, fcntl.LOCK_EX)
+            self._file = os.open(path + "-line", os.O_RDWR | os.O_CREAT, 0o644)
+        except OSError as error:
+            raise StoreError(f"{path}: {error}") from None
+
+    def take(self) -> None:
+        """`Unknown` where others have it for too long."""
+        if not self._turn.acquire(blocking=False) and not self._turn.acquire(timeout=LONGEST_WAIT):
+            raise Unknown(f"{self._path}: a thread of this process has the file for long")
+        try:
+            if self._is_closed:
+                raise StoreError("the store is closed")
+            if self._waits or not self._is_free():
+                self._wait()
         except BaseException:
             self._turn.release()
             raise
 
+    def give(self) -> None:
+        """Lets the next one have it."""
+        try:
+            fcntl.flock(self._file, fcntl.LOCK_UN)
+        finally:
+            self._turn.release()
+        if self._is_closed:
+            self._let_go()
+
+    def _is_free(self) -> bool:
+        try:
+            fcntl.flock(self._file, fcntl.LOCK_EX | fcntl.LOCK_NB)
+            return True
+        except BlockingIOError:
+            return False
+
+    def _wait(self) -> None:
+        with self._change:
+            if self._waiter is None:
+                waiter = threading.Thread(target=self._run, name="cf-line", daemon=True)
+                try:
+                    waiter.start()
+                except RuntimeError as error:
+                    raise Unknown(f"{self._path}: another process has the file, and no thread can wait for it: {error}") from None
+                self._waiter = waiter
+            self._waits = self._is_wanted = True
+            self._change.notify_all()
+            has = False
+            try:
+                has = self._change.wait_for(lambda: self._has, LONGEST_WAIT)
+            finally:
+                if self._has and not has:  # by a signal's handler that raised
+                    fcntl.flock(self._file, fcntl.LOCK_UN)
+                self._has = self._is_wanted = False
+        if not has:
+            raise Unknown(f"{self._path}: another process has the file for {LONGEST_WAIT:.0f} s")
+
+    def _run(self) -> None:
+        while True:
+            with self._change:
+                self._change.wait_for(lambda: self._waits or self._is_closed)
+                if not self._waits:
+                    return
+            fcntl.flock(self._file, fcntl.LOCK_EX)
+            with self._change:
+                self._has = self._is_wanted
+                if not self._has:  # it was given up meanwhile
+                    fcntl.flock(self._file, fcntl.LOCK_UN)
+                self._waits = False  # (last: until then nobody else may take it)
+                self._change.notify_all()
+                if self._is_closed:
+                    self._let_go()
+
+    def close(self) -> None:
+        """Lets the file go, or lets the last one do it who has it or waits for it."""
+        with self._change:
+            self._is_closed = True
+            self._change.notify_all()
+        self._let_go()
+
+    def _let_go(self) -> None:
+        with self._change:
+            if self._file >= 0 and not self._waits and self._turn.acquire(blocking=False):
+                os.close(self._file)
+                self._file = -1
+                self._turn.release()
+
+
+class _InLine:
+    """A place in the line. What a store is given raises is told as its own."""
+
+    def __init__(self, store: SQLite) -> None:
+        self._store = store
+
+    def __enter__(self) -> None:
+        self._store.may_put()
+        self._store._line.take()
+
     def __exit__(self, _kind: object, error: Optional[BaseException], _trace: object) -> None:
-        fcntl.flock(self._line, fcntl.LOCK_UN)
-        self._turn.release()
-        if error is not None and self._store is not None:
+        self._store._line.give()
+        if error is not None:
             self._store._tell(error)
 
 
@@ -327,6 +464,11 @@ class _Transaction(Transaction):
     def commit(self) -> None:
         with self._store._telling:
             self.connection.execute("commit")
+
+
+def _is_there(db: sqlite3.Connection, request: int) -> bool:
+    """Whether a request wasn't dropped."""
+    return bool(db.execute("select 1 from cf_request where id = ?", (request,)).fetchall())
 
 
 def _bytes(payload: Any) -> bytes:
