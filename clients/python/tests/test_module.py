@@ -824,6 +824,14 @@ class Relays(Case):
                     time.sleep(0.001)
                 self.assertEqual((len([it for it in known if it() is not None]), len(stop._relays)), (0, 0), f"{make.__name__} with {kind}")
 
+    def test_relays_that_are_settled_leave_the_future(self):
+        for kind, stop in self.stop.items():
+            relays = [self.request.adopt(stop) for _ in range(4)]
+            relays[0].cancel(), relays[1].abandon(), relays[2].complete(1)
+            self.assertEqual(len(stop._relays), 1, kind)
+            self.end(stop, 3)
+            self.assertEqual((len(stop._relays), relays[2].result(0), relays[3].result(0)), (0, 1, 3), kind)
+
     def test_open_ones_are_kept_and_told(self):
         """Nobody has the requests but the future: what stands behind it runs once it is done."""
         for kind, stop in self.stop.items():
