@@ -217,23 +217,6 @@ class Settling(Case):
         self.service.shutdown()
         self.assertIn("too late", str(self.request.history()))
 
-    @unittest.skipIf(IS_MODULE, "the module has no lock")
-    def test_cancel_looks_under_the_lock(self):
-        """A stage begins to run between the call of `cancel` and its having the request's lock."""
-        promise, lock = self.request.promise(), self.request._lock
-
-        class Late:
-            def __enter__(it):
-                self.request._lock = lock
-                self.assertTrue(promise.set_running_or_notify_cancel())
-                lock.acquire()
-
-            def __exit__(it, *_):
-                lock.release()
-        self.request._lock = Late()
-        self.assertFalse(promise.cancel())
-        self.assertTrue(promise.running())
-
     def test_promise_of_somebody_else(self):
         promise = self.request.promise()
         self.assertTrue(promise.set_running_or_notify_cancel())
@@ -576,19 +559,6 @@ class Threads(unittest.TestCase):
                 self.assertIsInstance(stage.exception(20), RuntimeError)
             self.assertEqual(service.submit(str, 1).result(20), "1")
 
-    def test_threads_that_are_there_finish_what_no_thread_can_be_started_for(self):
-        """As where the interpreter ends, from Python 3.12 on."""
-        service, goes_on = Service(2), threading.Event()
-        promise = service.request().promise()
-        ends, running = [promise.then(inc) for _ in range(3)], service.submit(goes_on.wait, 20)
-        service.shutdown(wait=False)
-        with starting(no_thread):
-            promise.complete(1)
-            goes_on.set()
-            self.assertEqual([end.result(20) for end in ends], [2, 2, 2])
-        service.shutdown()
-        self.assertTrue(running.done())
-
     def test_functions_have_the_context_of_their_thread(self):
         """As those of ThreadPoolExecutor."""
         name = contextvars.ContextVar("name", default="-")
@@ -603,11 +573,10 @@ class Kept(Case):
 
     def things(self, attach):
         """A stage that is attached with things alone; and whether they are still there."""
-        things = [Thing() for _ in range(4)]
-        call, first, other, callback = things
-        stage = attach(call, first, other)
+        things = [Thing() for _ in range(5)]
+        call, first, other, callback, late = things
+        stage = attach(call, first, other).complete_on_timeout(late, 1000)
         stage.add_done_callback(callback)
-        stage.complete_on_timeout(Thing(), 1000)
         known = [weakref.ref(thing) for thing in things]
         return stage, lambda: [it for it in known if it() is not None]
 
@@ -1178,9 +1147,62 @@ class Ending(unittest.TestCase):
         ends = threading.Thread(target=service.shutdown, kwargs={"wait": False, "cancel_futures": True}, daemon=True)
         ends.start()
         ends.join(20)
-        self.assertFalse(ends.is_alive())
+        hangs = ends.is_alive()
+        if hangs:
+            service._works._stages.put(service.request().promise())
+        self.assertFalse(hangs)
         goes_on.set()
         self.assertFalse(concurrent.futures.wait(stages, 20).not_done)
+
+    def ends(self, service):
+        """Whether a service's threads end once it is shut down."""
+        ends = threading.Thread(target=service.shutdown, daemon=True)
+        ends.start()
+        ends.join(20)
+        if not ends.is_alive():
+            return True
+        with contextlib.suppress(queue.Empty):  # (or they would never)
+            while True:
+                service._works._stages.get(timeout=0.5)
+        service._works._stages.put(None)
+        return False
+
+    def test_shutdowns_at_once(self):
+        """Two threads find the service open, and end it."""
+        service, both = Service(1), threading.Barrier(2)
+        service.submit(str).result(20)
+
+        def look(works):
+            was = works.__dict__["closed"]
+            if threading.current_thread() in threads:
+                with contextlib.suppress(threading.BrokenBarrierError):
+                    both.wait(5)
+            return was
+        threads = [threading.Thread(target=service.shutdown, kwargs={"wait": False}) for _ in range(2)]
+        looked = property(look, lambda works, is_closed: works.__dict__.update(closed=is_closed))
+        with unittest.mock.patch.object(type(service._works), "closed", looked, create=True):
+            for thread in threads:
+                thread.start()
+            for thread in threads:
+                thread.join(20)
+        self.assertTrue(self.ends(service))
+
+    def test_initializers_that_fail_let_others_end(self):
+        service, begun, goes_on, numbers = Service(3, initializer=lambda: init()), threading.Event(), threading.Event(), iter(range(3))
+
+        def init():
+            if next(numbers):
+                goes_on.wait(20)
+                fails()
+        running = service.submit(lambda: begun.set() or goes_on.wait(20))
+        self.assertTrue(begun.wait(20))
+        with self.assertLogs("concurrent.futures", "CRITICAL"):
+            stages = [service.submit(str), service.submit(str)]
+            goes_on.set()
+            for stage in stages:
+                self.assertIsInstance(stage.exception(20), concurrent.futures.BrokenExecutor)
+        self.assertTrue(running.result(20))
+        self.assertTrue(self.ends(service))
 
     def test_shutdown_with_cancel_goes_on_after_a_callback(self):
         service, goes_on = Service(1), threading.Event()
@@ -1210,15 +1232,6 @@ class Ending(unittest.TestCase):
             ends.join(20)
         submits.join(20)
         self.assertTrue(stages[0].done())
-
-    def test_shutdown_waits_for_threads_that_are_started_meanwhile(self):
-        service, goes_on = Service(3), threading.Event()
-        first, done = service.submit(goes_on.wait, 20), []
-        for k in range(3):
-            first.then(lambda _: time.sleep(0.1)).then(done.append)
-        threading.Timer(0.05, goes_on.set).start()
-        service.shutdown()
-        self.assertEqual(len(done), 3)
 
     def test_shutdown_that_fails_to_start_a_thread_ends(self):
         with Service(2) as service, starting(no_thread):
@@ -1274,8 +1287,8 @@ class Ending(unittest.TestCase):
                 self.assertIsInstance(stage.exception(20), concurrent.futures.BrokenExecutor)
             service.shutdown()
 
-    def test_a_stage_that_threads_have_left_is_refused_alone(self):
-        """After the end stages become ready while a thread still runs: it runs them, and nobody is refused."""
+    def test_stages_that_become_ready_behind_the_end_are_run(self):
+        """By the thread that still runs; and none is refused."""
         service, goes_on = Service(1), threading.Event()
         promises = [service.request().promise() for _ in range(5)]
         ends, running = [promise.then(inc) for promise in promises], service.submit(goes_on.wait, 20)
@@ -1541,7 +1554,7 @@ class Else(unittest.TestCase):
         with cf.Workers(desk.callers[1:], functions, code=3) as workers:
             self.assertTrue(until(lambda: desk.callers[0].read(stages[3]) is not None))
         self.assertEqual([(number, type(error)) for number, error in workers.errors], [(0, SystemExit), (2, Oops)])
-        self.assertEqual([desk.callers[0].read(stage).fault for stage in stages[:3]], [cf.Thrown(code) for code in (3, 7, 3)])
+        self.assertEqual([str(desk.callers[0].read(stage).fault) for stage in stages[:3]], ["thrown 3", "thrown 7", "thrown 3"])
 
     def test_workers_of_which_one_does_not_start(self):
         plan = cf.Plan()

@@ -15,7 +15,7 @@ from typing import TYPE_CHECKING, Any, Iterator, List, Optional, Set, Tuple
 
 if TYPE_CHECKING:
     import cf
-    from cf.service import Flow, History, LoopService, Request, RequestFull, Service, Stage
+    from cf.service import Flow, History, LoopService, Request, RequestFull, Service, Stage, describe_nothing, describe_types
 
     def load(number: int) -> str: ...
 
@@ -59,6 +59,14 @@ if TYPE_CHECKING:
         stage: Stage[str] = request[total]
         value: int = flow.run(1)[total].result()  # type: ignore[assignment]
         print(stage, value)
+
+    def told(loop: asyncio.AbstractEventLoop, flow: Flow) -> None:
+        service = Service(2, describe=describe_types)
+        requests: List[Request] = [service.request("r", describe=describe_nothing), service.start(flow, 1, describe=lambda value: type(value).__name__),
+                                   LoopService(loop, describe=str).request(describe=repr), flow.run(describe=describe_types)]
+        service.request("r", describe=len)  # type: ignore[arg-type]
+        service.request("r", describe="types")  # type: ignore[arg-type]
+        print(requests)
 
     def ledgers(plan: cf.Plan) -> None:
         ledger = cf.Ledger(plan, room=2)

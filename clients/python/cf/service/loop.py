@@ -1,10 +1,13 @@
 """Functions on an event loop, in place of threads: they may be coroutine functions, and the loop's clock is the clock."""
 import asyncio
 import contextvars
+import functools
 import inspect
 import itertools
+from types import FunctionType
 from typing import Any, Awaitable, Callable, Dict, List, Optional, Set, Tuple, cast
 
+from ._core import RequestCore
 from .flow import Flow, _name
 from .history import Describe, describe_all
 from .request import Request
@@ -54,20 +57,15 @@ class _Request(Request):
     def _attach(self, form: int, first: "Optional[Stage[Any]]", second: "Optional[Stage[Any]]", call: Optional[Callable[..., Any]],
                 args: Optional[Tuple[Any, ...]], kwargs: Optional[Dict[str, Any]], name: Optional[str]) -> "Stage[Any]":
         if call is None:
-            return super()._attach(form, first, second, None, args, kwargs, name)
-        return super()._attach(form, first, second, _Attached(call), args, kwargs, _name(call) if name is None else name)
+            return RequestCore._attach(self, form, first, second, None, args, kwargs, name)
+        known = name if name is not None else call.__qualname__ if type(call) is FunctionType else _name(call)
+        return RequestCore._attach(self, form, first, second, _Within(contextvars.copy_context().run, call), args, kwargs, known)
 
 
-class _Attached:
-    """A function with the context in which it was attached."""
+class _Within(functools.partial):  # type: ignore[type-arg]
+    """The `run` of a context with the function that it is to call."""
 
-    __slots__ = ("call", "context")
-
-    def __init__(self, call: Callable[..., Any]) -> None:
-        self.call, self.context = call, contextvars.copy_context()
-
-    def __call__(self, *args: Any, **kwargs: Any) -> Any:
-        return self.call(*args, **kwargs)
+    __slots__ = ()
 
 
 class _LoopWorks:
@@ -128,14 +126,14 @@ class _LoopWorks:
             if begun is None:
                 return
             call, args, kwargs = begun
-            context = call.context if isinstance(call, _Attached) else cast(_Request, request)._context.copy()
+            within = call if type(call) is _Within else _Within(cast(_Request, request)._context.copy().run, call)
             try:
-                given = context.run(call, *args, **kwargs)
+                given = within(*args, **kwargs)
             except BaseException as error:
                 stage = self._raised(stage, error)
             else:
                 if inspect.isawaitable(given) and not isinstance(given, Stage):
-                    context.run(self._await, stage, given)
+                    within.func(self._await, stage, given)
                     return
                 stage = _ended(stage, given)
 

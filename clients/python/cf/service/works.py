@@ -1,5 +1,6 @@
 """Threads that run stages, and the clock."""
 import atexit
+import contextlib
 import heapq
 import itertools
 import logging
@@ -40,6 +41,7 @@ class Works:
         self.threads: Set[_Thread] = set()
         self._lock = threading.RLock()  # (what is collected meanwhile may put stages)
         self._stages: "SimpleQueue[Optional[Stage[Any]]]" = SimpleQueue()
+        self._end = [None]  # what lets threads end is in the queue once, whoever closes this
         self._idle = self._alive = 0
         self._is_full = False  # all threads were started
 
@@ -57,7 +59,7 @@ class Works:
         if self._is_full and not self.closed:
             return True
         with self._lock:
-            left = [] if self._alive else self._drained()
+            left = self._left()
         return self._refuse(left, stage)
 
     def _put_starting(self, stage: "Stage[Any]") -> bool:
@@ -78,32 +80,29 @@ class Works:
         try:
             thread.start()
         except Exception:  # there are no more threads for now, or the interpreter ends
-            return self._put_without(thread, stage)
+            self._go_without(thread)
+            return False
         finally:
             thread.tried.set()
         return True
 
-    def _put_without(self, thread: "_Thread", stage: "Stage[Any]") -> bool:
-        """The same where a thread couldn't be started. The next put tries again; what others have put meanwhile isn't left behind."""
+    def _go_without(self, thread: "_Thread") -> None:
+        """A thread couldn't be started. The next put tries again, and what others have put meanwhile isn't left behind."""
         with self._lock:
             self._alive -= 1
             self.threads.discard(thread)
             self._is_full, self._idle = False, 0  # (a thread that waits and isn't counted costs one more)
-            if self.closed and self._alive:  # those that end once all is done do this, too
-                self._stages.put(stage)
-                return True
-            left = [] if self._alive else self._drained()
+            left = self._left()
         self._refuse(left)
-        return False
 
     def close(self) -> None:
         """Lets threads end once nothing is left to do."""
-        if not self.closed:
-            self.closed = True
-            self._stages.put(None)
+        self.closed = True
+        with contextlib.suppress(IndexError):
+            self._stages.put(self._end.pop())
 
     def join(self) -> None:
-        """Waits for all threads but this one, also for those that are about to be started, and those that these start."""
+        """Waits for all threads but this one, also for one that is about to be started."""
         own = threading.current_thread()
         while True:
             with self._lock:
@@ -121,6 +120,10 @@ class Works:
         with self._lock:
             stages = self._drained()
         _all(Stage.cancel, stages)
+
+    def _left(self) -> "List[Stage[Any]]":
+        """What is in the queue, and nobody will run."""
+        return [] if self._alive else self._drained()
 
     def _drained(self) -> "List[Stage[Any]]":
         """What is in the queue, and no more. What lets threads end stays."""
@@ -179,10 +182,10 @@ class Works:
 
     def _break(self, first: "List[Stage[Any]]") -> None:
         with self._lock:
-            self.broken = self.closed = True
+            self.broken = True
             self._alive -= 1
             stages = self._drained()
-            self._stages.put(None)
+            self.close()  # (others may have)
         try:
             self._refuse(stages + first)
         except BaseException:  # a callback's
@@ -193,7 +196,7 @@ class Works:
         self._reset()
         self.clock._forked()
         if self.closed:
-            self._stages.put(None)
+            self.close()
 
 
 class _Thread(threading.Thread):

@@ -147,11 +147,11 @@ class Request:
     def __init__(self, service: "DurableService", desk: Desk) -> None:
         self._service, self._desk = service, desk
         self.name: str = desk.name
-        self._describe: Describe = service._describe
         self._lock = threading.RLock()
         self._stages: Dict[int, Stage[Any]] = {}
         self.is_queued = self.is_leaving = False
         self._unshown: Set[int] = set()  # settled stages whose payload couldn't be read yet
+        self._describe: Describe = service._describe
 
     @property
     def seen(self) -> int:

@@ -115,13 +115,14 @@ class DurableService(concurrent.futures.Executor):
         request._describe = describe or request._describe
         return request
 
-    def start(self, flow: Flow, *given: Any, name: str = "") -> Request:
+    def start(self, flow: Flow, *given: Any, name: str = "", describe: Optional[Describe] = None) -> Request:
         """A request of a flow's stages, whose promises are completed with what is given. Where one of this name stands in the store, it is
         gone on with, and `Broken` is raised if it was begun with another plan. `ValueError` where more is given than there are promises."""
         if len(given) > len(flow._promises):
             raise ValueError(f"{flow.name} has {len(flow._promises)} promises")
         payloads = [None if it is None else self.codec.write(it) for it in given]
         request = self._opened(name or f"{flow.name} {new_session():x}", text_of(flow, self.functions), True)
+        request._describe = describe or request._describe
         request._complete_all(list(zip(flow._promises, payloads)))
         self._serve(request)
         return request
