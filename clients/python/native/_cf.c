@@ -14,7 +14,8 @@
  *   - pointers are to the object's own memory and to the State's `changed`, which has room for as many news as a request may have stages;
  *   - rows are as many as the ledger has stages or room for: each number from Python is checked before it gets into a word, so no word is
  *     of another kind than is meant, and what the ledger attaches has its row before;
- *   - in a child of `fork` the handles are whole, since nobody forks within a call. */
+ *   - calls are made in a child of `fork` all the same: nobody forks within a call, so the handles are whole there, and so is the memory,
+ *     by glibc's and musl's own care for a child. */
 #define PY_SSIZE_T_CLEAN
 #include <Python.h>
 #include <structmember.h>

@@ -36,7 +36,7 @@ from cf.service.words import CANCEL, COMPLETE, FAIL, THIS_THREAD  # noqa: E402
 IS_MODULE = _core.IS_MODULE
 faulthandler.enable()
 HEAD = """
-import gc, os, sys, threading, time, weakref
+import concurrent.futures, gc, os, sys, threading, time, weakref
 from cf.service import Flow, LoopService, Request, RequestFull, Service, Stage, _core
 import cf
 """
@@ -118,7 +118,7 @@ class Interpreters(unittest.TestCase):
             failed.cancel()
             try:
                 request.promise().result(0)
-            except TimeoutError:
+            except concurrent.futures.TimeoutError:
                 pass
             return stage.result(9) == 1 and type(stage) is Stage and isinstance(stage, kept) and failed.cancelled() and "abs" in str(request.history())
 
@@ -748,7 +748,7 @@ class Lifetime(Case):
                     value = [stage]
                 del first, last, stage, value
                 gc.collect()
-            threading.stack_size(512 * 1024)
+            threading.stack_size(2048 * 1024)
             for settle in (False, True):
                 thread = threading.Thread(target=drops, args=[settle])
                 thread.start()
@@ -823,6 +823,14 @@ class Relays(Case):
                     gc.collect()  # (a thread may still have one for a moment)
                     time.sleep(0.001)
                 self.assertEqual((len([it for it in known if it() is not None]), len(stop._relays)), (0, 0), f"{make.__name__} with {kind}")
+
+    def test_relays_that_are_settled_leave_the_future(self):
+        for kind, stop in self.stop.items():
+            relays = [self.request.adopt(stop) for _ in range(4)]
+            relays[0].cancel(), relays[1].abandon(), relays[2].complete(1)
+            self.assertEqual(len(stop._relays), 1, kind)
+            self.end(stop, 3)
+            self.assertEqual((len(stop._relays), relays[2].result(0), relays[3].result(0)), (0, 1, 3), kind)
 
     def test_open_ones_are_kept_and_told(self):
         """Nobody has the requests but the future: what stands behind it runs once it is done."""
@@ -925,38 +933,36 @@ class Relays(Case):
 @unittest.skipUnless(IS_MODULE, "of the module")
 class Memory(unittest.TestCase):
     def test_refused_memory(self):
-        """Each allocation of Python's in turn is refused: what raises changed nothing or all, and the request goes on."""
+        """Each allocation of the module's calls in turn is refused: what raises changed nothing or all, and the request goes on. No code in
+        Python runs meanwhile, which may itself end Python then."""
         try:
             import _testcapi  # noqa: F401
         except ImportError:
             self.skipTest("no _testcapi")
         out, err, status = program("""
-            import _testcapi
-            from cf.service.words import COMPLETE, FAIL
+            import _testcapi, functools, operator, types
             flow = Flow()
-            planned = flow.promise().then(abs)
-
-            class Here:
-                closed, clock = False, None
-                def __init__(self): self.left = []
-                def refusal(self): return RuntimeError("nobody")
-                def put(self, stage): self.left.append(stage); return True
+            flow.promise().then(abs)
+            flow.run()
+            works = types.SimpleNamespace(closed=False, put=functools.partial(operator.is_not, None), refusal=functools.partial(RuntimeError, "nobody"))
 
             def trial(n):
-                works = Here()
-                r = Request(works, "r", 1)
-                first = r.promise()
-                seen = first.then(abs)
-                calls = [lambda: r._attach(0, None, None, None, None, None, "x"), lambda: first.then(abs), lambda: first.compose(abs), lambda: r.all_of(first, first),
-                         lambda: r._change(COMPLETE, -1, first, -5), lambda: r._change(FAIL, -1, r._stage(0), OSError()), lambda: first.add_done_callback(abs),
-                         lambda: r._facts(), lambda: first._condition, lambda: first._waiters, lambda: first.exception(0), lambda: flow.run(-3),
-                         lambda: _core.PlanCore([(0, (), None, "x"), (3, (0,), abs, "y")]), lambda: Request(works, "s", 3), lambda: r._run(works.left[0], 3)]
+                r, planned = Request(works, "r", 1), Request(works, "p", 0, None, flow._plan)
+                first = r._attach(0, None, None, None, None, None, "first")
+                seen = r._attach(3, first, None, abs, None, None, None)
+                error, row, rows = OSError(), (0, (), None, "x"), [(0, (), None, "x"), (3, (0,), abs, "y")]
+                calls = [lambda: r._attach(0, None, None, None, None, None, "x"), lambda: r._attach(3, first, None, abs, None, None, None),
+                         lambda: r._attach(12, first, None, abs, None, None, None), lambda: r._attach(16, first, first, None, None, None, "x"),
+                         lambda: planned._change(1, -1, 0, -5), lambda: planned._stage(1), lambda: planned._work(3), lambda: planned._stage(1).result(0),
+                         lambda: first.add_done_callback(id), lambda: first._waiters, lambda: r._change(1, -1, first, -5), lambda: r._change(2, -1, 2, error),
+                         lambda: first.exception(0), lambda: first.add_done_callback(id), lambda: r._facts(), lambda: r._run(seen, 3), lambda: seen.result(0),
+                         lambda: _core.PlanCore(rows), lambda: _core.RequestCore(works, "s", 3), lambda: _core.RequestCore(works, "s", 3, None, flow._plan)]
                 refused = 0
                 for call in calls:
                     _testcapi.set_nomemory(n, n + 1)
                     try:
                         call()
-                    except (MemoryError, SystemError):
+                    except MemoryError:
                         refused += 1
                     except Exception:
                         pass
@@ -967,12 +973,10 @@ class Memory(unittest.TestCase):
                 words, times, replies, told, names, values, errors = r._facts()
                 ledger = cf.Ledger.of_words(cf.Plan(), list(memoryview(words).cast("Q")), len(names))
                 assert (ledger.stages(), len(words), 6 * len(words)) == (len(names), len(times), len(replies))
-                for stage in works.left:
-                    r._run(stage, 3)
+                r._run(seen, 3)
                 assert seen.result(0) in (5, 6)
                 return refused
-            refused = [trial(n) for n in range(40)]
-            print(sum(refused) > 50)
+            print(sum(trial(n) for n in range(12)) > 20)
         """)
         self.assertEqual((out, status), ("True\n", 0), err)
 

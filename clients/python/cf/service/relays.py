@@ -4,8 +4,6 @@ A callback can't be taken back from a future of `concurrent.futures`. So a futur
 taken out by itself: once it is settled, by whomever, or once nobody has its request any more. What lives long keeps nothing that is over.
 """
 import concurrent.futures
-import functools
-import itertools
 import threading
 import weakref
 from collections import deque
@@ -16,6 +14,10 @@ from .words import CANCEL, COMPLETE, FAIL, RELAY
 if TYPE_CHECKING:
     from .stage import Stage
 
+    _Ref = weakref.ref["Stage[Any]"]
+else:
+    _Ref = weakref.ref
+
 Hold = Callable[[object], None]
 
 
@@ -23,10 +25,15 @@ def link(relay: "Stage[Any]", future: "concurrent.futures.Future[Any]") -> Optio
     """Lets a relay end as the future does. Until then the future keeps the relay, and with it the request. What is given lets it keep the
     relay no longer: it is still told, if somebody else has it then. None where it is told already."""
     if future.done():
-        _hand_over([relay], future)
+        _drain([relay], future)
         return None
     row = _row_of(future)
-    return functools.partial(row.release, row.add(relay, future))
+    made = _Link(relay, _gone)
+    made.row, made.held = row, relay
+    row.links[made] = True
+    if row.is_over:  # it was called meanwhile
+        row.tell([made], future)
+    return made.release
 
 
 def _row_of(future: Any) -> "_Row":
@@ -41,48 +48,49 @@ def _row_of(future: Any) -> "_Row":
     return row
 
 
-class _Row:
-    """The relays of one future, which calls it once it is done. Nothing here is under a lock: who takes a relay out of `_links`, tells it."""
+class _Link(_Ref):
+    """A relay in a row. `held` is the relay while the future keeps it."""
 
-    __slots__ = ("_links", "_held", "_numbers", "_is_over", "__weakref__")
+    __slots__ = ("row", "held")
+    row: "_Row"
+    held: "Optional[Stage[Any]]"
+
+    def release(self, _settled: object = None) -> None:
+        """Keeps the relay no longer."""
+        relay, self.held = self.held, None
+        if relay is not None and relay.done():
+            self.row.links.pop(self, None)
+
+
+def _gone(made: Any) -> None:
+    made.row.links.pop(made, None)
+
+
+class _Row:
+    """The relays of one future, which calls it once it is done. Nothing here is under a lock: who takes a link out, tells its relay."""
+
+    __slots__ = ("links", "is_over")
 
     def __init__(self) -> None:
-        self._links: "Dict[int, weakref.ref[Stage[Any]]]" = {}
-        self._held: "Dict[int, Stage[Any]]" = {}
-        self._numbers = itertools.count()
-        self._is_over = False
+        self.links: Dict[_Link, bool] = {}
+        self.is_over = False
 
     def __len__(self) -> int:
-        return len(self._links)
-
-    def add(self, relay: "Stage[Any]", future: "concurrent.futures.Future[Any]") -> int:
-        number, links = next(self._numbers), self._links
-        self._held[number] = relay
-        links[number] = weakref.ref(relay, lambda _: links.pop(number, None) and None)
-        if self._is_over:  # it was called meanwhile
-            _hand_over(self._taken([number]), future)
-        return number
-
-    def release(self, number: int, _settled: object = None) -> None:
-        """Keeps a relay no longer."""
-        relay = self._held.pop(number, None)
-        if relay is not None and relay.done():
-            self._links.pop(number, None)
+        return len(self.links)
 
     def __call__(self, future: "concurrent.futures.Future[Any]") -> None:
-        self._is_over = True
-        _hand_over(self._taken(list(self._links)), future)
+        self.is_over = True
+        self.tell(list(self.links), future)
 
-    def _taken(self, numbers: List[int]) -> "List[Stage[Any]]":
-        """Those of these relays that nobody else took out before."""
-        taken = []
-        for number in numbers:
-            known = self._links.pop(number, None)
-            relay = None if known is None else known()
-            self._held.pop(number, None)
-            if relay is not None:
-                taken.append(relay)
-        return taken
+    def tell(self, links: List[_Link], future: "concurrent.futures.Future[Any]") -> None:
+        """Settles the relays of those of these links that nobody else took out before."""
+        relays = []
+        for each in links:
+            relay = each()
+            if self.links.pop(each, False) and relay is not None:
+                each.held = None
+                relays.append(relay)
+        _drain(relays, future)
 
 
 class _Handing(threading.local):
@@ -96,10 +104,11 @@ class _Handing(threading.local):
 _handing = _Handing()
 
 
-def _hand_over(relays: "List[Stage[Any]]", future: "concurrent.futures.Future[Any]") -> None:
+def _drain(relays: "List[Stage[Any]]", future: "concurrent.futures.Future[Any]") -> None:
     """Settles relays as a future was. What a callback raises lets none of them out."""
     handing, first = _handing, None
-    handing.left.extend((relay, future) for relay in relays)
+    for relay in relays:
+        handing.left.append((relay, future))
     if handing.is_busy:
         return
     handing.is_busy = True

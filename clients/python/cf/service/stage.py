@@ -144,6 +144,7 @@ class Stage(_Future[T]):
     # For the C module.
 
     _told = 0  # of those who wait
+    _relays: Optional[object] = None  # of other requests, that end as it does
 
     def _wait(self, timeout: Optional[float]) -> None:
         """Waits until it is shown, or so many seconds."""
