@@ -30,7 +30,7 @@ def tables(address, statement):
         connection.autocommit = True
         db = connection.cursor()
     asked = db.execute(statement) or db
-    return [it[0] for it in asked.fetchall()] if statement.startswith("select") else []
+    return asked.fetchall() if statement.startswith("select") else []
 
 
 class Jobs:
@@ -87,7 +87,7 @@ class Jobs:
                 self.server.stop()
 
     def told(self, ends, count):
-        done, wrong = collections.Counter(tables(self.effects, "select name from effect")), []
+        done, wrong = collections.Counter(name for name, in tables(self.effects, "select name from effect")), []
         for name, stage in ends.items():
             error = stage.exception(0)
             count["requests"] += 1
