@@ -313,17 +313,19 @@ class MixedJudge(Judge):
             if stage not in self.open or self.open[stage][0] == session:
                 self.misfit(place, f"stage {stage} is abandoned, and no other has it")
             return
-        if said["name"].startswith("what "):
+        timed = re.search(r"took longer than (.* s)", text)
+        token = timed.group(1) if timed else text if kind == FAIL else (given or {}).get("token")
+        is_meant = token in self.meant[(*self.key, stage)] or token in self.meant[self.key[0], None, stage]
+        if not is_meant and said["name"].startswith("what "):
             to = self.links.get(stage)
             told = None if to is None else self.graph.told[to]
             if told is None or self.outcome(to) != ((given, None) if kind == COMPLETE else (None, {"error": given["error"], "text": text})):
                 self.misfit(place, f"stage {stage} isn't settled as stage {to} is")
             return
-        timed = re.search(r"took longer than (.* s)", text)
-        token = timed.group(1) if timed else text if kind == FAIL else (given or {}).get("token")
-        if token not in self.meant[(*self.key, stage)] and token not in self.meant[self.key[0], None, stage]:
+        if not is_meant:
             self.misfit(place, f"stage {stage}: nobody meant {given} for it")
-        if reply == "true" and (timed or token.startswith("timer ")):
+            return
+        if reply == "true" and (timed or str(token).startswith("timer ")):
             self.count["timers fired"] += 1
         self.tokens[stage, token] = reply
 
