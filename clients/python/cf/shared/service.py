@@ -476,8 +476,9 @@ class DurableService(concurrent.futures.Executor):
         again = tried_again(said)
         if again is not None:
             error = args[0]
+            if not isinstance(error, Abandoned):  # (the sources of what is tried again may be open: it was settled by hand)
+                return Claimed(stage, known, (), {}, error)
             said, args = desk.said(again), self._args_again(request, again)
-            return Claimed(stage, known, tuple(said.get("args", ())) or args, said.get("kwargs", {}), None if isinstance(error, Abandoned) else error)
         return Claimed(stage, known, tuple(said.get("args", ())) or args, said.get("kwargs", {}), None)
 
     def _args(self, request: Request, stage: int, reply: Sequence[int]) -> Tuple[Any, ...]:
