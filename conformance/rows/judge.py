@@ -147,6 +147,8 @@ class Judge:
         if sum(shared.values()) <= CALLERS and max(shared.values(), default=0) > 1:
             self.wrong.append(f"{name}: two sessions have one number")
         self.count["most sessions on a request"] = max(self.count["most sessions on a request"], len(who_by))
+        for own in records.values():
+            own.sort(key=lambda record: record[1])  # (a session that opened a request again has two desks)
         self.fill_in(name, entries, answered, records)
         callers = [{"sessions": []} for _ in range(max(shared, default=0) + 1)]
         for (_, who), own in records.items():  # one that only looked has no number, and any will do
