@@ -33,6 +33,7 @@ WINDOW = int(os.environ.get("WINDOW", "8"))
 GONE = float(os.environ.get("GONE", "0.7"))
 HANG = float(os.environ.get("HANG", "60"))
 ALARM = 15.0  # seconds: no timer is set for more than one
+CLOSED = 5.0  # seconds: who attaches to a closed request opens it at once
 MORE = 8  # stages that are attached to a request at most, more or less
 TOLD = (Unknown, StoreError, KeyError, RequestFull, InvalidStateError)  # what a call may be answered while others drop the request
 
@@ -308,12 +309,20 @@ class Client:
             self.arm()
             time.sleep(0.05)
 
+    @staticmethod
+    def waited(since, key, seconds):
+        """Whether something was so for some seconds; it begins anew then."""
+        if time.monotonic() - since.setdefault(key, time.monotonic()) < seconds:
+            return False
+        del since[key]
+        return True
+
     def finish_one(self, listed, alarms):
         """Completes the promises of a request; how many stages are left."""
         name, rng = listed.name, self.rng
         request = self.services[0].open(name)
         number, left = self.number_of(request), self.open_stages(request)
-        if left and listed.closed is not None:
+        if left and listed.closed is not None and (not request._desk.plan.rows or self.waited(alarms, (name, number), CLOSED)):
             if request._desk.plan.rows:
                 self.note("closed", name, number, request.seen)
             self.store.reopen(name)  # (others may have attached to it while it was ended)
@@ -321,10 +330,9 @@ class Client:
             self.settle(request, stage, rng)
         for stage in self.promises(request, "alarm"):
             key = (name, number, stage)
-            if time.monotonic() - alarms.setdefault(key, time.monotonic()) > ALARM:
+            if self.waited(alarms, key, ALARM):
                 self.note("late", *key)
                 self.set_timer(request, stage, rng, 0.2)
-                del alarms[key]
             elif key not in self.timed:
                 self.set_timer(request, stage, rng)
         if not left and listed.closed is None and not request._desk.plan.rows:

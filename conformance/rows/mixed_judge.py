@@ -43,7 +43,7 @@ KEPT = {  # what keeps the rows of requests that are dropped
                  "'begin insert into kept_word values (old.request, old.at, old.word, old.token, old.payload); return old; end'",
                  "create trigger keep_request before delete on cf_request for each row execute function keep_request()",
                  "create trigger keep_word before delete on cf_word for each row execute function keep_word()"]}
-ABANDONED = "Abandoned"
+LEFT_BEHIND = "select request, at, word, token, payload from cf_word where request not in (select id from cf_request)"  # puts beside a drop
 KINDS = ("transactional", "tried again", "once", "timed", "called back", "opened again", "shared")  # what may stand in one request
 WANTED = [  # what each run has to have had, but for transactions where the engine has none
     *(f"{kind}, {where}" for kind in ("transactional", "tried again", "once") for where in ("first", "in the middle", "last")),
@@ -119,10 +119,12 @@ class MixedJudge(Judge):
             return
         self.effects.update(it for it, in tables(self.address, "select name from effect"))
         kept, payloads = collections.defaultdict(dict), collections.defaultdict(dict)
-        for request, at, word, token, payload in tables(self.address, "select * from kept_word"):
-            kept[request][at] = (word, token)
-            if payload is not None:
-                payloads[request][at + 1] = bytes(payload)
+        for statement in ("select * from kept_word", LEFT_BEHIND):
+            for request, at, word, token, payload in tables(self.address, statement):
+                kept[request][at] = (word, token)
+                if payload is not None:
+                    payloads[request][at + 1] = bytes(payload)
+                self.count["words left behind by drops"] += statement == LEFT_BEHIND
         if self.address.startswith("sqlite"):
             for request, place, payload in tables(self.address, "select * from kept_large"):
                 payloads[request][place] = bytes(payload)
@@ -134,7 +136,7 @@ class MixedJudge(Judge):
         self.read_logs()
         self.read_rows()
         dropped, labels = {it[0] for it in self.notes["drops"]}, set()
-        self.names.update(name for name, _ in self.rows)
+        self.names.update(name for name, _ in set(self.rows) | set(self.said))
         self.told = collections.defaultdict(list)
         for kind in ("answered", "shown", "history", "timer", "called back", "again"):
             for name, number, *rest in self.notes[kind]:
@@ -232,7 +234,7 @@ class MixedJudge(Judge):
             args = tuple(self.thing(it) for it in words[1:])
         passes, again = None, said.get("again")
         if again is not None:
-            passes = args[0] if args[0]["error"] != ABANDONED else None
+            passes = args[0] if args[0]["error"] != "Abandoned" else None
             said, args = self.stages[again], None if passes else self.args_again(again)
             self.count["further tries that ran"] += passes is None
         self.claimed.append((stage, session, said, passes))
@@ -308,7 +310,7 @@ class MixedJudge(Judge):
             return
         said, given = self.stages[stage], self.thing(place if kind == FAIL or self.entries[place - 1][0] >> 32 & 0xF else None)
         text = given["text"] if kind == FAIL else ""
-        if kind == FAIL and given["error"] == ABANDONED and "may have run" in text:
+        if kind == FAIL and given["error"] == "Abandoned" and "may have run" in text:
             self.count["abandoned"] += reply == "true"
             if stage not in self.open or self.open[stage][0] == session:
                 self.misfit(place, f"stage {stage} is abandoned, and no other has it")
@@ -392,11 +394,17 @@ class MixedJudge(Judge):
         """What belongs to no request."""
         for where in set(self.effects) - labels:
             self.wrong.append(f"{where} has an effect, and no request has it")
-        for kind, why in (("closed", "was closed with stages left"), ("late", "waits, and a timer was set for it")):
-            timed = {tuple(it) for it in self.notes["timer"]}
-            for name, number, *rest in self.notes[kind]:
-                if (name, number) in self.live and (kind == "closed" or (name, number, *rest) in timed):
-                    self.wrong.append(f"{(name, number)}: {why}: {rest}")
+        timed = {tuple(it) for it in self.notes["timer"]}
+        for name, number, stage in self.notes["late"]:
+            if (name, number) in self.live and (name, number, stage) in timed:
+                self.wrong.append(f"{(name, number)}: stage {stage} waits, and a timer was set for it")
+        for name, number, seen in self.notes["closed"]:
+            if (name, number) in self.live:
+                last = max(place for place, (word, _) in enumerate(self.rows[name, number][0][:seen], 1) if word >> 56 == ATTACH)
+                if self.rows[name, number][0][last - 1][1] >> 23 in self.ended:
+                    self.wrong.append(f"{(name, number)}: was closed with stages left, of which one was attached at place {last}")
+                else:
+                    self.count["closed as who attached was killed"] += 1
 
     def kinds(self):
         """Counts what stood in the requests."""

@@ -1238,6 +1238,21 @@ class Services(Case):
         self.until(lambda: not store.ends())
         store.close()
 
+    def test_what_is_late_for_a_name_that_is_used_again(self):
+        """A timer that was due, and a look-up, of a request that was dropped meanwhile do nothing to the next one of its name."""
+        service = DurableService(Memory(), 0, functions=f.functions)
+        self.services.append(service)
+        first = service.request("r")
+        first.promise().complete(1)
+        found, timer = service.store.find("r"), Timer("r", 0, 0, b"V2", first._desk.opened.number)
+        service.store.drop("r")
+        stage = service.request("r").promise()
+        service._fire(timer)
+        kept = service._kept(Request(service, Desk(service.store, found, service.session)))
+        self.assertIs(kept, stage.request)
+        self.assertFalse(stage.done())
+        self.assertTrue(stage.complete(3))
+
     def test_a_further_try_of_what_was_settled_by_hand(self):
         """Its sources may be open then: the further try passes the error on, and asks nothing of them."""
         for service, name in self.each():
