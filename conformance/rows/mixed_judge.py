@@ -7,7 +7,7 @@ function was called with, and so what it had to give. Besides it says that:
 - the effect of a transactional function stands once where its finish stands, and nowhere else;
 - each value and error was put by somebody who meant it for this stage of this request, by a timer that was set for it, or by what composed;
 - what calls were answered, stages showed and histories told is what the row of the request says;
-- no request was closed with stages left, and no timer was lost;
+- no request was closed with stages left, but where who attached was killed before he opened it, and no timer was lost;
 - each kind of fault and stage stood in some request, as WANTED says.
 """
 import collections
@@ -43,7 +43,8 @@ KEPT = {  # what keeps the rows of requests that are dropped
                  "'begin insert into kept_word values (old.request, old.at, old.word, old.token, old.payload); return old; end'",
                  "create trigger keep_request before delete on cf_request for each row execute function keep_request()",
                  "create trigger keep_word before delete on cf_word for each row execute function keep_word()"]}
-LEFT_BEHIND = "select request, at, word, token, payload from cf_word where request not in (select id from cf_request)"  # puts beside a drop
+# PostgreSQL lets a put that is under way land behind the drop of its request, also at a place whose word was dropped. These aren't judged.
+LEFT_BEHIND = "select request from cf_word where request not in (select id from cf_request)"
 KINDS = ("transactional", "tried again", "once", "timed", "called back", "opened again", "shared")  # what may stand in one request
 WANTED = [  # what each run has to have had, but for transactions where the engine has none
     *(f"{kind}, {where}" for kind in ("transactional", "tried again", "once") for where in ("first", "in the middle", "last")),
@@ -61,7 +62,7 @@ class MixedJudge(Judge):
         self.sessions, self.calls = {}, collections.defaultdict(collections.Counter)  # of a process; by label and process
         self.meant = collections.defaultdict(set)
         self.notes = collections.defaultdict(list)
-        self.effects = collections.Counter()
+        self.effects, self.beside, self.labels = collections.Counter(), set(), set()
 
     # What was written down.
 
@@ -119,12 +120,11 @@ class MixedJudge(Judge):
             return
         self.effects.update(it for it, in tables(self.address, "select name from effect"))
         kept, payloads = collections.defaultdict(dict), collections.defaultdict(dict)
-        for statement in ("select * from kept_word", LEFT_BEHIND):
-            for request, at, word, token, payload in tables(self.address, statement):
-                kept[request][at] = (word, token)
-                if payload is not None:
-                    payloads[request][at + 1] = bytes(payload)
-                self.count["words left behind by drops"] += statement == LEFT_BEHIND
+        self.beside = {it[0] for it in tables(self.address, LEFT_BEHIND)}
+        for request, at, word, token, payload in tables(self.address, "select * from kept_word"):
+            kept[request][at] = (word, token)
+            if payload is not None:
+                payloads[request][at + 1] = bytes(payload)
         if self.address.startswith("sqlite"):
             for request, place, payload in tables(self.address, "select * from kept_large"):
                 payloads[request][place] = bytes(payload)
@@ -143,7 +143,11 @@ class MixedJudge(Judge):
                 self.told[kind, name, number].append(rest)
         with open(f"{self.folder}/histories", "w") as out:
             for key in sorted(set(self.rows) | set(self.said)):
-                if key in self.rows:
+                if key in self.rows and key[1] in self.beside:
+                    self.count["dropped beside a put"] += 1
+                    labels |= {it for it in self.calls if it.startswith(key[0] + ".")}
+                    self.labels = set()
+                elif key in self.rows:
                     out.write(self.request(key) + "\n")
                 elif key[0] not in dropped:
                     self.count["lost words"] += sum(it[0] == "did" for it in self.said[key])
