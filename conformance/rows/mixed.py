@@ -164,6 +164,14 @@ class Client:
         self.note("timer", request.name, self.number_of(request), stage)
 
     def attach(self, request, rng):
+        """Attaches a stage; a flow's request that is closed later has it settled."""
+        stage = self.attached(request, rng)
+        if request._desk.plan.rows and request.name not in self.services[0].store.ends():
+            request._catch_up()
+            if not request._desk.is_settled(stage.number):
+                self.note("closed early", request.name, self.number_of(request), stage.number)
+
+    def attached(self, request, rng):
         """A stage more, with or without further tries: what it is behind stands in any place."""
         many, where = len(request._desk.forms), f"{request.name}.{self.token()}"
         call = functools.partial(functions.named(rng.choice(self.kinds), 1).call, where=where)
@@ -172,20 +180,16 @@ class Client:
         if one is None or pick < 0.2:
             made = request.supply(call)
         elif pick < 0.3:
-            request.promise("alarm" if rng.random() < 0.3 else "promise")
-            return
+            return request.promise("alarm" if rng.random() < 0.3 else "promise")
         elif pick < 0.4:
-            getattr(request, rng.choice(["all_of", "first_of", "gather"]))(one, other)
-            return
+            return getattr(request, rng.choice(["all_of", "first_of", "gather"]))(one, other)
         elif pick < 0.5:
-            one.compose(functools.partial(functions.named("composing", 1).call, where=where, inner=rng.choice(self.kinds)))
-            return
+            return one.compose(functools.partial(functions.named("composing", 1).call, where=where, inner=rng.choice(self.kinds)))
         elif pick < 0.6:
             made = getattr(one, rng.choice(["combine", "either"]))(other, call)
         else:
             made = getattr(one, rng.choice(["then", "then", "handle", "when_done", "recover"]))(call)
-        if rng.random() < 0.6:
-            made.again(rng.choice([1, 2, 4]))
+        return made.again(rng.choice([0, 0, 1, 2, 4]))
 
     def call_back(self, request, stage, rng):
         """Lets a callback put something when a stage is settled: into its own request, or into another."""

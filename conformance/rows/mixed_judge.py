@@ -402,6 +402,9 @@ class MixedJudge(Judge):
         for name, number, stage in self.notes["late"]:
             if (name, number) in self.live and (name, number, stage) in timed:
                 self.wrong.append(f"{(name, number)}: stage {stage} waits, and a timer was set for it")
+        for name, number, stage in self.notes["closed early"]:
+            if (name, number) in self.live:
+                self.wrong.append(f"{(name, number)}: was closed with stage {stage} left, which was attached before")
         for name, number, seen in self.notes["closed"]:
             if (name, number) in self.live:
                 last = max(place for place, (word, _) in enumerate(self.rows[name, number][0][:seen], 1) if word >> 56 == ATTACH)
