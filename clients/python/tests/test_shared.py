@@ -38,6 +38,7 @@ from cf.shared import Watcher  # noqa: E402
 from cf.shared import service as shared_service  # noqa: E402
 from cf.shared import sqlite as shared_sqlite  # noqa: E402
 from cf.shared.plans import text_of  # noqa: E402
+from cf.shared.request import Request  # noqa: E402
 
 STORES = os.environ.get("CF_STORES", "").split()
 EMPTY = text_of(None, Functions())
