@@ -314,7 +314,8 @@ class MixedJudge(Judge):
             return
         said, given = self.stages[stage], self.thing(place if kind == FAIL or self.entries[place - 1][0] >> 32 & 0xF else None)
         text = given["text"] if kind == FAIL else ""
-        if kind == FAIL and given["error"] == "Abandoned" and "may have run" in text:
+        is_relay = said["name"].startswith("what ")
+        if kind == FAIL and given["error"] == "Abandoned" and "may have run" in text and not is_relay:
             self.count["abandoned"] += reply == "true"
             if stage not in self.open or self.open[stage][0] == session:
                 self.misfit(place, f"stage {stage} is abandoned, and no other has it")
@@ -322,7 +323,7 @@ class MixedJudge(Judge):
         timed = re.search(r"took longer than (.* s)", text)
         token = timed.group(1) if timed else text if kind == FAIL else (given or {}).get("token")
         is_meant = token in self.meant[(*self.key, stage)] or token in self.meant[self.key[0], None, stage]
-        if not is_meant and said["name"].startswith("what "):
+        if not is_meant and is_relay:
             to = self.links.get(stage)
             told = None if to is None else self.graph.told[to]
             if told is None or self.outcome(to) != ((given, None) if kind == COMPLETE else (None, {"error": given["error"], "text": text})):
