@@ -364,6 +364,27 @@ class Rows(Case):
         store._changes.set()
         store._notifier.join(20)
 
+    def test_who_reopens_while_others_close(self):
+        """Others put a word and close it between two calls of etcd's: it can be closed again, by the count of its words."""
+        for store in [it for it in self.stores() if hasattr(it, "_txn")]:
+            other, real = store.again(), store._txn
+            number = store.open(self.name, "plan").number
+            store.append(Put(self.name, 0, [(1, 11)], {}))
+            store.end(self.name, 1)
+
+            def others_first(*given):
+                store._txn = real
+                other.append(Put(self.name, 1, [(2, 12)], {}))
+                other.end(self.name, 2)
+                return real(*given)
+            store._txn = others_first
+            store.reopen(self.name, number)
+            self.assertEqual(store.ends()[self.name], 2)
+            store.end(self.name, 2)
+            self.assertNotIn(self.name, store.ends())
+            store.drop(self.name)
+            other.close(), store.close()
+
     def test_rows_with_gaps(self):
         """A word that somebody took out is missed by whoever reads, at its place."""
         store = connect(self.address)
