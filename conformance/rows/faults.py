@@ -11,12 +11,15 @@ import time
 from pathlib import Path
 
 import servers
+from jobs import tables
 from judge import Judge
+from mixed_judge import KEPT, MixedJudge
 
 HERE = Path(__file__).resolve().parent
 sys.path.insert(0, str(HERE.parents[1] / "clients/python"))
 from cf.shared import Unknown, connect  # noqa: E402
 
+DIED = "workers that died by themselves"
 WRITES = {"18": "pwrite64", "75": "fdatasync", "74": "fsync"}  # of x86-64
 
 
@@ -41,7 +44,10 @@ def in_write(pid):
 
 
 class Run:
-    """A run: workers, what kills them, what breaks the server, and what the judge says of all of it."""
+    """A run: workers, what kills them, what breaks the server, and what the judge says of all of it. Each worker runs `program`."""
+
+    judge, program, between = Judge, "worker.py", (0.05, 0.2)
+    bound = 1800  # seconds for the end: on a busy machine workers get little of it
 
     def __init__(self, engine, folder, kills, workers=8, breaks=0.0, cut=0.0, pauses=0.0, lax=False, seed=1, most_breaks=None, environment=None,
                  address=None, seconds=None):
@@ -56,9 +62,13 @@ class Run:
         if lax:
             self.address += "?unsafe=1"
         sure(lambda: connect(self.judged)).close()
+        self.prepare()
         if cut:
             self.proxies, self.address = self.server.proxied(cut)
-        self.broken, self.stops, self.done = [], threading.Event(), collections.Counter()
+        self.broken, self.stops, self.done, self.deaths = [], threading.Event(), collections.Counter({DIED: 0}), []
+
+    def prepare(self):
+        """What has to be in the engine before workers begin."""
 
     def start(self):
         where = self.address
@@ -67,7 +77,7 @@ class Run:
             k = self.rng.randrange(len(nodes))
             where = "etcd://" + ",".join(nodes[k:] + nodes[:k])
         with open(f"{self.folder}/stderr", "a") as errors:
-            return subprocess.Popen([sys.executable, HERE / "worker.py", where, self.folder, str(self.rng.randrange(1 << 30))], stderr=errors,
+            return subprocess.Popen([sys.executable, HERE / self.program, where, self.folder, str(self.rng.randrange(1 << 30))], stderr=errors,
                                     env=dict(os.environ, **self.environment))
 
     def break_server(self):
@@ -112,11 +122,11 @@ class Run:
             breaker.start()
         workers = [self.start() for _ in range(self.many)]
         try:
-            while time.monotonic() - began < self.seconds and self.done["kills"] < self.kills or self.breaks and self.most_breaks and len(self.broken) < self.most_breaks:
-                time.sleep(self.rng.uniform(0.05, 0.2))
+            while self.goes_on(began):
+                time.sleep(self.rng.uniform(*self.between))
                 for j, it in enumerate(workers):
                     if it.poll() is not None:
-                        self.done["workers that died by themselves"] += 1
+                        self.died(it)
                         workers[j] = self.start()
                 self.kill_one(workers, paused)
             for it in paused:
@@ -127,21 +137,39 @@ class Run:
             self.let_end(workers)
             self.done["replies cut"] = sum(it.stop() for it in self.proxies)
             self.proxies = []
-            count, wrong = sure(lambda: Judge(self.judged, self.folder).judge())
+            count, wrong = sure(lambda: self.judge(self.judged, self.folder).judge())
+            wrong[:0] = self.deaths
             broken = {f"server: {what}": many for what, many in collections.Counter(self.broken).items()}
             return {"seconds": round(time.monotonic() - began), **self.done, **broken, **count}, wrong
         finally:
             self.end(workers)
+
+    def goes_on(self, began):
+        """Whether workers are killed any more: not where one died by itself, which fails the run."""
+        is_short = time.monotonic() - began < self.seconds and self.done["kills"] < self.kills
+        return not self.deaths and (is_short or self.breaks and self.most_breaks and len(self.broken) < self.most_breaks)
 
     def let_end(self, workers):
         """Lets the workers end what is begun."""
         last = max((int(it.name) for it in sure(lambda: connect(self.judged).listing()) if it.name.isdigit()), default=0) + self.many + 1
         Path(self.folder, "stop-").write_text(str(last))
         os.rename(f"{self.folder}/stop-", f"{self.folder}/stop")
-        until = time.monotonic() + 1800  # (on a busy machine they get little of it)
+        until = time.monotonic() + self.bound
         for it in workers:
-            it.wait(max(1, until - time.monotonic()))
-            self.done["workers that died by themselves"] += it.returncode != 0
+            try:
+                it.wait(max(1, until - time.monotonic()))
+            except subprocess.TimeoutExpired:
+                it.kill()
+                it.wait()
+            if it.returncode:
+                self.died(it)
+
+    def died(self, worker):
+        """A worker ended in another way than it has to: it hung, say."""
+        self.done[DIED] += 1
+        said = "".join(it.read_text() for it in (Path(self.folder, f"hang-{worker.pid}"), Path(self.folder, "stderr")) if it.exists())
+        Path(self.folder, "stderr").write_text("")
+        self.deaths.append(f"worker {worker.pid} ended with {worker.returncode}: {said[:6000]}")
 
     def end(self, workers):
         self.stops.set()
@@ -152,3 +180,14 @@ class Run:
             it.stop()
         if self.server:
             self.server.stop()
+
+
+class MixedRun(Run):
+    """A run over mixed requests (mixed.py)."""
+
+    judge, program, between, bound = MixedJudge, "mixed.py", (0.2, 0.6), 600
+
+    def prepare(self):
+        if self.engine in KEPT:
+            for statement in ("create table effect (name text)", *KEPT[self.engine]):
+                tables(self.judged, statement)

@@ -1,9 +1,12 @@
-"""Jobs with an effect, whose workers are killed: what a stage that is run once, again, or in the engine's own transaction comes to."""
+"""Jobs with an effect, whose workers are killed: what a stage that is run once, again, or in the engine's own transaction comes to. It stands
+alone, before others, between others, or beside another that is ready at the same time."""
 import collections
 import os
 import random
+import signal
 import subprocess
 import sys
+import threading
 import time
 from pathlib import Path
 
@@ -13,9 +16,10 @@ HERE = Path(__file__).resolve().parent
 sys.path.insert(0, str(HERE.parents[1] / "clients/python"))
 from cf.service import Flow  # noqa: E402
 from cf.shared import Abandoned, DurableService, connect  # noqa: E402
-from jobs_functions import functions, inside, outside  # noqa: E402
+from jobs_functions import both, functions, inside, outside, same  # noqa: E402
 
 OPEN = 12  # requests at a time
+HANG = 60  # seconds in which something has to be settled
 MODES = {"once": (outside, 0), "again": (outside, 4), "transaction": (inside, 8)}
 
 
@@ -30,12 +34,25 @@ def tables(address, statement):
         connection.autocommit = True
         db = connection.cursor()
     asked = db.execute(statement) or db
-    return [it[0] for it in asked.fetchall()] if statement.startswith("select") else []
+    return asked.fetchall() if statement.startswith("select") else []
+
+
+def flow_of(number, call, name, tries):
+    """A flow with an effect, and the steps of the effect and of its end."""
+    flow, place = Flow("job"), number % 4
+    if place in (0, 1, 3):
+        effect = flow.supply(call, name).again(tries)
+    else:
+        effect = flow.supply(same, name).again(8).then(call).again(tries)
+    if place == 3:
+        return flow, effect, effect.combine(flow.supply(same, name).again(8), both).again(8)
+    return flow, effect, effect.then(same).again(8) if place else effect
 
 
 class Jobs:
     def __init__(self, engine, folder, mode, kills, cut=0.0, workers=4):
         self.mode, self.kills, self.many, self.rng, self.proxies = mode, kills, workers, random.Random(3), []
+        self.over, self.hung = threading.Event(), False
         os.makedirs(folder)
         os.chmod(folder, 0o755)
         self.server, self.folder = servers.start(engine, folder), folder
@@ -46,24 +63,40 @@ class Jobs:
             self.proxies, self.address = self.server.proxied(cut)
 
     def start(self):
-        environment = dict(os.environ, JOBS_EFFECTS=self.effects, PYTHONPATH=os.pathsep.join([str(HERE), str(HERE.parents[1] / "clients/python")]))
+        environment = dict(os.environ, PYTHONFAULTHANDLER="1", JOBS_EFFECTS=self.effects, PYTHONPATH=os.pathsep.join([str(HERE), str(HERE.parents[1] / "clients/python")]))
         command = [sys.executable, "-m", "cf.worker", "--store", self.address, "--lease", "0.7", "--threads", "2", "jobs_functions"]
         with open(f"{self.folder}/stderr", "a") as errors:
             return subprocess.Popen(command, stderr=errors, env=environment)
 
+    def watch(self, ends):
+        """Ends the workers with what their threads did, where nothing is settled for a long time: one that hangs may hold the engine's lock."""
+        since, settled = time.monotonic(), -1
+        while not self.over.wait(0.5):
+            now = sum(it.done() for it in list(ends.values()))
+            if now != settled:
+                since, settled = time.monotonic(), now
+            if time.monotonic() - since > HANG and not all(it.done() for it in list(ends.values())):
+                self.hung = True
+                for it in self.workers:
+                    it.send_signal(signal.SIGABRT)
+                return
+
     def __call__(self):
         """Does it: the counts, and what is wrong."""
         call, tries = MODES[self.mode]
-        workers, count, ends = [self.start() for _ in range(self.many)], collections.Counter(), {}
-        settled = 0
+        self.workers, count, ends, effects = [self.start() for _ in range(self.many)], collections.Counter(), {}, {}
+        workers, settled = self.workers, 0
         service = DurableService(connect(self.effects), 0, functions=functions, lease=5)
+        watch = threading.Thread(target=self.watch, args=(ends,))
+        watch.start()
         try:
             next_kill = time.monotonic() + 1
-            while count["kills"] < self.kills:
+            while count["kills"] < self.kills and not self.hung:
                 for _ in range(OPEN - sum(not it.done() for it in ends.values())):
-                    flow, name = Flow("job"), f"job {len(ends)}"
-                    last = flow.supply(call, name).again(tries)
-                    ends[name] = service.start(flow, name=name)[last]
+                    name = f"job {len(ends)}"
+                    flow, effect, last = flow_of(len(ends), call, name, tries)
+                    request = service.start(flow, name=name)
+                    ends[name], effects[name] = request[last], request[effect]
                 time.sleep(0.02)
                 k = self.rng.randrange(self.many)
                 now_settled = sum(it.done() for it in ends.values())
@@ -75,9 +108,14 @@ class Jobs:
                     workers[k] = self.start()
                     count["kills"] += 1
             for it in ends.values():
-                it.exception(120)
-            return self.told(ends, count)
+                while not it.done() and not self.hung:
+                    time.sleep(0.02)
+            if self.hung:
+                return count, [f"nothing went on for {HANG} s: {Path(self.folder, 'stderr').read_text()[-10000:]}"]
+            return self.told(effects, count)
         finally:
+            self.over.set()
+            watch.join()
             for it in workers:
                 it.kill()
                 it.wait()
@@ -86,9 +124,9 @@ class Jobs:
             if self.server:
                 self.server.stop()
 
-    def told(self, ends, count):
-        done, wrong = collections.Counter(tables(self.effects, "select name from effect")), []
-        for name, stage in ends.items():
+    def told(self, effects, count):
+        done, wrong = collections.Counter(name for name, in tables(self.effects, "select name from effect")), []
+        for name, stage in effects.items():
             error = stage.exception(0)
             count["requests"] += 1
             count["ended in a value"] += error is None

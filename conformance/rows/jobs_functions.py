@@ -39,3 +39,13 @@ def inside(connection, name):
     connection.execute(INSERT % name)
     time.sleep(random.random() * 0.01)
     return name
+
+
+@functions.function("same")
+def same(name):
+    return name
+
+
+@functions.function("both")
+def both(name, other):
+    return name

@@ -80,16 +80,21 @@ class Judge:
         self.count["misfits"] = len(self.wrong)
         return self.count, self.wrong
 
+    def row(self, name):
+        """What stands in the store of a request: its entries, its plan and its payloads."""
+        entries = self.store.read(name)
+        return entries, json.loads(self.store.find(name).plan), self.store.payloads(name, list(range(1, len(entries) + 1)))
+
     def request(self, name):
         """Judges one request, and gives its account."""
-        entries, plan = self.store.read(name), json.loads(self.store.find(name).plan)
+        entries, plan, payloads = self.row(name)
         room = sum(word >> 56 == ATTACH for word, _ in entries)
         stages = [_shape(FORMS.index(it["form"]), tuple(it.get("of", ())), k if it["form"] not in ("source", "allOf", "anyOf") else None)
                   for k, it in enumerate(plan["stages"])]
         plan = {"cf": 2, "room": room, "stages": stages}
         graph, replies, states, granted = Graph(plan), [None], [], set()
+        self.graph = graph
         states.append([graph.outcome(k) for k in range(graph.stages)])
-        payloads = self.store.payloads(name, list(range(1, len(entries) + 1)))
         for place, (word, token) in enumerate(entries, 1):
             reply = graph.apply(word)
             replies.append(reply)
@@ -121,6 +126,7 @@ class Judge:
     def callers(self, name, entries, replies, states, granted):
         """The records of each number, by its sessions, as these were told; and whether what they were told is what the row says."""
         answered, records = set(), collections.defaultdict(list)
+        who_by = {token >> 23: word >> 48 & 0xFF for word, token in reversed(entries)}  # (who opens a request again takes a second number)
         for kind, session, *rest in self.said[name]:
             if kind == "run" and (rest[0], session) not in granted:
                 self.wrong.append(f"{name}: stage {rest[0]} was run by {session}, which has no claim")
@@ -133,19 +139,20 @@ class Judge:
                 reply = _reply_text(event_of(word), reply)
                 if replies[place] != reply:
                     self.wrong.append(f"{name}: place {place}: told {reply}, is {replies[place]}")
-                records[session].append(["did", place, str(word), reply])
+                records[session, word >> 48 & 0xFF].append(["did", place, str(word), reply])
             elif kind == "saw":
-                self.saw(name, records[session], entries, states, *rest)
-        who_by = {token >> 23: word >> 48 & 0xFF for word, token in reversed(entries)}
-        shared = collections.Counter(who_by.values())
+                self.saw(name, records[session, who_by.get(session, 0)], entries, states, *rest)
+        shared = collections.Counter(who for _, who in {(token >> 23, word >> 48 & 0xFF) for word, token in entries})
         self.count["callers' numbers shared"] += sum(many - 1 for many in shared.values())
-        if len(who_by) <= CALLERS and max(shared.values(), default=0) > 1:
+        if sum(shared.values()) <= CALLERS and max(shared.values(), default=0) > 1:
             self.wrong.append(f"{name}: two sessions have one number")
         self.count["most sessions on a request"] = max(self.count["most sessions on a request"], len(who_by))
+        for own in records.values():
+            own.sort(key=lambda record: record[1])  # (a session that opened a request again has two desks)
         self.fill_in(name, entries, answered, records)
-        callers = [{"sessions": []} for _ in range(max(who_by.values(), default=0) + 1)]
-        for session, own in records.items():  # one that only looked has no number, and any will do
-            callers[who_by.get(session, 0)]["sessions"].append(own)
+        callers = [{"sessions": []} for _ in range(max(shared, default=0) + 1)]
+        for (_, who), own in records.items():  # one that only looked has no number, and any will do
+            callers[who]["sessions"].append(own)
         return callers
 
     def saw(self, name, own, entries, states, place, stage, outcome):
@@ -163,7 +170,7 @@ class Judge:
                 self.count["words nobody was answered for"] += 1
                 if token >> 23 in self.ended:
                     self.wrong.append(f"{name}: place {place} isn't in the log of {token >> 23}, which wasn't killed")
-                own = records[token >> 23]
+                own = records[token >> 23, word >> 48 & 0xFF]
                 behind = next((k for k, record in enumerate(own) if record[1] >= place), len(own))
                 own.insert(behind, ["did", place, str(word), "unknown"])
 

@@ -31,12 +31,14 @@ if not os.environ.get("CF_INSTALLED"):
 import shared_functions as f  # noqa: E402
 from cf import requests  # noqa: E402
 from cf.service import Flow, RequestFull, Service, describe_nothing, describe_types  # noqa: E402
+from cf.service.words import VALUE  # noqa: E402
 from cf.shared import (Abandoned, Broken, Desk, DurableService, Functions, Grouped, Json, Memory, Put, RemoteError, StoreError, Timer,  # noqa: E402
                        Unknown, connect, new_session)
 from cf.shared import Watcher  # noqa: E402
 from cf.shared import service as shared_service  # noqa: E402
 from cf.shared import sqlite as shared_sqlite  # noqa: E402
 from cf.shared.plans import text_of  # noqa: E402
+from cf.shared.request import Request  # noqa: E402
 
 STORES = os.environ.get("CF_STORES", "").split()
 EMPTY = text_of(None, Functions())
@@ -361,6 +363,27 @@ class Rows(Case):
         store._is_closed = True
         store._changes.set()
         store._notifier.join(20)
+
+    def test_who_reopens_while_others_close(self):
+        """Others put a word and close it between two calls of etcd's: it can be closed again, by the count of its words."""
+        for store in [it for it in self.stores() if hasattr(it, "_txn")]:
+            other, real = store.again(), store._txn
+            number = store.open(self.name, "plan").number
+            store.append(Put(self.name, 0, [(1, 11)], {}))
+            store.end(self.name, 1)
+
+            def others_first(*given):
+                store._txn = real
+                other.append(Put(self.name, 1, [(2, 12)], {}))
+                other.end(self.name, 2)
+                return real(*given)
+            store._txn = others_first
+            store.reopen(self.name, number)
+            self.assertEqual(store.ends()[self.name], 2)
+            store.end(self.name, 2)
+            self.assertNotIn(self.name, store.ends())
+            store.drop(self.name)
+            other.close(), store.close()
 
     def test_rows_with_gaps(self):
         """A word that somebody took out is missed by whoever reads, at its place."""
@@ -803,6 +826,22 @@ class Effects(Memory):
         yield Open
 
 
+class Watched(list):
+    """A list that lets others look after each change."""
+
+    def __init__(self, things, look):
+        super().__init__(things)
+        self._look = look
+
+    def append(self, thing):
+        super().append(thing)
+        self._look()
+
+    def __setitem__(self, at, thing):
+        super().__setitem__(at, thing)
+        self._look()
+
+
 class Services(Case):
     def impatient(self):
         """A thread that waits for itself is told so before the test gives up."""
@@ -1219,6 +1258,71 @@ class Services(Case):
             desk.act(lambda desk: [(word | desk.who << 48, None) for word in [it for it, _ in words] + [1 << 56, 3 << 56 | 1 << 36]])
             self.assertTrue(desk.is_settled(one.number) and desk.is_settled(two.number))
         self.until(lambda: not store.ends())
+        store.close()
+
+    def test_what_is_late_for_a_name_that_is_used_again(self):
+        """A timer that was due, and a look-up, of a request that was dropped meanwhile do nothing to the next one of its name."""
+        service = DurableService(Memory(), 0, functions=f.functions)
+        self.services.append(service)
+        first = service.request("r")
+        first.promise().complete(1)
+        found, timer = service.store.find("r"), Timer("r", 0, 0, b"V2", first._desk.opened.number)
+        service.store.drop("r")
+        stage = service.request("r").promise()
+        service._fire(timer)
+        kept = service._kept(Request(service, Desk(service.store, found, service.session)))
+        self.assertIs(kept, stage.request)
+        self.assertFalse(stage.done())
+        self.assertTrue(stage.complete(3))
+
+    def test_a_further_try_of_what_was_settled_by_hand(self):
+        """Its sources may be open then: the further try passes the error on, and asks nothing of them."""
+        for service, name in self.each():
+            r = service.request(name)
+            one, two = r.promise(), r.promise()
+            for stage in (one.either(two, f.inc), one.combine(two, f.add), one.handle(f.both)):
+                last = stage.again(2)
+                self.assertTrue(stage.fail(PermissionError("by hand")))
+                self.assertIsInstance(last.exception(20), PermissionError)
+
+    def test_who_looks_while_a_word_is_read(self):
+        """Another thread sees no stage that isn't there yet, and none settled whose outcome isn't there yet."""
+        service = DurableService(Memory(), 0, functions=f.functions)
+        self.services.append(service)
+        r = service.request("r")
+        promise, desk, seen = r.promise(), r._desk, []
+
+        def look():
+            seen.extend((desk.is_settled(k), desk.told[k].kind == VALUE) for k in range(len(desk.forms)))
+        for name in ("forms", "kinds", "told", "places"):
+            setattr(desk, name, Watched(getattr(desk, name), look))
+        promise.complete(1), r.promise()
+        self.assertEqual({(False, False), (True, True)}, set(seen) - {(False, True)})
+
+    def test_a_word_that_comes_as_its_request_is_closed(self):
+        """One thread reads the word of a stage while another finds that all are settled: the request isn't closed."""
+        service = self.service(takes_all=True)
+        flow = Flow("one")
+        flow.promise()
+        r = service.start(flow, 1, name="r")
+        self.until(lambda: not service.store.ends())
+        closers = []
+
+        def close():
+            if not closers:
+                closers.append(threading.Thread(target=r._end_if_done))
+                closers[0].start()
+                closers[0].join(0.5)
+        r._desk.words = Watched(r._desk.words, close)
+        store = connect(self.address)
+        store.reopen("r")
+        other = Desk(store, store.find("r"), new_session())
+        other.catch_up()
+        other.make_room(1)
+        other.act(lambda desk: [(7 << 56 | desk.who << 48, b'{"name": "late"}')])
+        self.until(lambda: len(r._desk.forms) == 2)
+        closers[0].join()
+        self.assertIn("r", store.ends())
         store.close()
 
     def test_who_is_there_is_let_be(self):

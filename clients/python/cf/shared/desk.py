@@ -262,12 +262,12 @@ class Desk:
     def _add(self, number: int, word: int, place: int) -> None:
         low = word & 0xFFFFFFFF
         of = (word >> 36 & 0xFFF, low >> 12 & 0xFFF)[:word >> 32 & 0xF]
-        self.forms.append((low >> 24, of))
         self.kinds.append(0)
         self.told.append(NOT_YET)
         self.places.append(0)
         self.attached[number] = place
         self._follow(number, of)
+        self.forms.append((low >> 24, of))  # (last: other threads look whether a stage is there)
 
     def _follow(self, number: int, of: Tuple[int, ...]) -> None:
         for source in set(of):
@@ -277,16 +277,16 @@ class Desk:
         settled = []
         for it in news:
             number, kind = it.stage, it.now.kind
-            self.kinds[number] = kind
-            if kind == IS_READY:
-                self.ready.add(number)
-                continue
-            self.ready.discard(number)
             if kind == IS_SETTLED and not self.places[number]:
-                self.told[number], self.places[number] = Told(*_told(it.now)), place
+                self.told[number], self.places[number] = Told(*_told(it.now)), place  # (first: other threads look whether it is settled)
                 settled.append(number)
                 if self.forms[number][0] in COMPOSE_FORMS:
                     self.unlinked.add(number)
+            self.kinds[number] = kind
+            if kind == IS_READY:
+                self.ready.add(number)
+            else:
+                self.ready.discard(number)
         return settled
 
     # Room for stages that are attached.

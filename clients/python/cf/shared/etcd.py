@@ -128,10 +128,15 @@ class Etcd(Store):
     def reopen(self, name: str, number: int = 0) -> None:
         revision = str(number or self._revision(name))
         row = self._row("w", name, revision)
-        many = len(self._get(row, _after(row), keys_only=True))
-        told = self._txn([self._is_there(name, revision), _absent(_key("o", name))], [_put(_key("o", name), b"%d" % many)])
-        if not told.get("succeeded") and self._is_dropped(name, revision):
-            raise self._gone(name)
+        told: Any = {}
+        while not told.get("succeeded"):  # others may put and close it meanwhile: with a count that is too low nobody could close it again
+            many = len(self._get(row, _after(row), keys_only=True))
+            told = self._txn([self._is_there(name, revision), _absent(_key("o", name)), _absent(_place(row, many))],
+                             [_put(_key("o", name), b"%d" % many)], [{"request_range": _range(_key("o", name))}])
+            if not told.get("succeeded") and self._is_dropped(name, revision):
+                raise self._gone(name)
+            if not told.get("succeeded") and told["responses"][0]["response_range"].get("kvs"):
+                return  # it is open
 
     def drop(self, name: str, at: Optional[int] = None) -> bool:
         ranges = [_range(key, _after(key)) for key in (_key(kind, name) + b"/" for kind in "wpt")] + [_range(_key(kind, name)) for kind in "roc"]

@@ -438,8 +438,10 @@ class Request:
         return bool(self._desk.plan.rows) and self._desk.is_done(self._service._is_gone)
 
     def _end_if_done(self) -> None:
-        if self._is_over():
-            self._service.store.end(self.name, self.seen, self.number)
+        with self._lock:  # (another thread may be reading a word)
+            seen = self.seen if self._is_over() else None
+        if seen is not None:
+            self._service.store.end(self.name, seen, self.number)
 
     def _cancel_all(self) -> None:
         for number, stage in list(self._stages.items()):

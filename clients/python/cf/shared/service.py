@@ -320,13 +320,18 @@ class DurableService(concurrent.futures.Executor):
             request.is_leaving = False
 
     def _fire(self, timer: Timer) -> None:
+        request, is_its = None, False
         try:
             request = self._taken(timer.request)
-            if request is not None and timer.number in (0, request.number):
+            is_its = request is not None and timer.number in (0, request.number)
+            if request is not None and is_its:
                 request._catch_up()  # (a timer is set behind the word of its stage)
                 request._fire(timer)
             if timer.request not in self.broken:  # (others may go on with it)
                 self.store.drop_timer(timer.request, timer.stage, timer.number)
+        except Broken as error:
+            if is_its:  # (else it is of one that was dropped, and the next of its name is here)
+                self._break(timer.request, error, request)
         finally:
             self._firing.discard(timer[:3])
 
@@ -482,8 +487,9 @@ class DurableService(concurrent.futures.Executor):
         again = tried_again(said)
         if again is not None:
             error = args[0]
+            if not isinstance(error, Abandoned):  # (the sources of what is tried again may be open: it was settled by hand)
+                return Claimed(stage, known, (), {}, error)
             said, args = desk.said(again), self._args_again(request, again)
-            return Claimed(stage, known, tuple(said.get("args", ())) or args, said.get("kwargs", {}), None if isinstance(error, Abandoned) else error)
         return Claimed(stage, known, tuple(said.get("args", ())) or args, said.get("kwargs", {}), None)
 
     def _args(self, request: Request, stage: int, reply: Sequence[int]) -> Tuple[Any, ...]:
