@@ -4,7 +4,7 @@ use std::future::Future;
 use std::panic::{catch_unwind, AssertUnwindSafe};
 use std::pin::Pin;
 use std::sync::atomic::{AtomicUsize, Ordering};
-use std::sync::{Arc, Mutex};
+use std::sync::{Arc, Barrier, Mutex};
 use std::task::{Context, Wake, Waker};
 use std::time::Duration;
 
@@ -98,6 +98,98 @@ fn a_job_that_is_dropped_lets_what_is_ready_fail() {
     let jobs = std::mem::take(&mut *keeps.0.lock().unwrap());
     jobs.into_iter().for_each(Job::run);
     assert_eq!(again.wait().unwrap(), 2);
+}
+
+/// Keeps each job, and takes two of a request at a time.
+#[derive(Clone, Default)]
+struct Two(Arc<Mutex<Vec<Job>>>);
+
+impl Spawn for Two {
+    fn spawn(&self, job: Job) -> Result<(), Job> {
+        self.0.lock().unwrap().push(job);
+        Ok(())
+    }
+
+    fn parallelism(&self) -> usize {
+        2
+    }
+}
+
+/// The other job is there yet, and runs what both were to run.
+#[test]
+fn a_job_that_is_dropped_leaves_the_rest_to_the_other() {
+    let two = Two::default();
+    let request = Request::new("dropped", two.clone());
+    let stages = [1, 2, 3].map(|n| request.supply(move || n));
+    let mut jobs = std::mem::take(&mut *two.0.lock().unwrap());
+    assert_eq!(jobs.len(), 2);
+    drop(jobs.pop());
+    assert!(stages.iter().all(|stage| !stage.is_settled()));
+    jobs.pop().unwrap().run();
+    assert_eq!(stages.map(|stage| stage.wait().unwrap()), [1, 2, 3]);
+}
+
+/// The job that was to poll a future is dropped, and so is one that was to poll it again.
+#[test]
+fn a_job_of_a_future_that_is_dropped_lets_it_fail() {
+    let two = Two::default();
+    let request = Request::new("dropped", two.clone());
+    let take = || two.0.lock().unwrap().pop().expect("a job was asked for");
+    let (alive, gate) = (Arc::new(()), request.promise::<i32>());
+    let (held, awaits) = (alive.clone(), gate.clone());
+    let future = request.spawn(async move {
+        let _held = held;
+        awaits.await
+    });
+    take().run();
+    assert!(!future.is_settled());
+    gate.complete(1).unwrap();
+    drop(take());
+    assert!(matches!(future.wait(), Err(Error::Refused(Refusal::Closed))));
+    assert_eq!(Arc::strong_count(&alive), 1, "the future is dropped");
+    assert!(request.history().comes_again());
+}
+
+/// All functions of a pool's threads meet, so each thread has to have one, whether they come one by one or at once.
+#[test]
+fn each_thread_of_a_pool_runs_a_function() {
+    for at_once in [false, true] {
+        let request = Request::new("meet", Pool::new(4));
+        let (gate, all) = (request.promise::<i32>(), Arc::new(Barrier::new(4)));
+        if !at_once {
+            gate.complete(1).unwrap();
+        }
+        let meets = |_| {
+            let all = all.clone();
+            gate.clone().then(move |_| all.wait().is_leader())
+        };
+        let stages: Vec<Stage<bool>> = (0..4).map(meets).collect();
+        if at_once {
+            gate.complete(1).unwrap();
+        }
+        let told = |stage: &Stage<bool>| stage.wait_timeout(LONG).expect("one thread does all").unwrap();
+        assert_eq!(stages.iter().filter(|stage| told(stage)).count(), 1);
+        // Again, by threads that have run something.
+        let again = Arc::new(Barrier::new(4));
+        let meets = |_| {
+            let again = again.clone();
+            request.supply(move || again.wait().is_leader())
+        };
+        let stages: Vec<Stage<bool>> = (0..4).map(meets).collect();
+        assert_eq!(stages.iter().filter(|stage| told(stage)).count(), 1);
+    }
+}
+
+/// More functions than a job runs, behind one stage, and no more than one job at a time.
+#[test]
+fn a_job_that_ends_leaves_no_function() {
+    let one = Pool::new(1);
+    let gate = Request::new("many", one).promise::<usize>();
+    let stages: Vec<Stage<usize>> = (0..200).map(|k| gate.clone().then(move |n| n + k)).collect();
+    gate.complete(1).unwrap();
+    for (k, stage) in stages.iter().enumerate() {
+        assert_eq!(stage.wait_timeout(LONG).expect("its job has ended").unwrap(), k + 1);
+    }
 }
 
 #[test]
