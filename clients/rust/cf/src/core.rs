@@ -328,15 +328,15 @@ impl Core {
     /// For a worker that would only wait for a stage: runs a function, or polls a future, that the stage needs, unless `is_own` is false, when
     /// another executor has to. What else it waits for is told.
     pub(crate) fn help(self: &Arc<Core>, stage: u16, is_own: bool, waker: Option<&Waker>) -> Help {
-        self.help_by(is_own, waker, |inner| inner.needs(stage))
+        self.help_by(waker, |inner| inner.needs(stage, is_own))
     }
 
     /// The same by any function or future of the request, else the stages for which its relays wait.
     pub(crate) fn help_any(self: &Arc<Core>, is_own: bool, waker: &Waker) -> Help {
-        self.help_by(is_own, Some(waker), |inner| inner.any())
+        self.help_by(Some(waker), |inner| inner.any(is_own))
     }
 
-    fn help_by(self: &Arc<Core>, is_own: bool, waker: Option<&Waker>, find: impl FnOnce(&mut Inner) -> Needs) -> Help {
+    fn help_by(self: &Arc<Core>, waker: Option<&Waker>, find: impl FnOnce(&mut Inner) -> Needs) -> Help {
         let waker = waker.cloned();
         let found = as_worker(|who| {
             self.change(|inner, after| {
@@ -344,13 +344,13 @@ impl Core {
                     self.has_helpers.store(true, Ordering::SeqCst);
                 }
                 let needs = find(inner);
-                match (is_own, needs.first) {
-                    (true, Some(First::Function(stage))) => {
+                match needs.first {
+                    Some(First::Function(stage)) => {
                         let (stage, call, args) = inner.claim(who, stage, after);
                         return Ok(Begun::Function(stage, call, inner.given(args)));
                     }
-                    (true, Some(First::Future(task))) => return Ok(Begun::Future(task)),
-                    _ => {}
+                    Some(First::Future(task)) => return Ok(Begun::Future(task)),
+                    None => {}
                 }
                 inner.helpers.extend(waker.filter(|waker| !inner.helpers.iter().any(|kept| kept.will_wake(waker))));
                 Err((needs.elsewhere, needs.is_open))
@@ -386,7 +386,7 @@ impl Core {
 
     /// Wakes workers that wait, since a future is to be polled.
     pub(crate) fn wake_helpers(&self) {
-        if self.has_helpers.swap(false, Ordering::SeqCst) {
+        if self.has_helpers.load(Ordering::SeqCst) && self.has_helpers.swap(false, Ordering::SeqCst) {
             let helpers = take(&mut self.lock().helpers);
             helpers.into_iter().for_each(Waker::wake);
         }

@@ -436,33 +436,35 @@ impl Inner {
         }
     }
 
-    /// What a stage needs: of those that it hangs on, and that aren't settled, one that a worker can do something for, else all others.
-    pub(crate) fn needs(&mut self, stage: u16) -> Needs {
+    /// What a stage needs: of those that it hangs on, and that aren't settled, one that a worker of the request's executor can do something for,
+    /// else all others.
+    pub(crate) fn needs(&mut self, stage: u16, is_own: bool) -> Needs {
         let mut needs = Needs::default();
         if self.slot(stage).is_settled() {
             return needs;
         }
-        if self.slot(stage).is_ready() {
+        if is_own && self.slot(stage).is_ready() {
             needs.first = Some(First::Function(stage));
             return needs;
         }
         let hangs = self.ledger.hangs();
         let (mut row, mut seen) = (vec![stage], vec![false; self.slots.len()]);
+        let relays: BTreeMap<u16, u16> = self.relays.iter().copied().collect();
         while let Some(stage) = row.pop() {
             let slot = &self.slots[usize::from(stage)];
             if slot.is_settled() || replace(&mut seen[usize::from(stage)], true) {
                 continue;
             }
-            if slot.is_ready() {
+            if slot.is_ready() && is_own {
                 needs.first = Some(First::Function(stage));
                 return needs;
             }
             let (is_source, of) = hangs[usize::from(stage)];
             row.extend(of.iter().flatten());
-            let own = self.relays.iter().find(|relay| relay.0 == stage).map(|relay| relay.1);
+            let own = relays.get(&stage);
             row.extend(own);
             match self.extras.get(&stage) {
-                Some(Extra { task: Some(task), .. }) if task.is_queued() => {
+                Some(Extra { task: Some(task), .. }) if is_own && task.is_queued() => {
                     needs.first = Some(First::Future(Arc::clone(task)));
                     return needs;
                 }
@@ -475,12 +477,13 @@ impl Inner {
     }
 
     /// Anything that a worker can do, where what it waits for may need any, and the stages for which relays wait.
-    pub(crate) fn any(&mut self) -> Needs {
+    pub(crate) fn any(&mut self, is_own: bool) -> Needs {
         let ready = (0..self.slots.len() as u16).find(|stage| self.slots[usize::from(*stage)].is_ready());
         let queued = || self.extras.values().filter_map(|extra| extra.task.as_ref()).find(|task| task.is_queued()).map(Arc::clone);
+        let first = if is_own { ready.map(First::Function).or_else(|| queued().map(First::Future)) } else { None };
         let relays = self.extras.values().filter_map(|extra| extra.of.as_ref());
         let elsewhere = relays.filter_map(|(core, stage)| Some((core.upgrade()?, *stage))).collect();
-        Needs { first: ready.map(First::Function).or_else(|| queued().map(First::Future)), elsewhere, is_open: true }
+        Needs { first, elsewhere, is_open: true }
     }
 
     pub(crate) fn finish(&mut self, core: &Arc<Core>, who: u8, stage: u16, gave: Gave, after: &mut After) {

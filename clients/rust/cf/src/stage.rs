@@ -7,6 +7,7 @@ use crate::request::{later, Request};
 use crate::spawn::{here, Resting, StandIn, CALLER};
 use crate::value::{self, Call, Gave, Given, Val};
 use crate::word::Form;
+use sealed::Sealed;
 use std::borrow::Cow;
 use std::fmt;
 use std::future::Future;
@@ -17,7 +18,6 @@ use std::sync::Arc;
 use std::task::{Context, Poll, Wake, Waker};
 use std::thread::{self, Thread};
 use std::time::{Duration, Instant};
-use sealed::Sealed;
 
 /// A stage: a handle, whose clones are the same stage. Dropping all of them doesn't cancel it ([`cancel_on_drop`](Stage::cancel_on_drop)
 /// does), since what hangs on it may need it.
@@ -502,7 +502,7 @@ impl<T: Send + Sync + 'static> Stage<T> {
         self.told().map(|told| told.map(value::arc_of))
     }
 
-    /// Blocks the thread until it is settled, for values that can't be cloned. A worker runs other functions meanwhile.
+    /// Blocks the thread until it is settled, for values that can't be cloned, as [`wait`](Stage::wait) does.
     ///
     /// # Errors
     ///
@@ -542,8 +542,8 @@ impl<T: Clone + Send + Sync + 'static> Stage<T> {
         self.told().map(cloned)
     }
 
-    /// Blocks the thread until it is settled. A worker, which runs a function that calls this, runs functions meanwhile that it may be waiting
-    /// for, so that a pool of one thread goes on.
+    /// Blocks the thread until it is settled. Where a function calls this, its thread runs what the stage needs, and a pool starts a spare thread
+    /// for the rest, so that a pool of one thread goes on.
     ///
     /// # Errors
     ///
@@ -557,7 +557,8 @@ impl<T: Clone + Send + Sync + 'static> Stage<T> {
         self.wait_value(None).map_or(Err(Error::BadAnswer), cloned)
     }
 
-    /// Blocks the thread until it is settled, but no longer than this: None where it isn't then. The stage goes on.
+    /// Blocks the thread until it is settled, but no longer than this: None where it isn't then. The stage goes on. The thread runs no function
+    /// meanwhile, since it can't know how long that would take.
     ///
     /// ```
     /// use std::time::Duration;

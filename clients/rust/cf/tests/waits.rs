@@ -11,7 +11,7 @@ use std::thread;
 use std::time::Duration;
 
 /// Longer than a machine at its limit takes.
-const LONG: Duration = Duration::from_secs(60);
+const LONG: Duration = Duration::from_secs(30);
 const SHORT: Duration = Duration::from_millis(20);
 
 /// Does it on a thread of its own. It has to come back.
@@ -219,6 +219,28 @@ fn a_function_runs_on_a_thread_of_its_own_executor() {
     }
 }
 
+/// What the stage needs is ready on another executor, which is busy, and on the own one, whose only thread waits.
+#[test]
+fn a_function_is_run_beside_one_of_another_executor() {
+    comes_back(|| {
+        let (own, other) = (Request::new("own", One::new("own")), Request::new("other", One::new("other")));
+        let (ends, end) = channel::<()>();
+        let end = Mutex::new(end);
+        let busy = other.supply(move || end.lock().unwrap().recv().unwrap());
+        let ready = other.supply(|| 1);
+        let by = own.clone();
+        let told = own.supply(move || {
+            let needed = by.supply(move || {
+                ends.send(()).unwrap();
+                2
+            });
+            ready.combine(&needed, |a, b| a + b).wait().unwrap()
+        });
+        assert_eq!(told.wait().unwrap(), 3);
+        busy.wait().unwrap();
+    });
+}
+
 /// A function waits under a lock for one that runs already, and another one, which is ready, takes the lock.
 #[test]
 fn a_function_that_waits_under_a_lock_runs_nobody_who_takes_it() {
@@ -370,5 +392,26 @@ fn a_function_that_waits_is_not_counted() {
         gate.complete(1).unwrap();
         assert_eq!(told.wait().unwrap(), 3);
         assert!(ran.load(Ordering::SeqCst));
+    });
+}
+
+/// All functions of a pool's threads meet, so each thread has to have one, whether they become ready one by one or at once.
+#[test]
+fn each_thread_of_a_pool_runs_a_function() {
+    fn meet(attach: impl Fn(Arc<Barrier>) -> Stage<bool>) -> Vec<Stage<bool>> {
+        let all = Arc::new(Barrier::new(4));
+        (0..4).map(|_| attach(Arc::clone(&all))).collect()
+    }
+    comes_back(|| {
+        let request = Request::new("meet", Pool::new(4));
+        for _ in 0..3 {
+            let gate = request.promise::<i32>();
+            let at_once = meet(|all| gate.clone().then(move |_| all.wait().is_leader()));
+            gate.complete(1).unwrap();
+            let one_by_one = || meet(|all| request.supply(move || all.wait().is_leader()));
+            for stages in [at_once, one_by_one(), one_by_one()] {
+                assert_eq!(stages.iter().filter(|stage| stage.wait().unwrap()).count(), 1);
+            }
+        }
     });
 }
