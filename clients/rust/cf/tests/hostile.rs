@@ -516,7 +516,7 @@ fn a_long_row_of_requests_that_hold_one_another_is_dropped() {
         comes_back(move || {
             let request = || Request::try_new("row", Arc::new(Inline), Arc::new(HandClock::new()), 2).unwrap();
             let mut last = request().promise::<i32>();
-            for _ in 0..10_000 {
+            for _ in 0..5_000 {
                 let (next, before) = (request(), last);
                 last = next.promise();
                 match how {
