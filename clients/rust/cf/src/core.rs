@@ -388,7 +388,7 @@ impl Core {
     pub(crate) fn wake_helpers(&self) {
         if self.has_helpers.load(Ordering::SeqCst) && self.has_helpers.swap(false, Ordering::SeqCst) {
             let helpers = take(&mut self.lock().helpers);
-            helpers.into_iter().for_each(Waker::wake);
+            helpers.into_iter().for_each(|helper| helper.wake());
         }
     }
 

@@ -152,10 +152,9 @@ fn completed_by_another(r: &Request, by: Request) {
     let told = r.supply(move || {
         let opens = gate.clone();
         drop(by.supply(move || opens.complete(4).is_ok()));
-        gate.then(|n| n + 1)
+        gate.then(|n| n + 1).wait().unwrap()
     });
-    let waits = told.compose(Stage::clone);
-    assert_eq!(r.supply(move || waits.wait().unwrap()).wait().unwrap(), 5);
+    assert_eq!(told.wait().unwrap(), 5);
 }
 
 /// A future on the only thread awaits what another function completes, and a function waits for the future.
@@ -263,17 +262,15 @@ fn a_function_that_waits_under_a_lock_runs_nobody_who_takes_it() {
                 });
                 begins.recv().unwrap();
                 if is_before {
-                    // It is ready before the wait begins, and no other thread is there.
+                    // It is ready before the wait begins, and no other thread is free.
                     gate.complete(1).unwrap();
-                    ends.send(()).unwrap();
-                } else {
-                    thread::spawn(move || {
-                        thread::sleep(SHORT);
-                        gate.complete(1).unwrap();
-                        thread::sleep(SHORT);
-                        ends.send(()).unwrap();
-                    });
                 }
+                thread::spawn(move || {
+                    thread::sleep(SHORT);
+                    let _ = gate.complete(1);
+                    thread::sleep(SHORT);
+                    ends.send(()).unwrap();
+                });
                 *held + runs.then(|n| n + 1).wait().unwrap()
             });
             assert_eq!(told.wait().unwrap(), 2);
