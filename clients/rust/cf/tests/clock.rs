@@ -7,7 +7,7 @@ use std::sync::mpsc::channel;
 use std::sync::{Arc, Mutex, MutexGuard, PoisonError};
 use std::task::{Context, Wake, Waker};
 use std::thread;
-use std::time::Duration;
+use std::time::{Duration, Instant};
 
 /// Longer than a machine at its limit takes.
 const LONG: Duration = Duration::from_secs(30);
@@ -121,13 +121,18 @@ fn a_settled_stage_keeps_no_value_for_later() {
     assert_eq!(Arc::strong_count(&alive), 3);
     let second = second.complete_on_timeout(Arc::clone(&alive), SHORT);
     assert!(second.wait().is_ok());
-    // The alarm may be dropping the other value yet.
-    while Arc::strong_count(&alive) > 3 {
-        thread::yield_now();
-    }
-    assert_eq!(Arc::strong_count(&alive), 3, "the one that the stage has, and the third's");
+    // The clock's thread may be about to drop the other value, and then the request, yet.
+    let sinks_to = |count: usize| {
+        let since = Instant::now();
+        while Arc::strong_count(&alive) > count {
+            assert!(since.elapsed() < LONG, "{} are kept", Arc::strong_count(&alive));
+            thread::yield_now();
+        }
+    };
+    // The one that the stage has, and the third's; and then none.
+    sinks_to(3);
     drop((request, first, second, third));
-    assert_eq!(Arc::strong_count(&alive), 1, "a request that is gone keeps none");
+    sinks_to(1);
     let late = Request::new("late", Inline).promise::<i32>();
     late.cancel();
     assert!(late.complete_on_timeout(1, SHORT).wait().is_err());
