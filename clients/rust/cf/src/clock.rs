@@ -1,12 +1,11 @@
 //! What time it is, and who rings when it is later.
 use crate::core::Core;
-use crate::error::Error;
-use crate::spawn::CLOCK;
-use crate::value::Val;
+use crate::error::Refusal;
+use crate::spawn::{quietly, CLOCK};
 use std::collections::BTreeMap;
 use std::fmt;
 use std::panic::{catch_unwind, AssertUnwindSafe};
-use std::sync::{Arc, Condvar, Mutex, MutexGuard, Once, PoisonError, Weak};
+use std::sync::{Arc, Condvar, Mutex, MutexGuard, PoisonError, Weak};
 use std::thread;
 use std::time::{Duration, Instant};
 
@@ -35,15 +34,16 @@ pub trait Clock: Send + Sync + 'static {
     /// How long it is since a moment of the clock's own. It never goes back. Where it panics, an event has the time of the one before it.
     fn now(&self) -> Duration;
 
-    /// Rings the alarm after a while. It must not ring it before it returns.
+    /// Rings the alarm after a while. It must not ring it before it returns. Where it drops the alarm, a stage that waits for it fails.
     fn after(&self, wait: Duration, alarm: Alarm);
 }
 
-/// A timeout to come, which a [`Clock`] rings. It keeps no request alive.
+/// A timeout to come, which a [`Clock`] rings. It keeps no request alive. One that is dropped instead lets its stage fail with
+/// [`Refusal::NoClock`], unless that is settled.
 ///
 /// ```
-/// struct Never;
-/// impl cf::Clock for Never {
+/// struct Stopped;
+/// impl cf::Clock for Stopped {
 ///     fn now(&self) -> std::time::Duration {
 ///         std::time::Duration::ZERO
 ///     }
@@ -51,12 +51,16 @@ pub trait Clock: Send + Sync + 'static {
 ///         drop(alarm);
 ///     }
 /// }
+/// let request = cf::Request::with_clock("order 17", std::sync::Arc::new(cf::Inline), std::sync::Arc::new(Stopped));
+/// let late = request.promise::<u32>().or_timeout(std::time::Duration::from_secs(5));
+/// assert!(matches!(late.wait(), Err(cf::Error::Refused(cf::Refusal::NoClock))));
 /// ```
 pub struct Alarm {
     pub(crate) core: Weak<Core>,
     pub(crate) stage: u16,
     pub(crate) wait: Duration,
-    pub(crate) gives: Option<Val>,
+    /// The number of the value that the stage gets, which its request keeps.
+    pub(crate) gives: Option<u16>,
 }
 
 impl Alarm {
@@ -75,11 +79,15 @@ impl Alarm {
     /// let request = cf::Request::with_clock("order 17", std::sync::Arc::new(cf::Inline), std::sync::Arc::new(AtOnce));
     /// assert!(request.promise::<u32>().or_timeout(std::time::Duration::from_secs(5)).wait().unwrap_err().is_timeout());
     /// ```
-    pub fn ring(self) {
-        if let Some(core) = self.core.upgrade() {
-            let with = self.gives.ok_or(Error::TimedOut(self.wait));
-            drop(core.settle(CLOCK, self.stage, with));
+    pub fn ring(mut self) {
+        if let Some(core) = std::mem::take(&mut self.core).upgrade() {
+            core.ring(self.stage, self.wait, self.gives);
         }
+    }
+
+    /// Lets it be that this moment never comes.
+    fn never(mut self) {
+        self.core = Weak::new();
     }
 
     /// Whether its stage isn't settled. A clock may leave aside alarms that nobody wants.
@@ -94,13 +102,26 @@ impl Alarm {
     }
 }
 
+impl Drop for Alarm {
+    fn drop(&mut self) {
+        if let Some(core) = self.core.upgrade() {
+            let is_pending = !core.lock().slot(self.stage).is_settled();
+            if is_pending {
+                let _ = core.settle(CLOCK, self.stage, Err(Refusal::NoClock.into()));
+            }
+        }
+    }
+}
+
 impl fmt::Debug for Alarm {
     fn fmt(&self, f: &mut fmt::Formatter<'_>) -> fmt::Result {
         write!(f, "Alarm(stage {}, after {:?})", self.stage, self.wait)
     }
 }
 
-/// The computer's clock. Its alarms are rung by one thread, which is there from the first timeout on.
+/// The computer's clock. Its alarms are rung by a thread, which is there from the first timeout on. Where what an alarm runs takes long, such as a
+/// function of an [`Inline`](crate::Inline) request, another thread rings the others. Where the system starts none, the next timeout that is asked
+/// for tries again.
 ///
 /// ```
 /// use cf::{Clock, SystemClock};
@@ -117,22 +138,21 @@ impl Clock for SystemClock {
     }
 
     fn after(&self, wait: Duration, alarm: Alarm) {
-        static RINGER: Once = Once::new();
-        RINGER.call_once(|| {
-            thread::Builder::new().name("cf clock".into()).spawn(ring).expect("a thread can be started");
-        });
-        if let Some(at) = self.now().checked_add(wait) {
-            let mut held = lock(&ALARMS.due);
-            let due = held.get_or_insert_with(Due::new);
-            let is_first = due.add(at, alarm);
-            let is_full = due.alarms.len() > due.sweep;
-            drop(held);
-            if is_first {
-                ALARMS.came.notify_one();
-            }
-            if is_full {
-                sweep();
-            }
+        let at = match self.now().checked_add(wait) {
+            Some(at) => at,
+            None => return alarm.never(),
+        };
+        let mut held = ALARMS.lock();
+        held.has_ringer = held.has_ringer || start(ring);
+        let due = held.due();
+        let is_first = due.add(at, alarm);
+        let is_full = due.alarms.len() > due.sweep;
+        drop(held);
+        if is_first {
+            ALARMS.came.notify_one();
+        }
+        if is_full {
+            sweep();
         }
     }
 }
@@ -150,11 +170,45 @@ fn begun() -> Instant {
 }
 
 struct Alarms {
-    due: Mutex<Option<Due>>,
+    held: Mutex<Ringers>,
+    /// An alarm is the first now.
     came: Condvar,
+    /// The ringer rings.
+    rings: Condvar,
 }
 
-static ALARMS: Alarms = Alarms { due: Mutex::new(None), came: Condvar::new() };
+/// The alarms, and the two threads that see to them: the ringer, and one that takes its place where it is kept up.
+struct Ringers {
+    due: Option<Due>,
+    has_ringer: bool,
+    has_spare: bool,
+    /// The spare one looks by itself whether the ringer goes on.
+    watches: bool,
+    /// The ringer's number: one that was kept up finds another.
+    ringer: u64,
+    is_ringing: bool,
+    /// How many alarms were rung.
+    rung: u64,
+}
+
+static ALARMS: Alarms = Alarms { held: Mutex::new(Ringers::NONE), came: Condvar::new(), rings: Condvar::new() };
+
+/// How long an alarm may keep the ringer up.
+const KEPT_UP: Duration = Duration::from_millis(10);
+
+impl Alarms {
+    fn lock(&self) -> MutexGuard<'_, Ringers> {
+        lock(&self.held)
+    }
+}
+
+impl Ringers {
+    const NONE: Ringers = Ringers { due: None, has_ringer: false, has_spare: false, watches: false, ringer: 0, is_ringing: false, rung: 0 };
+
+    fn due(&mut self) -> &mut Due {
+        self.due.get_or_insert_with(Due::new)
+    }
+}
 
 /// Alarms by the moments at which they ring.
 struct Due {
@@ -196,33 +250,68 @@ fn lock<T>(held: &Mutex<T>) -> MutexGuard<'_, T> {
 /// Leaves out alarms that nobody wants. They are asked and dropped without the lock, since a request may end with that; a `Drop` that panics
 /// takes no other alarm along.
 fn sweep() {
-    let alarms = std::mem::take(&mut lock(&ALARMS.due).get_or_insert_with(Due::new).alarms);
+    let alarms = std::mem::take(&mut ALARMS.lock().due().alarms);
     let is_wanted = |alarm: &Alarm| catch_unwind(AssertUnwindSafe(|| alarm.is_wanted())).unwrap_or(false);
     let (mut wanted, unwanted): (BTreeMap<_, _>, BTreeMap<_, _>) = alarms.into_iter().partition(|(_, alarm)| is_wanted(alarm));
-    let mut held = lock(&ALARMS.due);
-    let due = held.get_or_insert_with(Due::new);
+    let mut held = ALARMS.lock();
+    let due = held.due();
     due.alarms.append(&mut wanted);
     due.sweep = 64 + 2 * due.alarms.len();
     drop(held);
     ALARMS.came.notify_one();
     for (_, alarm) in unwanted {
-        let _ = catch_unwind(AssertUnwindSafe(|| drop(alarm)));
+        quietly(|| drop(alarm));
     }
 }
 
-/// Rings each alarm at its moment, without the lock.
+/// Starts a thread of the clock, if the system does.
+fn start(act: fn()) -> bool {
+    thread::Builder::new().name("cf clock".into()).spawn(act).is_ok()
+}
+
+/// Rings each alarm at its moment, without the lock, until another thread does so in its place.
 fn ring() {
-    let mut held = lock(&ALARMS.due);
-    loop {
-        match held.get_or_insert_with(Due::new).take(SystemClock.now()) {
+    let mut held = ALARMS.lock();
+    let ringer = held.ringer;
+    while held.ringer == ringer {
+        match held.due().take(SystemClock.now()) {
             Ok(alarm) => {
+                held.rung += 1;
+                held.is_ringing = true;
+                if !held.has_spare {
+                    held.has_spare = start(stand_by);
+                }
+                let watches = held.watches;
                 drop(held);
+                if !watches {
+                    ALARMS.rings.notify_one();
+                }
                 // A waker that panics doesn't stop the clock.
-                let _ = catch_unwind(AssertUnwindSafe(|| alarm.ring()));
-                held = lock(&ALARMS.due);
+                quietly(|| alarm.ring());
+                held = ALARMS.lock();
+                held.is_ringing = held.ringer != ringer && held.is_ringing;
             }
             Err(None) => held = ALARMS.came.wait(held).unwrap_or_else(PoisonError::into_inner),
             Err(Some(wait)) => held = ALARMS.came.wait_timeout(held, wait).unwrap_or_else(PoisonError::into_inner).0,
+        }
+    }
+}
+
+/// Waits until one alarm keeps the ringer up, and takes its place.
+fn stand_by() {
+    let mut held = ALARMS.lock();
+    loop {
+        held = ALARMS.rings.wait_while(held, |held| !held.is_ringing).unwrap_or_else(PoisonError::into_inner);
+        held.watches = true;
+        let rung = held.rung;
+        let is_same = |held: &mut Ringers| held.is_ringing && held.rung == rung;
+        held = ALARMS.rings.wait_timeout_while(held, KEPT_UP, is_same).unwrap_or_else(PoisonError::into_inner).0;
+        held.watches = false;
+        if is_same(&mut held) {
+            held.ringer += 1;
+            (held.is_ringing, held.has_spare) = (false, false);
+            drop(held);
+            return ring();
         }
     }
 }
@@ -307,8 +396,9 @@ impl Clock for HandClock {
 
     fn after(&self, wait: Duration, alarm: Alarm) {
         let mut held = self.lock();
-        if let Some(at) = held.0.checked_add(wait) {
-            held.1.add(at, alarm);
+        match held.0.checked_add(wait) {
+            Some(at) => drop(held.1.add(at, alarm)),
+            None => alarm.never(),
         }
     }
 }

@@ -3,18 +3,19 @@
 //! No code of a user runs under the lock: wakers, values and functions that are dropped, jobs and other requests are told behind it ([`After`]).
 use crate::clock::{Alarm, Clock};
 use crate::error::{Error, Panic, Refusal};
-use crate::inner::{After, Feed, Inner};
+use crate::inner::{After, Feed, Inner, Kept};
 use crate::name::Made;
 use crate::slot::Held;
-use crate::spawn::{as_worker, running, Job, Spawn, Turn, CLOCK, RELAY};
-use crate::task::Polling;
+use crate::spawn::{as_worker, guarded, in_turn, quietly, running, Job, Payload, Row, Spawn, Turn, CLOCK, RELAY};
+use crate::task::{Polling, Task};
 use crate::value::{Call, Gave, Given, Val};
 use crate::word::Form;
 use cf_graph::Args;
-use std::any::Any;
 use std::borrow::Cow;
+use std::cell::RefCell;
 use std::mem::{replace, take};
 use std::panic::{catch_unwind, resume_unwind, AssertUnwindSafe};
+use std::sync::atomic::{AtomicBool, AtomicUsize, Ordering};
 use std::sync::{Arc, Mutex, MutexGuard, PoisonError, TryLockError};
 use std::task::{Poll, Waker};
 use std::time::Duration;
@@ -22,15 +23,18 @@ use std::time::Duration;
 pub(crate) struct Core {
     pub(crate) name: Box<str>,
     spawn: Arc<dyn Spawn>,
+    /// What tells the executor from others.
+    pub(crate) place: usize,
     /// How many jobs there may be at a time.
     most: usize,
     clock: Arc<dyn Clock>,
     begun: Duration,
     inner: Mutex<Inner>,
+    /// Jobs that rest in a function that waits.
+    resting: AtomicUsize,
+    /// Whether a worker that waits may be to be woken by a future that is to be polled.
+    has_helpers: AtomicBool,
 }
-
-/// What somebody's code panicked with.
-type Payload = Box<dyn Any + Send>;
 
 /// How often a thread looks whether the lock is free before it sleeps, and how long it pauses at most between two looks. A hold is some hundred
 /// nanoseconds: who pauses longer lets the one that has it take several, with all that it needs at hand.
@@ -42,8 +46,8 @@ impl Core {
     pub(crate) const TURN: usize = 64;
 
     pub(crate) fn new(name: Box<str>, spawn: Arc<dyn Spawn>, clock: Arc<dyn Clock>, room: u16) -> Result<Arc<Core>, Refusal> {
-        let (most, begun, inner) = (spawn.parallelism().max(1), clock.now(), Mutex::new(Inner::new(room)?));
-        Ok(Arc::new(Core { name, spawn, most, clock, begun, inner }))
+        let (place, most, begun, inner) = (spawn.id(), spawn.parallelism().max(1), clock.now(), Mutex::new(Inner::new(room)?));
+        Ok(Arc::new(Core { name, spawn, place, most, clock, begun, inner, resting: AtomicUsize::new(0), has_helpers: AtomicBool::new(false) }))
     }
 
     /// No code of a user runs under the lock, so what a panic leaves behind it is whole.
@@ -71,9 +75,10 @@ impl Core {
         inner.ledger.now = now;
         let done = act(&mut inner, &mut after);
         inner.relay(&mut after);
-        inner.hire(self.most, false, &mut after);
+        inner.hire(self.most(), false, &mut after);
         drop(inner);
-        let panicked = self.tell(&mut after);
+        let mut panicked = None;
+        self.tell(&mut after, &mut panicked);
         after.keep();
         if let Some(payload) = panicked {
             resume_unwind(payload);
@@ -170,20 +175,50 @@ impl Core {
         drop(unfed);
     }
 
-    /// The requests for whose stages this one's relays wait.
-    pub(crate) fn followed(&self) -> Vec<Arc<Core>> {
-        self.lock().followed()
+    /// Cancels relays that were made for a stage alone, once that is settled, or at once where it was refused: no stage of another request keeps
+    /// this one for nothing.
+    pub(crate) fn let_go(self: &Arc<Core>, stage: Result<u16, Refusal>, relays: Vec<u16>) {
+        if !relays.is_empty() {
+            self.change(|inner, _| inner.let_go(stage.ok(), relays));
+        }
     }
 
     pub(crate) fn name_stage(&self, stage: u16, name: Cow<'static, str>) {
         self.lock().names.insert(stage, name);
     }
 
+    /// Has the clock ring later, unless the stage is settled. The value stays here, and goes as soon as the stage is settled.
     pub(crate) fn after(self: &Arc<Core>, wait: Duration, stage: u16, gives: Option<Val>) {
-        let is_pending = !self.lock().slot(stage).is_settled();
-        if is_pending {
-            self.clock.after(wait, Alarm { core: Arc::downgrade(self), stage, wait, gives });
+        let mut inner = self.lock();
+        if inner.slot(stage).is_settled() {
+            drop(inner);
+            return drop(gives);
         }
+        let gives = gives.map(|value| inner.keep_for(stage, value));
+        drop(inner);
+        self.clock.after(wait, Alarm { core: Arc::downgrade(self), stage, wait, gives });
+    }
+
+    /// Settles a stage at the moment of an alarm: with the value that was kept for that, or as timed out.
+    pub(crate) fn ring(self: &Arc<Core>, stage: u16, wait: Duration, gives: Option<u16>) {
+        let late = self.change(|inner, after| {
+            let with = match gives {
+                // A stage that is settled has none any more.
+                Some(number) => inner.kept_for(stage, number)?,
+                None => Err(Error::TimedOut(wait)),
+            };
+            inner.settle(CLOCK, stage, with, after).err()
+        });
+        drop(late);
+    }
+
+    /// Keeps what stops a timer, and drops it as soon as the stage is settled or the request goes.
+    #[cfg(feature = "tokio")]
+    pub(crate) fn keep_timer(&self, stage: u16, timer: Box<dyn std::any::Any + Send>) {
+        let mut inner = self.lock();
+        let back = inner.keep_timer(stage, timer);
+        drop(inner);
+        drop(back);
     }
 
     /// Cancels all that isn't settled, from the last stage to the first.
@@ -248,7 +283,7 @@ impl Core {
 
     /// Runs ready functions, at most so many, until none is left.
     pub(crate) fn work(self: &Arc<Core>, who: u8, most: usize) {
-        let _running = running(self);
+        let _running = running(self, true);
         let mut after = After::nothing();
         let (mut ended, mut left, mut begins, mut panicked) = (None, most, true, None);
         let mut given = (Args::None, Given::Nothing);
@@ -267,7 +302,7 @@ impl Core {
             inner.relay(&mut after);
             inner.coming -= usize::from(begins);
             inner.jobs -= usize::from(next.is_none());
-            inner.hire(self.most, begins || next.is_none(), &mut after);
+            inner.hire(self.most(), begins || next.is_none(), &mut after);
             let next = next.map(|(stage, call, args)| {
                 // Those before may be what is given now, as it is where many take one value.
                 let old = (args != given.0).then(|| replace(&mut given, (args, inner.given(args))));
@@ -275,7 +310,7 @@ impl Core {
             });
             drop(inner);
             begins = false;
-            panicked = self.tell(&mut after).or(panicked);
+            self.tell(&mut after, &mut panicked);
             match next {
                 None => break,
                 Some((stage, call, _old)) => {
@@ -290,47 +325,94 @@ impl Core {
         }
     }
 
-    /// Runs one ready function, if there is one, for a worker that would only wait; else wakes it when there may be one.
-    pub(crate) fn help(self: &Arc<Core>, waker: &Waker) -> bool {
-        let waker = waker.clone();
-        let next = as_worker(|who| {
+    /// For a worker that would only wait for a stage: runs a function, or polls a future, that the stage needs, unless `is_own` is false, when
+    /// another executor has to. What else it waits for is told.
+    pub(crate) fn help(self: &Arc<Core>, stage: u16, is_own: bool, waker: Option<&Waker>) -> Help {
+        self.help_by(waker, |inner| inner.needs(stage, is_own))
+    }
+
+    /// The same by any function or future of the request, else the stages for which its relays wait.
+    pub(crate) fn help_any(self: &Arc<Core>, is_own: bool, waker: &Waker) -> Help {
+        self.help_by(Some(waker), |inner| inner.any(is_own))
+    }
+
+    fn help_by(self: &Arc<Core>, waker: Option<&Waker>, find: impl FnOnce(&mut Inner) -> Needs) -> Help {
+        let waker = waker.cloned();
+        let found = as_worker(|who| {
             self.change(|inner, after| {
-                let next = inner.step(self, who, None, after).map(|(stage, call, args)| (stage, call, inner.given(args)));
-                if next.is_none() {
-                    inner.helpers.push(waker);
+                if waker.is_some() {
+                    self.has_helpers.store(true, Ordering::SeqCst);
                 }
-                next
+                let needs = find(inner);
+                match needs.first {
+                    Some(First::Function(stage)) => {
+                        let (stage, call, args) = inner.claim(who, stage, after);
+                        return Ok(Begun::Function(stage, call, inner.given(args)));
+                    }
+                    Some(First::Future(task)) => return Ok(Begun::Future(task)),
+                    None => {}
+                }
+                inner.helpers.extend(waker.filter(|waker| !inner.helpers.iter().any(|kept| kept.will_wake(waker))));
+                Err((needs.elsewhere, needs.is_open))
             })
         });
-        match next {
-            None => false,
-            Some((stage, call, given)) => {
-                let _running = running(self);
-                let mut panicked = None;
+        let mut panicked = None;
+        match found {
+            Err((elsewhere, is_open)) => return Help::Waits(elsewhere, is_open),
+            Ok(Begun::Future(task)) => as_worker(|_| Polling::again(self, task)),
+            Ok(Begun::Function(stage, call, given)) => {
+                let _running = running(self, false);
                 as_worker(|who| {
                     if let Some(gave) = self.called(who, stage, call, &given, &mut panicked) {
                         self.end(who, stage, gave);
                     }
                 });
-                if let Some(payload) = panicked {
-                    resume_unwind(payload);
-                }
-                true
             }
         }
+        if let Some(payload) = panicked {
+            resume_unwind(payload);
+        }
+        Help::Did
     }
 
     /// Forgets the waker of a worker that waits no more.
     pub(crate) fn forget_helper(&self, waker: &Waker) {
-        self.lock().helpers.retain(|kept| !kept.will_wake(waker));
+        let mut inner = self.lock();
+        let (forgotten, kept) = take(&mut inner.helpers).into_iter().partition(|kept| kept.will_wake(waker));
+        inner.helpers = kept;
+        drop(inner);
+        drop::<Vec<Waker>>(forgotten);
+    }
+
+    /// Wakes workers that wait, since a future is to be polled.
+    pub(crate) fn wake_helpers(&self) {
+        if self.has_helpers.load(Ordering::SeqCst) && self.has_helpers.swap(false, Ordering::SeqCst) {
+            let helpers = take(&mut self.lock().helpers);
+            helpers.into_iter().for_each(|helper| helper.wake());
+        }
+    }
+
+    /// A job of this request rests in a function that waits, so another may come in its place.
+    pub(crate) fn rests(self: &Arc<Core>) {
+        self.resting.fetch_add(1, Ordering::SeqCst);
+        quietly(|| self.change(|inner, after| inner.hire(self.most(), true, after)));
+    }
+
+    pub(crate) fn goes_on(&self) {
+        self.resting.fetch_sub(1, Ordering::SeqCst);
+    }
+
+    /// How many jobs there may be at present.
+    #[inline]
+    fn most(&self) -> usize {
+        self.most + self.resting.load(Ordering::SeqCst)
     }
 
     /// What a function gave, or None where that comes later. A waker or a `Drop` that panics as a future is begun doesn't end the worker's row.
     fn called(self: &Arc<Core>, who: u8, stage: u16, call: Call, given: &Given, panicked: &mut Option<Payload>) -> Option<Gave> {
         match catch_unwind(AssertUnwindSafe(|| call(given))) {
             Ok(Gave::Later(future)) => {
-                let begun = catch_unwind(AssertUnwindSafe(|| Polling::begin(self, who, stage, future)));
-                *panicked = begun.err().or(panicked.take());
+                guarded(panicked, || Polling::begin(self, who, stage, future));
                 None
             }
             Ok(gave) => Some(gave),
@@ -344,49 +426,39 @@ impl Core {
     }
 
     /// Tells what came of changes. The lock is free. A waker or a `Drop` that panics doesn't keep the others from being
-    /// told, and what it panicked with is given back.
+    /// told, and what the first panicked with is kept.
     #[inline]
-    fn tell(self: &Arc<Core>, after: &mut After) -> Option<Payload> {
-        if after.is_empty() {
-            return None;
+    fn tell(self: &Arc<Core>, after: &mut After, panicked: &mut Option<Payload>) {
+        if !after.is_empty() {
+            self.tell_all(after, panicked);
         }
-        self.tell_all(after)
     }
 
-    fn tell_all(self: &Arc<Core>, after: &mut After) -> Option<Payload> {
-        let mut panicked = None;
-        let mut guarded = |act: &mut dyn FnMut()| {
-            if let Err(payload) = catch_unwind(AssertUnwindSafe(act)) {
-                panicked = Some(payload);
-            }
-        };
+    fn tell_all(self: &Arc<Core>, after: &mut After, panicked: &mut Option<Payload>) {
         for _ in 0..take(&mut after.jobs) {
-            guarded(&mut || self.spawn(Job::new(Turn::Work(Arc::clone(self)))));
+            guarded(panicked, || self.spawn(Job::new(Turn::Work(Arc::clone(self)))));
         }
         while let Some(waker) = after.wakers.pop() {
-            let mut waker = Some(waker);
-            guarded(&mut || waker.take().into_iter().for_each(Waker::wake));
+            guarded(panicked, || waker.wake());
         }
         while let Some(task) = after.tasks.pop() {
-            guarded(&mut || task.stop(self));
+            guarded(panicked, || task.stop(self));
         }
         while let Some((core, relay, told)) = after.feeds.pop() {
-            let (mut told, feeds) = (Some(told), &mut after.feeds);
-            guarded(&mut || told.take().into_iter().for_each(|told| core.settle_fed(relay, told, feeds)));
-            let mut core = Some(core);
-            guarded(&mut || drop(core.take()));
+            let feeds = &mut after.feeds;
+            guarded(panicked, || core.settle_fed(relay, told, feeds));
+            guarded(panicked, || drop(core));
         }
         while let Some((of, stage, relay)) = after.links.pop() {
-            guarded(&mut || of.feed(stage, Arc::clone(self), relay));
+            guarded(panicked, || of.feed(stage, Arc::clone(self), relay));
+            guarded(panicked, || drop(of));
         }
         while let Some((of, stage, relay)) = after.ends.pop() {
-            guarded(&mut || of.upgrade().into_iter().for_each(|of| of.unfeed(stage, self, relay)));
+            guarded(panicked, || of.upgrade().into_iter().for_each(|of| of.unfeed(stage, self, relay)));
         }
         while let Some(dropped) = after.dropped.pop() {
-            let mut dropped = Some(dropped);
-            guarded(&mut || drop(dropped.take()));
+            guarded(panicked, || drop(dropped));
         }
-        panicked
     }
 
     /// Has a job run. One that is given back is dropped, and so refused.
@@ -399,27 +471,53 @@ impl Core {
         self.change(|inner, after| {
             inner.jobs -= 1;
             inner.coming -= 1;
-            for stage in inner.given_up() {
+            for stage in inner.given_up(self.resting.load(Ordering::SeqCst)) {
                 let _ = inner.settle(CLOCK, stage, Err(Refusal::Closed.into()), after);
             }
         });
     }
 }
 
+thread_local! {
+    static DROPPED: Row<Kept> = const { RefCell::new(None) };
+}
+
 impl Drop for Core {
-    /// A stage that was never settled has the requests that adopted it, and they have others: they are dropped one after another.
+    /// What it holds may be the last that has another request: by a value, a function, or a stage that was adopted there. They are dropped one
+    /// after another, so that a row of requests takes no stack.
     fn drop(&mut self) {
-        let mut cores = self.fed();
-        while let Some(core) = cores.pop() {
-            if let Ok(mut core) = Arc::try_unwrap(core) {
-                cores.append(&mut core.fed());
-            }
+        let kept = self.inner.get_mut().unwrap_or_else(PoisonError::into_inner).kept();
+        if !kept.is_empty() {
+            in_turn(&DROPPED, kept, drop);
         }
     }
 }
 
-impl Core {
-    fn fed(&mut self) -> Vec<Arc<Core>> {
-        self.inner.get_mut().unwrap_or_else(PoisonError::into_inner).fed()
-    }
+/// What a worker that waits has done, or what it waits for.
+pub(crate) enum Help {
+    Did,
+    /// Stages of other requests, and whether anybody may have to settle something.
+    Waits(Vec<(Arc<Core>, u16)>, bool),
+}
+
+/// What a stage needs that isn't settled.
+#[derive(Default)]
+pub(crate) struct Needs {
+    /// What a worker can do for it.
+    pub(crate) first: Option<First>,
+    /// The stages of other requests for which relays stand.
+    pub(crate) elsewhere: Vec<(Arc<Core>, u16)>,
+    /// Whether it needs a promise or a future, which any function may have to settle or wake.
+    pub(crate) is_open: bool,
+}
+
+/// A stage whose function is ready, or a future that is to be polled.
+pub(crate) enum First {
+    Function(u16),
+    Future(Arc<Task>),
+}
+
+enum Begun {
+    Function(u16, Call, Given),
+    Future(Arc<Task>),
 }

@@ -61,6 +61,8 @@ pub enum Refusal {
     Closed,
     /// The library refused memory, or isn't the one that this crate was written for.
     NoLedger,
+    /// The clock dropped the timeout that would have settled it, as one does whose runtime is shut down.
+    NoClock,
 }
 
 /// What a function panicked with. Clones share the payload, which one of them can take.
@@ -212,6 +214,7 @@ impl fmt::Display for Refusal {
             Refusal::Full => "a request has at most 4,096 stages",
             Refusal::Closed => "no more functions are run",
             Refusal::NoLedger => "the library gave no ledger",
+            Refusal::NoClock => "its clock dropped the timeout",
         })
     }
 }

@@ -4,7 +4,7 @@
 //! hold: nobody reads what lies behind what he was told. Nothing here says who wins, what is ready or what follows.
 //!
 //! A value's number is that of the stage that gave it, and so is an error's.
-use crate::core::Core;
+use crate::core::{Core, First, Needs};
 use crate::error::{Error, Refusal};
 use crate::ledger::Ledger;
 use crate::name::Made;
@@ -15,6 +15,8 @@ use crate::value::{Call, Gave, Given, Val};
 use crate::wakers::Wakers;
 use crate::word::{self, Form, CANCEL, COMPLETE, FAIL, FINISH, LINKS, SOME, THROWS};
 use cf_graph::{Answer, Args, Cause, Changes, Finished, Outcome, Reply, State, Value};
+#[cfg(feature = "tokio")]
+use std::any::Any;
 use std::borrow::Cow;
 use std::cell::RefCell;
 use std::collections::BTreeMap;
@@ -50,6 +52,8 @@ pub(crate) struct Inner {
     extras: BTreeMap<u16, Extra>,
     /// Relays that are to be settled as these stages were, before the lock is free.
     relaying: Vec<(u16, u16)>,
+    /// Relays that are of no use any more, and are to be cancelled by then.
+    letting: Vec<u16>,
 }
 
 #[derive(Default)]
@@ -59,6 +63,22 @@ pub(crate) struct Extra {
     pub(crate) feeds: Vec<(Option<Arc<Core>>, u16)>,
     /// The request and its stage for which it stands as a relay.
     pub(crate) of: Option<(Weak<Core>, u16)>,
+    /// Relays that are of no use once it is settled.
+    lets_go: Vec<u16>,
+    /// Values that it gets by alarms, and their numbers.
+    values: Vec<(u16, Val)>,
+    /// What stops timers, once dropped.
+    #[cfg(feature = "tokio")]
+    timers: Vec<Box<dyn Any + Send>>,
+}
+
+/// What a request holds that may have other requests.
+pub(crate) struct Kept(#[allow(dead_code)] Vec<Slot>, #[allow(dead_code)] BTreeMap<u16, Extra>);
+
+impl Kept {
+    pub(crate) fn is_empty(&self) -> bool {
+        self.0.is_empty()
+    }
 }
 
 /// What a hold of the lock changed, and what is to be told once the lock is free.
@@ -125,6 +145,7 @@ impl Inner {
             is_more: false,
             extras: BTreeMap::new(),
             relaying: Vec::new(),
+            letting: Vec::new(),
         })
     }
 
@@ -286,6 +307,10 @@ impl Inner {
     fn settled_extra(&mut self, stage: u16, outcome: Outcome, after: &mut After) {
         let extra = self.extras.remove(&stage).unwrap_or_default();
         after.tasks.extend(extra.task);
+        after.dropped.extend(extra.values.into_iter().map(|(_, value)| Held::Value(value)));
+        #[cfg(feature = "tokio")]
+        after.dropped.extend(extra.timers.into_iter().map(Held::Timer));
+        self.letting.extend(extra.lets_go);
         after.ends.extend(extra.of.map(|(of, number)| (of, number, stage)));
         for (to, relay) in extra.feeds {
             match to {
@@ -298,7 +323,7 @@ impl Inner {
     /// Settles relays of this request as the stages are for which they stand.
     #[inline]
     pub(crate) fn relay(&mut self, after: &mut After) {
-        if !self.relaying.is_empty() {
+        while !self.relaying.is_empty() || !self.letting.is_empty() {
             self.relay_all(after);
         }
     }
@@ -319,6 +344,44 @@ impl Inner {
             self.act(word::of(kind, RELAY, relay, tail), after);
             self.show(after);
         }
+        while let Some(relay) = self.letting.pop() {
+            if !self.slot(relay).is_settled() {
+                let _ = self.settle(RELAY, relay, Err(Error::Cancelled), after);
+            }
+        }
+    }
+
+    /// Relays are to be cancelled once the stage is settled for which they were made.
+    pub(crate) fn let_go(&mut self, stage: Option<u16>, relays: Vec<u16>) {
+        match stage.filter(|stage| !self.slot(*stage).is_settled()) {
+            Some(stage) => self.extra(stage).lets_go.extend(relays),
+            None => self.letting.extend(relays),
+        }
+    }
+
+    /// Keeps a value that an alarm is to give. Its number.
+    pub(crate) fn keep_for(&mut self, stage: u16, value: Val) -> u16 {
+        let values = &mut self.extra(stage).values;
+        let number = values.last().map_or(0, |last| last.0 + 1);
+        values.push((number, value));
+        number
+    }
+
+    /// The value that an alarm is to give, unless the stage is settled.
+    pub(crate) fn kept_for(&mut self, stage: u16, number: u16) -> Option<Result<Val, Error>> {
+        let values = &mut self.extras.get_mut(&stage)?.values;
+        let at = values.iter().position(|value| value.0 == number)?;
+        Some(Ok(values.remove(at).1))
+    }
+
+    /// Keeps what stops a timer, or gives it back where the stage is settled.
+    #[cfg(feature = "tokio")]
+    pub(crate) fn keep_timer(&mut self, stage: u16, timer: Box<dyn Any + Send>) -> Option<Box<dyn Any + Send>> {
+        if self.slot(stage).is_settled() {
+            return Some(timer);
+        }
+        self.extra(stage).timers.push(timer);
+        None
     }
 
     // Working.
@@ -354,13 +417,76 @@ impl Inner {
                 return None;
             }
         };
+        self.from = stage + 1;
+        Some(self.taken(stage, args))
+    }
+
+    #[inline]
+    fn taken(&mut self, stage: u16, args: Args) -> Todo {
         self.ledger.claimed(args);
         self.set_unready(stage);
-        self.from = stage + 1;
         match replace(&mut self.slot(stage).held, Held::Nothing) {
-            Held::Call(call) => Some((stage, call, args)),
+            Held::Call(call) => (stage, call, args),
             _ => unreachable!("a stage that is ready has its function"),
         }
+    }
+
+    /// Claims a stage that is ready.
+    pub(crate) fn claim(&mut self, who: u8, stage: u16, after: &mut After) -> Todo {
+        match self.ledger.step(who, None, stage, &mut after.changes).1 {
+            Some((taken, args)) if taken == stage => self.taken(stage, args),
+            _ => unreachable!("the stage is ready"),
+        }
+    }
+
+    /// What a stage needs: of those that it hangs on, and that aren't settled, one that a worker of the request's executor can do something for,
+    /// else all others.
+    pub(crate) fn needs(&mut self, stage: u16, is_own: bool) -> Needs {
+        let mut needs = Needs::default();
+        if self.slot(stage).is_settled() {
+            return needs;
+        }
+        if is_own && self.slot(stage).is_ready() {
+            needs.first = Some(First::Function(stage));
+            return needs;
+        }
+        let hangs = self.ledger.hangs();
+        let (mut row, mut seen) = (vec![stage], vec![false; self.slots.len()]);
+        let relays: BTreeMap<u16, u16> = self.relays.iter().copied().collect();
+        while let Some(stage) = row.pop() {
+            let slot = &self.slots[usize::from(stage)];
+            if slot.is_settled() || replace(&mut seen[usize::from(stage)], true) {
+                continue;
+            }
+            if slot.is_ready() && is_own {
+                needs.first = Some(First::Function(stage));
+                return needs;
+            }
+            let (is_source, of) = hangs[usize::from(stage)];
+            row.extend(of.iter().flatten());
+            let own = relays.get(&stage);
+            row.extend(own);
+            match self.extras.get(&stage) {
+                Some(Extra { task: Some(task), .. }) if is_own && task.is_queued() => {
+                    needs.first = Some(First::Future(Arc::clone(task)));
+                    return needs;
+                }
+                Some(Extra { task: Some(_), .. }) => needs.is_open = true,
+                Some(Extra { of: Some((core, number)), .. }) => needs.elsewhere.extend(core.upgrade().map(|core| (core, *number))),
+                _ => needs.is_open |= is_source && own.is_none(),
+            }
+        }
+        needs
+    }
+
+    /// Anything that a worker can do, where what it waits for may need any, and the stages for which relays wait.
+    pub(crate) fn any(&mut self, is_own: bool) -> Needs {
+        let ready = (0..self.slots.len() as u16).find(|stage| self.slots[usize::from(*stage)].is_ready());
+        let queued = || self.extras.values().filter_map(|extra| extra.task.as_ref()).find(|task| task.is_queued()).map(Arc::clone);
+        let first = if is_own { ready.map(First::Function).or_else(|| queued().map(First::Future)) } else { None };
+        let relays = self.extras.values().filter_map(|extra| extra.of.as_ref());
+        let elsewhere = relays.filter_map(|(core, stage)| Some((core.upgrade()?, *stage))).collect();
+        Needs { first, elsewhere, is_open: true }
     }
 
     pub(crate) fn finish(&mut self, core: &Arc<Core>, who: u8, stage: u16, gave: Gave, after: &mut After) {
@@ -397,6 +523,8 @@ impl Inner {
         let target = if is_own && number < stage { number } else { relay };
         let reply = self.act(word::of(FINISH, who, stage, LINKS | u64::from(target)), after);
         self.show(after);
+        // Who waits for this stage may have to run what it hangs on now.
+        after.wakers.append(&mut self.helpers);
         if reply != Reply::Finished(Finished::Won) || (is_own && target == number) {
             // It may be the other request's last handle.
             after.dropped.push(Held::Core(of));
@@ -404,6 +532,7 @@ impl Inner {
         }
         if !is_own {
             self.names.insert(target, format!("relay of {number} of {}", of.name).into());
+            self.let_go(Some(stage), vec![target]);
             after.links.push((of, number, target));
             return;
         }
@@ -432,15 +561,9 @@ impl Inner {
         }
     }
 
-    /// The requests whose relays hang on stages of this one.
-    pub(crate) fn fed(&mut self) -> Vec<Arc<Core>> {
-        let extras = self.extras.values_mut();
-        extras.flat_map(|extra| take(&mut extra.feeds)).filter_map(|(core, _)| core).collect()
-    }
-
-    /// The requests for whose stages relays of this one wait.
-    pub(crate) fn followed(&self) -> Vec<Arc<Core>> {
-        self.extras.values().filter_map(|extra| extra.of.as_ref()?.0.upgrade()).collect()
+    /// All that may have other requests.
+    pub(crate) fn kept(&mut self) -> Kept {
+        Kept(take(&mut self.slots), take(&mut self.extras))
     }
 
     /// Forgets for which stage a relay stands, since that has let go of it.
@@ -457,10 +580,10 @@ impl Inner {
         feeds.iter().rposition(is_it).and_then(|at| feeds.remove(at).0)
     }
 
-    /// The stages that are ready, if no job is there that would run them.
-    pub(crate) fn given_up(&self) -> Vec<u16> {
+    /// The stages that are ready, if no job is there that would run them. One that rests may rest for them.
+    pub(crate) fn given_up(&self, resting: usize) -> Vec<u16> {
         let all = 0..self.slots.len() as u16;
-        all.filter(|stage| self.jobs == 0 && self.slots[usize::from(*stage)].is_ready()).collect()
+        all.filter(|stage| self.jobs <= resting && self.slots[usize::from(*stage)].is_ready()).collect()
     }
 }
 

@@ -109,6 +109,21 @@ impl Ledger {
         MOST_STAGES - self.stages
     }
 
+    /// Of each stage whether it is a source, and the stages that it hangs on: its sources, and the one to which a finish linked it.
+    pub(crate) fn hangs(&mut self) -> Vec<(bool, [Option<u16>; 3])> {
+        let mut hangs = Vec::with_capacity(usize::from(self.stages));
+        for word in self.words() {
+            let parts = word::parts(word);
+            if parts.kind == word::ATTACH {
+                let (form, of, _) = parts.attached();
+                hangs.push((form == Form::Source as usize, [of.first().copied(), of.get(1).copied(), None]));
+            } else if parts.kind == word::FINISH && parts.tag == word::LINKS {
+                hangs[usize::from(parts.stage)].1[2] = Some(parts.low as u16);
+            }
+        }
+        hangs
+    }
+
     pub(crate) fn words(&mut self) -> Vec<u64> {
         self.words.words().expect("the words are there")
     }

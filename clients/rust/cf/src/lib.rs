@@ -33,11 +33,16 @@
 //! # Who runs what
 //!
 //! Functions run where [`Spawn`] says: on the threads of a [`Pool`], at once ([`Inline`]), or by a type of your own. Wakers, and the `Drop` of
-//! values and functions, run on the thread that settled the stage. None of them runs under a lock of the request. A worker that waits runs
-//! meanwhile what it may be waiting for: functions of the stage's request, of those that it is in, and of those for whose stages these wait.
+//! values and functions, run on the thread that settled the stage. None of them runs under a lock of the request.
+//!
+//! A function may wait for a stage ([`wait`](Stage::wait)), also on the only thread of its executor. Meanwhile its thread runs what the stage
+//! needs, on its own stack, where few levels fit: functions and futures of its own executor that have to end before the wait can. It isn't
+//! counted as one of the jobs that [run at a time](Spawn::parallelism), and a [`Pool`] starts a spare thread for what else there is; a task of
+//! tokio hands over to another thread, where its runtime has several. Under other executors, where the stage needs a promise or a future, the
+//! thread runs any function of its executor, of the requests that it knows of, since each may be the one that completes it: don't hold a lock
+//! there that these take. A wait for a while runs nothing, since it couldn't end in time.
 //!
 //! A function that holds a handle of its own request keeps that alive until it was called or dropped, and a value that holds one for good.
-//! What a worker runs while it waits lies on its stack, so functions that wait for one another want few levels.
 //!
 //! # What is told
 //!

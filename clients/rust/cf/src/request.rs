@@ -6,7 +6,7 @@ use crate::error::{BoxError, Error, Refusal};
 use crate::history::History;
 use crate::name::Made;
 use crate::spawn::{here, Spawn};
-use crate::stage::{sealed::Sealed, AnyStage, Stage};
+use crate::stage::{sealed::Adopted, sealed::Sealed, AnyStage, Stage};
 use crate::value::{Call, Gave};
 use crate::word::Form;
 use std::fmt;
@@ -166,7 +166,8 @@ impl Request {
     }
 
     /// A stage of this request that ends as the given one does, whose request may be another. A stage of this request is given back itself.
-    /// Until one of the two ends, the given stage keeps this request alive.
+    /// Until one of the two ends, the given stage keeps this request alive. What `all_of`, `first_of`, `gather`, `combine`, `either` and `compose`
+    /// adopt is let go with their own stage.
     ///
     /// ```
     /// let (one, two) = (cf::Request::new("order 17", cf::Inline), cf::Request::new("order 18", cf::Inline));
@@ -214,7 +215,10 @@ impl Request {
     /// assert_eq!(request.gather(&quotes).wait().unwrap(), [52, 49]);
     /// ```
     pub fn gather<'a, T: Clone + Send + Sync + 'static>(&self, stages: impl IntoIterator<Item = &'a Stage<T>>) -> Stage<Vec<T>> {
-        let here: Vec<Stage<T>> = stages.into_iter().map(|stage| self.adopt(stage)).collect();
+        let stages: Vec<&Stage<T>> = stages.into_iter().collect();
+        let here: Vec<Stage<T>> = stages.iter().map(|stage| self.adopt(stage)).collect();
+        let relays = here.iter().zip(&stages).filter(|(_, stage)| !Arc::ptr_eq(&self.0, &stage.core)).filter_map(|(relay, _)| relay.at.ok());
+        let relays = relays.collect();
         let all = self.all_of(here.iter().map(|stage| stage as &dyn AnyStage));
         // The request would keep itself alive by handles that its own function holds.
         let numbers: Vec<_> = here.iter().map(|stage| stage.at).collect();
@@ -223,7 +227,9 @@ impl Request {
             let core = core.upgrade().ok_or(Error::BadAnswer)?;
             numbers.into_iter().map(|at| Stage::<T>::new(&core, at).peek().unwrap_or(Err(Error::BadAnswer))).collect()
         };
-        all.and_then(values).named("gather")
+        let all = all.and_then(values).named("gather");
+        self.0.let_go(all.at, relays);
+        all
     }
 
     /// Cancels all that isn't settled, the last stage first.
@@ -251,22 +257,20 @@ impl Request {
     }
 
     /// A stage that is attached has at most two sources; a tree of them tells what one stage of all would.
-    fn tree<T: Send + Sync + 'static>(&self, form: Form, row: Vec<Result<u16, Refusal>>, made: Made) -> Stage<T> {
-        let mut row = match row.into_iter().collect::<Result<Vec<u16>, Refusal>>() {
-            Ok(row) => row,
-            Err(why) => return Stage::new(&self.0, Err(why)),
-        };
-        while row.len() > 2 {
+    fn tree<T: Send + Sync + 'static>(&self, form: Form, row: Vec<Adopted>, made: Made) -> Stage<T> {
+        let relays = row.iter().filter(|it| it.is_relay).filter_map(|it| it.at.ok()).collect();
+        let attached = row.into_iter().map(|it| it.at).collect::<Result<Vec<u16>, Refusal>>().and_then(|mut row| {
             let pair = |pair: &[u16]| match *pair {
                 [one] => Ok(one),
                 _ => self.0.attach(here(), form, pair, None, made),
             };
-            row = match row.chunks(2).map(pair).collect() {
-                Ok(row) => row,
-                Err(why) => return Stage::new(&self.0, Err(why)),
-            };
-        }
-        self.attach(form, &row, None, made)
+            while row.len() > 2 {
+                row = row.chunks(2).map(pair).collect::<Result<_, Refusal>>()?;
+            }
+            self.0.attach(here(), form, &row, None, made)
+        });
+        self.0.let_go(attached, relays);
+        Stage::new(&self.0, attached)
     }
 
     fn attach<U>(&self, form: Form, of: &[u16], call: Option<Call>, made: Made) -> Stage<U> {

@@ -1,8 +1,9 @@
 //! tokio's threads and its clock.
 use crate::clock::{Alarm, Clock};
-use crate::spawn::{Job, Spawn};
+use crate::spawn::{Job, Spawn, StandIn};
 use std::time::Duration;
-use tokio::runtime::Handle;
+use tokio::runtime::{Handle, RuntimeFlavor};
+use tokio::task::JoinHandle;
 use tokio::time::Instant;
 
 /// Functions on tokio's threads for blocking work.
@@ -38,7 +39,8 @@ impl Spawn for Blocking {
     }
 }
 
-/// Functions that don't block, and futures, as tasks of tokio.
+/// Functions that don't block, and futures, as tasks of tokio. One that waits for a stage hands its thread's place over, as
+/// [`tokio::task::block_in_place`] does; a runtime of one thread has none, and goes on with what the stage needs alone.
 ///
 /// ```
 /// # let runtime = tokio::runtime::Runtime::new().unwrap();
@@ -63,7 +65,11 @@ impl Tasks {
 
 impl Spawn for Tasks {
     fn spawn(&self, job: Job) -> Result<(), Job> {
-        self.runtime.spawn(async move { job.run() });
+        let stands_in = match self.runtime.runtime_flavor() {
+            RuntimeFlavor::MultiThread => StandIn::Tokio,
+            _ => StandIn::Nobody,
+        };
+        self.runtime.spawn(async move { stands_in.during(|| job.run()) });
         Ok(())
     }
 
@@ -102,9 +108,85 @@ impl Clock for TokioClock {
     }
 
     fn after(&self, wait: Duration, alarm: Alarm) {
-        self.runtime.spawn(async move {
+        let (core, stage) = (alarm.core.clone(), alarm.stage);
+        let task = self.runtime.spawn(async move {
             tokio::time::sleep(wait).await;
             alarm.ring();
+        });
+        if let Some(core) = core.upgrade() {
+            core.keep_timer(stage, Box::new(Stops(task)));
+        }
+    }
+}
+
+/// Stops a timer whose stage is settled or gone.
+struct Stops(JoinHandle<()>);
+
+impl Drop for Stops {
+    fn drop(&mut self) {
+        self.0.abort();
+    }
+}
+
+#[cfg(test)]
+mod tests {
+    use super::*;
+    use crate::{Inline, Request, Stage};
+    use std::sync::Arc;
+    use std::task::{Context, Poll};
+
+    const LONG: Duration = Duration::from_secs(3600);
+
+    /// A future of the runtime's end of all timers of a request: an alarm that is there has it weakly.
+    async fn no_timer_is_left(request: &Request) {
+        for _ in 0..1000 {
+            if Arc::weak_count(&request.0) == 0 {
+                return;
+            }
+            tokio::task::yield_now().await;
+        }
+        panic!("{} timers are left", Arc::weak_count(&request.0));
+    }
+
+    #[test]
+    fn the_timer_of_a_settled_stage_is_stopped() {
+        let runtime = tokio::runtime::Builder::new_current_thread().enable_time().build().unwrap();
+        runtime.block_on(async {
+            let clock = Arc::new(TokioClock::new(Handle::current()));
+            let request = Request::with_clock("timers", Arc::new(Inline), clock);
+            let stages: Vec<Stage<i32>> = (0..4).map(|_| request.promise().or_timeout(LONG).complete_on_timeout(1, LONG)).collect();
+            tokio::task::yield_now().await;
+            assert_eq!(Arc::weak_count(&request.0), 8);
+            stages[0].complete(1).unwrap();
+            assert!(stages[1].fail("no") && stages[2].cancel());
+            drop(stages[3].clone().or_timeout(Duration::from_millis(1)).await);
+            no_timer_is_left(&request).await;
+            drop(stages[3].clone().or_timeout(LONG));
+            no_timer_is_left(&request).await;
+        });
+    }
+
+    /// The request goes while its stage is pending, and the timers go with it, whose memory they keep.
+    #[test]
+    fn the_timers_of_a_request_that_is_gone_are_stopped() {
+        let runtime = tokio::runtime::Builder::new_current_thread().enable_time().build().unwrap();
+        runtime.block_on(async {
+            let alive = Arc::new(());
+            let request = Request::with_clock("gone", Arc::new(Inline), Arc::new(TokioClock::new(Handle::current())));
+            let held = Arc::clone(&alive);
+            let task = tokio::spawn(async move {
+                let _held = held;
+                std::future::poll_fn(|_: &mut Context<'_>| Poll::<()>::Pending).await;
+            });
+            let stage = request.promise::<i32>();
+            request.0.keep_timer(0, Box::new(Stops(task)));
+            tokio::task::yield_now().await;
+            assert_eq!(Arc::strong_count(&alive), 2);
+            drop((stage, request));
+            for _ in 0..1000 {
+                tokio::task::yield_now().await;
+            }
+            assert_eq!(Arc::strong_count(&alive), 1);
         });
     }
 }

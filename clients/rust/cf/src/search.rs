@@ -337,6 +337,10 @@ mod tests {
         fn parallelism(&self) -> usize {
             2
         }
+
+        fn id(&self) -> usize {
+            Arc::as_ptr(&self.0) as usize
+        }
     }
 
     impl Later {

@@ -24,6 +24,9 @@ pub(crate) enum Held {
     Error(Box<Error>),
     /// A request, where the lock isn't to be held while it is dropped.
     Core(#[allow(dead_code)] Arc<Core>),
+    /// What stops a timer as it is dropped.
+    #[cfg(feature = "tokio")]
+    Timer(#[allow(dead_code)] Box<dyn std::any::Any + Send>),
 }
 
 #[derive(Clone, Copy, PartialEq, Eq)]

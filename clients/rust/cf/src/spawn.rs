@@ -1,6 +1,7 @@
 //! Who runs the functions of stages that are ready.
 use crate::core::Core;
 use crate::task::Polling;
+use std::any::Any;
 use std::cell::{Cell, RefCell};
 use std::collections::VecDeque;
 use std::fmt;
@@ -8,6 +9,31 @@ use std::panic::{catch_unwind, resume_unwind, AssertUnwindSafe};
 use std::sync::atomic::{AtomicUsize, Ordering};
 use std::sync::{Arc, Condvar, Mutex, MutexGuard, PoisonError};
 use std::thread::{self, JoinHandle, LocalKey};
+use std::time::Duration;
+
+/// What somebody's code panicked with.
+pub(crate) type Payload = Box<dyn Any + Send>;
+
+/// Does it, and keeps what it panics with, unless something is kept. A payload that panics as it is dropped is let go.
+pub(crate) fn guarded<T>(panicked: &mut Option<Payload>, act: impl FnOnce() -> T) -> Option<T> {
+    match catch_unwind(AssertUnwindSafe(act)) {
+        Ok(did) => return Some(did),
+        Err(payload) if panicked.is_none() => *panicked = Some(payload),
+        Err(payload) => forget(payload),
+    }
+    None
+}
+
+/// Does it on a thread that goes on, whatever it panics with.
+pub(crate) fn quietly(act: impl FnOnce()) {
+    catch_unwind(AssertUnwindSafe(act)).unwrap_or_else(forget);
+}
+
+fn forget(payload: Payload) {
+    if let Err(again) = catch_unwind(AssertUnwindSafe(|| drop(payload))) {
+        std::mem::forget(again);
+    }
+}
 
 /// A turn of a request's work: it runs functions that are ready, one after the other, or polls the future of one. [`Spawn`] has an example.
 /// One that is dropped lets what it would have run fail with [`Refusal::Closed`](crate::Refusal::Closed).
@@ -89,9 +115,29 @@ pub trait Spawn: Send + Sync + 'static {
     /// panics, its caller does.
     fn spawn(&self, job: Job) -> Result<(), Job>;
 
-    /// How many jobs of one request it may run at a time.
+    /// How many jobs of one request it may run at a time. One whose function waits for a stage isn't counted meanwhile.
     fn parallelism(&self) -> usize {
         1
+    }
+
+    /// What tells it from other executors. A function that waits for a stage lets its thread run what that stage needs, where the thread is one
+    /// of the executor by which that is to be run. A type whose clones share their threads has to give the same number for all of them.
+    ///
+    /// ```
+    /// use std::sync::Arc;
+    /// #[derive(Clone)]
+    /// struct Queue(Arc<std::sync::mpsc::SyncSender<cf::Job>>);
+    /// impl cf::Spawn for Queue {
+    ///     fn spawn(&self, job: cf::Job) -> Result<(), cf::Job> {
+    ///         self.0.send(job).map_err(|refused| refused.0)
+    ///     }
+    ///     fn id(&self) -> usize {
+    ///         Arc::as_ptr(&self.0) as usize
+    ///     }
+    /// }
+    /// ```
+    fn id(&self) -> usize {
+        self as *const Self as *const () as usize
     }
 }
 
@@ -102,6 +148,10 @@ impl<S: Spawn + ?Sized> Spawn for Arc<S> {
 
     fn parallelism(&self) -> usize {
         (**self).parallelism()
+    }
+
+    fn id(&self) -> usize {
+        (**self).id()
     }
 }
 
@@ -118,8 +168,96 @@ thread_local! {
     static WORKER: Cell<u8> = const { Cell::new(CALLER) };
     /// Who this thread is at present: a worker while it runs a job, and else a caller.
     static HERE: Cell<u8> = const { Cell::new(CALLER) };
-    /// The requests whose functions this thread is running, the innermost last.
-    static RUNNING: RefCell<Vec<Arc<Core>>> = const { RefCell::new(Vec::new()) };
+    /// The requests whose functions this thread is running, the innermost last, and whether each runs by a job that is counted.
+    static RUNNING: RefCell<Vec<(Arc<Core>, bool)>> = const { RefCell::new(Vec::new()) };
+    /// Who serves the thread's executor while the thread waits.
+    static STANDS_IN: RefCell<StandIn> = const { RefCell::new(StandIn::Nobody) };
+}
+
+/// Who serves an executor while one of its threads waits.
+#[derive(Clone)]
+pub(crate) enum StandIn {
+    /// The thread itself has to, as far as that goes.
+    Nobody,
+    /// A spare thread of a pool.
+    Pool(Arc<Shared>),
+    /// A thread of tokio, to which the runtime hands over.
+    #[cfg(feature = "tokio")]
+    Tokio,
+}
+
+impl StandIn {
+    pub(crate) fn here() -> StandIn {
+        STANDS_IN.try_with(|stands_in| stands_in.borrow().clone()).unwrap_or(StandIn::Nobody)
+    }
+
+    pub(crate) fn is_there(&self) -> bool {
+        !matches!(self, StandIn::Nobody)
+    }
+
+    /// Whether the thread may run what a stage needs. One of tokio wakes no future that gave way on it before it is back in its runtime.
+    pub(crate) fn may_help(&self) -> bool {
+        match self {
+            #[cfg(feature = "tokio")]
+            StandIn::Tokio => false,
+            _ => true,
+        }
+    }
+
+    /// Lets this thread rest.
+    pub(crate) fn rest<T>(&self, rests: impl FnOnce() -> T) -> T {
+        match self {
+            #[cfg(feature = "tokio")]
+            StandIn::Tokio => tokio::task::block_in_place(rests),
+            _ => rests(),
+        }
+    }
+
+    /// Does something on a thread for which this one stands in as long as that takes.
+    pub(crate) fn during(self, act: impl FnOnce()) {
+        struct Back(StandIn);
+        impl Drop for Back {
+            fn drop(&mut self) {
+                let before = std::mem::replace(&mut self.0, StandIn::Nobody);
+                drop(STANDS_IN.try_with(|stands_in| stands_in.replace(before)));
+            }
+        }
+        let _back = STANDS_IN.try_with(|stands_in| Back(stands_in.replace(self)));
+        act();
+    }
+}
+
+/// A thread that does nothing but wait. The jobs that it is in aren't counted, so that others are asked for, and its pool may start a spare one.
+pub(crate) struct Resting {
+    cores: Vec<Arc<Core>>,
+    pool: Option<Arc<Shared>>,
+    /// Whether somebody else runs what is ready meanwhile.
+    pub(crate) is_stood_in: bool,
+}
+
+impl Resting {
+    pub(crate) fn new(stands_in: &StandIn) -> Resting {
+        let counted = |running: &RefCell<Vec<(Arc<Core>, bool)>>| running.borrow().iter().filter(|it| it.1).map(|it| Arc::clone(&it.0)).collect();
+        let cores: Vec<Arc<Core>> = RUNNING.try_with(counted).unwrap_or_default();
+        let (pool, is_stood_in) = match stands_in {
+            StandIn::Nobody => (None, false),
+            StandIn::Pool(pool) => (Some(Arc::clone(pool)), pool.rests()),
+            #[cfg(feature = "tokio")]
+            StandIn::Tokio => (None, true),
+        };
+        let resting = Resting { cores, pool, is_stood_in };
+        resting.cores.iter().for_each(Core::rests);
+        resting
+    }
+}
+
+impl Drop for Resting {
+    fn drop(&mut self) {
+        self.cores.iter().for_each(|core| core.goes_on());
+        if let Some(pool) = &self.pool {
+            pool.lock().running += 1;
+        }
+    }
 }
 
 /// The number of this thread as a worker: the next of all when it runs its first job, round and round.
@@ -152,9 +290,9 @@ pub(crate) fn as_worker<T>(act: impl FnOnce(u8) -> T) -> T {
     act(who)
 }
 
-/// Lets it be known that this thread runs functions of a request until what is given back is dropped.
-pub(crate) fn running(core: &Arc<Core>) -> Running {
-    let _ = RUNNING.try_with(|running| running.borrow_mut().push(Arc::clone(core)));
+/// Lets it be known that this thread runs functions of a request, by a job that is counted or otherwise, until what is given back is dropped.
+pub(crate) fn running(core: &Arc<Core>, is_job: bool) -> Running {
+    let _ = RUNNING.try_with(|running| running.borrow_mut().push((Arc::clone(core), is_job)));
     Running
 }
 
@@ -169,11 +307,11 @@ impl Drop for Running {
 
 /// The requests whose functions this thread is running, the innermost last.
 pub(crate) fn run_here() -> Vec<Arc<Core>> {
-    RUNNING.try_with(|running| running.borrow().clone()).unwrap_or_default()
+    RUNNING.try_with(|running| running.borrow().iter().map(|it| Arc::clone(&it.0)).collect()).unwrap_or_default()
 }
 
 /// What comes while the like of it is done waits here for its end, so that the stack stays flat.
-type Row<T> = RefCell<Option<VecDeque<T>>>;
+pub(crate) type Row<T> = RefCell<Option<VecDeque<T>>>;
 
 thread_local! {
     static INLINE: Row<Job> = const { RefCell::new(None) };
@@ -181,7 +319,7 @@ thread_local! {
 }
 
 /// Does it, and what comes meanwhile, one after another. One that panics doesn't keep the others from being done.
-fn in_turn<T>(row: &'static LocalKey<Row<T>>, first: T, act: impl Fn(T)) {
+pub(crate) fn in_turn<T>(row: &'static LocalKey<Row<T>>, first: T, act: impl Fn(T)) {
     let mut next = Some(first);
     // A thread that ends has no row any more, and does what comes at once.
     let _ = row.try_with(|row| match &mut *row.borrow_mut() {
@@ -190,7 +328,7 @@ fn in_turn<T>(row: &'static LocalKey<Row<T>>, first: T, act: impl Fn(T)) {
     });
     let mut panicked = None;
     while let Some(it) = next {
-        panicked = catch_unwind(AssertUnwindSafe(|| act(it))).err().or(panicked);
+        guarded(&mut panicked, || act(it));
         let pop = |row: &Row<T>| {
             let mut row = row.borrow_mut();
             let next = row.as_mut().and_then(VecDeque::pop_front);
@@ -222,9 +360,15 @@ impl Spawn for Inline {
         in_turn(&INLINE, job, Job::run);
         Ok(())
     }
+
+    fn id(&self) -> usize {
+        1
+    }
 }
 
 /// Threads of std. Clones are the same threads. Dropping the last clone lets them end once nothing waits, and waits for them.
+///
+/// While a function waits for a stage, a spare thread runs others in its place, so that as many go on as the pool has threads.
 ///
 /// ```
 /// let pool = cf::Pool::new(4);
@@ -235,98 +379,158 @@ impl Spawn for Inline {
 pub struct Pool(Arc<Threads>);
 
 #[derive(Debug)]
-struct Threads {
-    shared: Arc<Shared>,
-    threads: Vec<JoinHandle<()>>,
-}
+struct Threads(Arc<Shared>);
 
-#[derive(Debug, Default)]
-struct Shared {
+#[derive(Debug)]
+pub(crate) struct Shared {
     queue: Mutex<Queue>,
     came: Condvar,
+    /// How many jobs run at a time.
+    most: usize,
 }
 
 #[derive(Debug, Default)]
 struct Queue {
     jobs: VecDeque<Job>,
+    /// Threads that run a job and don't rest in it.
+    running: usize,
+    /// Threads that have no job, those that have just been started among them.
     idle: usize,
+    threads: Vec<JoinHandle<()>>,
     closed: bool,
 }
+
+/// How long a spare thread stays that has nothing to do.
+const SPARE: Duration = Duration::from_secs(1);
 
 impl Shared {
     fn lock(&self) -> MutexGuard<'_, Queue> {
         self.queue.lock().unwrap_or_else(PoisonError::into_inner)
     }
 
+    /// Starts a thread more, unless the system refuses it. The next job that comes tries again.
+    fn start(self: &Arc<Shared>, queue: &mut Queue) -> bool {
+        let shared = Arc::clone(self);
+        let serves = move || StandIn::Pool(Arc::clone(&shared)).during(|| shared.serve());
+        let started = thread::Builder::new().name(format!("cf {}", queue.threads.len())).spawn(serves);
+        queue.idle += usize::from(started.is_ok());
+        let is_started = started.is_ok();
+        queue.threads.extend(started);
+        is_started
+    }
+
+    /// Sees to it that a thread comes for each job that may run now: one that is idle has to be woken, or one is started. Whether one is to be
+    /// woken; an error where none comes.
+    fn hire(self: &Arc<Shared>, queue: &mut Queue) -> Result<bool, ()> {
+        let wanted = queue.jobs.len().min(self.most.saturating_sub(queue.running));
+        if wanted > queue.idle && !self.start(queue) && queue.running == 0 && queue.idle == 0 {
+            return Err(());
+        }
+        Ok(wanted > 0)
+    }
+
+    /// A thread rests in its job, so another may run one. Whether there is one for what is queued.
+    fn rests(self: &Arc<Shared>) -> bool {
+        let mut queue = self.lock();
+        queue.running -= 1;
+        let hired = self.hire(&mut queue);
+        drop(queue);
+        if hired == Ok(true) {
+            self.came.notify_one();
+        }
+        hired.is_ok()
+    }
+
     fn serve(&self) {
         let mut queue = self.lock();
         loop {
-            if let Some(job) = queue.jobs.pop_front() {
+            let next = if queue.running < self.most { queue.jobs.pop_front() } else { None };
+            if let Some(job) = next {
+                queue.idle -= 1;
+                queue.running += 1;
                 drop(queue);
                 // A waker that panics doesn't end the thread.
-                let _ = catch_unwind(AssertUnwindSafe(|| job.run()));
+                quietly(|| job.run());
                 queue = self.lock();
-            } else if queue.closed {
-                return;
-            } else {
+                queue.running -= 1;
                 queue.idle += 1;
+            } else if queue.closed && queue.jobs.is_empty() {
+                break;
+            } else if queue.idle + queue.running <= self.most {
                 queue = self.came.wait(queue).unwrap_or_else(PoisonError::into_inner);
-                queue.idle -= 1;
+            } else {
+                let (woken, waited) = self.came.wait_timeout(queue, SPARE).unwrap_or_else(PoisonError::into_inner);
+                queue = woken;
+                if waited.timed_out() && queue.idle + queue.running > self.most && queue.jobs.is_empty() {
+                    let me = thread::current().id();
+                    queue.threads.retain(|it| it.thread().id() != me);
+                    break;
+                }
             }
         }
+        queue.idle -= 1;
+        drop(queue);
+        // Others may rest until the last job is done.
+        self.came.notify_all();
     }
 }
 
 impl Pool {
-    /// So many threads, at least one. It takes some 20 µs a thread.
-    ///
-    /// # Panics
-    ///
-    /// Where the system starts no more threads.
+    /// So many threads, at least one. It takes some 20 µs a thread. Those that the system doesn't start now are tried again when jobs come.
     ///
     /// ```
     /// let pool = cf::Pool::new(2);
     /// assert_eq!(cf::Spawn::parallelism(&pool), 2);
     /// ```
     pub fn new(threads: usize) -> Pool {
-        let shared = Arc::new(Shared::default());
-        let start = |k: usize| {
-            let shared = Arc::clone(&shared);
-            thread::Builder::new().name(format!("cf {k}")).spawn(move || shared.serve()).expect("a thread can be started")
-        };
-        let threads = (0..threads.max(1)).map(start).collect();
-        Pool(Arc::new(Threads { shared, threads }))
+        let shared = Arc::new(Shared { queue: Mutex::default(), came: Condvar::new(), most: threads.max(1) });
+        let mut queue = shared.lock();
+        let _ = (0..shared.most).all(|_| shared.start(&mut queue));
+        drop(queue);
+        Pool(Arc::new(Threads(shared)))
     }
 }
 
 impl Spawn for Pool {
+    /// A job is given back where no thread is there, and the system starts none.
     fn spawn(&self, job: Job) -> Result<(), Job> {
-        let mut queue = self.0.shared.lock();
+        let shared = &self.0 .0;
+        let mut queue = shared.lock();
         if queue.closed {
             return Err(job);
         }
         queue.jobs.push_back(job);
-        let wakes = queue.idle > 0;
+        let hired = shared.hire(&mut queue);
+        let back = if hired.is_err() { queue.jobs.pop_back() } else { None };
         drop(queue);
-        if wakes {
-            self.0.shared.came.notify_one();
+        if hired == Ok(true) {
+            shared.came.notify_one();
         }
-        Ok(())
+        back.map_or(Ok(()), Err)
     }
 
     fn parallelism(&self) -> usize {
-        self.0.threads.len()
+        self.0 .0.most
+    }
+
+    fn id(&self) -> usize {
+        Arc::as_ptr(&self.0) as usize
     }
 }
 
 impl Drop for Threads {
     fn drop(&mut self) {
-        self.shared.lock().closed = true;
-        self.shared.came.notify_all();
+        self.0.lock().closed = true;
+        self.0.came.notify_all();
         let me = thread::current().id();
-        // The last clone may go with the last request, on one of the threads themselves.
-        for thread in self.threads.drain(..).filter(|it| it.thread().id() != me) {
-            let _ = thread.join();
+        // The last clone may go with the last request, on one of the threads themselves, and a thread that rests may need a spare one yet.
+        loop {
+            let next = self.0.lock().threads.pop();
+            match next {
+                None => return,
+                Some(thread) if thread.thread().id() == me => {}
+                Some(thread) => drop(thread.join()),
+            }
         }
     }
 }

@@ -5,9 +5,10 @@ use crate::error::{BoxError, Error, Refusal};
 use crate::help::Helper;
 use crate::name::Made;
 use crate::request::{later, Request};
-use crate::spawn::here;
+use crate::spawn::{here, Resting, StandIn, CALLER};
 use crate::value::{self, Call, Gave, Given, Val};
 use crate::word::Form;
+use sealed::Sealed;
 use std::borrow::Cow;
 use std::fmt;
 use std::future::Future;
@@ -177,29 +178,29 @@ impl<T> Stage<T> {
         if let Some(told) = self.told() {
             return Some(told);
         }
+        let stage = self.at.ok()?;
         let parked = Arc::new(Parked { thread: thread::current(), is_woken: AtomicBool::new(false) });
         let waker = Waker::from(Arc::clone(&parked));
         let mut waiting = self.clone();
-        let (mut context, mut helper) = (Context::from_waker(&waker), Helper::new(&waker));
+        let (mut context, mut helper, stands_in) = (Context::from_waker(&waker), Helper::new(&waker), StandIn::here());
         loop {
             if let Poll::Ready(told) = waiting.poll_value(&mut context) {
                 return Some(told);
             }
             #[cfg(test)]
             crate::search::turn();
-            if !until.map_or(false, |until| Instant::now() >= until) && helper.helps(&self.core) {
+            // How long a function takes isn't known, so none is begun where the wait has to end at a moment.
+            let may_help = until.is_none() && stands_in.may_help();
+            if may_help && helper.helps(&self.core, stage, stands_in.is_there()) {
                 continue;
             }
-            while !parked.is_woken.swap(false, Ordering::SeqCst) {
-                #[cfg(test)]
-                if parked.is_searched() {
-                    continue;
-                }
-                match until.map(|until| until.saturating_duration_since(Instant::now())) {
-                    None => thread::park(),
-                    Some(Duration::ZERO) => return self.told(),
-                    Some(left) => thread::park_timeout(left),
-                }
+            let resting = (here() != CALLER).then(|| Resting::new(&stands_in));
+            let is_alone = stands_in.is_there() && resting.as_ref().map_or(false, |resting| !resting.is_stood_in);
+            if may_help && is_alone && helper.helps(&self.core, stage, false) {
+                continue;
+            }
+            if !stands_in.rest(|| parked.rest(until)) {
+                return self.told();
             }
         }
     }
@@ -218,8 +219,12 @@ impl<T> Stage<T> {
     }
 
     fn behind_both<O: Send + Sync + 'static, U>(&self, form: Form, other: &Stage<O>, call: Call, made: Made) -> Stage<U> {
-        let both = self.at.and_then(|first| Ok([first, self.request().adopt(other).at?]));
-        Stage::new(&self.core, both.and_then(|of| self.core.attach(here(), form, &of, Some(call), made)))
+        let other = self.at.map(|_| other.adopted(&self.request()));
+        let both = self.at.and_then(|first| Ok([first, other?.at?]));
+        let at = both.and_then(|of| self.core.attach(here(), form, &of, Some(call), made));
+        let relay = other.ok().filter(|other| other.is_relay).and_then(|other| other.at.ok());
+        self.core.let_go(at, relay.into_iter().collect());
+        Stage::new(&self.core, at)
     }
 
     fn composing<U>(&self, form: Form, call: Call, made: Made) -> Stage<U> {
@@ -233,8 +238,24 @@ struct Parked {
     is_woken: AtomicBool,
 }
 
-#[cfg(test)]
 impl Parked {
+    /// Rests until it is woken, or up to a moment. Whether it is woken.
+    fn rest(self: &Arc<Parked>, until: Option<Instant>) -> bool {
+        while !self.is_woken.swap(false, Ordering::SeqCst) {
+            #[cfg(test)]
+            if self.is_searched() {
+                continue;
+            }
+            match until.map(|until| until.saturating_duration_since(Instant::now())) {
+                None => thread::park(),
+                Some(Duration::ZERO) => return false,
+                Some(left) => thread::park_timeout(left),
+            }
+        }
+        true
+    }
+
+    #[cfg(test)]
     fn is_searched(self: &Arc<Parked>) -> bool {
         let parked = Arc::clone(self);
         crate::search::rest(move || parked.is_woken.load(Ordering::SeqCst))
@@ -482,7 +503,7 @@ impl<T: Send + Sync + 'static> Stage<T> {
         self.told().map(|told| told.map(value::arc_of))
     }
 
-    /// Blocks the thread until it is settled, for values that can't be cloned. A worker runs other functions meanwhile.
+    /// Blocks the thread until it is settled, for values that can't be cloned, as [`wait`](Stage::wait) does.
     ///
     /// # Errors
     ///
@@ -522,8 +543,8 @@ impl<T: Clone + Send + Sync + 'static> Stage<T> {
         self.told().map(cloned)
     }
 
-    /// Blocks the thread until it is settled. A worker, which runs a function that calls this, runs functions meanwhile that it may be waiting
-    /// for, so that a pool of one thread goes on.
+    /// Blocks the thread until it is settled. Where a function calls this, its thread runs what the stage needs, and a pool starts a spare thread
+    /// for the rest, so that a pool of one thread goes on.
     ///
     /// # Errors
     ///
@@ -537,7 +558,8 @@ impl<T: Clone + Send + Sync + 'static> Stage<T> {
         self.wait_value(None).map_or(Err(Error::BadAnswer), cloned)
     }
 
-    /// Blocks the thread until it is settled, but no longer than this: None where it isn't then. The stage goes on.
+    /// Blocks the thread until it is settled, but no longer than this: None where it isn't then. The stage goes on. The thread runs no function
+    /// meanwhile, since it can't know how long that would take.
     ///
     /// ```
     /// use std::time::Duration;
@@ -643,9 +665,18 @@ impl<T> fmt::Debug for Stage<T> {
 pub(crate) mod sealed {
     use super::{Refusal, Request};
 
+    /// A stage as another's source.
+    #[derive(Clone, Copy, Debug)]
+    pub struct Adopted {
+        /// Its number in the request.
+        pub at: Result<u16, Refusal>,
+        /// Whether it was made to stand for a stage of another request.
+        pub is_relay: bool,
+    }
+
     pub trait Sealed {
-        /// The number of the stage of this request that ends as this one.
-        fn adopted(&self, by: &Request) -> Result<u16, Refusal>;
+        /// The stage of this request that ends as this one.
+        fn adopted(&self, by: &Request) -> Adopted;
     }
 }
 
@@ -660,8 +691,8 @@ pub(crate) mod sealed {
 pub trait AnyStage: sealed::Sealed {}
 
 impl<T: Send + Sync + 'static> sealed::Sealed for Stage<T> {
-    fn adopted(&self, by: &Request) -> Result<u16, Refusal> {
-        by.adopt(self).at
+    fn adopted(&self, by: &Request) -> sealed::Adopted {
+        sealed::Adopted { at: by.adopt(self).at, is_relay: !Arc::ptr_eq(&self.core, &by.0) }
     }
 }
 

@@ -1,7 +1,7 @@
 //! Futures that stages' functions gave, and their wakers.
 use crate::core::Core;
 use crate::error::{Error, Panic, Refusal};
-use crate::spawn::{running, Job, Turn, CLOCK};
+use crate::spawn::{quietly, running, Job, Turn, CLOCK};
 use crate::value::{Gave, Later};
 use std::panic::{catch_unwind, resume_unwind, AssertUnwindSafe};
 use std::sync::atomic::{AtomicBool, AtomicU8, Ordering};
@@ -53,10 +53,13 @@ impl Polling {
 
     pub(crate) fn poll(self: Arc<Polling>) {
         let (core, task) = (&self.core, &self.task);
-        let _running = running(core);
         #[cfg(test)]
         crate::search::turn();
-        task.at.store(POLLED, Ordering::SeqCst);
+        // A worker that waits may have come before the job that was to do it.
+        if task.at.compare_exchange(QUEUED, POLLED, Ordering::SeqCst, Ordering::SeqCst).is_err() {
+            return;
+        }
+        let _running = running(core, false);
         let waker = Waker::from(Arc::clone(&self));
         let mut held = task.future.lock().unwrap_or_else(PoisonError::into_inner);
         let polled = match held.as_mut() {
@@ -76,7 +79,7 @@ impl Polling {
                 crate::search::turn();
                 if task.at.compare_exchange(POLLED, RESTS, Ordering::SeqCst, Ordering::SeqCst).is_err() {
                     task.at.store(QUEUED, Ordering::SeqCst);
-                    core.spawn(Job::new(Turn::Poll(Arc::clone(&self))));
+                    self.queue();
                 }
                 return;
             }
@@ -85,8 +88,20 @@ impl Polling {
         };
         let ended = held.take();
         drop(held);
-        let _ = catch_unwind(AssertUnwindSafe(|| drop(ended)));
+        quietly(|| drop(ended));
         core.end(task.who, task.stage, gave);
+    }
+
+    /// Polls a future for which a job is to come yet.
+    pub(crate) fn again(core: &Arc<Core>, task: Arc<Task>) {
+        Arc::new(Polling { core: Arc::clone(core), task }).poll();
+    }
+
+    /// Lets a job poll it, or a worker that waits.
+    fn queue(self: Arc<Polling>) {
+        let core = Arc::clone(&self.core);
+        core.spawn(Job::new(Turn::Poll(self)));
+        core.wake_helpers();
     }
 
     /// Lets its stage fail, since nobody polls it any more.
@@ -96,6 +111,10 @@ impl Polling {
 }
 
 impl Task {
+    pub(crate) fn is_queued(&self) -> bool {
+        self.at.load(Ordering::SeqCst) == QUEUED
+    }
+
     /// Drops the future, and gives its claim back. While it is polled, by this thread too, the poll's end does.
     pub(crate) fn stop(&self, core: &Arc<Core>) {
         #[cfg(test)]
@@ -129,8 +148,7 @@ impl Wake for Polling {
             _ => None,
         };
         if self.task.at.fetch_update(Ordering::SeqCst, Ordering::SeqCst, woken) == Ok(RESTS) {
-            let core = Arc::clone(&self.core);
-            core.spawn(Job::new(Turn::Poll(self)));
+            self.queue();
         }
     }
 }

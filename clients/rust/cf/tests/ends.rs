@@ -9,7 +9,7 @@ use std::task::{Context, Wake, Waker};
 use std::time::Duration;
 
 /// Longer than a machine at its limit takes; what never comes is ended by who runs the tests.
-const LONG: Duration = Duration::from_secs(200);
+const LONG: Duration = Duration::from_secs(30);
 
 struct Panics;
 
@@ -69,11 +69,10 @@ fn a_drop_that_panics_keeps_nobody_from_being_told() {
     }
     let request = Request::new("panics", Inline);
     let source = request.promise::<i32>();
-    let held = Drops;
-    let behind = source.clone().then(move |_| drop(held));
+    let behind = [Drops, Drops].map(|held| source.clone().then(move |_| drop(held)));
     let other = source.clone().handle(|told| told.is_err());
     assert!(catch_unwind(AssertUnwindSafe(|| source.cancel())).is_err());
-    assert!(behind.wait().unwrap_err().is_cancelled());
+    assert!(behind.iter().all(|behind| behind.wait().unwrap_err().is_cancelled()));
     assert!(other.wait().unwrap());
 }
 
@@ -93,11 +92,75 @@ fn a_job_that_is_dropped_lets_what_is_ready_fail() {
     assert!(!stage.is_settled());
     let jobs = std::mem::take(&mut *keeps.0.lock().unwrap());
     drop(jobs);
+    assert!(stage.is_settled());
     assert!(matches!(stage.wait(), Err(Error::Refused(Refusal::Closed))));
     let again = request.supply(|| 2);
     let jobs = std::mem::take(&mut *keeps.0.lock().unwrap());
     jobs.into_iter().for_each(Job::run);
     assert_eq!(again.wait().unwrap(), 2);
+}
+
+/// Keeps each job, and takes two of a request at a time.
+#[derive(Clone, Default)]
+struct Two(Arc<Mutex<Vec<Job>>>);
+
+impl Spawn for Two {
+    fn spawn(&self, job: Job) -> Result<(), Job> {
+        self.0.lock().unwrap().push(job);
+        Ok(())
+    }
+
+    fn parallelism(&self) -> usize {
+        2
+    }
+}
+
+/// The other job is there yet, and runs what both were to run.
+#[test]
+fn a_job_that_is_dropped_leaves_the_rest_to_the_other() {
+    let two = Two::default();
+    let request = Request::new("dropped", two.clone());
+    let stages = [1, 2, 3].map(|n| request.supply(move || n));
+    let mut jobs = std::mem::take(&mut *two.0.lock().unwrap());
+    assert_eq!(jobs.len(), 2);
+    drop(jobs.pop());
+    assert!(stages.iter().all(|stage| !stage.is_settled()));
+    jobs.pop().unwrap().run();
+    assert_eq!(stages.map(|stage| stage.wait().unwrap()), [1, 2, 3]);
+}
+
+/// The job that was to poll a future is dropped, and so is one that was to poll it again.
+#[test]
+fn a_job_of_a_future_that_is_dropped_lets_it_fail() {
+    let two = Two::default();
+    let request = Request::new("dropped", two.clone());
+    let take = || two.0.lock().unwrap().pop().expect("a job was asked for");
+    let (alive, gate) = (Arc::new(()), request.promise::<i32>());
+    let (held, awaits) = (alive.clone(), gate.clone());
+    let future = request.spawn(async move {
+        let _held = held;
+        awaits.await
+    });
+    take().run();
+    assert!(!future.is_settled());
+    gate.complete(1).unwrap();
+    drop(take());
+    assert!(future.is_settled());
+    assert!(matches!(future.wait(), Err(Error::Refused(Refusal::Closed))));
+    assert_eq!(Arc::strong_count(&alive), 1, "the future is dropped");
+    assert!(request.history().comes_again());
+}
+
+/// More functions than a job runs, behind one stage, and no more than one job at a time.
+#[test]
+fn a_job_that_ends_leaves_no_function() {
+    let one = Pool::new(1);
+    let gate = Request::new("many", one).promise::<usize>();
+    let stages: Vec<Stage<usize>> = (0..200).map(|k| gate.clone().then(move |n| n + k)).collect();
+    gate.complete(1).unwrap();
+    for (k, stage) in stages.iter().enumerate() {
+        assert_eq!(stage.wait_timeout(LONG).expect("its job has ended").unwrap(), k + 1);
+    }
 }
 
 #[test]

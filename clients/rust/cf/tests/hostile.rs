@@ -1,6 +1,6 @@
 //! What breaks futures elsewhere: wakers that are called in the midst of a poll, executors and clocks that panic, values that look at a
 //! request while it drops them, and chains of requests that are longer than a stack.
-use cf::{Alarm, Clock, Error, HandClock, Inline, Job, Pool, Request, Spawn, Stage};
+use cf::{Alarm, Clock, Error, HandClock, Inline, Job, Pool, Refusal, Request, Spawn, Stage};
 use std::cell::RefCell;
 use std::future::Future;
 use std::panic::{catch_unwind, AssertUnwindSafe};
@@ -90,30 +90,6 @@ fn a_future_wakes_itself_while_it_is_polled() {
         assert_eq!(Request::new("yields", Directly).spawn(Yields(20)).wait().unwrap(), 5);
         assert_eq!(Request::new("yields", Inline).spawn(Yields(2000)).wait().unwrap(), 5);
         assert_eq!(Request::new("yields", Pool::new(2)).spawn(Yields(2000)).wait().unwrap(), 5);
-    });
-}
-
-/// A worker that waits runs another's function, which gives a future that wakes itself: no queue of an executor is around it.
-#[test]
-fn a_future_that_a_waiting_worker_polls_wakes_itself() {
-    comes_back(|| {
-        let inline = Request::new("inline", Inline);
-        let gate = inline.promise::<i32>();
-        let (begun, begins) = channel();
-        let (ends, end) = channel::<()>();
-        let end = Mutex::new(end);
-        let slow = gate.clone().then(move |_| {
-            begun.send(()).unwrap();
-            end.lock().unwrap().recv().unwrap();
-        });
-        let yields = gate.clone().then_async(|_| Yields(3));
-        let opens = thread::spawn(move || gate.complete(1));
-        begins.recv().unwrap();
-        let told = Request::new("waits", Pool::new(1)).supply(move || yields.wait().unwrap());
-        assert_eq!(told.wait().unwrap(), 5);
-        ends.send(()).unwrap();
-        slow.wait().unwrap();
-        opens.join().unwrap().unwrap();
     });
 }
 
@@ -372,7 +348,7 @@ fn a_worker_that_waits_until_a_moment_keeps_to_it() {
     });
 }
 
-/// Values whose drops panic stand in alarms that nobody wants any more.
+/// Values whose drops panic would have been given later.
 #[test]
 fn alarms_are_swept_whatever_their_values_do() {
     struct Drops(bool);
@@ -386,7 +362,8 @@ fn alarms_are_swept_whatever_their_values_do() {
         let late = request.promise::<i32>().or_timeout(Duration::from_millis(300));
         for k in 0..300 {
             let stage = request.promise().complete_on_timeout(Drops(k % 5 == 0), Duration::from_secs(3600));
-            stage.cancel();
+            assert_eq!(catch_unwind(AssertUnwindSafe(|| stage.cancel())).is_err(), k % 5 == 0);
+            assert!(stage.is_settled());
         }
         assert!(late.wait().unwrap_err().is_timeout());
     });
@@ -530,4 +507,140 @@ fn a_stage_is_polled_after_its_end() {
     drop(stage);
     other.complete(2).unwrap();
     assert_eq!(counts.count(), 2);
+}
+
+/// Requests each of which has the one before by a value, by a function that waits, or by a future.
+#[test]
+fn a_long_row_of_requests_that_hold_one_another_is_dropped() {
+    for how in 0..3 {
+        comes_back(move || {
+            let request = || Request::try_new("row", Arc::new(Inline), Arc::new(HandClock::new()), 2).unwrap();
+            let mut last = request().promise::<i32>();
+            for _ in 0..5_000 {
+                let (next, before) = (request(), last);
+                last = next.promise();
+                match how {
+                    0 => assert!(next.promise().complete(Some(before)).is_ok()),
+                    1 => drop(last.clone().then(move |_| before.is_settled())),
+                    _ => drop(next.spawn(async move { before.await.map(|n| n + 1) })),
+                }
+            }
+            drop(last);
+        });
+    }
+}
+
+/// What is adopted for a stage alone goes with that stage, though the stage of the other request stays: a shutdown that many requests look at.
+#[test]
+fn a_stage_that_is_settled_keeps_no_relay() {
+    let long = Request::new("long", Inline);
+    let (shutdown, config) = (long.promise::<i32>(), long.promise::<i32>());
+    type Ends = fn(&Request, &Stage<i32>, &Stage<i32>);
+    let ways: [Ends; 9] = [
+        |r, shutdown, _| assert_eq!(r.first_of([shutdown, &r.supply(|| 1)]).wait().unwrap(), 1),
+        |r, shutdown, config| {
+            let work = r.promise();
+            let first = r.first_of([shutdown, config, &work]);
+            work.complete(2).unwrap();
+            assert_eq!(first.wait().unwrap(), 2);
+        },
+        |r, shutdown, _| assert_eq!(r.supply(|| 3).either(shutdown, |n| *n).wait().unwrap(), 3),
+        |r, shutdown, _| assert!(r.promise::<i32>().combine(shutdown, |a, b| a + b).cancel()),
+        |r, shutdown, config| assert!(r.gather([shutdown, config]).fail("no")),
+        |r, shutdown, config| assert!(r.all_of([shutdown as &dyn cf::AnyStage, config]).cancel()),
+        |r, shutdown, _| {
+            let of = shutdown.clone();
+            let composed = r.supply(|| 1).compose(move |_| of);
+            assert!(!composed.is_settled() && composed.complete(4).is_ok());
+        },
+        |r, shutdown, _| {
+            // The request is full, but for the relay.
+            let first = r.promise::<i32>();
+            (1..4095).for_each(|_| drop(r.promise::<i32>()));
+            assert!(matches!(first.either(shutdown, |n| *n).wait(), Err(Error::Refused(Refusal::Full))));
+        },
+        |r, shutdown, _| {
+            drop(r.gather([shutdown]));
+            r.cancel_all();
+        },
+    ];
+    for (k, way) in ways.into_iter().enumerate() {
+        let alive = Arc::new(());
+        let request = Request::new("short", Inline);
+        request.promise().complete(Arc::clone(&alive)).unwrap();
+        way(&request, &shutdown, &config);
+        assert!(request.history().comes_again());
+        drop(request);
+        assert_eq!(Arc::strong_count(&alive), 1, "way {k}");
+    }
+    // What isn't settled goes on.
+    let r = Request::new("waits", Inline);
+    let (first, both) = (r.first_of([&shutdown, &r.promise()]), r.gather([&shutdown, &config]));
+    shutdown.complete(7).unwrap();
+    config.complete(8).unwrap();
+    assert_eq!((first.wait().unwrap(), both.wait().unwrap()), (7, vec![7, 8]));
+}
+
+/// A waker that looks at the request as it is dropped: one that is replaced, one whose handle goes, and one that is woken.
+#[test]
+fn a_waker_is_dropped_without_the_lock() {
+    struct Looks(Stage<i32>, Arc<AtomicUsize>);
+    impl Wake for Looks {
+        fn wake(self: Arc<Self>) {}
+    }
+    impl Drop for Looks {
+        fn drop(&mut self) {
+            let _ = self.0.peek();
+            self.1.fetch_add(1, Ordering::SeqCst);
+        }
+    }
+    comes_back(|| {
+        let request = Request::new("looks", Inline);
+        let (stage, gone) = (request.promise::<i32>(), Arc::new(AtomicUsize::new(0)));
+        let waker = || Waker::from(Arc::new(Looks(request.promise(), Arc::clone(&gone))));
+        let (mut handle, mut other) = (stage.clone(), stage.clone());
+        assert!(!poll(&mut handle, &waker()) && !poll(&mut handle, &waker()));
+        assert_eq!(gone.load(Ordering::SeqCst), 1);
+        assert!(!poll(&mut other, &waker()));
+        drop(handle);
+        assert_eq!(gone.load(Ordering::SeqCst), 2);
+        stage.complete(1).unwrap();
+        assert_eq!(gone.load(Ordering::SeqCst), 3);
+        assert!(poll(&mut other, &waker()));
+    });
+}
+
+/// Several things panic with what panics as it is dropped. All else is told, and the first is passed on.
+#[test]
+fn payloads_that_panic_keep_nobody_from_being_told() {
+    struct Drops;
+    impl Drop for Drops {
+        fn drop(&mut self) {
+            panic!("in a payload");
+        }
+    }
+    struct Throws;
+    impl Wake for Throws {
+        fn wake(self: Arc<Self>) {
+            std::panic::panic_any(Drops);
+        }
+    }
+    comes_back(|| {
+        let request = Request::new("payloads", Inline);
+        let (gate, counts) = (request.promise::<i32>(), Arc::new(Counts::default()));
+        let mut handles = [(); 5].map(|()| gate.clone());
+        for (k, handle) in handles.iter_mut().enumerate() {
+            let waker = if k == 2 { Waker::from(Arc::clone(&counts)) } else { Waker::from(Arc::new(Throws)) };
+            assert!(!poll(handle, &waker));
+        }
+        let behind = gate.clone().then(|n| n + 1);
+        let payload = catch_unwind(AssertUnwindSafe(|| gate.complete(1))).unwrap_err();
+        assert!(payload.is::<Drops>());
+        std::mem::forget(payload);
+        assert_eq!((counts.count(), behind.wait().unwrap()), (1, 2));
+        // Who was called in the midst of this is a caller again.
+        assert!(request.promise::<i32>().cancel());
+        let history = request.history().to_string();
+        assert!(history.trim_end().lines().rev().any(|line| line.contains("caller") && line.contains("cancels")), "{history}");
+    });
 }

@@ -1,5 +1,5 @@
 //! Stages under tokio, and in the combinators of the crate `futures`.
-use cf::{Blocking, Error, Request, Stage, SystemClock, Tasks, TokioClock};
+use cf::{Blocking, Error, Pool, Refusal, Request, Stage, SystemClock, Tasks, TokioClock};
 use futures::future::{join_all, select, try_join_all, Either};
 use futures::stream::{FuturesUnordered, StreamExt};
 use futures::FutureExt;
@@ -203,4 +203,107 @@ fn stages_on_rayon() {
     let request = Request::try_new("rayon", pool, Arc::new(SystemClock), 600).unwrap();
     let numbers: Vec<Stage<u64>> = (0..500).map(|k| request.supply(move || k)).collect();
     assert_eq!(request.gather(&numbers).then(|all| all.iter().sum::<u64>()).wait().unwrap(), 124_750);
+}
+
+/// As many functions as there are threads wait, each for a future that goes on by the runtime's timers.
+#[test]
+fn all_threads_of_a_runtime_wait_for_futures() {
+    for threads in [1, 2] {
+        let runtime = tokio::runtime::Builder::new_multi_thread().worker_threads(threads).enable_all().build().unwrap();
+        let all = Arc::new(std::sync::Barrier::new(threads));
+        let waits = |_| {
+            let (request, all) = (Request::new("waits", Tasks::new(runtime.handle().clone(), 8)), all.clone());
+            let by = request.clone();
+            request.supply(move || {
+                all.wait();
+                let future = by.spawn(async {
+                    tokio::task::yield_now().await;
+                    sleep(SHORT).await;
+                    Ok::<_, Error>(1)
+                });
+                future.wait().unwrap() + by.supply(|| 2).wait_timeout(LONG).unwrap().unwrap()
+            })
+        };
+        let stages: Vec<Stage<i32>> = (0..threads).map(waits).collect();
+        assert!(stages.iter().all(|stage| stage.wait_timeout(LONG).expect("it rests for good").unwrap() == 3));
+    }
+}
+
+/// A runtime of one thread can't hand it over: what the stage needs is run by who waits.
+#[test]
+fn a_runtime_of_one_thread_waits_for_functions() {
+    let runtime = tokio::runtime::Builder::new_current_thread().enable_all().build().unwrap();
+    let request = Request::new("waits", Tasks::new(runtime.handle().clone(), 8));
+    let by = request.clone();
+    let told = request.supply(move || by.supply(|| 20).then_async(|n| async move { Ok::<_, Error>(*n + 1) }).wait().unwrap());
+    assert_eq!(runtime.block_on(async { timeout(LONG, told).await }).unwrap().unwrap(), 21);
+}
+
+/// A function on a pool's thread waits for what has to run on threads of tokio.
+#[test]
+fn functions_and_futures_of_tokio_run_on_its_threads() {
+    let runtime = tokio::runtime::Builder::new_multi_thread().worker_threads(1).enable_all().build().unwrap();
+    let pool = Pool::new(2);
+    for _ in 0..50 {
+        let (blocking, tasks) = (Blocking::new(runtime.handle().clone(), 8), Tasks::new(runtime.handle().clone(), 8));
+        let told = Request::new("outer", pool.clone()).supply(move || {
+            let asked = Request::new("tasks", tasks).spawn(async {
+                sleep(Duration::from_micros(10)).await;
+                Ok::<_, Error>(Handle::try_current().is_ok())
+            });
+            asked.wait().unwrap() && Request::new("blocking", blocking).supply(|| Handle::try_current().is_ok()).wait().unwrap()
+        });
+        assert!(told.wait_timeout(LONG).expect("it rests for good").unwrap());
+    }
+}
+
+#[test]
+fn all_threads_of_rayon_wait() {
+    let pool = Arc::new(rayon::ThreadPoolBuilder::new().num_threads(1).build().unwrap());
+    let (request, other) = (Request::new("waits", pool.clone()), Request::new("other", pool));
+    let by = request.clone();
+    let told = request.supply(move || {
+        let future = by.spawn(async {
+            let mut is_first = true;
+            std::future::poll_fn(|cx| {
+                if std::mem::take(&mut is_first) {
+                    cx.waker().wake_by_ref();
+                    return std::task::Poll::Pending;
+                }
+                std::task::Poll::Ready(())
+            })
+            .await;
+            Ok::<_, Error>(1)
+        });
+        future.wait().unwrap() + by.adopt(&other.supply(|| 4)).then(|n| n + 1).wait().unwrap()
+    });
+    assert_eq!(told.wait_timeout(LONG).expect("it rests for good").unwrap(), 6);
+}
+
+/// What runs on a runtime, and what waits for its clock, fails with it, at whatever moment that comes.
+#[test]
+fn nothing_waits_for_a_runtime_that_is_gone() {
+    let runtime = tokio::runtime::Builder::new_multi_thread().worker_threads(2).enable_all().build().unwrap();
+    let handle = runtime.handle().clone();
+    let clock = Arc::new(TokioClock::new(handle.clone()));
+    let request = Request::with_clock("gone", Arc::new(Tasks::new(handle.clone(), 8)), clock);
+    let blocking = Request::new("blocking", Blocking::new(handle, 8));
+    let sleeping = request.spawn(async {
+        sleep(Duration::from_secs(3600)).await;
+        Ok::<_, Error>(1)
+    });
+    let (gate, ran) = (request.promise::<i32>(), Arc::new(AtomicBool::new(false)));
+    let (timed, given) = (request.promise::<i32>().or_timeout(LONG), request.promise().complete_on_timeout(4, LONG));
+    let runs = ran.clone();
+    let behind = gate.clone().then(move |_| runs.store(true, Ordering::SeqCst));
+    drop(runtime);
+    gate.complete(1).unwrap();
+    assert!(sleeping.wait_timeout(LONG).expect("it rests for good").is_err());
+    assert!(matches!(timed.wait_timeout(LONG), Some(Err(Error::Refused(Refusal::NoClock)))));
+    assert!(matches!(given.wait_timeout(LONG), Some(Err(Error::Refused(Refusal::NoClock)))));
+    assert!(matches!(behind.wait_timeout(LONG), Some(Err(Error::Refused(Refusal::Closed)))));
+    assert!(matches!(blocking.supply(|| 1).wait_timeout(LONG), Some(Err(Error::Refused(Refusal::Closed)))));
+    let late = request.promise::<i32>().or_timeout(SHORT);
+    assert!(matches!(late.wait_timeout(LONG), Some(Err(Error::Refused(Refusal::NoClock)))));
+    assert!(!ran.load(Ordering::SeqCst), "no function begins once its runtime is gone");
 }

@@ -201,6 +201,10 @@ fn dropped_functions_and_values_are_freed() {
         let behind = never.then(move |_| held);
         assert!(behind.cancel());
         assert_eq!(Arc::strong_count(&alive), 2, "the function of a cancelled stage is dropped");
+        let (source, held) = (r.promise::<i32>(), alive.clone());
+        let consequence = source.clone().then(move |_| drop(held));
+        assert!(source.cancel() && consequence.is_settled());
+        assert_eq!(Arc::strong_count(&alive), 2, "and that of one that fails with its source");
         let value = r.promise::<Arc<()>>();
         value.complete(given).unwrap();
         assert_eq!(Arc::strong_count(&alive), 2);
