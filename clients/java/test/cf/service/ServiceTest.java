@@ -10,8 +10,10 @@ import java.util.ArrayList;
 import java.util.Arrays;
 import java.util.Collections;
 import java.util.HashSet;
+import java.util.LinkedHashSet;
 import java.util.List;
 import java.util.Objects;
+import java.util.Set;
 import java.util.concurrent.CancellationException;
 import java.util.concurrent.CompletableFuture;
 import java.util.concurrent.CompletionException;
@@ -32,6 +34,8 @@ import java.util.concurrent.atomic.AtomicInteger;
 public final class ServiceTest {
     private static final Service SERVICE = new Service();
     private static int tests;
+    /** Names of tests that are still to be run; null where all are. */
+    private static Set<String> chosen;
 
     private interface Test {
         void run() throws Exception;
@@ -39,7 +43,9 @@ public final class ServiceTest {
 
     private ServiceTest() {}
 
-    public static void main(String[] args) throws Exception {
+    /** Runs the tests of these names, or all. */
+    public static void main(String[] args) {
+        chosen = args.length == 0 ? null : new LinkedHashSet<>(Arrays.asList(args));
         test("Java's own classes", ServiceTest::statics);
         test("other requests", ServiceTest::acrossRequests);
         test("stages that can't be asked", ServiceTest::refusedToTell);
@@ -68,16 +74,24 @@ public final class ServiceTest {
         test("recordings", ServiceTest::recordings);
         test("virtual threads", ServiceTest::virtualThreads);
         test("what can't be reached", ServiceTest::unreachable);
+        if (chosen != null && !chosen.isEmpty()) {
+            System.err.println("there are no tests " + chosen);
+            System.exit(2);
+        }
         System.out.println(tests + " tests passed, with " + Native.version() + " on Java " + System.getProperty("java.version"));
         System.exit(0);
     }
 
-    private static void test(String name, Test test) throws Exception {
+    private static void test(String name, Test test) {
+        if (chosen != null && !chosen.remove(name)) {
+            return;
+        }
         long began = System.nanoTime();
         try {
             test.run();
         } catch (Throwable thrown) {
-            throw new AssertionError(name, thrown);
+            new AssertionError(name, thrown).printStackTrace();
+            System.exit(1); // Threads of the test's mustn't hold the process up.
         }
         tests++;
         if (Boolean.getBoolean("test.times")) {
