@@ -407,11 +407,8 @@ public final class Request implements AutoCloseable {
         int number = ledger.stages();
         Stage<U> stage = minimal ? new MinimalStage<>(this, number, form, function, executor)
                 : new Stage<>(this, number, form, function, executor);
-        if (executor != null) {
-            mixed = true;
-        } else if (form.calls) {
-            ledger.own(number);
-        }
+        mixed |= executor != null;
+        ledger.own(number, executor == null && form.calls);
         int sources = b != null ? 2 : a != null ? 1 : 0;
         long word = Words.attach(who, form, sources, a == null ? 0 : a.number, b == null ? 0 : b.number, form.calls ? number : 0);
         if (news == null) {
