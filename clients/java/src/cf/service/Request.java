@@ -33,6 +33,8 @@ public final class Request implements AutoCloseable {
     /** Of which it has the first stages, or null. */
     private final Flow flow;
     private final Ledger ledger;
+    /** What is told of values and exceptions. */
+    final Describe describe;
 
     /** Those that aren't settled; of a flow, those that were asked for. */
     private Stage<?>[] stages;
@@ -51,13 +53,14 @@ public final class Request implements AutoCloseable {
     private boolean goesOn;
     private volatile Request next;
 
-    Request(Service service, String name, Flow flow, int room) {
+    Request(Service service, String name, Flow flow, int room, Describe describe) {
         this.service = service;
         this.name = name;
         this.flow = flow;
         single = false;
+        this.describe = describe;
         ledger = new Ledger(flow == null ? null : flow.plan(), room);
-        values = new Object[flow != null ? flow.count() : 8];
+        values = new Object[flow != null ? Math.max(flow.count(), 1) : 8];
         stages = flow == null && room > 0 ? new Stage<?>[room] : NO_STAGES;
         mixed = flow != null && flow.isMixed();
     }
@@ -68,6 +71,7 @@ public final class Request implements AutoCloseable {
         name = "one call";
         flow = null;
         single = true;
+        describe = service.describe();
         values = new Object[1];
         stages = new Stage<?>[1];
         mixed = true;
@@ -241,15 +245,17 @@ public final class Request implements AutoCloseable {
 
     /** All that happened until now. It costs the doing again of all words, some microseconds, once it is read. */
     public History history() {
+        History history;
         synchronized (ledger) {
             int count = ledger.stages();
             String[] names = this.names == null ? new String[count] : Arrays.copyOf(this.names, count);
             for (int k = 0; flow != null && k < flow.count(); k++) {
                 names[k] = names[k] == null ? flow.name(k) : names[k];
             }
-            return new History(name, flow, ledger, names, Arrays.copyOf(values, valueCount),
+            history = new History(name, flow, ledger, names, Arrays.copyOf(values, valueCount),
                     faults == null ? new Throwable[0] : faults.errors(), Arrays.copyOf(threadNames, threadCount));
         }
+        return history.described(describe);
     }
 
     /** Gives the memory outside the heap back to be used again. Stages may be used on: if need be all words are done again. */
@@ -392,7 +398,7 @@ public final class Request implements AutoCloseable {
                 throw new RequestFullException(name);
             }
             if (next == null) {
-                next = new Request(service, name + ", further", null, 32).goesOn();
+                next = new Request(service, name + ", further", null, 32, describe).goesOn();
             }
             return next;
         }
@@ -870,7 +876,7 @@ public final class Request implements AutoCloseable {
     }
 
     private void record(long word) {
-        Recorder recorder = Recorder.now;
+        Recorder recorder = Recorder.now();
         if (recorder != null && recorder.takesWords()) {
             recorder.word(name, word);
         }

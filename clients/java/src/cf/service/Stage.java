@@ -509,10 +509,10 @@ public class Stage<T> extends CompletableFuture<T> {
     public String toString() {
         Object told = this.told;
         String state = told == null ? dependents == 0 ? "Not completed" : "Not completed, " + dependents + " dependents"
-                : told instanceof Fault ? "Completed exceptionally: " + ((Fault) told).error : "Completed normally";
+                : told instanceof Fault ? "Completed exceptionally: " + Text.of(request.describe, ((Fault) told).error) : "Completed normally";
         String waits = told == null ? request.waitsFor(this) : "";
-        return getClass().getName() + "@" + Integer.toHexString(hashCode()) + "[" + request.name() + ": " + request.called(this) + ": " + state
-                + waits + "]";
+        return Text.escaped(getClass().getName() + "@" + Integer.toHexString(hashCode()) + "[" + request.name() + ": " + request.called(this)
+                + ": " + state + waits + "]");
     }
 
     @SuppressWarnings("unchecked")
@@ -579,9 +579,10 @@ public class Stage<T> extends CompletableFuture<T> {
     void show() {
         Object told = this.told;
         inherit(told);
-        if (Recorder.hasStages()) {
-            Recorder.now.stage(request.name(), number, form.text, request.called(this), told == NIL ? null
-                    : told instanceof Fault ? ((Fault) told).error : told);
+        Recorder recorder = Recorder.now();
+        if (recorder != null && recorder.takesStages()) {
+            recorder.stage(request.name(), number, form.text, request.called(this),
+                    Text.of(request.describe, told == NIL ? null : told instanceof Fault ? ((Fault) told).error : told));
         }
         More more = this.more;
         if (more != null) {
