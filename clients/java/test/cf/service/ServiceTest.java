@@ -37,7 +37,7 @@ public final class ServiceTest {
     /** Names of tests that are still to be run; null where all are. */
     private static Set<String> chosen;
 
-    private interface Test {
+    interface Test {
         void run() throws Exception;
     }
 
@@ -72,6 +72,25 @@ public final class ServiceTest {
         test("many news", ServiceTest::manyNews);
         test("more than 60 threads", ServiceTest::manyThreads);
         test("recordings", ServiceTest::recordings);
+        test("recordings that ask for nothing", TellingTest::unasked);
+        test("texts that would forge lines", TellingTest::forged);
+        test("what is told of values", TellingTest::described);
+        test("what describes values", TellingTest::describers);
+        test("values that can't be shown", TellingTest::unspeakable);
+        test("cores used again", LedgerTest::usedAgain);
+        test("requests of one plan each have a core", LedgerTest::oneCoreEach);
+        test("attaches that fail", LedgerTest::failedAttach);
+        test("settled stages keep no function", LedgerTest::keepNoFunction);
+        test("flows that several threads start first", LedgerTest::startedTogether);
+        test("flows with errors", LedgerTest::flowErrors);
+        test("a flow without steps", LedgerTest::emptyFlow);
+        test("no collection is asked for", LedgerTest::noCollection);
+        test("memory of what nobody closes", LedgerTest::bounded);
+        test("huge arguments", LedgerTest::huge);
+        test("class loaders", LoaderTest::unloaded);
+        test("a named library in several class loaders", LoaderTest::named);
+        test("no library", LoaderTest::missing);
+        test("hostile code", HostileTest::survived);
         test("virtual threads", ServiceTest::virtualThreads);
         test("what can't be reached", ServiceTest::unreachable);
         if (chosen != null && !chosen.isEmpty()) {
@@ -99,13 +118,13 @@ public final class ServiceTest {
         }
     }
 
-    private static void is(Object found, Object wanted) {
+    static void is(Object found, Object wanted) {
         if (!Objects.equals(found, wanted)) {
             throw new AssertionError(found + " and not " + wanted);
         }
     }
 
-    private static <X extends Throwable> X thrown(Class<X> kind, Test test) {
+    static <X extends Throwable> X thrown(Class<X> kind, Test test) {
         try {
             test.run();
         } catch (Throwable thrown) {
@@ -771,10 +790,12 @@ public final class ServiceTest {
             System.out.println("(no recordings in this JVM)");
             return;
         }
-        is(Recorder.now != null, jdk.jfr.FlightRecorder.isInitialized());
+        is(Recorder.now() != null, jdk.jfr.FlightRecorder.isInitialized());
         Path file = Files.createTempFile("cf", ".jfr");
         int words;
         try (jdk.jfr.Recording recording = new jdk.jfr.Recording()) {
+            recording.enable("cf.Word");
+            recording.enable("cf.Stage");
             recording.start();
             Request request = SERVICE.request("recorded");
             Stage<Integer> first = request.promise();
@@ -885,7 +906,7 @@ public final class ServiceTest {
     }
 
     /** MB of memory that the process has. */
-    private static long resident() throws Exception {
+    static long resident() throws Exception {
         Path statm = Paths.get("/proc/self/statm");
         return Files.exists(statm) ? Long.parseLong(new String(Files.readAllBytes(statm)).split(" ")[1]) * 4096 >> 20 : 0;
     }
