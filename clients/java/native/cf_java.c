@@ -3,6 +3,7 @@
  * A core is a ledger with a piece of memory that Java reads and writes by a direct buffer, so that one crossing does some words and brings
  * back the reply and the news. Its caller has it alone: that is a request's lock. A core whose request is closed keeps its ledger, which
  * starts again for the next request of the same plan. */
+#define _GNU_SOURCE
 #include "cf.h"
 #include <jni.h>
 #include <pthread.h>
@@ -121,6 +122,27 @@ METHOD(void, since)(JNIEnv *env, jclass class, jlong at, jlong since) {
 METHOD(jlong, ticks)(JNIEnv *env, jclass class) {
   (void)env, (void)class;
   return (jlong)ticks();
+}
+
+/* Of how much of a stack Java throws a StackOverflowError, so that native code has place, and how much more a word wants that is told. */
+enum { JAVAS_STACK = 96 << 10, WORDS_STACK = 32 << 10 };
+
+/* A third of what Java leaves of a small stack is a word's. */
+METHOD(jboolean, hasStack)(JNIEnv *env, jclass class) {
+  (void)env, (void)class;
+  static __thread char *least;
+  if (!least) {
+    pthread_attr_t attributes;
+    void *end;
+    size_t size;
+    if (pthread_getattr_np(pthread_self(), &attributes)) return JNI_TRUE;
+    int code = pthread_attr_getstack(&attributes, &end, &size);
+    pthread_attr_destroy(&attributes);
+    if (code) return JNI_TRUE;
+    size_t left = size > JAVAS_STACK ? (size - JAVAS_STACK) / 3 : 0;
+    least = (char *)end + JAVAS_STACK + (left < WORDS_STACK ? left : WORDS_STACK);
+  }
+  return (char *)__builtin_frame_address(0) > least;
 }
 
 /* 12 bits of the stage, then whether it is settled; from 16 on the outcome's kind, whether it is wrapped, whether its value is a number. */
