@@ -14,6 +14,7 @@
  *   - malloc and free are those of the one C library; no call is made by a handler of signals, and the children that a JVM forks run no Java.
  * Each class loader has a library of its own with variables of its own, and cores of its own: what is left of them when the loader goes,
  * JNI_OnUnload frees. An asynchronous exception (Thread.stop) comes once a call has returned. No JNI function is called with one pending. */
+#define _GNU_SOURCE
 #include "cf.h"
 #include <jni.h>
 #include <pthread.h>
@@ -152,6 +153,27 @@ METHOD(void, since)(JNIEnv *env, jclass class, jlong at, jlong since) {
 METHOD(jlong, ticks)(JNIEnv *env, jclass class) {
   (void)env, (void)class;
   return (jlong)ticks();
+}
+
+/* Of how much of a stack Java throws a StackOverflowError, so that native code has place, and how much more a word wants that is told. */
+enum { JAVAS_STACK = 96 << 10, WORDS_STACK = 32 << 10 };
+
+/* A third of what Java leaves of a small stack is a word's. */
+METHOD(jboolean, hasStack)(JNIEnv *env, jclass class) {
+  (void)env, (void)class;
+  static __thread char *least;
+  if (!least) {
+    pthread_attr_t attributes;
+    void *end;
+    size_t size;
+    if (pthread_getattr_np(pthread_self(), &attributes)) return JNI_TRUE;
+    int code = pthread_attr_getstack(&attributes, &end, &size);
+    pthread_attr_destroy(&attributes);
+    if (code) return JNI_TRUE;
+    size_t left = size > JAVAS_STACK ? (size - JAVAS_STACK) / 3 : 0;
+    least = (char *)end + JAVAS_STACK + (left < WORDS_STACK ? left : WORDS_STACK);
+  }
+  return (char *)__builtin_frame_address(0) > least;
 }
 
 /* 12 bits of the stage, then whether it is settled; from 16 on the outcome's kind, whether it is wrapped, whether its value is a number. */

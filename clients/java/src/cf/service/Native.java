@@ -44,6 +44,9 @@ final class Native {
 
     static native long ticks();
 
+    /** Whether this thread's stack has place for all that a word leads to, but for functions. Where it hasn't, nothing is begun. */
+    static native boolean hasStack();
+
     /** The next news where not all had place. */
     static native int more(long core);
 

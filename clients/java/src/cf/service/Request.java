@@ -25,6 +25,7 @@ public final class Request implements AutoCloseable {
     static final int CLOCK = 0, RELAY = 1, FIRST_THREAD = 2, OTHER_THREADS = 63;
 
     private static final Stage<?>[] NO_STAGES = {};
+    private static final Link[] NO_LINKS = {};
 
     final Service service;
     private final String name;
@@ -183,16 +184,28 @@ public final class Request implements AutoCloseable {
         return tree(Form.ANY_OF, of);
     }
 
-    /** A stage of this request that ends as that one does, by a relay. One of this request is given back itself. */
+    /**
+     * A stage of this request that ends as that one does, by a relay. One of this request is given back itself. The relay hangs on the other
+     * one until either is settled.
+     */
     @SuppressWarnings("unchecked")
     public <U> Stage<U> adopt(CompletionStage<U> of) {
-        if (Objects.requireNonNull(of) instanceof Stage<?> && ((Stage<U>) of).request == this) {
+        if (!isForeign(Objects.requireNonNull(of))) {
             return (Stage<U>) of;
         }
+        Link[] link = new Link[1];
+        Stage<U> relay = relay(of, link, 0);
+        link[0].untilSettled(relay);
+        return relay;
+    }
+
+    /** A relay, and its link in this place of a row. */
+    private <U> Stage<U> relay(CompletionStage<U> of, Link[] links, int at) {
         Stage<U> relay = promise();
         relay.request.name(relay.number, "relay");
+        links[at] = new Link(relay, null);
         News news = new News();
-        Throwable thrown = handOver(of, relay, news);
+        Throwable thrown = hang(links[at], of, news);
         tell(news);
         if (thrown != null) {
             Request.<RuntimeException>rethrow(thrown);
@@ -297,8 +310,9 @@ public final class Request implements AutoCloseable {
     /** A stage whose function waits for nobody. Its word waits for the claim of the executor's thread, which is refused if that isn't so. */
     private <U> Stage<U> started(Form form, Object function, Executor executor) {
         if (next != null) {
-            return next.started(form, function, executor);
+            return last().started(form, function, executor);
         }
+        checkDepth();
         Stage<U> stage = null;
         synchronized (ledger) {
             if (ledger.hasPlace(1)) {
@@ -333,10 +347,23 @@ public final class Request implements AutoCloseable {
         for (CompletionStage<?> each : of) {
             Objects.requireNonNull(each);
         }
+        if (next != null) {
+            return last().tree(form, of);
+        }
         CompletionStage<?>[] row = Arrays.copyOf(of, of.length, CompletionStage[].class);
-        int count = row.length;
-        if (count > 2 && !goesOn && !hasPlace(count - 1)) {
+        int count = row.length, relays = 0;
+        for (CompletionStage<?> each : row) {
+            relays += isForeign(each) ? 1 : 0;
+        }
+        if (count > 2 && !goesOn && !hasPlace(count - 1 + relays)) {
             throw new RequestFullException(name);
+        }
+        // Who needs none of them but its last stage needs no relay either once that is settled.
+        Link[] links = new Link[count > 2 ? relays : 0];
+        for (int k = 0, made = 0; made < links.length; k++) {
+            if (isForeign(row[k])) {
+                row[k] = relay(row[k], links, made++);
+            }
         }
         while (count > 2) {
             int half = (count + 1) / 2;
@@ -345,19 +372,25 @@ public final class Request implements AutoCloseable {
             }
             count = half;
         }
-        return attach(form, count > 0 ? row[0] : null, count > 1 ? row[1] : null, null, null, false);
+        Stage<U> last = attach(form, count > 0 ? row[0] : null, count > 1 ? row[1] : null, null, null, false);
+        for (Link link : links) {
+            link.untilSettled(last);
+        }
+        return last;
     }
 
     /** Attaches a stage behind those, which are of any request. What it takes of them, it takes at once. */
     <U> Stage<U> attach(Form form, CompletionStage<?> first, CompletionStage<?> second, Object function, Executor executor, boolean minimal) {
         if (next != null) {
-            return next.attach(form, first, second, function, executor, minimal);
+            return last().attach(form, first, second, function, executor, minimal);
         }
+        checkDepth();
         int foreign = (isForeign(first) ? 1 : 0) + (isForeign(second) ? 1 : 0);
         Stage<U> stage = null;
         News news = null;
+        Link[] links = foreign == 0 ? NO_LINKS : new Link[2];
         if (foreign == 0 || hasPlace(1 + foreign + (form.composes ? 1 : 0))) {
-            Stage<?> a = first == null ? null : adopt(first), b = second == null ? null : adopt(second);
+            Stage<?> a = own(first, links, 0), b = own(second, links, 1);
             // What went to a further request is of no use here.
             if ((a == null || a.request == this) && (b == null || b.request == this)) {
                 synchronized (ledger) {
@@ -368,6 +401,13 @@ public final class Request implements AutoCloseable {
                 }
             }
         }
+        for (Link link : links) {
+            if (link != null && stage != null) {
+                link.untilSettled(stage);
+            } else if (link != null) {
+                link.run();
+            }
+        }
         if (stage == null) {
             return further().attach(form, first, second, function, executor, minimal);
         }
@@ -375,6 +415,11 @@ public final class Request implements AutoCloseable {
             tell(news);
         }
         return stage;
+    }
+
+    /** That stage, or a relay of it, whose link is in this place then. */
+    private Stage<?> own(CompletionStage<?> of, Link[] links, int at) {
+        return isForeign(of) ? relay(of, links, at) : (Stage<?>) of;
     }
 
     private boolean isForeign(CompletionStage<?> of) {
@@ -390,6 +435,15 @@ public final class Request implements AutoCloseable {
     /** Whether a stage behind those can't have anything to do yet, so that its word may wait for the next one. The lock is held. */
     private static boolean waits(Form form, Stage<?> a, Stage<?> b) {
         return form == Form.SOURCE || a != null && a.told == null && (b == null || b.told == null);
+    }
+
+    /** The request to which stages go now. */
+    private Request last() {
+        Request at = this;
+        for (Request after; (after = at.next) != null;) {
+            at = after;
+        }
+        return at;
     }
 
     private Request further() {
@@ -451,6 +505,7 @@ public final class Request implements AutoCloseable {
 
     /** A source for a stage that is being made, which calls {@link #entered}: its number, or -1 where there is no place. */
     int reserve() {
+        checkDepth();
         synchronized (ledger) {
             return ledger.hasPlace(1) ? reserve(who()) : -1;
         }
@@ -478,6 +533,7 @@ public final class Request implements AutoCloseable {
 
     /** Makes a flow's request begin: its promises get values, in their order. */
     void begin(Object[] given) {
+        checkDepth();
         News news = new News();
         synchronized (ledger) {
             int who = who();
@@ -501,6 +557,7 @@ public final class Request implements AutoCloseable {
     // Settling.
 
     boolean complete(int stage, Object value, int by) {
+        checkDepth();
         News news = new News();
         boolean did;
         synchronized (ledger) {
@@ -513,6 +570,7 @@ public final class Request implements AutoCloseable {
     }
 
     boolean fail(int stage, Throwable error, int by) {
+        checkDepth();
         News news = new News();
         boolean did;
         synchronized (ledger) {
@@ -525,6 +583,7 @@ public final class Request implements AutoCloseable {
     }
 
     boolean cancel(int stage) {
+        checkDepth();
         News news = new News();
         boolean did;
         synchronized (ledger) {
@@ -548,34 +607,41 @@ public final class Request implements AutoCloseable {
     }
 
     /** Sees to it that a relay is settled as that is, which is no stage of its request; or by what that throws when it's asked, which it gives. */
-    private static Throwable handOver(CompletionStage<?> of, Stage<?> relay, News news) {
-        if (!(of instanceof Stage<?>)) {
+    private static Throwable hang(Link link, CompletionStage<?> of, News news) {
+        Object told;
+        Throwable thrown = null;
+        if (of instanceof Stage<?>) {
+            Stage<?> other = (Stage<?>) of;
+            told = other.request.feeds(other, link) ? null : other.told;
+        } else {
             try {
-                of.whenComplete((value, error) -> {
-                    News told = new News();
-                    relay.request.relayed(relay, error != null ? new Fault(error, -1) : value == null ? Stage.NIL : value, told);
-                    tell(told);
-                });
-            } catch (Throwable thrown) {
-                relay.request.relayed(relay, new Fault(thrown, -1), news);
-                return thrown;
+                told = link.hang(of);
+            } catch (Throwable error) {
+                thrown = error;
+                told = new Fault(error, -1);
             }
-            return null;
         }
-        Stage<?> other = (Stage<?>) of;
-        if (!other.request.feeds(other, relay)) {
-            relay.request.relayed(relay, other.told, news);
+        if (told != null) {
+            relayed(link, told, news);
         }
-        return null;
+        return thrown;
     }
 
-    private boolean feeds(Stage<?> stage, Stage<?> outside) {
-        synchronized (ledger) {
-            if (stage.told == null) {
-                stage.more().outside = and(stage.more().outside, outside);
-                return true;
-            }
-            return false;
+    /** A future that is no stage tells a link which hangs on it. */
+    static void told(Link link, Object told) {
+        if (!Native.hasStack()) {
+            Clock.elsewhere(() -> told(link, told));
+            return;
+        }
+        News news = new News();
+        relayed(link, told, news);
+        tell(news);
+    }
+
+    private static void relayed(Link link, Object told, News news) {
+        Stage<?> relay = link.take();
+        if (relay != null) {
+            relay.request.relayed(relay, told, news);
         }
     }
 
@@ -587,10 +653,42 @@ public final class Request implements AutoCloseable {
         }
     }
 
-    private static Stage<?>[] and(Stage<?>[] row, Stage<?> one) {
-        Stage<?>[] longer = row == null ? new Stage<?>[1] : Arrays.copyOf(row, row.length + 1);
-        longer[longer.length - 1] = one;
+    private boolean feeds(Stage<?> stage, Link link) {
+        synchronized (ledger) {
+            if (stage.told == null) {
+                Stage.More more = stage.more();
+                more.outside = and(more.outside, link);
+                link.hangsOn(stage);
+                return true;
+            }
+            return false;
+        }
+    }
+
+    private static Link.Row and(Link.Row row, Link link) {
+        Link.Row longer = row != null ? row : new Link.Row();
+        longer.add(link);
         return longer;
+    }
+
+    void unlink(Stage<?> stage, Link link) {
+        synchronized (ledger) {
+            stage.more.outside.remove(link);
+        }
+    }
+
+    /** What hangs on a settled stage outside its request. */
+    private Link outside(Stage<?> stage) {
+        synchronized (ledger) {
+            return stage.more.outside.take();
+        }
+    }
+
+    /** Throws where there might not be stack enough to tell what a word changes: it isn't done then. */
+    private static void checkDepth() {
+        if (!Native.hasStack()) {
+            throw new StackOverflowError("cf.service: the stack is nearly full, and nothing was changed");
+        }
     }
 
     /** Does one word under the lock, and says whether its answer is 1, as of a stage that it settled. */
@@ -631,7 +729,6 @@ public final class Request implements AutoCloseable {
             record(Words.claim(who, claimed));
             granted(claimed, news);
         }
-        Stage<?> fed = null;
         do {
             int count = ledger.news();
             for (int k = 0; k < count; k++) {
@@ -653,19 +750,31 @@ public final class Request implements AutoCloseable {
                     stage.tells(told(what, (int) (change >>> 32)));
                     news.settled(stage);
                     if (stage.more != null && stage.more.feeds != null) {
-                        stage.more.nextFed = fed;
-                        fed = stage;
+                        stage.more.nextFed = news.fed;
+                        news.fed = stage;
                     }
                 }
             }
         } while (ledger.more());
-        while (fed != null) {
-            Stage<?> stage = fed;
-            fed = stage.more.nextFed;
-            Stage<?>[] feeds = stage.more.feeds;
-            stage.more.feeds = null;
-            for (Stage<?> relay : feeds) {
-                change(relayWord(relay.number, stage.told, true), who, news);
+        if (news.fed != null && !news.isFeeding) {
+            news.isFeeding = true;
+            try {
+                feed(news, who);
+            } finally {
+                news.isFeeding = false;
+            }
+        }
+    }
+
+    /** Settles relays as stages of this request were, and those that hang on what is settled by that, which is no recursion. */
+    private void feed(News news, int who) {
+        while (news.fed != null) {
+            Stage<?> stage = news.fed;
+            Link link = stage.more.feeds.poll();
+            if (link == null) {
+                news.fed = stage.more.nextFed;
+            } else {
+                change(relayWord(link.take().number, stage.told, true), who, news);
             }
         }
     }
@@ -741,6 +850,7 @@ public final class Request implements AutoCloseable {
 
     /** Claims a stage for an executor's thread, calls its function, and goes on with what that thread is to call then. */
     void work(Stage<?> stage) {
+        checkDepth();
         News news = new News();
         synchronized (ledger) {
             claim(stage, who(), news);
@@ -748,32 +858,62 @@ public final class Request implements AutoCloseable {
         tell(news);
     }
 
-    /** Tells who waits, hands stages to executors, and calls functions until there is none that this thread is to call. */
+    /**
+     * Tells who waits, hands stages to executors, and calls functions until there is none that this thread is to call. What one of them throws
+     * here, as an Error may be, keeps nothing from the others, and is thrown in the end.
+     */
     private static void tell(News news) {
-        for (;;) {
-            Stage<?> stage;
-            while ((stage = news.pollSettled()) != null) {
-                stage.show();
-                if (stage.request.single) {
-                    stage.request.rests();
-                }
-                Stage<?>[] outside = stage.more == null ? null : stage.more.outside;
-                if (outside != null) {
-                    stage.more.outside = null;
-                    for (Stage<?> relay : outside) {
-                        relay.request.relayed(relay, stage.told, news);
-                    }
-                }
+        Throwable first = null;
+        for (boolean goesOn = true; goesOn;) {
+            try {
+                goesOn = tellNext(news);
+            } catch (Throwable thrown) {
+                first = first == null ? thrown : first;
             }
-            if ((stage = news.pollHanded()) != null) {
-                stage.request.hand(stage, news);
-            } else if (news.claimedIn != null) {
-                news.claimedIn.call(news);
-            } else if (news.here != null) {
-                news.here.request.claimHere(news);
-            } else {
-                return;
+        }
+        if (first != null) {
+            Request.<RuntimeException>rethrow(first);
+        }
+    }
+
+    /** Each of these takes what it is about first, so that it comes but once. */
+    private static boolean tellNext(News news) {
+        Stage<?> stage;
+        Link link;
+        if ((link = news.pollRelayed()) != null) {
+            relayed(link, news.told, news);
+        } else if ((stage = news.pollSettled()) != null) {
+            if (stage.more != null && stage.more.outside != null) {
+                news.relayed(stage.request.outside(stage), stage.told);
             }
+            stage.show();
+            if (stage.request.single) {
+                stage.request.rests();
+            }
+        } else if ((stage = news.pollHanded()) != null) {
+            stage.request.hand(stage, news);
+        } else if (news.claimedIn != null) {
+            news.claimedIn.call(news);
+        } else if (news.here != null) {
+            news.here.request.claimHere(news);
+        } else {
+            return false;
+        }
+        return true;
+    }
+
+    /** Has this executor call what another one was given. A stage whose function it refuses ends by that. */
+    static void execute(Executor executor, Runnable act) {
+        try {
+            executor.execute(act);
+        } catch (Throwable refused) {
+            if (!(act instanceof Task)) {
+                throw refused;
+            }
+            Stage<?> stage = ((Task) act).stage;
+            News news = new News();
+            stage.request.refused(stage, refused, news);
+            tell(news);
         }
     }
 
@@ -801,37 +941,38 @@ public final class Request implements AutoCloseable {
     private void call(News news) {
         int number = news.claimed;
         Form form = news.form;
-        Object given = null;
-        Throwable thrown = null;
-        try {
-            given = form.call(news.function, news.first, news.second);
-        } catch (Throwable error) {
-            thrown = error;
-            if (form == Form.WHEN_COMPLETE && news.second != null && news.second != error) {
-                ((Throwable) news.second).addSuppressed(error);
-            }
-        }
+        Object function = news.function, first = news.first, second = news.second, given = null;
         news.claimedIn = null;
         news.function = news.first = news.second = null;
-        Stage<?> relay = null;
+        Throwable thrown = null;
+        try {
+            given = form.call(function, first, second);
+        } catch (Throwable error) {
+            thrown = error;
+            if (form == Form.WHEN_COMPLETE && second != null && second != error) {
+                ((Throwable) second).addSuppressed(error);
+            }
+        }
+        Link link = null;
         synchronized (ledger) {
             int who = who();
             if (thrown != null) {
                 finish(Words.finishThrowing(who, number, code(thrown)), who, news);
             } else if (form.composes) {
-                relay = link(number, (CompletionStage<?>) given, who, news);
+                link = link(number, (CompletionStage<?>) given, who, news);
             } else {
                 finish(Words.finish(who, number, number(given)), who, news);
             }
             claimNext(news, who);
         }
-        if (relay != null) {
-            handOver((CompletionStage<?>) given, relay, news);
+        if (link != null) {
+            hang(link, (CompletionStage<?>) given, news);
+            link.untilSettled();
         }
     }
 
-    /** Links a stage to what its function gave, or to the relay below it: that relay where it is to be settled from outside. */
-    private Stage<?> link(int number, CompletionStage<?> to, int who, News news) {
+    /** Links a stage to what its function gave, or to the relay below it: that relay's link where it is to be settled from outside. */
+    private Link link(int number, CompletionStage<?> to, int who, News news) {
         Stage<?> own = to instanceof Stage<?> && ((Stage<?>) to).request == this ? (Stage<?>) to : null;
         if (own != null && own.number < number) {
             change(Words.finishLinking(who, number, own.number), who, news);
@@ -844,13 +985,16 @@ public final class Request implements AutoCloseable {
         record(word);
         boolean won = ledger.answer() == History.WON;
         publish(news, who);
-        if (!won || own == null) {
-            return won ? relay : null;
+        if (!won) {
+            return null;
+        }
+        if (own == null) {
+            return new Link(relay, at(number));
         }
         if (own.told != null) {
             change(relayWord(relay.number, own.told, true), who, news);
         } else {
-            own.more().feeds = and(own.more().feeds, relay);
+            own.more().feeds = and(own.more().feeds, new Link(relay, null));
         }
         return null;
     }
@@ -864,11 +1008,12 @@ public final class Request implements AutoCloseable {
         return relay != null ? relay : new Stage<>(this, number - 1, Form.SOURCE, null, null);
     }
 
-    /** Acts under the lock where a stage isn't settled, and says whether it did. */
-    boolean unlessSettled(Stage<?> stage, Runnable act) {
+    /** Keeps what is to be done at the end of a stage that isn't settled, and says whether it isn't. */
+    boolean observes(Stage<?> stage, Runnable act) {
         synchronized (ledger) {
             if (stage.told == null) {
-                act.run();
+                Stage.More more = stage.more();
+                more.observers = new Stage.Observer(act, more.observers);
                 return true;
             }
             return false;

@@ -74,7 +74,7 @@ public final class Service {
     public static Executor delayedExecutor(long delay, TimeUnit unit, Executor executor) {
         Objects.requireNonNull(unit);
         Objects.requireNonNull(executor);
-        return act -> Clock.after(delay, unit, () -> executor.execute(act));
+        return act -> Clock.after(delay, unit, () -> Request.execute(executor, act));
     }
 
     Executor executor() {

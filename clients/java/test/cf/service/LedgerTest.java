@@ -6,15 +6,12 @@ import static cf.service.ServiceTest.thrown;
 import com.sun.management.GarbageCollectionNotificationInfo;
 import java.lang.management.GarbageCollectorMXBean;
 import java.lang.management.ManagementFactory;
-import java.lang.ref.WeakReference;
 import java.util.ArrayList;
 import java.util.Arrays;
 import java.util.Collections;
 import java.util.List;
-import java.util.concurrent.CancellationException;
 import java.util.concurrent.CyclicBarrier;
 import java.util.concurrent.ExecutionException;
-import java.util.concurrent.Executor;
 import java.util.concurrent.ExecutorService;
 import java.util.concurrent.Executors;
 import java.util.concurrent.Future;
@@ -144,61 +141,6 @@ final class LedgerTest {
         first.complete(1);
         is(async.orTimeout(20, TimeUnit.SECONDS).join(), "pool");
         pool.shutdown();
-    }
-
-    private static Object token(List<WeakReference<Object>> held) {
-        Object token = new Object();
-        held.add(new WeakReference<>(token));
-        return token;
-    }
-
-    /** Stages whose functions were called, or never will be. */
-    private static List<Stage<?>> settled(Request request, List<WeakReference<Object>> held) {
-        List<Stage<?>> kept = new ArrayList<>();
-        Executor drops = act -> { };
-        Stage<Integer> source = request.promise(), fails = request.promise(), never = request.promise();
-        Object[] tokens = new Object[8];
-        for (int k = 0; k < tokens.length; k++) {
-            tokens[k] = token(held);
-        }
-        Object called = tokens[0], cancelled = tokens[1], passed = tokens[2], late = tokens[3], async = tokens[4], both = tokens[5],
-                supplied = tokens[6], composed = tokens[7];
-        kept.add(source.thenApply(x -> called.hashCode()));
-        Stage<Integer> first = never.thenApply(x -> cancelled.hashCode());
-        first.cancel(true);
-        kept.add(first);
-        kept.add(fails.thenApply(x -> passed.hashCode()));
-        Stage<Integer> second = never.thenApply(x -> late.hashCode());
-        second.complete(1);
-        kept.add(second);
-        Stage<Integer> third = source.thenApplyAsync(x -> async.hashCode(), drops);
-        Stage<Integer> fourth = source.thenCombineAsync(never, (x, y) -> both.hashCode(), drops);
-        Stage<Integer> fifth = request.supplyAsync(() -> supplied.hashCode(), drops);
-        kept.add(source.thenCompose(x -> composed.hashCode() == 0 ? null : source));
-        source.complete(1);
-        fails.completeExceptionally(new IllegalStateException());
-        for (Stage<Integer> each : Arrays.asList(third, fourth, fifth)) {
-            each.completeExceptionally(new CancellationException());
-            kept.add(each);
-        }
-        return kept;
-    }
-
-    static void keepNoFunction() throws Exception {
-        Request request = SERVICE.request("kept");
-        List<WeakReference<Object>> held = new ArrayList<>();
-        List<Stage<?>> kept = settled(request, held);
-        for (int k = 0; k < held.size(); k++) {
-            for (int n = 0; n < 200 && held.get(k).get() != null; n++) {
-                System.gc();
-                Thread.sleep(5);
-            }
-            is(k + " is kept: " + (held.get(k).get() != null), k + " is kept: false");
-        }
-        for (Stage<?> each : kept) {
-            is(each.isDone(), true);
-        }
-        is(request.history().stages() > 8, true);
     }
 
     /** Several threads start a flow that nobody has started yet: it gets one plan, and each request is whole. */
