@@ -1,7 +1,6 @@
 package cf.service;
 
 import static cf.service.ServiceTest.is;
-import static cf.service.ServiceTest.thrown;
 
 import java.lang.reflect.InvocationTargetException;
 import java.lang.reflect.Method;
@@ -13,6 +12,7 @@ import java.util.Arrays;
 import java.util.List;
 import java.util.Random;
 import java.util.concurrent.TimeUnit;
+import java.util.concurrent.atomic.AtomicBoolean;
 import java.util.concurrent.atomic.AtomicInteger;
 
 /**
@@ -247,9 +247,10 @@ public final class HostileTest {
         Method stop = Thread.class.getMethod("stop");
         Random random = new Random(7);
         for (int round = 0; round < 30; round++) {
+            AtomicBoolean over = new AtomicBoolean();
             Thread thread = new Thread(() -> {
                 try {
-                    for (;;) {
+                    while (!over.get()) {
                         try (Request request = SERVICE.request("stopped")) {
                             Stage<Integer> first = request.promise();
                             first.thenApply(x -> x + 1).thenApply(x -> x + 1);
@@ -258,7 +259,7 @@ public final class HostileTest {
                         }
                     }
                 } catch (Throwable thrown) {
-                    // It is stopped.
+                    // It is stopped, if no stage took the error for its function's.
                 }
             });
             thread.start();
@@ -267,6 +268,8 @@ public final class HostileTest {
                 stop.invoke(thread);
             } catch (InvocationTargetException newer) {
                 break; // Java 20 and later stop no threads.
+            } finally {
+                over.set(true);
             }
             thread.join();
             System.gc();

@@ -322,7 +322,8 @@ final class LedgerTest {
         for (int waiting : new int[] {-1, 65, Integer.MAX_VALUE, Integer.MIN_VALUE}) {
             is(Native.apply(core, waiting, source(), WHO, -1) & 0xff, 26L);
         }
-        is((int) Native.apply(core, 0, Words.complete(WHO, 0, 3), Integer.MAX_VALUE, Integer.MAX_VALUE) & 0xff, 0);
+        is((int) Native.apply(core, 0, Words.complete(WHO, 0, 3), Integer.MAX_VALUE, Integer.MAX_VALUE) & 0xff, 26);
+        is((int) Native.apply(core, 0, Words.complete(WHO, 0, 3), Integer.MAX_VALUE, -1) & 0xff, 0);
         for (int stage : new int[] {-1, 1, 4096, Integer.MAX_VALUE}) {
             is(Native.ask(core, stage) != Native.OK, true);
         }
