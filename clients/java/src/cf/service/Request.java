@@ -616,9 +616,9 @@ public final class Request implements AutoCloseable {
         } else {
             try {
                 told = link.hang(of);
-            } catch (Throwable error) {
-                thrown = error;
-                told = new Fault(error, -1);
+            } catch (Throwable refusal) {
+                thrown = refusal;
+                told = new Fault(refusal, -1);
             }
         }
         if (told != null) {
@@ -746,7 +746,6 @@ public final class Request implements AutoCloseable {
                 }
                 if (stage != null) {
                     stages[number] = null;
-                    stage.function = null;
                     stage.tells(told(what, (int) (change >>> 32)));
                     news.settled(stage);
                     if (stage.more != null && stage.more.feeds != null) {
@@ -920,8 +919,8 @@ public final class Request implements AutoCloseable {
     private void hand(Stage<?> stage, News news) {
         try {
             stage.executor.execute(new Task(stage));
-        } catch (Throwable refused) {
-            refused(stage, refused, news);
+        } catch (Throwable refusal) {
+            refused(stage, refusal, news);
         }
     }
 

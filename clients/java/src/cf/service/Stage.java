@@ -90,6 +90,7 @@ public class Stage<T> extends CompletableFuture<T> {
 
     /** Settles it. The write needs no fence of its own, since the lock that is held is one. */
     void tells(Object outcome) {
+        function = null;
         TOLD.lazySet(this, outcome);
     }
 

@@ -330,7 +330,7 @@ final class LedgerTest {
         for (int n : new int[] {3, 100, Integer.MAX_VALUE}) {
             is(Native.keep(core, new long[0], n) != Native.OK && Native.keep(core, new long[200], n) != Native.OK, true);
         }
-        is(Native.keep(core, new long[2 + 2 * 2], 2), Native.OK);
+        is(Native.keep(core, new long[100], 2), Native.OK);
         Native.destroy(core);
     }
 }

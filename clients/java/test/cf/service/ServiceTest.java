@@ -54,7 +54,6 @@ public final class ServiceTest {
         chosen = args.length == 0 ? null : new LinkedHashSet<>(Arrays.asList(args));
         test("Java's own classes", ServiceTest::statics);
         test("Java's methods that take stages", ServiceTest::takenByJava);
-        test("what is seen to be settled", ServiceTest::seen);
         test("who only asks", ServiceTest::onlyAsks);
         test("other requests", ServiceTest::acrossRequests);
         test("stages that can't be asked", ServiceTest::refusedToTell);
@@ -210,38 +209,13 @@ public final class ServiceTest {
         is(CompletableFuture.anyOf(open).join(), 2);
     }
 
-    /** Once a stage has been seen to be settled, it is so for Java's own classes, too. */
-    private static void seen() throws Exception {
-        int rounds = Integer.getInteger("test.seen", 20_000);
-        SynchronousQueue<Stage<Integer>> begun = new SynchronousQueue<>();
-        ExecutorService other = Executors.newFixedThreadPool(1);
-        Future<Integer> unseen = other.submit(() -> {
-            int not = 0;
-            for (int k = 0; k < rounds; k++) {
-                Stage<Integer> stage = begun.take();
-                while (!stage.isDone()) {
-                    Thread.yield();
-                }
-                not += CompletableFuture.allOf(stage).isDone() && stage.getNow(-1) == 1 && stage.thenApply(x -> x).isDone() ? 0 : 1;
-            }
-            return not;
-        });
-        for (int k = 0; k < rounds; k++) {
-            Stage<Integer> stage = SERVICE.request().promise();
-            begun.put(stage);
-            for (int spin = 0; spin < k % 300; spin++) {
-                Thread.yield();
-            }
-            stage.complete(1);
-        }
-        is(unseen.get(), 0);
-        other.shutdown();
-    }
-
-    /** Who asks or waits calls nobody's functions, though the thread that settled the stage hasn't come to them yet. */
+    /**
+     * The thread that has settled stages is held up while it tells the first one. Who asks, or waits, finds the others settled, also by Java's
+     * own classes, and calls nobody's functions.
+     */
     private static void onlyAsks() throws Exception {
         Request request = SERVICE.request();
-        Stage<Integer> first = request.promise(), second = first.copy();
+        Stage<Integer> first = request.promise(), second = first.copy(), third = first.copy(), fourth = first.thenApply(x -> x);
         CountDownLatch runs = new CountDownLatch(1), go = new CountDownLatch(1);
         CompletableFuture.allOf(first).thenRun(() -> {
             runs.countDown();
@@ -255,6 +229,9 @@ public final class ServiceTest {
         is(second.isDone() && !second.isCancelled() && second.getNow(0) == 1 && second.get() == 1 && second.join() == 1, true);
         is(second.get(20, TimeUnit.SECONDS), 1);
         is(caller.get(), null);
+        is(third.isDone() && CompletableFuture.allOf(third).isDone() && CompletableFuture.anyOf(third, fourth).join().equals(1), true);
+        is(third.thenCombine(second, Integer::sum).join(), 2);
+        is(fourth.isDone(), false);
         go.countDown();
         behind.get(20, TimeUnit.SECONDS);
         is(caller.get(), "settles");
@@ -263,7 +240,7 @@ public final class ServiceTest {
 
     private static void await(CountDownLatch latch) {
         try {
-            is(latch.await(60, TimeUnit.SECONDS), true);
+            is(latch.await(20, TimeUnit.SECONDS), true);
         } catch (InterruptedException interrupted) {
             throw new AssertionError(interrupted);
         }
@@ -522,6 +499,9 @@ public final class ServiceTest {
             for (int k = 0; k < 200; k++) {
                 values.add(new WeakReference<>(raced(k % 8, each)));
             }
+        }
+        is(stage.more.outside.poll() == null, true);
+        for (CompletionStage<Object> each : lived) {
             Request request = SERVICE.request();
             wait.add(request.anyOf(request.promise(), request.promise(), each));
             wait.add(request.promise().applyToEither(each, x -> x));
@@ -1157,32 +1137,73 @@ public final class ServiceTest {
         }
     }
 
-    /** Stages that are settled while others of other requests come to hang on them, and while these end. */
+    /** Stages of other requests come to hang on one, by several threads and at its end, and none is forgotten. */
     private static void relayRaces() throws Exception {
-        int rounds = Integer.getInteger("test.races", 500) * 4;
-        ExecutorService pool = Executors.newFixedThreadPool(2);
-        CyclicBarrier together = new CyclicBarrier(2);
+        int rounds = Integer.getInteger("test.races", 500) / 5;
+        ExecutorService pool = Executors.newFixedThreadPool(4);
+        CyclicBarrier together = new CyclicBarrier(4);
         for (int k = 0; k < rounds; k++) {
             Stage<Integer> stage = SERVICE.request().promise();
             CompletableFuture<Integer> java = new CompletableFuture<>();
-            Request request = SERVICE.request();
-            Stage<Integer> own = request.promise();
-            Future<?> settles = pool.submit(() -> {
-                together.await();
-                stage.complete(1);
-                java.complete(2);
-                return own.complete(3);
-            });
-            Future<Stage<Integer>> hangs = pool.submit(() -> {
-                together.await();
-                Stage<Integer> one = request.adopt(stage), two = request.adopt(java), three = own.applyToEither(stage, x -> x);
-                return request.allOf(one, two, three, own.applyToEither(java, x -> x)).thenCombine(two, (x, y) -> y);
-            });
-            settles.get(20, TimeUnit.SECONDS);
-            is(hangs.get(20, TimeUnit.SECONDS).get(20, TimeUnit.SECONDS), 2);
-            is(stage.more == null || stage.more.outside == null || stage.more.outside.take() == null, true);
+            List<Future<List<Stage<Integer>>>> hang = new ArrayList<>();
+            for (int t = 0; t < 4; t++) {
+                boolean settles = t == 0;
+                hang.add(pool.submit(() -> {
+                    Request request = SERVICE.request();
+                    Stage<Integer> own = request.promise();
+                    List<Stage<Integer>> made = new ArrayList<>();
+                    together.await();
+                    for (int one = 0; one < 100; one++) {
+                        if (settles && one == 90) {
+                            stage.complete(1);
+                            java.complete(2);
+                        }
+                        CompletionStage<Integer> of = one % 4 == 3 ? java : stage;
+                        made.add(one % 2 == 0 ? request.adopt(of) : own.applyToEither(of, x -> x));
+                        if (one % 5 == 4) {
+                            made.get(one).cancel(false);
+                        }
+                    }
+                    return made;
+                }));
+            }
+            for (Future<List<Stage<Integer>>> each : hang) {
+                for (Stage<Integer> one : each.get(20, TimeUnit.SECONDS)) {
+                    one.handle((x, e) -> 0).get(20, TimeUnit.SECONDS);
+                }
+            }
+            is(stage.more.outside.poll() == null, true);
         }
+        AtomicReference<Stage<Integer>> next = new AtomicReference<>(), hung = new AtomicReference<>();
+        int steps = 20 * rounds;
+        Future<?> hangs = pool.submit(() -> {
+            Request request = SERVICE.request().goesOn();
+            for (int k = 0; k < steps; k++) {
+                hung.set(request.adopt(taken(next)));
+            }
+        });
+        for (int k = 0; k < steps; k++) {
+            Stage<Integer> stage = SERVICE.request().promise();
+            next.set(stage);
+            for (int spin = 0; spin < k % 100; spin++) {
+                Thread.onSpinWait();
+            }
+            stage.complete(k);
+            is(taken(hung).get(20, TimeUnit.SECONDS), k);
+        }
+        hangs.get();
         pool.shutdown();
+    }
+
+    /** What another thread puts there, which is waited for as shortly as can be. */
+    private static Stage<Integer> taken(AtomicReference<Stage<Integer>> from) {
+        Stage<Integer> stage;
+        for (int k = 1; (stage = from.getAndSet(null)) == null; k++) {
+            if (k % 1000 == 0) {
+                Thread.yield();
+            }
+        }
+        return stage;
     }
 
     /** What cancel answers is what has become of the stage. */
