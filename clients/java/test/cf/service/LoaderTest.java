@@ -78,7 +78,7 @@ final class LoaderTest {
 
     private static void gone(List<WeakReference<ClassLoader>> loaders) throws Exception {
         for (int k = 0; k < loaders.size(); k++) {
-            for (int n = 0; n < 600 && loaders.get(k).get() != null; n++) {
+            for (int n = 0; n < 400 && loaders.get(k).get() != null; n++) {
                 System.gc();
                 Thread.sleep(n < 100 ? 5 : 50);
             }
