@@ -845,11 +845,13 @@ public final class ServiceTest {
             runs.countDown();
             await(go);
         };
-        Stage<Integer> one = request.<Integer>promise().orTimeout(1, TimeUnit.MILLISECONDS).exceptionally(error -> {
+        Stage<Integer> first = request.promise(), second = request.promise();
+        Stage<Integer> two = second.whenComplete((x, e) -> slow.run()), one = first.exceptionally(error -> {
             slow.run();
             return 1;
         });
-        Stage<Integer> two = request.<Integer>promise().completeOnTimeout(2, 1, TimeUnit.MILLISECONDS).whenComplete((x, e) -> slow.run());
+        first.orTimeout(1, TimeUnit.MILLISECONDS);
+        second.completeOnTimeout(2, 1, TimeUnit.MILLISECONDS);
         request.delayedExecutor(1, TimeUnit.MILLISECONDS, Runnable::run).execute(slow);
         is(runs.await(20, TimeUnit.SECONDS), true);
         request.promise().orTimeout(1, TimeUnit.MILLISECONDS).whenComplete((x, e) -> breaks());
