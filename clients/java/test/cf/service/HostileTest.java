@@ -225,7 +225,7 @@ public final class HostileTest {
             act.run(); // A class that fails to be initialized stays so.
             Thread thread = new Thread(null, () -> {
                 int deepest = deepest(0);
-                for (int k = 0; k < 1500; k += 1 + k / 50) {
+                for (int k = 0; k < deepest - 50 && ended[0] < 20; k += 1 + k / 50) {
                     try {
                         down(deepest - k, act);
                         ended[0]++;

@@ -240,7 +240,7 @@ public final class ServiceTest {
 
     private static void await(CountDownLatch latch) {
         try {
-            is(latch.await(20, TimeUnit.SECONDS), true);
+            is(latch.await(60, TimeUnit.SECONDS), true);
         } catch (InterruptedException interrupted) {
             throw new AssertionError(interrupted);
         }
@@ -453,10 +453,20 @@ public final class ServiceTest {
         return deep(levels - 1, act) + 1;
     }
 
+    private static boolean endsStack(int levels, Runnable act) {
+        try {
+            deep(levels, act);
+            return false;
+        } catch (StackOverflowError end) {
+            return true;
+        }
+    }
+
     /** Where the stack ends within a call, the request is whole: others go on with it. */
     private static void deepStacks() throws Exception {
         Service service = new Service(Runnable::run);
-        for (int round = 0; round < 18; round++) {
+        IllegalStateException failure = new IllegalStateException();
+        for (int round = 0; round < 6; round++) {
             Request request = service.request("deep").goesOn();
             Stage<Integer> first = request.promise(), behind = first.thenApply(x -> x + 1), done = request.completedFuture(1);
             List<Runnable> uses = Arrays.asList(() -> {
@@ -465,16 +475,16 @@ public final class ServiceTest {
                 stage.complete(1);
             }, () -> request.allOf(done, request.promise(), CompletableFuture.completedFuture(1)).cancel(true),
                     () -> request.supplyAsync(() -> 1), () -> done.thenCompose(x -> done).handle((x, e) -> 1),
-                    () -> request.promise().completeExceptionally(new IllegalStateException()), () -> done.thenCompose(x -> CompletableFuture.completedFuture(x)));
-            Runnable use = uses.get(round % uses.size());
-            AtomicInteger ended = new AtomicInteger();
+                    () -> request.promise().completeExceptionally(failure), () -> done.thenCompose(x -> CompletableFuture.completedFuture(x)));
+            Runnable use = uses.get(round);
             withStack(190 + round, () -> {
-                for (int levels = 100; ended.get() < 60; levels++) {
-                    try {
-                        deep(levels, use);
-                    } catch (StackOverflowError end) {
-                        ended.incrementAndGet();
-                    }
+                int levels = 100;
+                while (!endsStack(levels, use)) {
+                    levels += 1 + levels / 50;
+                }
+                levels -= levels / 25;
+                for (int ended = 0; ended < 40; levels++) {
+                    ended += endsStack(levels, use) ? 1 : 0;
                 }
             });
             withStack(512, () -> first.complete(1));
@@ -853,13 +863,15 @@ public final class ServiceTest {
             runs.countDown();
             await(go);
         };
-        Stage<Integer> one = request.<Integer>promise().orTimeout(1, TimeUnit.MILLISECONDS).exceptionally(error -> {
+        Stage<Integer> first = request.promise(), second = request.promise();
+        Stage<Integer> two = second.whenComplete((x, e) -> slow.run()), one = first.exceptionally(error -> {
             slow.run();
             return 1;
         });
-        Stage<Integer> two = request.<Integer>promise().completeOnTimeout(2, 1, TimeUnit.MILLISECONDS).whenComplete((x, e) -> slow.run());
+        first.orTimeout(1, TimeUnit.MILLISECONDS);
+        second.completeOnTimeout(2, 1, TimeUnit.MILLISECONDS);
         request.delayedExecutor(1, TimeUnit.MILLISECONDS, Runnable::run).execute(slow);
-        await(runs);
+        is(runs.await(20, TimeUnit.SECONDS), true);
         request.promise().orTimeout(1, TimeUnit.MILLISECONDS).whenComplete((x, e) -> breaks());
         CompletableFuture<Throwable> uncaught = new CompletableFuture<>();
         Thread.UncaughtExceptionHandler usual = Thread.getDefaultUncaughtExceptionHandler();
@@ -868,7 +880,7 @@ public final class ServiceTest {
         is(uncaught.get(20, TimeUnit.SECONDS) instanceof Broken, true);
         Thread.setDefaultUncaughtExceptionHandler(usual);
         Stage<Integer> last = request.<Integer>promise().completeOnTimeout(9, 1, TimeUnit.HOURS);
-        for (int k = 0; k < 20; k++) {
+        for (int k = 0; k < 5; k++) {
             is(request.<Integer>promise().completeOnTimeout(k, 1, TimeUnit.MILLISECONDS).get(20, TimeUnit.SECONDS), k);
             is(request.supplyAsync(() -> 1, request.delayedExecutor(1, TimeUnit.MILLISECONDS)).get(20, TimeUnit.SECONDS), 1);
         }
@@ -1174,36 +1186,44 @@ public final class ServiceTest {
             }
             is(stage.more.outside.poll() == null, true);
         }
-        AtomicReference<Stage<Integer>> next = new AtomicReference<>(), hung = new AtomicReference<>();
+        AtomicReference<Stage<Integer>> next = new AtomicReference<>();
+        AtomicReference<List<Stage<Integer>>> hung = new AtomicReference<>();
         int steps = 20 * rounds;
         Future<?> hangs = pool.submit(() -> {
-            Request request = SERVICE.request().goesOn();
             for (int k = 0; k < steps; k++) {
-                hung.set(request.adopt(taken(next)));
+                Stage<Integer> stage = taken(next);
+                Request request = SERVICE.request().goesOn();
+                List<Stage<Integer>> made = new ArrayList<>();
+                while (!stage.isDone()) {
+                    made.add(request.adopt(stage));
+                }
+                hung.set(made);
             }
         });
         for (int k = 0; k < steps; k++) {
             Stage<Integer> stage = SERVICE.request().promise();
             next.set(stage);
-            for (int spin = 0; spin < k % 100; spin++) {
+            for (int spin = 0; spin < 20 + k % 100; spin++) {
                 Thread.onSpinWait();
             }
             stage.complete(k);
-            is(taken(hung).get(20, TimeUnit.SECONDS), k);
+            for (Stage<Integer> each : taken(hung)) {
+                is(each.get(20, TimeUnit.SECONDS), k);
+            }
         }
         hangs.get();
         pool.shutdown();
     }
 
     /** What another thread puts there, which is waited for as shortly as can be. */
-    private static Stage<Integer> taken(AtomicReference<Stage<Integer>> from) {
-        Stage<Integer> stage;
-        for (int k = 1; (stage = from.getAndSet(null)) == null; k++) {
+    private static <U> U taken(AtomicReference<U> from) {
+        U put;
+        for (int k = 1; (put = from.getAndSet(null)) == null; k++) {
             if (k % 1000 == 0) {
                 Thread.yield();
             }
         }
-        return stage;
+        return put;
     }
 
     /** What cancel answers is what has become of the stage. */
