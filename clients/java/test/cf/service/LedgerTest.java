@@ -253,15 +253,15 @@ final class LedgerTest {
 
     /** However many requests are open, opening one more asks the JVM for no collection. */
     static void noCollection() throws Exception {
-        AtomicInteger asked = new AtomicInteger();
+        AtomicInteger asked = new AtomicInteger(), told = new AtomicInteger();
         List<GarbageCollectorMXBean> collectors = ManagementFactory.getGarbageCollectorMXBeans();
+        long before = collections(collectors);
         for (GarbageCollectorMXBean each : collectors) {
-            ((NotificationEmitter) each).addNotificationListener((told, none) -> {
-                String cause = told.getUserData() instanceof CompositeData
-                        ? GarbageCollectionNotificationInfo.from((CompositeData) told.getUserData()).getGcCause() : "";
-                if (cause.equals("System.gc()")) {
+            ((NotificationEmitter) each).addNotificationListener((event, none) -> {
+                if (GarbageCollectionNotificationInfo.from((CompositeData) event.getUserData()).getGcCause().equals("System.gc()")) {
                     asked.incrementAndGet();
                 }
+                told.incrementAndGet();
             }, null, null);
         }
         List<Request> open = new ArrayList<>();
@@ -271,7 +271,7 @@ final class LedgerTest {
         is(Ledger.live() >= 9000, true);
         int own = collectors.size();
         System.gc();
-        for (int k = 0; k < 4000 && asked.get() == 0; k++) {
+        for (int k = 0; k < 4000 && (asked.get() == 0 || told.get() < collections(collectors) - before); k++) {
             Thread.sleep(5);
         }
         is(asked.get() >= 1 && asked.get() <= own, true);
@@ -280,6 +280,10 @@ final class LedgerTest {
             each.close();
         }
         is(Ledger.live() < 9000, true);
+    }
+
+    private static long collections(List<GarbageCollectorMXBean> collectors) {
+        return collectors.stream().mapToLong(GarbageCollectorMXBean::getCollectionCount).sum();
     }
 
     /** Where the heap has much room, what requests that nobody closes have outside of it is bounded all the same. */
