@@ -241,7 +241,8 @@ final class Ledger {
         if (waiting == 0 && TIMES) {
             Native.since(core.at, 0);
         }
-        core.memory.putLong(Native.WORDS + 8 * waiting++, word);
+        core.memory.putLong(Native.WORDS + 8 * waiting, word);
+        waiting++;
         return stages++;
     }
 

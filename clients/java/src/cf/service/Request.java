@@ -384,8 +384,10 @@ public final class Request implements AutoCloseable {
         if (next != null) {
             return last().attach(form, first, second, function, executor, minimal);
         }
-        checkDepth();
         int foreign = (isForeign(first) ? 1 : 0) + (isForeign(second) ? 1 : 0);
+        if (foreign > 0) {
+            checkDepth();
+        }
         Stage<U> stage = null;
         News news = null;
         Link[] links = foreign == 0 ? NO_LINKS : new Link[2];
@@ -395,7 +397,10 @@ public final class Request implements AutoCloseable {
             if ((a == null || a.request == this) && (b == null || b.request == this)) {
                 synchronized (ledger) {
                     if (ledger.hasPlace(form.composes ? 2 : 1)) {
-                        news = waits(form, a, b) ? null : new News();
+                        if (!waits(form, a, b)) {
+                            checkDepth();
+                            news = new News();
+                        }
                         stage = added(form, a, b, function, executor, minimal, news);
                     }
                 }
@@ -461,8 +466,8 @@ public final class Request implements AutoCloseable {
     private <U> Stage<U> added(Form form, Stage<?> a, Stage<?> b, Object function, Executor executor, boolean minimal, News news) {
         int who = who();
         if (form.composes) {
-            Stage<?> relay = new Stage<>(this, reserve(who), Form.SOURCE, null, null);
-            enter(relay);
+            enter(new Stage<>(this, ledger.stages(), Form.SOURCE, null, null));
+            reserve(who);
         }
         int number = ledger.stages();
         Stage<U> stage = minimal ? new MinimalStage<>(this, number, form, function, executor)
@@ -471,12 +476,12 @@ public final class Request implements AutoCloseable {
         ledger.own(number, executor == null && form.calls);
         int sources = b != null ? 2 : a != null ? 1 : 0;
         long word = Words.attach(who, form, sources, a == null ? 0 : a.number, b == null ? 0 : b.number, form.calls ? number : 0);
+        enter(stage); // One whose word fails makes place for the next one of its number.
         if (news == null) {
             ledger.attachLater(word);
         } else {
             ledger.attach(word, who);
         }
-        enter(stage);
         record(word);
         if (a != null) {
             a.dependents++;

@@ -469,13 +469,19 @@ public final class ServiceTest {
         for (int round = 0; round < 6; round++) {
             Request request = service.request("deep").goesOn();
             Stage<Integer> first = request.promise(), behind = first.thenApply(x -> x + 1), done = request.completedFuture(1);
+            List<Stage<?>> made = new ArrayList<>();
             List<Runnable> uses = Arrays.asList(() -> {
                 Stage<Integer> stage = request.promise();
-                stage.thenApply(x -> x + 1);
+                made.add(stage);
+                made.add(stage.thenApply(x -> x + 1));
                 stage.complete(1);
-            }, () -> request.allOf(done, request.promise(), CompletableFuture.completedFuture(1)).cancel(true),
-                    () -> request.supplyAsync(() -> 1), () -> done.thenCompose(x -> done).handle((x, e) -> 1),
-                    () -> request.promise().completeExceptionally(failure), () -> done.thenCompose(x -> CompletableFuture.completedFuture(x)));
+            }, () -> {
+                made.add(request.allOf(done, request.promise(), CompletableFuture.completedFuture(1)));
+                made.get(made.size() - 1).cancel(true);
+            }, () -> made.add(request.supplyAsync(() -> 1)), () -> made.add(done.thenCompose(x -> done).handle((x, e) -> 1)), () -> {
+                made.add(request.promise());
+                made.get(made.size() - 1).completeExceptionally(failure);
+            }, () -> made.add(done.thenCompose(x -> CompletableFuture.completedFuture(x))));
             Runnable use = uses.get(round);
             withStack(190 + round, () -> {
                 int levels = 100;
@@ -489,6 +495,12 @@ public final class ServiceTest {
             });
             withStack(512, () -> first.complete(1));
             is(behind.get(20, TimeUnit.SECONDS), 2);
+            for (Stage<?> each : made) {
+                if (each.form == Form.SOURCE || each.form == Form.ALL_OF) {
+                    each.complete(null);
+                }
+                is(each.isDone(), true);
+            }
             Stage<Integer> more = request.promise(), next = more.thenApply(x -> x + 1);
             more.complete(3);
             is(next.get(20, TimeUnit.SECONDS), 4);
@@ -790,6 +802,7 @@ public final class ServiceTest {
             throw new Broken();
         };
         ExecutorService ended = Executors.newFixedThreadPool(1);
+        ended.shutdown();
         Stage<Integer> first = request.promise(), given = request.promise();
         Stage<Integer> refused = first.thenApplyAsync(x -> x, broken), composed = first.thenComposeAsync(x -> first, broken);
         Stage<Integer> called = first.thenApplyAsync(x -> x + 1), saved = refused.exceptionally(error -> 5), here = first.thenApply(x -> x + 2);
@@ -804,7 +817,6 @@ public final class ServiceTest {
         is(new Service(broken).request().promise().completeOnTimeout(3, 1, TimeUnit.MILLISECONDS).get(20, TimeUnit.SECONDS), 3);
         Stage<Integer> late = request.supplyAsync(() -> 1, request.delayedExecutor(20, TimeUnit.MILLISECONDS, ended));
         Stage<Integer> behind = first.thenApplyAsync(x -> x, request.delayedExecutor(20, TimeUnit.MILLISECONDS, ended));
-        ended.shutdown();
         for (Stage<Integer> each : Arrays.asList(late, behind)) {
             is(thrown(ExecutionException.class, () -> each.get(20, TimeUnit.SECONDS)).getCause() instanceof RejectedExecutionException, true);
         }
