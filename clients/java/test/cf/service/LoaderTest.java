@@ -23,7 +23,7 @@ final class LoaderTest {
     public static final class App {
         private App() {}
 
-        /** Leaves requests open, ready cores, a flow's plan, and a recording's events where one is on. */
+        /** Leaves requests open, cores to be used again, and a flow's plan. */
         public static int use(int requests, boolean timers) throws Exception {
             Service service = new Service(Runnable::run);
             Flow flow = new Flow("loaded");
@@ -86,7 +86,7 @@ final class LoaderTest {
         }
     }
 
-    /** A loader that was used and dropped goes, also while the JVM records, and takes its memory outside the heap along. */
+    /** A loader that was used and dropped goes, also where the JVM has recorded something, and takes its memory outside the heap along. */
     static void unloaded() throws Exception {
         List<WeakReference<ClassLoader>> loaders = new ArrayList<>();
         loaders.add(used(200, false));
