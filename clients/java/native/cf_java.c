@@ -2,7 +2,19 @@
  *
  * A core is a ledger with a piece of memory that Java reads and writes by a direct buffer, so that one crossing does some words and brings
  * back the reply and the news. Its caller has it alone: that is a request's lock. A core whose request is closed keeps its ledger, which
- * starts again for the next request of the same plan. */
+ * starts again for the next request of the same plan.
+ *
+ * What the library is owed (docs/C.md), and where it is met:
+ *   - a handle isn't copied: each stands in the one block of its core or plan, which isn't moved, and is 0 until it is filled;
+ *   - one call at a time has a handle: a core's by its request's lock (Ledger.java), a plan's by the lock beside it, since threads open
+ *     ledgers of one plan at once. Both locks order what different threads do, and so does the atomic by which Ledger's pool hands a core on;
+ *   - nothing is freed while it is used, or twice: who calls keeps the core's owner reachable, and Freed.java frees what can't be reached, once;
+ *   - pointers are aligned, and to as many elements as said: they are to variables and to the core's own memory. Arrays of Java's are read
+ *     within their bounds, whatever numbers are told beside them;
+ *   - malloc and free are those of the one C library; no call is made by a handler of signals, and the children that a JVM forks run no Java.
+ * Each class loader has a library of its own with variables of its own, and cores of its own: what is left of them when the loader goes,
+ * JNI_OnUnload frees. An asynchronous exception (Thread.stop) comes once a call has returned. No JNI function is called with one pending. */
+#define _GNU_SOURCE
 #include "cf.h"
 #include <jni.h>
 #include <pthread.h>
@@ -33,7 +45,13 @@ struct shown {
 /* By when so many events were done, in ticks. */
 struct moment { uint64_t at, events; };
 
+/* Of all cores, and of all plans, that aren't freed. It stands first in each. */
+struct link { struct link *before, *after; };
+static struct link cores = {&cores, &cores}, plans = {&plans, &plans};
+static pthread_mutex_t links = PTHREAD_MUTEX_INITIALIZER;
+
 struct core {
+  struct link link;
   struct shown shown;
   cf_handle ledger;
   const struct plan *plan; /* of which the ledger is */
@@ -47,6 +65,7 @@ struct core {
 };
 
 struct plan {
+  struct link link;
   cf_handle handle;
   uint32_t stages, place; /* for how many more there is place: two edges are set aside for each */
   uint64_t own[MOST / 64];
@@ -58,6 +77,19 @@ static struct plan empty = {.place = MOST}; /* without stages */
 #define CORE(at) ((struct core *)(intptr_t)(at))
 #define PLAN(at) ((at) ? (struct plan *)(intptr_t)(at) : &empty)
 #define METHOD(type, name) JNIEXPORT type JNICALL Java_cf_service_Native_##name
+
+static void enter(struct link *list, struct link *one) {
+  pthread_mutex_lock(&links);
+  one->before = list, one->after = list->after;
+  list->after = one->after->before = one;
+  pthread_mutex_unlock(&links);
+}
+
+static void leave(struct link *one) {
+  pthread_mutex_lock(&links);
+  one->before->after = one->after, one->after->before = one->before;
+  pthread_mutex_unlock(&links);
+}
 
 /* Times. The processor's counter costs a fifth of a call of the clock. */
 
@@ -121,6 +153,27 @@ METHOD(void, since)(JNIEnv *env, jclass class, jlong at, jlong since) {
 METHOD(jlong, ticks)(JNIEnv *env, jclass class) {
   (void)env, (void)class;
   return (jlong)ticks();
+}
+
+/* Of how much of a stack Java throws a StackOverflowError, so that native code has place, and how much more a word wants that is told. */
+enum { JAVAS_STACK = 96 << 10, WORDS_STACK = 32 << 10 };
+
+/* A third of what Java leaves of a small stack is a word's. */
+METHOD(jboolean, hasStack)(JNIEnv *env, jclass class) {
+  (void)env, (void)class;
+  static __thread char *least;
+  if (!least) {
+    pthread_attr_t attributes;
+    void *end;
+    size_t size;
+    if (pthread_getattr_np(pthread_self(), &attributes)) return JNI_TRUE;
+    int code = pthread_attr_getstack(&attributes, &end, &size);
+    pthread_attr_destroy(&attributes);
+    if (code) return JNI_TRUE;
+    size_t left = size > JAVAS_STACK ? (size - JAVAS_STACK) / 3 : 0;
+    least = (char *)end + JAVAS_STACK + (left < WORDS_STACK ? left : WORDS_STACK);
+  }
+  return (char *)__builtin_frame_address(0) > least;
 }
 
 /* 12 bits of the stage, then whether it is settled; from 16 on the outcome's kind, whether it is wrapped, whether its value is a number. */
@@ -260,6 +313,7 @@ METHOD(jlong, apply)(JNIEnv *env, jclass class, jlong at, jint waiting, jlong wo
   uint32_t code = CF_OK, answer = 0;
   shown->news = shown->rest = shown->done = shown->args[0] = 0;
   core->claimed = -1;
+  if (waiting < 0 || waiting > WORDS) return told(core, CF_NO_WORD, 0);
   if (waiting > 0) code = apply_row(core, (size_t)waiting);
   if (word == 0 || code != CF_OK) return told(core, code, 0);
   if (from >= 0) code = step(core, (uint64_t)word, (uint32_t)who, (uint32_t)from, &answer);
@@ -306,7 +360,10 @@ METHOD(jlong, create)(JNIEnv *env, jclass class, jboolean timed) {
   if (!core) return 0;
   core->timed = timed, core->most_moments = 32;
   core->moments = malloc(core->most_moments * sizeof *core->moments);
-  if (core->moments) return (jlong)(intptr_t)core;
+  if (core->moments) {
+    enter(&cores, &core->link);
+    return (jlong)(intptr_t)core;
+  }
   free(core);
   return 0;
 }
@@ -316,11 +373,16 @@ METHOD(jobject, memory)(JNIEnv *env, jclass class, jlong at) {
   return (*env)->NewDirectByteBuffer(env, &CORE(at)->shown, sizeof(struct shown));
 }
 
+static void free_core(struct core *core) {
+  leave(&core->link);
+  cf_free(&core->ledger);
+  free(core->moments);
+  free(core);
+}
+
 METHOD(void, destroy)(JNIEnv *env, jclass class, jlong at) {
   (void)env, (void)class;
-  cf_free(&CORE(at)->ledger);
-  free(CORE(at)->moments);
-  free(CORE(at));
+  free_core(CORE(at));
 }
 
 static uint32_t opened(struct core *core, struct plan *plan, uint32_t room, const uint64_t *words, size_t n) {
@@ -340,12 +402,15 @@ static uint32_t opened(struct core *core, struct plan *plan, uint32_t room, cons
 METHOD(jint, open)(JNIEnv *env, jclass class, jlong at, jlong plan, jint room, jlongArray kept, jint n) {
   (void)class;
   struct core *core = CORE(at);
+  if (room < 0 || room > MOST) return CF_ROOM;
+  jsize length = n ? (*env)->GetArrayLength(env, kept) : 0;
+  if (n < 0 || n > length) return CF_NO_WORD;
   jlong *done = n ? (*env)->GetLongArrayElements(env, kept, NULL) : NULL;
   if (n && !done) return CF_NO_MEMORY;
   uint32_t code = opened(core, PLAN(plan), (uint32_t)room, (const uint64_t *)done, (size_t)n);
   core->shown.moments = 0;
   if (n) {
-    for (jsize k = n; k + 1 < (*env)->GetArrayLength(env, kept); k += 2) {
+    for (jsize k = n; k + 1 < length; k += 2) {
       core->shown.events = (int32_t)done[k + 1];
       note(core, (uint64_t)done[k]);
     }
@@ -362,10 +427,12 @@ METHOD(jint, keep)(JNIEnv *env, jclass class, jlong at, jlongArray into, jint n)
   struct core *core = CORE(at);
   uint64_t words[512];
   size_t left;
+  if ((*env)->GetArrayLength(env, into) < n + 2 * core->shown.moments) return CF_NO_WORD;
   for (jint k = 0, part; k < n; k += part) {
     uint32_t code = cf_ledger_words(&core->ledger, (size_t)k, words, 512, &left);
     if (code != CF_OK) return (jint)code;
     part = n - k < 512 ? n - k : 512;
+    if ((size_t)part > left) return CF_NO_WORD;
     (*env)->SetLongArrayRegion(env, into, k, part, (const jlong *)words);
   }
   (*env)->SetLongArrayRegion(env, into, n, 2 * core->shown.moments, (const jlong *)core->moments);
@@ -383,6 +450,10 @@ METHOD(jlong, plan)(JNIEnv *env, jclass class, jintArray rows) {
   uint32_t edges = 0, code = row ? cf_builder_new(&plan->handle, 0, 0) : CF_NO_MEMORY;
   for (jsize k = 0; k < n && code == CF_OK; k += 3 + row[k + 2]) {
     uint16_t of[MOST], stage;
+    if (n - k < 3 || row[k + 2] < 0 || row[k + 2] > n - k - 3) {
+      code = CF_WRONG_SOURCE_COUNT;
+      break;
+    }
     for (jint i = 0; i < row[k + 2] && i < MOST; i++) of[i] = (uint16_t)row[k + 3 + i];
     uint32_t function = row[k + 1] < 0 ? CF_NO_FUNCTION : (uint32_t)row[k + 1], form = (uint32_t)row[k] & 0xff;
     code = row[k + 2] > MOST ? CF_TOO_MANY_EDGES : cf_builder_stage(&plan->handle, form, of, (size_t)row[k + 2], function, &stage);
@@ -399,14 +470,28 @@ METHOD(jlong, plan)(JNIEnv *env, jclass class, jintArray rows) {
   }
   plan->place = MOST - plan->stages < (MOST_EDGES - edges) / 2 ? MOST - plan->stages : (MOST_EDGES - edges) / 2;
   pthread_mutex_init(&plan->lock, NULL);
+  enter(&plans, &plan->link);
   return (jlong)(intptr_t)plan;
+}
+
+static void free_plan(struct plan *plan) {
+  leave(&plan->link);
+  cf_free(&plan->handle);
+  pthread_mutex_destroy(&plan->lock);
+  free(plan);
 }
 
 METHOD(void, forget)(JNIEnv *env, jclass class, jlong plan) {
   (void)env, (void)class;
-  cf_free(&PLAN(plan)->handle);
-  pthread_mutex_destroy(&PLAN(plan)->lock);
-  free(PLAN(plan));
+  free_plan(PLAN(plan));
+}
+
+JNIEXPORT void JNICALL JNI_OnUnload(JavaVM *vm, void *reserved) {
+  (void)vm, (void)reserved;
+  while (cores.after != &cores) free_core((struct core *)cores.after);
+  while (plans.after != &plans) free_plan((struct plan *)plans.after);
+  cf_free(&empty.handle);
+  pthread_mutex_destroy(&empty.lock);
 }
 
 /* The stages that are ready in a ledger that was opened now, as news: from `rest` on. */

@@ -2,32 +2,26 @@ package cf.service;
 
 import jdk.jfr.Category;
 import jdk.jfr.Description;
+import jdk.jfr.Enabled;
 import jdk.jfr.Event;
-import jdk.jfr.FlightRecorderListener;
 import jdk.jfr.Label;
 import jdk.jfr.Name;
 import jdk.jfr.StackTrace;
 
-/** Events of jdk.jfr: cf.Word for each word of a request, cf.Stage for each stage that is settled. */
+/**
+ * Events of jdk.jfr: cf.Word for each word of a request, cf.Stage for each stage that is settled. There are many, so recordings have them only
+ * where their settings say so.
+ */
 final class FlightRecorder extends Recorder {
-    private FlightRecorder() {}
-
-    /** Is there from when the JVM has recordings on. */
-    static void await() {
-        jdk.jfr.FlightRecorder.addListener(new FlightRecorderListener() {
-            @Override
-            public void recorderInitialized(jdk.jfr.FlightRecorder recorder) {
-                now = new FlightRecorder();
-            }
-        });
-        if (jdk.jfr.FlightRecorder.isInitialized()) {
-            now = new FlightRecorder();
-        }
+    @Override
+    boolean isOn() {
+        return jdk.jfr.FlightRecorder.isInitialized();
     }
 
     @Name("cf.Word")
     @Label("Word")
     @Category({"cf", "Requests"})
+    @Enabled(false)
     @Description("An event of a request's history")
     @StackTrace(false)
     static final class WordEvent extends Event {
@@ -41,6 +35,7 @@ final class FlightRecorder extends Recorder {
     @Name("cf.Stage")
     @Label("Stage")
     @Category({"cf", "Requests"})
+    @Enabled(false)
     @Description("A stage that is settled")
     @StackTrace(false)
     static final class StageEvent extends Event {
@@ -64,7 +59,7 @@ final class FlightRecorder extends Recorder {
     @Override
     void word(String request, long word) {
         WordEvent event = new WordEvent();
-        event.request = request;
+        event.request = Text.escaped(request);
         event.event = Words.name(word);
         event.stage = Words.stage(word);
         event.caller = Words.who(word);
@@ -73,13 +68,13 @@ final class FlightRecorder extends Recorder {
     }
 
     @Override
-    void stage(String request, int number, String form, String name, Object outcome) {
+    void stage(String request, int number, String form, String name, String outcome) {
         StageEvent event = new StageEvent();
-        event.request = request;
+        event.request = Text.escaped(request);
         event.number = number;
         event.form = form;
-        event.name = name;
-        event.outcome = History.brief(outcome);
+        event.name = Text.escaped(name);
+        event.outcome = Text.escaped(outcome);
         event.commit();
     }
 }

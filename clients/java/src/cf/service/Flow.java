@@ -79,7 +79,9 @@ public final class Flow {
 
         /** What histories call it. This step itself is given back. */
         public Step<T> named(String name) {
-            changed(number).name = name;
+            synchronized (Flow.this) {
+                changed(number).name = name;
+            }
             return this;
         }
 
@@ -90,7 +92,9 @@ public final class Flow {
 
         /** Has its function called by this executor. This step itself is given back. */
         public Step<T> async(Executor executor) {
-            changed(number).executor = Objects.requireNonNull(executor);
+            synchronized (Flow.this) {
+                changed(number).executor = Objects.requireNonNull(executor);
+            }
             return this;
         }
 
@@ -152,7 +156,7 @@ public final class Flow {
     }
 
     /** What {@link Service#start} gives, or who completes the request's stage. */
-    public <U> Step<U> promise() {
+    public synchronized <U> Step<U> promise() {
         Step<U> step = add(Form.SOURCE, null, null);
         promises.add(step.number());
         return step;
@@ -180,20 +184,18 @@ public final class Flow {
         return name;
     }
 
-    private <U> Step<U> step(Form form, Object function, int... of) {
+    private synchronized <U> Step<U> step(Form form, Object function, int... of) {
         Objects.requireNonNull(function);
         if (form.composes) {
+            open(2, of.length);
             add(Form.SOURCE, null, null);
             changed(rows.size() - 1).name = "relay";
         }
         return add(form, function, null, of);
     }
 
-    private <U> Step<U> add(Form form, Object function, Executor executor, int... of) {
-        open();
-        if (rows.size() == Ledger.MOST_STAGES || edges + of.length > Ledger.MOST_EDGES) {
-            throw new RequestFullException(name);
-        }
+    private synchronized <U> Step<U> add(Form form, Object function, Executor executor, int... of) {
+        open(1, of.length);
         edges += of.length;
         startsReady |= of.length == 0 && form != Form.SOURCE;
         rows.add(new Row(form, of, function, executor));
@@ -217,7 +219,15 @@ public final class Flow {
 
     private void open() {
         if (fixed != null) {
-            throw new IllegalStateException("a request of the flow \"" + name + "\" was begun");
+            throw new IllegalStateException("a request of the flow \"" + Text.escaped(name) + "\" was begun");
+        }
+    }
+
+    /** Where there is place for so many steps, and sources of them. */
+    private void open(int steps, int sources) {
+        open();
+        if (rows.size() + steps > Ledger.MOST_STAGES || edges + sources > Ledger.MOST_EDGES) {
+            throw new RequestFullException(name);
         }
     }
 
@@ -252,8 +262,9 @@ public final class Flow {
                     numbers[at++] = source;
                 }
             }
+            Ledger.Plan made = new Ledger.Plan(numbers, rows.size(), edges);
             fixed = rows.toArray(new Row[0]);
-            plan = new Ledger.Plan(numbers, rows.size(), edges);
+            plan = made; // Who reads it finds all that stands above.
         }
         return plan;
     }

@@ -3,19 +3,18 @@ package cf.service;
 import java.lang.ref.PhantomReference;
 import java.lang.ref.ReferenceQueue;
 
-/** What is freed once its owner can't be reached any more, if it wasn't before; as Cleaner does, which Java 8 hasn't. */
+/**
+ * What is freed once its owner can't be reached any more, if it wasn't before; as Cleaner does, which Java 8 hasn't. Whoever opens a ledger
+ * frees some of it: a thread of its own would keep its class loader for good. What nobody has freed when that goes, the library frees then.
+ */
 final class Freed extends PhantomReference<Object> {
     private static final ReferenceQueue<Object> GONE = new ReferenceQueue<>();
     private static final Freed FIRST = new Freed();
+    /** How much is freed at once, so that nobody pays for all that a collection has found. */
+    private static final int SOME = 16;
 
     private Runnable free;
     private Freed before, after;
-
-    static {
-        Thread thread = new Thread(Freed::drain, "cf-freed");
-        thread.setDaemon(true);
-        thread.start();
-    }
 
     private Freed() {
         super(FIRST, GONE);
@@ -49,13 +48,20 @@ final class Freed extends PhantomReference<Object> {
         act.run();
     }
 
-    private static void drain() {
-        for (;;) {
-            try {
-                ((Freed) GONE.remove()).now();
-            } catch (InterruptedException again) {
-                // Nobody ends this thread.
-            }
+    /** Frees some of what can't be reached any more. */
+    static void some() {
+        free(SOME);
+    }
+
+    /** Frees all of it. */
+    static void all() {
+        free(Integer.MAX_VALUE);
+    }
+
+    private static void free(int most) {
+        Freed gone;
+        for (int k = 0; k < most && (gone = (Freed) GONE.poll()) != null; k++) {
+            gone.now();
         }
     }
 }

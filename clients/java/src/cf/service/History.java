@@ -36,12 +36,14 @@ public final class History {
     private final long[] times;
     private final int stages;
     private final String[] names;
-    private final Object[] values;
-    private final Throwable[] errors;
+    /** Values and exceptions; but the texts of them where the request doesn't tell all. */
+    private final Object[] values, errors;
+    private Describe describe = Describe.ALL;
     private final String[] threads;
     private final int[][] witness;
     private int[] replies, told, ends;
 
+    /** Its request's lock is held. {@link #describe} is called once that is free. */
     History(String name, Flow flow, Ledger ledger, String[] names, Object[] values, Throwable[] errors, String[] threads) {
         this.name = name;
         this.flow = flow;
@@ -52,8 +54,21 @@ public final class History {
         witness = ledger.witness();
         this.names = names;
         this.values = values;
-        this.errors = errors;
+        this.errors = Arrays.copyOf(errors, errors.length, Object[].class);
         this.threads = threads;
+    }
+
+    /** Keeps texts by this function alone, where it isn't the one that tells all. */
+    History described(Describe by) {
+        if (by != Describe.ALL) {
+            for (Object[] each : Arrays.asList(values, errors)) {
+                for (int k = 0; k < each.length; k++) {
+                    each[k] = Text.of(by, each[k]);
+                }
+            }
+            describe = text -> (String) text;
+        }
+        return this;
     }
 
     /** The words of all events in their order. */
@@ -156,25 +171,28 @@ public final class History {
 
     // In words.
 
-    /** A line for each event, and one for each stage that it settled. */
+    /** A line for each event, and one for each stage that it settled. Names and texts can't add a line: see {@link Describe}. */
     @Override
     public String toString() {
         read();
-        StringBuilder text = new StringBuilder(name + ": " + events() + " events, " + stages + " stages\n");
+        StringBuilder text = new StringBuilder(Text.escaped(name) + ": " + events() + " events, " + stages + " stages\n");
         String[] forms = forms();
         int next = 0;
         for (int k = 0; k < events(); k++) {
             String time = times == null ? "" : String.format(Locale.ROOT, "%9.3f ms  ", times[k] / 1e6);
-            text.append(time).append(sentence(k, forms)).append('\n');
+            text.append(time).append(Text.escaped(sentence(k, forms))).append('\n');
             for (; next < told.length && told[next] == k + 1; next += TOLD) {
-                text.append("              ").append(stage(told[next + 1], forms)).append(" ends: ")
-                        .append(outcome(told[next + 2], told[next + 3])).append('\n');
+                text.append("              ")
+                        .append(Text.escaped(stage(told[next + 1], forms) + " ends: " + outcome(told[next + 2], told[next + 3]))).append('\n');
             }
         }
         return text.toString();
     }
 
-    /** The same in one line, for a log: the name, how much there was, which stages failed first, and which aren't settled. */
+    /**
+     * The same in one line, for a log: the name, how much there was, which stages failed first, and which aren't settled. Between these parts
+     * stands a semicolon; one of a name or text is told as JSON's escape of it.
+     */
     public String line() {
         read();
         String[] forms = forms();
@@ -182,18 +200,18 @@ public final class History {
         String first = "", waiting = "";
         for (int k = 0; k < told.length; k += TOLD) {
             if ((told[k + 2] & 0xf) != GIVES && failed++ == 0) {
-                first = ": " + stage(told[k + 1], forms) + " by " + outcome(told[k + 2], told[k + 3]);
+                first = ": " + Text.escaped(stage(told[k + 1], forms) + " by " + outcome(told[k + 2], told[k + 3]), ';');
             }
         }
         for (int k = 0; k < stages; k++) {
             if (ends[2 * k] == 0 && open++ == 0) {
-                waiting = ": " + stage(k, forms);
+                waiting = ": " + Text.escaped(stage(k, forms), ';');
             }
         }
         String time = times == null || times.length == 0 ? ""
                 : String.format(Locale.ROOT, " in %.3f ms", times[times.length - 1] / 1e6);
-        return (name + ": " + events() + " events, " + stages + " stages" + time + "; " + failed + " failed" + first + "; " + open + " open"
-                + waiting).replace('\n', ' ').replace('\r', ' ');
+        return Text.escaped(name, ';') + ": " + events() + " events, " + stages + " stages" + time + "; " + failed + " failed" + first + "; " + open
+                + " open" + waiting;
     }
 
     private String[] forms() {
@@ -251,14 +269,14 @@ public final class History {
                 String[] said = {"is granted", "is too late, it is settled", "is too late, another has it", "is too early"};
                 return who + " claims " + on + " and " + said[answer(k)] + (answer(k) == 0 ? calledWith(k) : "");
             case Words.FINISH:
-                String gave = Words.tag(word) == 2 ? "which threw " + brief(errors[Words.low(word)])
+                String gave = Words.tag(word) == 2 ? "which threw " + shown(errors[Words.low(word)])
                         : Words.tag(word) == 3 ? "which waits for " + stage(Words.low(word), forms)
                         : "which gave " + value(Words.tag(word), Words.low(word));
                 return who + " finishes " + on + ", " + gave + new String[] {"", ", too late", ", which it had not claimed"}[answer(k)];
             case Words.COMPLETE:
                 return who + " completes " + on + " with " + value(Words.tag(word), Words.low(word)) + late(k);
             case Words.FAIL:
-                return who + " fails " + on + " with " + brief(errors[Words.low(word)]) + late(k);
+                return who + " fails " + on + " with " + shown(errors[Words.low(word)]) + late(k);
             default:
                 return who + " cancels " + on + late(k);
         }
@@ -275,7 +293,7 @@ public final class History {
             case OUTCOME:
                 int kind = argument(k, 5);
                 return ", with " + (kind == GIVES ? value(argument(k, 8), argument(k, 9))
-                        : kind == THROWN ? brief(errors[argument(k, 7)]) : "a cancellation");
+                        : kind == THROWN ? shown(errors[argument(k, 7)]) : "a cancellation");
             case ONE:
                 return ", with " + value(argument(k, 1), argument(k, 2));
             default:
@@ -297,23 +315,17 @@ public final class History {
     }
 
     private String value(int some, int number) {
-        return some == 0 ? "null" : brief(values[number]);
+        return some == 0 ? "null" : shown(values[number]);
     }
 
     private String outcome(int what, int number) {
         boolean wrapped = (what & 16) != 0;
         return (what & 0xf) == GIVES ? value(what >>> 5 & 1, number)
-                : ((what & 0xf) == THROWN ? brief(errors[number]) : "cancelled") + (wrapped ? ", wrapped" : "");
+                : ((what & 0xf) == THROWN ? shown(errors[number]) : "cancelled") + (wrapped ? ", wrapped" : "");
     }
 
-    static String brief(Object thing) {
-        String text;
-        try {
-            text = String.valueOf(thing);
-        } catch (RuntimeException | StackOverflowError unspeakable) {
-            text = "a " + thing.getClass().getSimpleName();
-        }
-        return text.length() <= 60 ? text : text.substring(0, 57) + "...";
+    private String shown(Object thing) {
+        return Text.of(describe, thing);
     }
 
     // For the programs.
@@ -359,8 +371,8 @@ public final class History {
         }
         return ",\"name\":" + quoted(name) + ",\"times\":[" + moments + "]"
                 + texts("names", stages, k -> names[k] == null ? "" : names[k].substring(0, Math.min(names[k].length(), LONGEST_NAME)))
-                + texts("lanes", callers, this::who) + texts("values", values.length, k -> brief(values[k]))
-                + texts("errors", errors.length, k -> brief(errors[k]));
+                + texts("lanes", callers, this::who) + texts("values", values.length, k -> shown(values[k]))
+                + texts("errors", errors.length, k -> shown(errors[k]));
     }
 
     private static String texts(String member, int count, IntFunction<String> of) {
@@ -371,17 +383,17 @@ public final class History {
         return text.append(']').toString();
     }
 
-    /** A string of JSON. Half of a surrogate pair, which no UTF-8 has, becomes the replacement character. */
+    /** A string of JSON, of one line wherever it is shown. Half of a surrogate pair, which no UTF-8 has, becomes the replacement character. */
     private static String quoted(String text) {
         StringBuilder quoted = new StringBuilder("\"");
-        for (int k = 0; k < text.length(); k++) {
-            char c = text.charAt(k);
-            if (Character.isHighSurrogate(c) && k + 1 < text.length() && Character.isLowSurrogate(text.charAt(k + 1))) {
-                quoted.append(c).append(text.charAt(++k));
-            } else if (c < ' ' || c == '"' || c == '\\') {
-                quoted.append(String.format("\\u%04x", (int) c));
+        for (int k = 0, c; k < text.length(); k += Character.charCount(c)) {
+            c = text.codePointAt(k);
+            if (c == '"' || c == '\\' || Text.isHidden(c)) {
+                for (char half : Character.toChars(c)) {
+                    quoted.append(String.format("\\u%04x", (int) half));
+                }
             } else {
-                quoted.append(Character.isSurrogate(c) ? '\ufffd' : c);
+                quoted.appendCodePoint(Character.getType(c) == Character.SURROGATE ? '\ufffd' : c);
             }
         }
         return quoted.append('"').toString();

@@ -8,7 +8,9 @@ import java.util.concurrent.atomic.AtomicInteger;
 import java.util.concurrent.atomic.AtomicReferenceArray;
 
 /**
- * A ledger of the library, with the times of its words. It is its request's lock: who has it, calls it.
+ * A ledger of the library, with the times of its words. It is its request's lock: who has it, calls it. So one thread at a time has what
+ * stands behind the handle, which the library asks for; that of a history's own ledger nobody else knows. Who holds the lock also keeps
+ * the core reachable, so that it isn't freed within a call. A core is in one ledger or in the pool of one plan, never in two places.
  *
  * <p>Words that can change nothing but that there is one stage more, since its sources aren't settled, are handed over with the next word
  * that can: one crossing does them all.
@@ -23,10 +25,10 @@ final class Ledger {
     /** Of how many stages more than those of its plan a core is kept to be used again, and with 16 times as many events. */
     private static final int MOST_KEPT = 512;
     private static final Pool NO_PLAN = new Pool(0);
-    /** Cores that aren't freed, and how many of them there may be until the collector is asked. */
+    /** Cores that aren't freed, and how many of them there may be before each takes so many bytes in the heap for a moment. */
     private static final AtomicInteger LIVE = new AtomicInteger();
-    private static final int LEAST_LIVE = 8192;
-    private static volatile int mostLive = LEAST_LIVE;
+    private static final int MANY = 8192, BYTES = 8192;
+    private static byte[] ballast;
     /** Whether histories also compare what callers were told with what a ledger tells in which the words are done again; for tests. */
     static final boolean WITNESSED = Boolean.getBoolean("cf.witness");
 
@@ -48,42 +50,51 @@ final class Ledger {
         final ByteBuffer memory;
         private final Freed freed;
 
-        Core() {
-            if (LIVE.incrementAndGet() > mostLive) {
-                collect();
+        /** What is freed of it; it is told of at first, so that a core that fails to be made is freed, too. */
+        private static final class Outside implements Runnable {
+            private long at;
+
+            @Override
+            public void run() {
+                if (at != 0) {
+                    LIVE.getAndDecrement();
+                    Native.destroy(at);
+                }
             }
-            long made = Native.create(TIMES);
-            if (made == 0) {
-                LIVE.getAndDecrement();
-                throw new OutOfMemoryError("a ledger of cf");
-            }
-            at = made;
-            memory = Native.memory(made).order(ByteOrder.nativeOrder());
-            freed = new Freed(this, () -> {
-                LIVE.getAndDecrement();
-                Native.destroy(made);
-            });
         }
 
         /**
-         * The collector doesn't see what a core takes outside the heap, some KB. So where there are twice as many as it left the last time,
-         * it is asked to look which of them nobody can reach, as the JDK asks it for direct buffers.
+         * The collector doesn't see what a core takes outside the heap, and so may find late which cores nobody can reach. Where there are
+         * many, a new one also takes as much in the heap, which is garbage at once: so the collector comes as often as if it saw it. What it
+         * has found is freed by whoever opens the next ledgers. Nobody waits for it, and memory ends only where the system refuses it.
          */
-        private static synchronized void collect() {
-            if (LIVE.get() <= mostLive) {
-                return;
+        Core() {
+            Outside outside = new Outside();
+            freed = new Freed(this, outside);
+            at = outside.at = created();
+            int live = LIVE.incrementAndGet();
+            memory = Native.memory(at).order(ByteOrder.nativeOrder());
+            if (live > MANY) {
+                ballast = new byte[BYTES];
             }
-            System.gc();
-            for (int k = 0; k < 50 && LIVE.get() > mostLive / 2; k++) {
-                try {
-                    Thread.sleep(1);
-                } catch (InterruptedException interrupted) {
-                    Thread.currentThread().interrupt();
-                    break;
-                }
-            }
-            mostLive = Math.max(LEAST_LIVE, 2 * LIVE.get());
         }
+
+        private static long created() {
+            long made = Native.create(TIMES);
+            if (made == 0) {
+                Freed.all();
+                made = Native.create(TIMES);
+            }
+            if (made == 0) {
+                throw noMemory();
+            }
+            return made;
+        }
+    }
+
+    /** How many cores aren't freed. */
+    static int live() {
+        return LIVE.get();
     }
 
     /** Cores of closed requests of one plan, whose ledgers start again. A thread looks first where it has put one last. */
@@ -172,11 +183,17 @@ final class Ledger {
 
     /** With so much room, of which the core makes more itself. */
     private void open(int room) {
+        Freed.some();
         Core core = pool().take();
         if (core == null) {
             core = new Core();
         }
-        int code = Native.open(core.at, plan == null ? 0 : plan.at, room, kept, events);
+        long of = plan == null ? 0 : plan.at;
+        int code = Native.open(core.at, of, room, kept, events);
+        if (code == Native.NO_MEMORY) {
+            Freed.all();
+            code = Native.open(core.at, of, room, kept, events);
+        }
         if (code != Native.OK) {
             core.freed.now();
             throw refusal(code);
@@ -198,13 +215,19 @@ final class Ledger {
         return stages + more <= (plan == null ? MOST_STAGES : plan.most);
     }
 
-    /** Says of a stage that is to be attached next that its function is called by whoever makes it ready. */
-    void own(int stage) {
+    /**
+     * Says of a stage that is to be attached next whether its function is called by whoever makes it ready. It is said of each, since an
+     * attach that failed may have said it of another stage of this number.
+     */
+    void own(int stage, boolean is) {
         if (core == null) {
             open();
         }
         int at = Native.OWN + (stage >>> 6 << 3);
-        core.memory.putLong(at, core.memory.getLong(at) | 1L << stage);
+        long own = core.memory.getLong(at), bit = 1L << stage;
+        if ((own & bit) != 0 != is) {
+            core.memory.putLong(at, own ^ bit);
+        }
     }
 
     /** A stage more whose sources aren't settled. */
@@ -218,7 +241,8 @@ final class Ledger {
         if (waiting == 0 && TIMES) {
             Native.since(core.at, 0);
         }
-        core.memory.putLong(Native.WORDS + 8 * waiting++, word);
+        core.memory.putLong(Native.WORDS + 8 * waiting, word);
+        waiting++;
         return stages++;
     }
 
@@ -255,11 +279,12 @@ final class Ledger {
         if (code != Native.OK) {
             refused(code);
         }
+        // No method is called from here on, so that a stack that is at its end can't leave half of it.
         reply = told;
         events += waiting;
         waiting = 0;
         if (word != 0) {
-            events += claimed() >= 0 ? 2 : 1;
+            events += (told >>> 12 & 0x1fff) != 0 ? 2 : 1;
         }
     }
 
@@ -296,7 +321,12 @@ final class Ledger {
     }
 
     private static Error refusal(int code) {
-        return code == Native.NO_MEMORY ? new OutOfMemoryError("a ledger of cf") : new AssertionError("the library refused with code " + code);
+        return code == Native.NO_MEMORY ? noMemory() : new AssertionError("the library refused with code " + code);
+    }
+
+    private static OutOfMemoryError noMemory() {
+        return new OutOfMemoryError("cf.service: the system refuses memory outside the heap, where " + LIVE.get() + " requests have some: close"
+                + " those that are done");
     }
 
     // What stands in the core.

@@ -1,5 +1,6 @@
 package cf.service;
 
+import java.io.File;
 import java.io.IOException;
 import java.io.InputStream;
 import java.nio.ByteBuffer;
@@ -7,12 +8,13 @@ import java.nio.file.Files;
 import java.nio.file.Path;
 import java.nio.file.Paths;
 import java.nio.file.StandardCopyOption;
+import java.util.Locale;
 
 /**
  * The methods of native/cf_java.c, and how it is found: by the property {@code cf.native}, which names the file; else in the jar; else
- * where {@link System#loadLibrary} looks for {@code cf_java}.
+ * where {@link System#loadLibrary} looks for {@code cf_java}. Each class loader has a library of its own.
  *
- * <p>One thread at a time has a core. Answers are codes of cf.h, 0 where all went well.
+ * <p>One thread at a time has a core, whose lock it holds. Answers are codes of cf.h, 0 where all went well.
  */
 final class Native {
     /** Codes of cf.h. */
@@ -41,6 +43,9 @@ final class Native {
     static native void since(long core, long ticks);
 
     static native long ticks();
+
+    /** Whether this thread's stack has place for all that a word leads to, but for functions. Where it hasn't, nothing is begun. */
+    static native boolean hasStack();
 
     /** The next news where not all had place. */
     static native int more(long core);
@@ -75,26 +80,75 @@ final class Native {
 
     private static void load() {
         String named = System.getProperty("cf.native");
-        if (named != null) {
-            System.load(Paths.get(named).toAbsolutePath().toString());
-            return;
-        }
-        String machine = System.getProperty("os.name").toLowerCase() + "-" + System.getProperty("os.arch");
+        String machine = System.getProperty("os.name").toLowerCase(Locale.ROOT) + "-" + System.getProperty("os.arch");
         String within = "native/" + ("linux-amd64".equals(machine) ? "linux-x86_64" : machine) + "/libcf_java.so";
-        try (InputStream library = Native.class.getResourceAsStream(within)) {
-            if (library == null) {
-                System.loadLibrary("cf_java");
-                return;
-            }
-            Path copy = Files.createTempFile("libcf_java", ".so");
-            try {
-                Files.copy(library, copy, StandardCopyOption.REPLACE_EXISTING);
-                System.load(copy.toString());
-            } finally {
-                Files.deleteIfExists(copy); // What is mapped stays.
+        try (InputStream library = named != null ? null : Native.class.getResourceAsStream(within)) {
+            if (library != null) {
+                loadCopy(library, "libcf_java.so, which the jar has,");
+            } else if (named != null) {
+                loadFile(Paths.get(named).toAbsolutePath());
+            } else {
+                loadFound(machine);
             }
         } catch (IOException fault) {
-            throw new UnsatisfiedLinkError("cf.service: " + fault);
+            throw refusal("libcf_java.so can't be copied to the folder java.io.tmpdir", fault);
         }
+    }
+
+    private static void loadFile(Path file) throws IOException {
+        try {
+            System.load(file.toString());
+        } catch (UnsatisfiedLinkError refused) {
+            loadAgain(file, refused);
+        }
+    }
+
+    private static void loadFound(String machine) throws IOException {
+        try {
+            System.loadLibrary("cf_java");
+        } catch (UnsatisfiedLinkError refused) {
+            for (String folder : System.getProperty("java.library.path", "").split(File.pathSeparator)) {
+                Path file = Paths.get(folder, System.mapLibraryName("cf_java"));
+                if (Files.isRegularFile(file)) {
+                    loadAgain(file, refused);
+                    return;
+                }
+            }
+            throw refusal("the jar has no library for " + machine, refused);
+        }
+    }
+
+    /** One class loader at a time has a file loaded, so where another one has it, a copy is loaded. */
+    private static void loadAgain(Path file, UnsatisfiedLinkError refused) throws IOException {
+        if (!Files.isReadable(file)) {
+            throw refusal("there is no file " + file + " that can be read", refused);
+        }
+        try (InputStream library = Files.newInputStream(file)) {
+            loadCopy(library, file.toString());
+        } catch (UnsatisfiedLinkError copy) {
+            copy.addSuppressed(refused);
+            throw copy;
+        }
+    }
+
+    /** What is copied to a file of its own for this class loader. */
+    private static void loadCopy(InputStream library, String of) throws IOException {
+        Path copy = Files.createTempFile("libcf_java", ".so");
+        try {
+            Files.copy(library, copy, StandardCopyOption.REPLACE_EXISTING);
+            System.load(copy.toString());
+        } catch (UnsatisfiedLinkError refused) {
+            throw refusal(of + " can't be loaded as " + copy, refused);
+        } finally {
+            Files.deleteIfExists(copy); // What is mapped stays.
+        }
+    }
+
+    private static UnsatisfiedLinkError refusal(String what, Throwable cause) {
+        UnsatisfiedLinkError error = new UnsatisfiedLinkError("cf.service: " + what + ": " + cause.getMessage() + ". The jar's library is for"
+                + " x86-64 Linux with glibc, and is copied to java.io.tmpdir (" + System.getProperty("java.io.tmpdir") + "), where programs have"
+                + " to be allowed; -Dcf.native=FILE loads a libcf_java.so from its place, which clients/java/build makes");
+        error.initCause(cause);
+        return error;
     }
 }

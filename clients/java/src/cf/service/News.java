@@ -13,6 +13,14 @@ final class News {
     int hereCount, lowest = Integer.MAX_VALUE;
     private boolean isRising;
 
+    /** Stages of the request whose lock is held, on which relays hang in it; whether these are being settled. */
+    Stage<?> fed;
+    boolean isFeeding;
+
+    /** Relays in other requests that are to be settled with this. */
+    private Link relayed;
+    Object told;
+
     /** The request of the stage that was claimed, or null; the stage; what is called, and with what. */
     Request claimedIn;
     int claimed;
@@ -51,6 +59,20 @@ final class News {
             }
             lastHanded = stage;
         }
+    }
+
+    /** A row of them; the last one's were polled. */
+    void relayed(Link links, Object told) {
+        relayed = links;
+        this.told = told;
+    }
+
+    Link pollRelayed() {
+        Link link = relayed;
+        if (link != null) {
+            relayed = link.after;
+        }
+        return link;
     }
 
     Stage<?> pollSettled() {

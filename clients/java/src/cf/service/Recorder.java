@@ -2,22 +2,31 @@ package cf.service;
 
 /** What a flight recording is told, where the JVM has recordings. */
 abstract class Recorder {
-    /** Null until the JVM records anything, whose start would cost the first request some tenths of a second; and where it can't. */
-    static volatile Recorder now;
+    private static final Recorder JVMS = ofJvm();
 
-    static {
+    private static Recorder ofJvm() {
         try {
             Class.forName("jdk.jfr.Event");
-            Class.forName("cf.service.FlightRecorder").getDeclaredMethod("await").invoke(null);
+            return (Recorder) Class.forName("cf.service.FlightRecorder").getDeclaredConstructor().newInstance();
         } catch (ReflectiveOperationException | LinkageError none) {
-            now = null;
+            return null;
         }
     }
 
+    /**
+     * Null until the JVM records anything, whose start would cost the first request some tenths of a second; and where it can't. It is asked
+     * each time: a listener of the JVM's would keep the class loader for good.
+     */
+    static Recorder now() {
+        return JVMS != null && JVMS.isOn() ? JVMS : null;
+    }
+
     static boolean hasStages() {
-        Recorder recorder = now;
+        Recorder recorder = now();
         return recorder != null && recorder.takesStages();
     }
+
+    abstract boolean isOn();
 
     /** Whether a recording that is on takes words, or stages. */
     abstract boolean takesWords();
@@ -26,5 +35,5 @@ abstract class Recorder {
 
     abstract void word(String request, long word);
 
-    abstract void stage(String request, int number, String form, String name, Object outcome);
+    abstract void stage(String request, int number, String form, String name, String outcome);
 }

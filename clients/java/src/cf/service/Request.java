@@ -25,6 +25,7 @@ public final class Request implements AutoCloseable {
     static final int CLOCK = 0, RELAY = 1, FIRST_THREAD = 2, OTHER_THREADS = 63;
 
     private static final Stage<?>[] NO_STAGES = {};
+    private static final Link[] NO_LINKS = {};
 
     final Service service;
     private final String name;
@@ -33,6 +34,8 @@ public final class Request implements AutoCloseable {
     /** Of which it has the first stages, or null. */
     private final Flow flow;
     private final Ledger ledger;
+    /** What is told of values and exceptions. */
+    final Describe describe;
 
     /** Those that aren't settled; of a flow, those that were asked for. */
     private Stage<?>[] stages;
@@ -51,13 +54,14 @@ public final class Request implements AutoCloseable {
     private boolean goesOn;
     private volatile Request next;
 
-    Request(Service service, String name, Flow flow, int room) {
+    Request(Service service, String name, Flow flow, int room, Describe describe) {
         this.service = service;
         this.name = name;
         this.flow = flow;
         single = false;
+        this.describe = describe;
         ledger = new Ledger(flow == null ? null : flow.plan(), room);
-        values = new Object[flow != null ? flow.count() : 8];
+        values = new Object[flow != null ? Math.max(flow.count(), 1) : 8];
         stages = flow == null && room > 0 ? new Stage<?>[room] : NO_STAGES;
         mixed = flow != null && flow.isMixed();
     }
@@ -68,6 +72,7 @@ public final class Request implements AutoCloseable {
         name = "one call";
         flow = null;
         single = true;
+        describe = service.describe();
         values = new Object[1];
         stages = new Stage<?>[1];
         mixed = true;
@@ -179,16 +184,28 @@ public final class Request implements AutoCloseable {
         return tree(Form.ANY_OF, of);
     }
 
-    /** A stage of this request that ends as that one does, by a relay. One of this request is given back itself. */
+    /**
+     * A stage of this request that ends as that one does, by a relay. One of this request is given back itself. The relay hangs on the other
+     * one until either is settled.
+     */
     @SuppressWarnings("unchecked")
     public <U> Stage<U> adopt(CompletionStage<U> of) {
-        if (Objects.requireNonNull(of) instanceof Stage<?> && ((Stage<U>) of).request == this) {
+        if (!isForeign(Objects.requireNonNull(of))) {
             return (Stage<U>) of;
         }
+        Link[] link = new Link[1];
+        Stage<U> relay = relay(of, link, 0);
+        link[0].untilSettled(relay);
+        return relay;
+    }
+
+    /** A relay, and its link in this place of a row. */
+    private <U> Stage<U> relay(CompletionStage<U> of, Link[] links, int at) {
         Stage<U> relay = promise();
         relay.request.name(relay.number, "relay");
+        links[at] = new Link(relay, null);
         News news = new News();
-        Throwable thrown = handOver(of, relay, news);
+        Throwable thrown = hang(links[at], of, news);
         tell(news);
         if (thrown != null) {
             Request.<RuntimeException>rethrow(thrown);
@@ -241,15 +258,17 @@ public final class Request implements AutoCloseable {
 
     /** All that happened until now. It costs the doing again of all words, some microseconds, once it is read. */
     public History history() {
+        History history;
         synchronized (ledger) {
             int count = ledger.stages();
             String[] names = this.names == null ? new String[count] : Arrays.copyOf(this.names, count);
             for (int k = 0; flow != null && k < flow.count(); k++) {
                 names[k] = names[k] == null ? flow.name(k) : names[k];
             }
-            return new History(name, flow, ledger, names, Arrays.copyOf(values, valueCount),
+            history = new History(name, flow, ledger, names, Arrays.copyOf(values, valueCount),
                     faults == null ? new Throwable[0] : faults.errors(), Arrays.copyOf(threadNames, threadCount));
         }
+        return history.described(describe);
     }
 
     /** Gives the memory outside the heap back to be used again. Stages may be used on: if need be all words are done again. */
@@ -291,8 +310,9 @@ public final class Request implements AutoCloseable {
     /** A stage whose function waits for nobody. Its word waits for the claim of the executor's thread, which is refused if that isn't so. */
     private <U> Stage<U> started(Form form, Object function, Executor executor) {
         if (next != null) {
-            return next.started(form, function, executor);
+            return last().started(form, function, executor);
         }
+        checkDepth();
         Stage<U> stage = null;
         synchronized (ledger) {
             if (ledger.hasPlace(1)) {
@@ -327,10 +347,23 @@ public final class Request implements AutoCloseable {
         for (CompletionStage<?> each : of) {
             Objects.requireNonNull(each);
         }
+        if (next != null) {
+            return last().tree(form, of);
+        }
         CompletionStage<?>[] row = Arrays.copyOf(of, of.length, CompletionStage[].class);
-        int count = row.length;
-        if (count > 2 && !goesOn && !hasPlace(count - 1)) {
+        int count = row.length, relays = 0;
+        for (CompletionStage<?> each : row) {
+            relays += isForeign(each) ? 1 : 0;
+        }
+        if (count > 2 && !goesOn && !hasPlace(count - 1 + relays)) {
             throw new RequestFullException(name);
+        }
+        // Who needs none of them but its last stage needs no relay either once that is settled.
+        Link[] links = new Link[count > 2 ? relays : 0];
+        for (int k = 0, made = 0; made < links.length; k++) {
+            if (isForeign(row[k])) {
+                row[k] = relay(row[k], links, made++);
+            }
         }
         while (count > 2) {
             int half = (count + 1) / 2;
@@ -339,27 +372,45 @@ public final class Request implements AutoCloseable {
             }
             count = half;
         }
-        return attach(form, count > 0 ? row[0] : null, count > 1 ? row[1] : null, null, null, false);
+        Stage<U> last = attach(form, count > 0 ? row[0] : null, count > 1 ? row[1] : null, null, null, false);
+        for (Link link : links) {
+            link.untilSettled(last);
+        }
+        return last;
     }
 
     /** Attaches a stage behind those, which are of any request. What it takes of them, it takes at once. */
     <U> Stage<U> attach(Form form, CompletionStage<?> first, CompletionStage<?> second, Object function, Executor executor, boolean minimal) {
         if (next != null) {
-            return next.attach(form, first, second, function, executor, minimal);
+            return last().attach(form, first, second, function, executor, minimal);
         }
         int foreign = (isForeign(first) ? 1 : 0) + (isForeign(second) ? 1 : 0);
+        if (foreign > 0) {
+            checkDepth();
+        }
         Stage<U> stage = null;
         News news = null;
+        Link[] links = foreign == 0 ? NO_LINKS : new Link[2];
         if (foreign == 0 || hasPlace(1 + foreign + (form.composes ? 1 : 0))) {
-            Stage<?> a = first == null ? null : adopt(first), b = second == null ? null : adopt(second);
+            Stage<?> a = own(first, links, 0), b = own(second, links, 1);
             // What went to a further request is of no use here.
             if ((a == null || a.request == this) && (b == null || b.request == this)) {
                 synchronized (ledger) {
                     if (ledger.hasPlace(form.composes ? 2 : 1)) {
-                        news = waits(form, a, b) ? null : new News();
+                        if (!waits(form, a, b)) {
+                            checkDepth();
+                            news = new News();
+                        }
                         stage = added(form, a, b, function, executor, minimal, news);
                     }
                 }
+            }
+        }
+        for (Link link : links) {
+            if (link != null && stage != null) {
+                link.untilSettled(stage);
+            } else if (link != null) {
+                link.run();
             }
         }
         if (stage == null) {
@@ -369,6 +420,11 @@ public final class Request implements AutoCloseable {
             tell(news);
         }
         return stage;
+    }
+
+    /** That stage, or a relay of it, whose link is in this place then. */
+    private Stage<?> own(CompletionStage<?> of, Link[] links, int at) {
+        return isForeign(of) ? relay(of, links, at) : (Stage<?>) of;
     }
 
     private boolean isForeign(CompletionStage<?> of) {
@@ -386,13 +442,22 @@ public final class Request implements AutoCloseable {
         return form == Form.SOURCE || a != null && a.told == null && (b == null || b.told == null);
     }
 
+    /** The request to which stages go now. */
+    private Request last() {
+        Request at = this;
+        for (Request after; (after = at.next) != null;) {
+            at = after;
+        }
+        return at;
+    }
+
     private Request further() {
         synchronized (ledger) {
             if (!goesOn) {
                 throw new RequestFullException(name);
             }
             if (next == null) {
-                next = new Request(service, name + ", further", null, 32).goesOn();
+                next = new Request(service, name + ", further", null, 32, describe).goesOn();
             }
             return next;
         }
@@ -401,25 +466,22 @@ public final class Request implements AutoCloseable {
     private <U> Stage<U> added(Form form, Stage<?> a, Stage<?> b, Object function, Executor executor, boolean minimal, News news) {
         int who = who();
         if (form.composes) {
-            Stage<?> relay = new Stage<>(this, reserve(who), Form.SOURCE, null, null);
-            enter(relay);
+            enter(new Stage<>(this, ledger.stages(), Form.SOURCE, null, null));
+            reserve(who);
         }
         int number = ledger.stages();
         Stage<U> stage = minimal ? new MinimalStage<>(this, number, form, function, executor)
                 : new Stage<>(this, number, form, function, executor);
-        if (executor != null) {
-            mixed = true;
-        } else if (form.calls) {
-            ledger.own(number);
-        }
+        mixed |= executor != null;
+        ledger.own(number, executor == null && form.calls);
         int sources = b != null ? 2 : a != null ? 1 : 0;
         long word = Words.attach(who, form, sources, a == null ? 0 : a.number, b == null ? 0 : b.number, form.calls ? number : 0);
+        enter(stage); // One whose word fails makes place for the next one of its number.
         if (news == null) {
             ledger.attachLater(word);
         } else {
             ledger.attach(word, who);
         }
-        enter(stage);
         record(word);
         if (a != null) {
             a.dependents++;
@@ -448,6 +510,7 @@ public final class Request implements AutoCloseable {
 
     /** A source for a stage that is being made, which calls {@link #entered}: its number, or -1 where there is no place. */
     int reserve() {
+        checkDepth();
         synchronized (ledger) {
             return ledger.hasPlace(1) ? reserve(who()) : -1;
         }
@@ -475,6 +538,7 @@ public final class Request implements AutoCloseable {
 
     /** Makes a flow's request begin: its promises get values, in their order. */
     void begin(Object[] given) {
+        checkDepth();
         News news = new News();
         synchronized (ledger) {
             int who = who();
@@ -498,6 +562,7 @@ public final class Request implements AutoCloseable {
     // Settling.
 
     boolean complete(int stage, Object value, int by) {
+        checkDepth();
         News news = new News();
         boolean did;
         synchronized (ledger) {
@@ -510,6 +575,7 @@ public final class Request implements AutoCloseable {
     }
 
     boolean fail(int stage, Throwable error, int by) {
+        checkDepth();
         News news = new News();
         boolean did;
         synchronized (ledger) {
@@ -522,6 +588,7 @@ public final class Request implements AutoCloseable {
     }
 
     boolean cancel(int stage) {
+        checkDepth();
         News news = new News();
         boolean did;
         synchronized (ledger) {
@@ -545,34 +612,41 @@ public final class Request implements AutoCloseable {
     }
 
     /** Sees to it that a relay is settled as that is, which is no stage of its request; or by what that throws when it's asked, which it gives. */
-    private static Throwable handOver(CompletionStage<?> of, Stage<?> relay, News news) {
-        if (!(of instanceof Stage<?>)) {
+    private static Throwable hang(Link link, CompletionStage<?> of, News news) {
+        Object told;
+        Throwable thrown = null;
+        if (of instanceof Stage<?>) {
+            Stage<?> other = (Stage<?>) of;
+            told = other.request.feeds(other, link) ? null : other.told;
+        } else {
             try {
-                of.whenComplete((value, error) -> {
-                    News told = new News();
-                    relay.request.relayed(relay, error != null ? new Fault(error, -1) : value == null ? Stage.NIL : value, told);
-                    tell(told);
-                });
-            } catch (Throwable thrown) {
-                relay.request.relayed(relay, new Fault(thrown, -1), news);
-                return thrown;
+                told = link.hang(of);
+            } catch (Throwable refusal) {
+                thrown = refusal;
+                told = new Fault(refusal, -1);
             }
-            return null;
         }
-        Stage<?> other = (Stage<?>) of;
-        if (!other.request.feeds(other, relay)) {
-            relay.request.relayed(relay, other.told, news);
+        if (told != null) {
+            relayed(link, told, news);
         }
-        return null;
+        return thrown;
     }
 
-    private boolean feeds(Stage<?> stage, Stage<?> outside) {
-        synchronized (ledger) {
-            if (stage.told == null) {
-                stage.more().outside = and(stage.more().outside, outside);
-                return true;
-            }
-            return false;
+    /** A future that is no stage tells a link which hangs on it. */
+    static void told(Link link, Object told) {
+        if (!Native.hasStack()) {
+            Clock.elsewhere(() -> told(link, told));
+            return;
+        }
+        News news = new News();
+        relayed(link, told, news);
+        tell(news);
+    }
+
+    private static void relayed(Link link, Object told, News news) {
+        Stage<?> relay = link.take();
+        if (relay != null) {
+            relay.request.relayed(relay, told, news);
         }
     }
 
@@ -584,10 +658,42 @@ public final class Request implements AutoCloseable {
         }
     }
 
-    private static Stage<?>[] and(Stage<?>[] row, Stage<?> one) {
-        Stage<?>[] longer = row == null ? new Stage<?>[1] : Arrays.copyOf(row, row.length + 1);
-        longer[longer.length - 1] = one;
+    private boolean feeds(Stage<?> stage, Link link) {
+        synchronized (ledger) {
+            if (stage.told == null) {
+                Stage.More more = stage.more();
+                more.outside = and(more.outside, link);
+                link.hangsOn(stage);
+                return true;
+            }
+            return false;
+        }
+    }
+
+    private static Link.Row and(Link.Row row, Link link) {
+        Link.Row longer = row != null ? row : new Link.Row();
+        longer.add(link);
         return longer;
+    }
+
+    void unlink(Stage<?> stage, Link link) {
+        synchronized (ledger) {
+            stage.more.outside.remove(link);
+        }
+    }
+
+    /** What hangs on a settled stage outside its request. */
+    private Link outside(Stage<?> stage) {
+        synchronized (ledger) {
+            return stage.more.outside.take();
+        }
+    }
+
+    /** Throws where there might not be stack enough to tell what a word changes: it isn't done then. */
+    private static void checkDepth() {
+        if (!Native.hasStack()) {
+            throw new StackOverflowError("cf.service: the stack is nearly full, and nothing was changed");
+        }
     }
 
     /** Does one word under the lock, and says whether its answer is 1, as of a stage that it settled. */
@@ -628,7 +734,6 @@ public final class Request implements AutoCloseable {
             record(Words.claim(who, claimed));
             granted(claimed, news);
         }
-        Stage<?> fed = null;
         do {
             int count = ledger.news();
             for (int k = 0; k < count; k++) {
@@ -646,23 +751,34 @@ public final class Request implements AutoCloseable {
                 }
                 if (stage != null) {
                     stages[number] = null;
-                    stage.function = null;
                     stage.tells(told(what, (int) (change >>> 32)));
                     news.settled(stage);
                     if (stage.more != null && stage.more.feeds != null) {
-                        stage.more.nextFed = fed;
-                        fed = stage;
+                        stage.more.nextFed = news.fed;
+                        news.fed = stage;
                     }
                 }
             }
         } while (ledger.more());
-        while (fed != null) {
-            Stage<?> stage = fed;
-            fed = stage.more.nextFed;
-            Stage<?>[] feeds = stage.more.feeds;
-            stage.more.feeds = null;
-            for (Stage<?> relay : feeds) {
-                change(relayWord(relay.number, stage.told, true), who, news);
+        if (news.fed != null && !news.isFeeding) {
+            news.isFeeding = true;
+            try {
+                feed(news, who);
+            } finally {
+                news.isFeeding = false;
+            }
+        }
+    }
+
+    /** Settles relays as stages of this request were, and those that hang on what is settled by that, which is no recursion. */
+    private void feed(News news, int who) {
+        while (news.fed != null) {
+            Stage<?> stage = news.fed;
+            Link link = stage.more.feeds.poll();
+            if (link == null) {
+                news.fed = stage.more.nextFed;
+            } else {
+                change(relayWord(link.take().number, stage.told, true), who, news);
             }
         }
     }
@@ -738,6 +854,7 @@ public final class Request implements AutoCloseable {
 
     /** Claims a stage for an executor's thread, calls its function, and goes on with what that thread is to call then. */
     void work(Stage<?> stage) {
+        checkDepth();
         News news = new News();
         synchronized (ledger) {
             claim(stage, who(), news);
@@ -745,40 +862,70 @@ public final class Request implements AutoCloseable {
         tell(news);
     }
 
-    /** Tells who waits, hands stages to executors, and calls functions until there is none that this thread is to call. */
+    /**
+     * Tells who waits, hands stages to executors, and calls functions until there is none that this thread is to call. What one of them throws
+     * here, as an Error may be, keeps nothing from the others, and is thrown in the end.
+     */
     private static void tell(News news) {
-        for (;;) {
-            Stage<?> stage;
-            while ((stage = news.pollSettled()) != null) {
-                stage.show();
-                if (stage.request.single) {
-                    stage.request.rests();
-                }
-                Stage<?>[] outside = stage.more == null ? null : stage.more.outside;
-                if (outside != null) {
-                    stage.more.outside = null;
-                    for (Stage<?> relay : outside) {
-                        relay.request.relayed(relay, stage.told, news);
-                    }
-                }
+        Throwable first = null;
+        for (boolean goesOn = true; goesOn;) {
+            try {
+                goesOn = tellNext(news);
+            } catch (Throwable thrown) {
+                first = first == null ? thrown : first;
             }
-            if ((stage = news.pollHanded()) != null) {
-                stage.request.hand(stage, news);
-            } else if (news.claimedIn != null) {
-                news.claimedIn.call(news);
-            } else if (news.here != null) {
-                news.here.request.claimHere(news);
-            } else {
-                return;
+        }
+        if (first != null) {
+            Request.<RuntimeException>rethrow(first);
+        }
+    }
+
+    /** Each of these takes what it is about first, so that it comes but once. */
+    private static boolean tellNext(News news) {
+        Stage<?> stage;
+        Link link;
+        if ((link = news.pollRelayed()) != null) {
+            relayed(link, news.told, news);
+        } else if ((stage = news.pollSettled()) != null) {
+            if (stage.more != null && stage.more.outside != null) {
+                news.relayed(stage.request.outside(stage), stage.told);
             }
+            stage.show();
+            if (stage.request.single) {
+                stage.request.rests();
+            }
+        } else if ((stage = news.pollHanded()) != null) {
+            stage.request.hand(stage, news);
+        } else if (news.claimedIn != null) {
+            news.claimedIn.call(news);
+        } else if (news.here != null) {
+            news.here.request.claimHere(news);
+        } else {
+            return false;
+        }
+        return true;
+    }
+
+    /** Has this executor call what another one was given. A stage whose function it refuses ends by that. */
+    static void execute(Executor executor, Runnable act) {
+        try {
+            executor.execute(act);
+        } catch (Throwable refused) {
+            if (!(act instanceof Task)) {
+                throw refused;
+            }
+            Stage<?> stage = ((Task) act).stage;
+            News news = new News();
+            stage.request.refused(stage, refused, news);
+            tell(news);
         }
     }
 
     private void hand(Stage<?> stage, News news) {
         try {
             stage.executor.execute(new Task(stage));
-        } catch (Throwable refused) {
-            refused(stage, refused, news);
+        } catch (Throwable refusal) {
+            refused(stage, refusal, news);
         }
     }
 
@@ -798,37 +945,38 @@ public final class Request implements AutoCloseable {
     private void call(News news) {
         int number = news.claimed;
         Form form = news.form;
-        Object given = null;
-        Throwable thrown = null;
-        try {
-            given = form.call(news.function, news.first, news.second);
-        } catch (Throwable error) {
-            thrown = error;
-            if (form == Form.WHEN_COMPLETE && news.second != null && news.second != error) {
-                ((Throwable) news.second).addSuppressed(error);
-            }
-        }
+        Object function = news.function, first = news.first, second = news.second, given = null;
         news.claimedIn = null;
         news.function = news.first = news.second = null;
-        Stage<?> relay = null;
+        Throwable thrown = null;
+        try {
+            given = form.call(function, first, second);
+        } catch (Throwable error) {
+            thrown = error;
+            if (form == Form.WHEN_COMPLETE && second != null && second != error) {
+                ((Throwable) second).addSuppressed(error);
+            }
+        }
+        Link link = null;
         synchronized (ledger) {
             int who = who();
             if (thrown != null) {
                 finish(Words.finishThrowing(who, number, code(thrown)), who, news);
             } else if (form.composes) {
-                relay = link(number, (CompletionStage<?>) given, who, news);
+                link = link(number, (CompletionStage<?>) given, who, news);
             } else {
                 finish(Words.finish(who, number, number(given)), who, news);
             }
             claimNext(news, who);
         }
-        if (relay != null) {
-            handOver((CompletionStage<?>) given, relay, news);
+        if (link != null) {
+            hang(link, (CompletionStage<?>) given, news);
+            link.untilSettled();
         }
     }
 
-    /** Links a stage to what its function gave, or to the relay below it: that relay where it is to be settled from outside. */
-    private Stage<?> link(int number, CompletionStage<?> to, int who, News news) {
+    /** Links a stage to what its function gave, or to the relay below it: that relay's link where it is to be settled from outside. */
+    private Link link(int number, CompletionStage<?> to, int who, News news) {
         Stage<?> own = to instanceof Stage<?> && ((Stage<?>) to).request == this ? (Stage<?>) to : null;
         if (own != null && own.number < number) {
             change(Words.finishLinking(who, number, own.number), who, news);
@@ -841,13 +989,16 @@ public final class Request implements AutoCloseable {
         record(word);
         boolean won = ledger.answer() == History.WON;
         publish(news, who);
-        if (!won || own == null) {
-            return won ? relay : null;
+        if (!won) {
+            return null;
+        }
+        if (own == null) {
+            return new Link(relay, at(number));
         }
         if (own.told != null) {
             change(relayWord(relay.number, own.told, true), who, news);
         } else {
-            own.more().feeds = and(own.more().feeds, relay);
+            own.more().feeds = and(own.more().feeds, new Link(relay, null));
         }
         return null;
     }
@@ -861,11 +1012,12 @@ public final class Request implements AutoCloseable {
         return relay != null ? relay : new Stage<>(this, number - 1, Form.SOURCE, null, null);
     }
 
-    /** Acts under the lock where a stage isn't settled, and says whether it did. */
-    boolean unlessSettled(Stage<?> stage, Runnable act) {
+    /** Keeps what is to be done at the end of a stage that isn't settled, and says whether it isn't. */
+    boolean observes(Stage<?> stage, Runnable act) {
         synchronized (ledger) {
             if (stage.told == null) {
-                act.run();
+                Stage.More more = stage.more();
+                more.observers = new Stage.Observer(act, more.observers);
                 return true;
             }
             return false;
@@ -873,7 +1025,7 @@ public final class Request implements AutoCloseable {
     }
 
     private void record(long word) {
-        Recorder recorder = Recorder.now;
+        Recorder recorder = Recorder.now();
         if (recorder != null && recorder.takesWords()) {
             recorder.word(name, word);
         }

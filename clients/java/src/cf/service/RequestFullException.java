@@ -5,6 +5,6 @@ public final class RequestFullException extends IllegalStateException {
     private static final long serialVersionUID = 1;
 
     RequestFullException(String name) {
-        super("\"" + name + "\" has no place for the stage: a request may have 4,096");
+        super("\"" + Text.escaped(name) + "\" has no place for the stage: a request may have 4,096");
     }
 }

@@ -11,10 +11,11 @@ import java.util.function.Supplier;
 /** Requests, and the executor that calls the functions of their Async stages where no other is given. Any thread may use it. */
 public final class Service {
     /** For how many stages a request has room at first; more is made where it is needed. */
-    private static final int ROOM = Integer.getInteger("cf.room", 32);
+    private static final int ROOM = Math.max(0, Math.min(Integer.getInteger("cf.room", 32), Ledger.MOST_STAGES));
 
     private final Executor executor;
-    private final AtomicLong requests = new AtomicLong();
+    private final Describe describe;
+    private final AtomicLong requests;
 
     /** With the executor that {@link CompletableFuture} has where none is given. */
     public Service() {
@@ -22,12 +23,28 @@ public final class Service {
     }
 
     public Service(Executor executor) {
-        this.executor = Objects.requireNonNull(executor);
+        this(Objects.requireNonNull(executor), Describe.ALL, new AtomicLong());
+    }
+
+    private Service(Executor executor, Describe describe, AtomicLong requests) {
+        this.executor = executor;
+        this.describe = describe;
+        this.requests = requests;
+    }
+
+    /** One with the same executor, of whose requests it is told by this function what their values and exceptions are. */
+    public Service describing(Describe describe) {
+        return new Service(executor, Objects.requireNonNull(describe), requests);
     }
 
     /** A request by this name, which histories tell. */
     public Request request(String name) {
-        return new Request(this, Objects.requireNonNull(name), null, ROOM);
+        return request(name, describe);
+    }
+
+    /** A request of which it is told by this function what its values and exceptions are. */
+    public Request request(String name, Describe describe) {
+        return new Request(this, Objects.requireNonNull(name), null, ROOM, Objects.requireNonNull(describe));
     }
 
     public Request request() {
@@ -48,7 +65,7 @@ public final class Service {
         if (given.length > flow.promises()) {
             throw new IllegalArgumentException(given.length + " values for " + flow.promises() + " promises");
         }
-        Request request = new Request(this, flow.name(), flow, 0);
+        Request request = new Request(this, flow.name(), flow, 0, describe);
         request.begin(given);
         return request;
     }
@@ -57,11 +74,15 @@ public final class Service {
     public static Executor delayedExecutor(long delay, TimeUnit unit, Executor executor) {
         Objects.requireNonNull(unit);
         Objects.requireNonNull(executor);
-        return act -> Clock.after(delay, unit, () -> executor.execute(act));
+        return act -> Clock.after(delay, unit, () -> Request.execute(executor, act));
     }
 
     Executor executor() {
         return executor;
+    }
+
+    Describe describe() {
+        return describe;
     }
 
     /** Java's rule: the common pool, or a thread for each task where that has but one. */

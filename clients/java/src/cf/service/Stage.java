@@ -50,12 +50,12 @@ public class Stage<T> extends CompletableFuture<T> {
     /** What few stages have. */
     static final class More {
         /** Relays of this request, and of others, that are settled as this stage is. */
-        Stage<?>[] feeds, outside;
+        Link.Row feeds, outside;
         Stage<?> nextFed;
         Observer observers;
     }
 
-    private static final class Observer {
+    static final class Observer {
         final Runnable act;
         final Observer next;
 
@@ -90,6 +90,7 @@ public class Stage<T> extends CompletableFuture<T> {
 
     /** Settles it. The write needs no fence of its own, since the lock that is held is one. */
     void tells(Object outcome) {
+        function = null;
         TOLD.lazySet(this, outcome);
     }
 
@@ -357,9 +358,13 @@ public class Stage<T> extends CompletableFuture<T> {
         return this;
     }
 
+    /**
+     * A CompletableFuture that is no stage. What Java's own methods make by this, as {@code anyOf} and the either forms do, they settle past
+     * any method, of which a request wouldn't hear. {@link Request#promise} makes a stage.
+     */
     @Override
     public <U> CompletableFuture<U> newIncompleteFuture() {
-        return request.attach(Form.SOURCE, null, null, null, null, isMinimal());
+        return new CompletableFuture<>();
     }
 
     @Override
@@ -444,47 +449,48 @@ public class Stage<T> extends CompletableFuture<T> {
 
     @Override
     public boolean isDone() {
-        return told != null;
+        return seen() != null;
     }
 
     @Override
     public boolean isCancelled() {
+        Object told = seen();
         return told instanceof Fault && ((Fault) told).error instanceof CancellationException;
     }
 
     @Override
     public boolean isCompletedExceptionally() {
-        return told instanceof Fault;
+        return seen() instanceof Fault;
     }
 
     @Override
     public T join() {
-        Object told = this.told;
-        return told != null ? joined(helped(told)) : super.join();
+        Object told = seen();
+        return told != null ? joined(told) : super.join();
     }
 
     @Override
     public T getNow(T valueIfAbsent) {
-        Object told = this.told;
+        Object told = seen();
         return told != null ? joined(told) : valueIfAbsent;
     }
 
     @Override
     public T get() throws InterruptedException, ExecutionException {
-        Object told = this.told;
-        return told != null ? gotten(helped(told)) : super.get();
+        Object told = seen();
+        return told != null ? gotten(told) : super.get();
     }
 
     @Override
     public T get(long timeout, TimeUnit unit) throws InterruptedException, ExecutionException, TimeoutException {
         Objects.requireNonNull(unit);
-        Object told = this.told;
-        return told != null ? gotten(helped(told)) : super.get(timeout, unit);
+        Object told = seen();
+        return told != null ? gotten(told) : super.get(timeout, unit);
     }
 
     /** The value of a stage that has one, as of Java 19. */
     public T resultNow() {
-        Object told = this.told;
+        Object told = seen();
         if (told == null || told instanceof Fault) {
             throw new IllegalStateException(told == null ? "the stage isn't settled" : "the stage has no value");
         }
@@ -509,10 +515,10 @@ public class Stage<T> extends CompletableFuture<T> {
     public String toString() {
         Object told = this.told;
         String state = told == null ? dependents == 0 ? "Not completed" : "Not completed, " + dependents + " dependents"
-                : told instanceof Fault ? "Completed exceptionally: " + ((Fault) told).error : "Completed normally";
+                : told instanceof Fault ? "Completed exceptionally: " + Text.of(request.describe, ((Fault) told).error) : "Completed normally";
         String waits = told == null ? request.waitsFor(this) : "";
-        return getClass().getName() + "@" + Integer.toHexString(hashCode()) + "[" + request.name() + ": " + request.called(this) + ": " + state
-                + waits + "]";
+        return Text.escaped(getClass().getName() + "@" + Integer.toHexString(hashCode()) + "[" + request.name() + ": " + request.called(this)
+                + ": " + state + waits + "]");
     }
 
     @SuppressWarnings("unchecked")
@@ -567,9 +573,14 @@ public class Stage<T> extends CompletableFuture<T> {
         }
     }
 
-    /** Who has waited finds the inherited part told, as {@code state} of Java 19 reads it. */
-    private Object helped(Object told) {
-        if (!super.isDone()) {
+    /**
+     * What it is settled with, or null. Whoever has seen that it is settled finds the inherited part told, too, which {@code allOf} and Java
+     * 19's {@code state} read. Where something hangs on that, the thread that settled the stage is about to tell it: this one may be
+     * anybody's that only asks, and mustn't call functions.
+     */
+    private Object seen() {
+        Object told = this.told;
+        if (told != null && !super.isDone() && super.getNumberOfDependents() == 0) {
             inherit(told);
         }
         return told;
@@ -579,23 +590,22 @@ public class Stage<T> extends CompletableFuture<T> {
     void show() {
         Object told = this.told;
         inherit(told);
-        if (Recorder.hasStages()) {
-            Recorder.now.stage(request.name(), number, form.text, request.called(this), told == NIL ? null
-                    : told instanceof Fault ? ((Fault) told).error : told);
+        Recorder recorder = Recorder.now();
+        if (recorder != null && recorder.takesStages()) {
+            recorder.stage(request.name(), number, form.text, request.called(this),
+                    Text.of(request.describe, told == NIL ? null : told instanceof Fault ? ((Fault) told).error : told));
         }
         More more = this.more;
-        if (more != null) {
-            // Nobody adds to them since told is there.
-            for (Observer each = more.observers; each != null; each = each.next) {
-                each.act.run();
-            }
-            more.observers = null;
+        // Nobody adds to them since told is there.
+        for (Observer each; more != null && (each = more.observers) != null;) {
+            more.observers = each.next;
+            each.act.run();
         }
     }
 
     /** Acts once the stage is settled: in the thread that settles it, or in this one if it is settled. */
     void observe(Runnable act) {
-        if (!request.unlessSettled(this, () -> more().observers = new Observer(act, more().observers))) {
+        if (!request.observes(this, act)) {
             act.run();
         }
     }

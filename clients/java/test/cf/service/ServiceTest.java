@@ -1,6 +1,7 @@
 package cf.service;
 
 import java.io.IOException;
+import java.lang.management.ManagementFactory;
 import java.lang.ref.WeakReference;
 import java.lang.reflect.Proxy;
 import java.nio.file.Files;
@@ -10,8 +11,10 @@ import java.util.ArrayList;
 import java.util.Arrays;
 import java.util.Collections;
 import java.util.HashSet;
+import java.util.LinkedHashSet;
 import java.util.List;
 import java.util.Objects;
+import java.util.Set;
 import java.util.concurrent.CancellationException;
 import java.util.concurrent.CompletableFuture;
 import java.util.concurrent.CompletionException;
@@ -19,39 +22,61 @@ import java.util.concurrent.CompletionStage;
 import java.util.concurrent.CountDownLatch;
 import java.util.concurrent.CyclicBarrier;
 import java.util.concurrent.ExecutionException;
+import java.util.concurrent.Executor;
 import java.util.concurrent.ExecutorService;
 import java.util.concurrent.Executors;
 import java.util.concurrent.Future;
+import java.util.concurrent.FutureTask;
 import java.util.concurrent.RejectedExecutionException;
+import java.util.concurrent.SynchronousQueue;
 import java.util.concurrent.TimeUnit;
 import java.util.concurrent.TimeoutException;
 import java.util.concurrent.atomic.AtomicBoolean;
 import java.util.concurrent.atomic.AtomicInteger;
+import java.util.concurrent.atomic.AtomicReference;
+import java.util.function.Function;
 
 /** What OpenJDK's tests can't know of: requests, flows, histories, bounds, races, memory, recordings, Java's own classes beside stages. */
 public final class ServiceTest {
     private static final Service SERVICE = new Service();
     private static int tests;
+    /** Names of tests that are still to be run; null where all are. */
+    private static Set<String> chosen;
 
-    private interface Test {
+    interface Test {
         void run() throws Exception;
     }
 
     private ServiceTest() {}
 
-    public static void main(String[] args) throws Exception {
+    /** Runs the tests of these names, or all. */
+    public static void main(String[] args) {
+        chosen = args.length == 0 ? null : new LinkedHashSet<>(Arrays.asList(args));
         test("Java's own classes", ServiceTest::statics);
+        test("Java's methods that take stages", ServiceTest::takenByJava);
+        test("who only asks", ServiceTest::onlyAsks);
         test("other requests", ServiceTest::acrossRequests);
         test("stages that can't be asked", ServiceTest::refusedToTell);
         test("cancellations of one's own", ServiceTest::ownCancellations);
         test("a full request", ServiceTest::full);
         test("a full request that goes on", ServiceTest::goesOn);
         test("chains through requests", ServiceTest::backAndForth);
+        test("chains of finished futures", ServiceTest::finishedChains);
+        test("chains of links", ServiceTest::linkedChains);
+        test("chains through Java's futures", ServiceTest::foreignChains);
+        test("stacks that end", ServiceTest::deepStacks);
+        test("futures that live long", ServiceTest::longLived);
+        test("many behind one", ServiceTest::manyBehindOne);
+        test("what settled stages keep", ServiceTest::keptBySettled);
         test("closed requests", ServiceTest::closed);
         test("requests closed by their users", ServiceTest::closedWithin);
         test("late answers", ServiceTest::late);
         test("waiting in a pool of one", ServiceTest::waitsWhileRunning);
         test("refused tasks", ServiceTest::refusedTasks);
+        test("errors", ServiceTest::errors);
+        test("errors of executors", ServiceTest::executorErrors);
+        test("a row that is broken off", ServiceTest::brokenOff);
+        test("timeouts", ServiceTest::timeouts);
         test("functions here", ServiceTest::here);
         test("functions of others", ServiceTest::elsewhere);
         test("one call", ServiceTest::oneCall);
@@ -61,23 +86,50 @@ public final class ServiceTest {
         test("texts of stages", ServiceTest::texts);
         test("interrupts", ServiceTest::interrupts);
         test("races", ServiceTest::races);
+        test("races of relays", ServiceTest::relayRaces);
         test("flows", ServiceTest::flows);
         test("flows with what goes wrong", ServiceTest::flowFaults);
         test("many news", ServiceTest::manyNews);
         test("more than 60 threads", ServiceTest::manyThreads);
         test("recordings", ServiceTest::recordings);
+        test("recordings that ask for nothing", TellingTest::unasked);
+        test("texts that would forge lines", TellingTest::forged);
+        test("what is told of values", TellingTest::described);
+        test("what describes values", TellingTest::describers);
+        test("values that can't be shown", TellingTest::unspeakable);
+        test("cores used again", LedgerTest::usedAgain);
+        test("requests of one plan each have a core", LedgerTest::oneCoreEach);
+        test("attaches that fail", LedgerTest::failedAttach);
+        test("flows that several threads start first", LedgerTest::startedTogether);
+        test("flows with errors", LedgerTest::flowErrors);
+        test("a flow without steps", LedgerTest::emptyFlow);
+        test("no collection is asked for", LedgerTest::noCollection);
+        test("memory of what nobody closes", LedgerTest::bounded);
+        test("huge arguments", LedgerTest::huge);
+        test("class loaders", LoaderTest::unloaded);
+        test("a named library in several class loaders", LoaderTest::named);
+        test("no library", LoaderTest::missing);
+        test("hostile code", HostileTest::survived);
         test("virtual threads", ServiceTest::virtualThreads);
         test("what can't be reached", ServiceTest::unreachable);
+        if (chosen != null && !chosen.isEmpty()) {
+            System.err.println("there are no tests " + chosen);
+            System.exit(2);
+        }
         System.out.println(tests + " tests passed, with " + Native.version() + " on Java " + System.getProperty("java.version"));
         System.exit(0);
     }
 
-    private static void test(String name, Test test) throws Exception {
+    private static void test(String name, Test test) {
+        if (chosen != null && !chosen.remove(name)) {
+            return;
+        }
         long began = System.nanoTime();
         try {
             test.run();
         } catch (Throwable thrown) {
-            throw new AssertionError(name, thrown);
+            new AssertionError(name, thrown).printStackTrace();
+            System.exit(1); // Threads of the test's mustn't hold the process up.
         }
         tests++;
         if (Boolean.getBoolean("test.times")) {
@@ -85,13 +137,13 @@ public final class ServiceTest {
         }
     }
 
-    private static void is(Object found, Object wanted) {
+    static void is(Object found, Object wanted) {
         if (!Objects.equals(found, wanted)) {
             throw new AssertionError(found + " and not " + wanted);
         }
     }
 
-    private static <X extends Throwable> X thrown(Class<X> kind, Test test) {
+    static <X extends Throwable> X thrown(Class<X> kind, Test test) {
         try {
             test.run();
         } catch (Throwable thrown) {
@@ -129,6 +181,71 @@ public final class ServiceTest {
         is(System.nanoTime() - began >= 40_000_000, true);
     }
 
+    /** What Java's own methods make behind a stage is a future of theirs, of which no request hears. */
+    private static void takenByJava() throws Exception {
+        Request request = SERVICE.request();
+        Stage<Integer> open = request.promise();
+        List<Stage<Integer>> stages = Arrays.asList(request.completedFuture(1), request.failedFuture(new IllegalStateException("failed")), open);
+        CompletableFuture<Integer> never = new CompletableFuture<>(), one = CompletableFuture.completedFuture(1);
+        List<CompletableFuture<?>> made = new ArrayList<>();
+        for (Stage<Integer> each : stages) {
+            made.addAll(Arrays.asList(never.applyToEither(each, x -> x), never.applyToEitherAsync(each, x -> x), never.acceptEither(each, x -> {}),
+                    never.acceptEitherAsync(each, x -> {}), never.runAfterEither(each, () -> {}), never.runAfterEitherAsync(each, () -> {}),
+                    CompletableFuture.anyOf(each), CompletableFuture.anyOf(never, each), CompletableFuture.allOf(each),
+                    CompletableFuture.allOf(one, each), one.thenCombine(each, Integer::sum), one.thenAcceptBothAsync(each, (x, y) -> {}),
+                    one.runAfterBoth(each, () -> {}), one.thenCompose(x -> each)));
+        }
+        open.complete(2);
+        for (CompletableFuture<?> each : made) {
+            is(each.handle((value, error) -> "called").get(20, TimeUnit.SECONDS), "called");
+            is(each.isDone(), true);
+            is(each.complete(null), false);
+        }
+        is(request.history().stages(), 3);
+        is(open.newIncompleteFuture().getClass() == CompletableFuture.class, true);
+        for (int k = 3; k < 4096; k++) {
+            request.promise();
+        }
+        is(CompletableFuture.anyOf(open).join(), 2);
+    }
+
+    /**
+     * The thread that has settled stages is held up while it tells the first one. Who asks, or waits, finds the others settled, also by Java's
+     * own classes, and calls nobody's functions.
+     */
+    private static void onlyAsks() throws Exception {
+        Request request = SERVICE.request();
+        Stage<Integer> first = request.promise(), second = first.copy(), third = first.copy(), fourth = first.thenApply(x -> x);
+        CountDownLatch runs = new CountDownLatch(1), go = new CountDownLatch(1);
+        CompletableFuture.allOf(first).thenRun(() -> {
+            runs.countDown();
+            await(go);
+        });
+        AtomicReference<String> caller = new AtomicReference<>();
+        CompletableFuture<Void> behind = CompletableFuture.allOf(second).thenRun(() -> caller.set(Thread.currentThread().getName()));
+        Thread thread = new Thread(() -> first.complete(1), "settles");
+        thread.start();
+        await(runs);
+        is(second.isDone() && !second.isCancelled() && second.getNow(0) == 1 && second.get() == 1 && second.join() == 1, true);
+        is(second.get(20, TimeUnit.SECONDS), 1);
+        is(caller.get(), null);
+        is(third.isDone() && CompletableFuture.allOf(third).isDone() && CompletableFuture.anyOf(third, fourth).join().equals(1), true);
+        is(third.thenCombine(second, Integer::sum).join(), 2);
+        is(fourth.isDone(), false);
+        go.countDown();
+        behind.get(20, TimeUnit.SECONDS);
+        is(caller.get(), "settles");
+        thread.join();
+    }
+
+    private static void await(CountDownLatch latch) {
+        try {
+            is(latch.await(60, TimeUnit.SECONDS), true);
+        } catch (InterruptedException interrupted) {
+            throw new AssertionError(interrupted);
+        }
+    }
+
     private static void acrossRequests() {
         Request one = SERVICE.request(), other = SERVICE.request();
         Stage<String> a = one.promise(), b = other.promise();
@@ -145,10 +262,14 @@ public final class ServiceTest {
 
     /** Somebody's stage of which each method throws. */
     @SuppressWarnings("unchecked")
-    private static <U> CompletionStage<U> refusing() {
+    private static <U> CompletionStage<U> refusing(Throwable thrown) {
         return (CompletionStage<U>) Proxy.newProxyInstance(ServiceTest.class.getClassLoader(), new Class<?>[] {CompletionStage.class}, (proxy, method, given) -> {
-            throw new UnsupportedOperationException("not asked");
+            throw thrown;
         });
+    }
+
+    private static <U> CompletionStage<U> refusing() {
+        return refusing(new UnsupportedOperationException("not asked"));
     }
 
     /** A function may give such a one: its stage fails, and what else is ready goes on. Of a method that takes one it's thrown. */
@@ -250,6 +371,257 @@ public final class ServiceTest {
         }
         first.complete(0);
         is(last.join(), 20_000);
+    }
+
+    /** Runs it in a thread with a stack of so many KB. */
+    private static void withStack(int kilobytes, Runnable act) throws Exception {
+        FutureTask<Void> task = new FutureTask<>(act, null);
+        new Thread(null, task, "stack", kilobytes << 10).start();
+        task.get(60, TimeUnit.SECONDS);
+    }
+
+    /** A stage that is neither a Stage nor a CompletableFuture, and ends as that does. */
+    @SuppressWarnings("unchecked")
+    private static <U> CompletionStage<U> foreign(CompletableFuture<U> future) {
+        return (CompletionStage<U>) Proxy.newProxyInstance(ServiceTest.class.getClassLoader(), new Class<?>[] {CompletionStage.class},
+                (proxy, method, given) -> method.getDeclaringClass() == Object.class ? method.invoke(future, given)
+                        : future.getClass().getMethod(method.getName(), method.getParameterTypes()).invoke(future, given));
+    }
+
+    /** A chain of functions that give finished futures of any kind is no recursion. */
+    private static void finishedChains() throws Exception {
+        int links = 3000;
+        List<Function<Integer, CompletionStage<Integer>>> kinds = Arrays.asList(CompletableFuture::completedFuture,
+                x -> CompletableFuture.completedFuture(x).minimalCompletionStage(), x -> SERVICE.request().completedFuture(x),
+                x -> foreign(CompletableFuture.completedFuture(x)));
+        for (Function<Integer, CompletionStage<Integer>> kind : kinds) {
+            Request request = SERVICE.request().goesOn();
+            Stage<Integer> first = request.promise(), last = first, failed = request.promise(), saved = failed;
+            AtomicInteger deepest = new AtomicInteger();
+            for (int k = 0; k < links; k++) {
+                last = last.thenCompose(x -> {
+                    if (x % 300 == 299) {
+                        deepest.accumulateAndGet(new Throwable().getStackTrace().length, Math::max);
+                    }
+                    return kind.apply(x + 1);
+                });
+                saved = saved.exceptionallyCompose(error -> kind.apply(0).thenCompose(x -> {
+                    throw new IllegalStateException();
+                }));
+            }
+            withStack(256, () -> first.complete(0));
+            is(last.get(20, TimeUnit.SECONDS), links);
+            is(deepest.get() < 100, true);
+            withStack(256, () -> failed.completeExceptionally(new IllegalStateException()));
+            Stage<Integer> thrown = saved;
+            is(thrown(ExecutionException.class, () -> thrown.get(20, TimeUnit.SECONDS)).getCause() instanceof IllegalStateException, true);
+        }
+    }
+
+    /** Stages that were linked to later ones of the same request end one after another. */
+    private static void linkedChains() throws Exception {
+        Request request = SERVICE.request();
+        Stage<Integer> first = request.promise();
+        List<Stage<Integer>> made = new ArrayList<>();
+        for (int k = 0; k < 2000; k++) {
+            int next = k + 1;
+            made.add(first.thenCompose(x -> made.get(next)));
+        }
+        Stage<Integer> last = request.promise();
+        made.add(last);
+        first.complete(0);
+        withStack(200, () -> last.complete(7));
+        is(made.get(0).get(20, TimeUnit.SECONDS), 7);
+    }
+
+    /** A chain that goes to and fro between stages and futures of Java's: however deep that calls back, all of it ends. */
+    private static void foreignChains() throws Exception {
+        Request request = SERVICE.request().goesOn();
+        Stage<Void> first = request.promise(), last = first;
+        for (int k = 0; k < 3000; k++) {
+            last = request.adopt(CompletableFuture.allOf(last));
+        }
+        withStack(256, () -> first.complete(null));
+        is(last.get(20, TimeUnit.SECONDS), null);
+    }
+
+    private static int deep(int levels, Runnable act) {
+        if (levels == 0) {
+            act.run();
+            return 0;
+        }
+        return deep(levels - 1, act) + 1;
+    }
+
+    private static boolean endsStack(int levels, Runnable act) {
+        try {
+            deep(levels, act);
+            return false;
+        } catch (StackOverflowError end) {
+            return true;
+        }
+    }
+
+    /** Where the stack ends within a call, the request is whole: others go on with it. */
+    private static void deepStacks() throws Exception {
+        Service service = new Service(Runnable::run);
+        IllegalStateException failure = new IllegalStateException();
+        for (int round = 0; round < 6; round++) {
+            Request request = service.request("deep").goesOn();
+            Stage<Integer> first = request.promise(), behind = first.thenApply(x -> x + 1), done = request.completedFuture(1);
+            List<Stage<?>> made = new ArrayList<>();
+            List<Runnable> uses = Arrays.asList(() -> {
+                Stage<Integer> stage = request.promise();
+                made.add(stage);
+                made.add(stage.thenApply(x -> x + 1));
+                stage.complete(1);
+            }, () -> {
+                made.add(request.allOf(done, request.promise(), CompletableFuture.completedFuture(1)));
+                made.get(made.size() - 1).cancel(true);
+            }, () -> made.add(request.supplyAsync(() -> 1)), () -> made.add(done.thenCompose(x -> done).handle((x, e) -> 1)), () -> {
+                made.add(request.promise());
+                made.get(made.size() - 1).completeExceptionally(failure);
+            }, () -> made.add(done.thenCompose(x -> CompletableFuture.completedFuture(x))));
+            Runnable use = uses.get(round);
+            withStack(190 + round, () -> {
+                int levels = 100;
+                while (!endsStack(levels, use)) {
+                    levels += 1 + levels / 50;
+                }
+                levels -= levels / 25;
+                for (int ended = 0; ended < 40; levels++) {
+                    ended += endsStack(levels, use) ? 1 : 0;
+                }
+            });
+            withStack(512, () -> first.complete(1));
+            is(behind.get(20, TimeUnit.SECONDS), 2);
+            for (Stage<?> each : made) {
+                if (each.form == Form.SOURCE || each.form == Form.ALL_OF) {
+                    each.complete(null);
+                }
+                is(each.isDone(), true);
+            }
+            Stage<Integer> more = request.promise(), next = more.thenApply(x -> x + 1);
+            more.complete(3);
+            is(next.get(20, TimeUnit.SECONDS), 4);
+            for (Request each = request; each != null; each = each.next()) {
+                is(each.history().toString().contains("deep"), true);
+            }
+        }
+    }
+
+    /** What lives long keeps nothing of requests that raced with it, however they hung on it. */
+    private static void longLived() throws Exception {
+        CompletableFuture<Object> shutdown = new CompletableFuture<>(), hidden = new CompletableFuture<>();
+        Stage<Object> stage = SERVICE.request().promise();
+        List<CompletionStage<Object>> lived = Arrays.asList(shutdown, stage, foreign(hidden));
+        List<WeakReference<Object>> values = new ArrayList<>();
+        List<Stage<Object>> wait = new ArrayList<>();
+        for (CompletionStage<Object> each : lived) {
+            for (int k = 0; k < 200; k++) {
+                values.add(new WeakReference<>(raced(k % 8, each)));
+            }
+        }
+        is(stage.more.outside.poll() == null, true);
+        for (CompletionStage<Object> each : lived) {
+            Request request = SERVICE.request();
+            wait.add(request.anyOf(request.promise(), request.promise(), each));
+            wait.add(request.promise().applyToEither(each, x -> x));
+            wait.add(request.completedFuture(1).thenCompose(x -> each));
+            wait.add(request.adopt(each));
+        }
+        await(values);
+        is(shutdown.getNumberOfDependents(), 4);
+        shutdown.complete("ends");
+        stage.complete("ends");
+        hidden.complete("ends");
+        for (Stage<Object> each : wait) {
+            is(each.get(20, TimeUnit.SECONDS), "ends");
+        }
+    }
+
+    /** Uses it in a request that ends without it: a value of that. */
+    private static Object raced(int how, CompletionStage<Object> lived) {
+        Request request = SERVICE.request();
+        Stage<Object> own = request.promise();
+        Stage<?> end = null;
+        switch (how) {
+            case 0: own.applyToEither(lived, x -> x); break;
+            case 1: request.anyOf(own, lived); break;
+            case 2: request.anyOf(lived, request.promise(), own, request.promise(), lived); break;
+            case 3: end = own.thenCombine(lived, (x, y) -> x); break;
+            case 4: end = request.allOf(own, lived, lived, own); break;
+            case 5: end = own.thenCompose(x -> lived); break;
+            case 6: end = request.adopt(lived); break;
+            default: end = own.thenComposeAsync(x -> lived, Runnable::run);
+        }
+        Object value = new Object();
+        own.complete(value);
+        if (end != null) {
+            end.cancel(true);
+        }
+        return value;
+    }
+
+    /** Waits until nothing keeps them. */
+    private static void await(List<WeakReference<Object>> values) throws Exception {
+        for (int k = 0; k < 200; k++) {
+            System.gc();
+            values.removeIf(each -> each.get() == null);
+            if (values.isEmpty()) {
+                return;
+            }
+            Thread.sleep(5);
+        }
+        throw new AssertionError(values.size() + " values are kept");
+    }
+
+    /** However many hang on one stage, the next one takes no more for that. */
+    private static void manyBehindOne() {
+        com.sun.management.ThreadMXBean threads = (com.sun.management.ThreadMXBean) ManagementFactory.getThreadMXBean();
+        long own = Thread.currentThread().getId();
+        Stage<Integer> latch = SERVICE.request().promise(), last = null;
+        Request request = SERVICE.request().goesOn();
+        long before = threads.getThreadAllocatedBytes(own);
+        for (int k = 0; k < 20_000; k++) {
+            last = request.adopt(latch);
+        }
+        is(threads.getThreadAllocatedBytes(own) - before < 20_000 * 2000L, true);
+        latch.complete(1);
+        is(last.join(), 1);
+    }
+
+    /** A settled stage, and one that only waits for what its function gave, keep neither the function nor a timer. */
+    private static void keptBySettled() throws Exception {
+        Request request = SERVICE.request();
+        Stage<Object> first = request.promise(), never = request.promise();
+        CompletableFuture<Object> foreign = new CompletableFuture<>();
+        int timers = Clock.TIMER.getQueue().size();
+        List<WeakReference<Object>> values = new ArrayList<>();
+        List<Stage<?>> made = new ArrayList<>();
+        for (int k = 0; k < 8; k++) {
+            Object kept = new Object();
+            values.add(new WeakReference<>(kept));
+            made.add(k == 0 ? first.thenApply(x -> kept.hashCode()) : k == 1 ? first.thenCompose(x -> kept == null ? null : never)
+                    : k == 2 ? first.thenCompose(x -> kept == null ? null : foreign) : k == 3 ? never.thenApply(x -> kept)
+                    : k == 4 ? first.exceptionally(x -> kept) : k == 5 ? first.thenApplyAsync(x -> kept.hashCode())
+                    : k == 6 ? request.supplyAsync(kept::hashCode) : never.thenApplyAsync(x -> kept));
+            made.get(k).orTimeout(1, TimeUnit.HOURS);
+        }
+        is(Clock.TIMER.getQueue().size() <= timers + 8, true);
+        first.complete(1);
+        made.get(3).cancel(true);
+        made.get(7).completeExceptionally(new IllegalStateException());
+        for (int k : new int[] {0, 4, 5, 6}) {
+            made.get(k).get(20, TimeUnit.SECONDS);
+        }
+        await(values);
+        made.get(1).cancel(true);
+        made.get(2).complete(null);
+        for (int k = 0; k < 2000 && Clock.TIMER.getQueue().size() > timers; k++) {
+            Thread.sleep(5);
+        }
+        is(Clock.TIMER.getQueue().size() <= timers, true);
     }
 
     private static void closed() {
@@ -381,6 +753,153 @@ public final class ServiceTest {
         Stage<Integer> behind = promise.thenApplyAsync(x -> x + 1);
         promise.complete(1);
         is(thrown(CompletionException.class, behind::join).getCause() instanceof RejectedExecutionException, true);
+    }
+
+    private static final class Broken extends Error {
+        Broken() {
+            super("broken");
+        }
+    }
+
+    private static <U> U breaks() {
+        throw new Broken();
+    }
+
+    /** A function's Error ends its stage, as any exception does, and nothing else. */
+    private static void errors() throws Exception {
+        Request request = SERVICE.request();
+        Stage<Integer> first = request.promise(), failing = request.promise(), given = request.promise();
+        CompletableFuture<Integer> own = new CompletableFuture<>();
+        List<CompletableFuture<?>> made = new ArrayList<>(Arrays.asList(request.supplyAsync(() -> breaks()), request.runAsync(() -> breaks()),
+                first.thenApply(x -> breaks()), first.thenApplyAsync(x -> breaks()), first.thenAccept(x -> breaks()), first.thenRun(() -> breaks()),
+                first.thenCombine(first, (x, y) -> breaks()), first.thenAcceptBoth(first, (x, y) -> breaks()), first.runAfterBoth(first, () -> breaks()),
+                first.applyToEither(first, x -> breaks()), first.acceptEither(first, x -> breaks()), first.runAfterEither(first, () -> breaks()),
+                first.thenCompose(x -> breaks()), first.thenComposeAsync(x -> breaks()), first.handle((x, e) -> breaks()),
+                first.whenComplete((x, e) -> breaks()), failing.exceptionally(e -> breaks()), failing.exceptionallyCompose(e -> breaks()),
+                given.completeAsync(() -> breaks()), own.thenCombine(first, (x, y) -> breaks())));
+        Stage<Integer> told = failing.whenComplete((x, e) -> breaks()), after = first.thenApply(x -> x + 1), behind = failing.handle((x, e) -> 3);
+        IllegalStateException failure = new IllegalStateException();
+        own.complete(1);
+        first.complete(1);
+        failing.completeExceptionally(failure);
+        for (CompletableFuture<?> each : made) {
+            is(thrown(ExecutionException.class, () -> each.get(20, TimeUnit.SECONDS)).getCause() instanceof Broken, true);
+        }
+        is(thrown(ExecutionException.class, () -> told.get(20, TimeUnit.SECONDS)).getCause(), failure);
+        is(failure.getSuppressed()[0] instanceof Broken, true);
+        is(after.join() + behind.join(), 5);
+        CompletionStage<Integer> refusing = refusing(new Broken());
+        Stage<Integer> composed = first.thenCompose(x -> refusing), next = composed.handle((x, e) -> 4);
+        is(thrown(ExecutionException.class, () -> composed.get(20, TimeUnit.SECONDS)).getCause() instanceof Broken, true);
+        is(next.join(), 4);
+        thrown(Broken.class, () -> request.adopt(refusing));
+    }
+
+    /** An executor that throws, whatever that is, at once or later, ends the stages alone that were handed to it. */
+    private static void executorErrors() throws Exception {
+        Request request = SERVICE.request();
+        Executor broken = act -> {
+            throw new Broken();
+        };
+        ExecutorService ended = Executors.newFixedThreadPool(1);
+        ended.shutdown();
+        Stage<Integer> first = request.promise(), given = request.promise();
+        Stage<Integer> refused = first.thenApplyAsync(x -> x, broken), composed = first.thenComposeAsync(x -> first, broken);
+        Stage<Integer> called = first.thenApplyAsync(x -> x + 1), saved = refused.exceptionally(error -> 5), here = first.thenApply(x -> x + 2);
+        first.complete(1);
+        is(here.join() + called.get(20, TimeUnit.SECONDS) + saved.get(20, TimeUnit.SECONDS), 10);
+        for (Stage<Integer> each : Arrays.asList(refused, composed)) {
+            is(thrown(ExecutionException.class, () -> each.get(20, TimeUnit.SECONDS)).getCause() instanceof Broken, true);
+        }
+        thrown(Broken.class, () -> request.supplyAsync(() -> 1, broken));
+        thrown(Broken.class, () -> given.completeAsync(() -> 1, broken));
+        is(given.complete(2), true);
+        is(new Service(broken).request().promise().completeOnTimeout(3, 1, TimeUnit.MILLISECONDS).get(20, TimeUnit.SECONDS), 3);
+        Stage<Integer> late = request.supplyAsync(() -> 1, request.delayedExecutor(20, TimeUnit.MILLISECONDS, ended));
+        Stage<Integer> behind = first.thenApplyAsync(x -> x, request.delayedExecutor(20, TimeUnit.MILLISECONDS, ended));
+        for (Stage<Integer> each : Arrays.asList(late, behind)) {
+            is(thrown(ExecutionException.class, () -> each.get(20, TimeUnit.SECONDS)).getCause() instanceof RejectedExecutionException, true);
+        }
+        CountDownLatch runs = new CountDownLatch(1), go = new CountDownLatch(1);
+        ExecutorService ends = Executors.newFixedThreadPool(1);
+        Stage<Integer> running = request.supplyAsync(() -> {
+            runs.countDown();
+            await(go);
+            return 1;
+        }, ends);
+        Stage<Integer> tooLate = running.thenApplyAsync(x -> x, ends), instead = tooLate.exceptionally(error -> 6);
+        await(runs);
+        ends.shutdown();
+        go.countDown();
+        is(running.get(20, TimeUnit.SECONDS) + instead.get(20, TimeUnit.SECONDS), 7);
+    }
+
+    /** What one of a row of relays throws keeps nothing from the others, from waiting threads and functions, and is thrown in the end. */
+    private static void brokenOff() throws Exception {
+        Request request = SERVICE.request();
+        Stage<Integer> first = request.promise(), behind = first.thenApply(x -> x + 1);
+        List<Stage<Integer>> relays = new ArrayList<>();
+        for (int k = 0; k < 5; k++) {
+            relays.add(SERVICE.request().adopt(first));
+        }
+        AtomicInteger asked = new AtomicInteger();
+        AtomicReference<Throwable> thrown = new AtomicReference<>();
+        Thread odd = new Thread(() -> {
+            try {
+                first.complete(1);
+            } catch (Throwable error) {
+                thrown.set(error);
+            }
+        }) {
+            @Override
+            public long getId() {
+                return asked.incrementAndGet() == 3 ? breaks() : 1_000_000;
+            }
+        };
+        odd.start();
+        odd.join();
+        is(thrown.get() instanceof Broken, true);
+        is(behind.get(20, TimeUnit.SECONDS), 2);
+        int settled = 0;
+        for (Stage<Integer> each : relays) {
+            settled += each.isDone() ? 1 : 0;
+        }
+        is(settled, 4);
+    }
+
+    /** What hangs on one timeout, or on a delay, and takes long, delays no other one. */
+    private static void timeouts() throws Exception {
+        Request request = SERVICE.request();
+        CountDownLatch runs = new CountDownLatch(3), go = new CountDownLatch(1);
+        Runnable slow = () -> {
+            runs.countDown();
+            await(go);
+        };
+        Stage<Integer> first = request.promise(), second = request.promise();
+        Stage<Integer> two = second.whenComplete((x, e) -> slow.run()), one = first.exceptionally(error -> {
+            slow.run();
+            return 1;
+        });
+        first.orTimeout(1, TimeUnit.MILLISECONDS);
+        second.completeOnTimeout(2, 1, TimeUnit.MILLISECONDS);
+        request.delayedExecutor(1, TimeUnit.MILLISECONDS, Runnable::run).execute(slow);
+        is(runs.await(20, TimeUnit.SECONDS), true);
+        request.promise().orTimeout(1, TimeUnit.MILLISECONDS).whenComplete((x, e) -> breaks());
+        CompletableFuture<Throwable> uncaught = new CompletableFuture<>();
+        Thread.UncaughtExceptionHandler usual = Thread.getDefaultUncaughtExceptionHandler();
+        Thread.setDefaultUncaughtExceptionHandler((thread, error) -> uncaught.complete(error));
+        request.delayedExecutor(1, TimeUnit.MILLISECONDS, Runnable::run).execute(() -> breaks());
+        is(uncaught.get(20, TimeUnit.SECONDS) instanceof Broken, true);
+        Thread.setDefaultUncaughtExceptionHandler(usual);
+        Stage<Integer> last = request.<Integer>promise().completeOnTimeout(9, 1, TimeUnit.HOURS);
+        for (int k = 0; k < 5; k++) {
+            is(request.<Integer>promise().completeOnTimeout(k, 1, TimeUnit.MILLISECONDS).get(20, TimeUnit.SECONDS), k);
+            is(request.supplyAsync(() -> 1, request.delayedExecutor(1, TimeUnit.MILLISECONDS)).get(20, TimeUnit.SECONDS), 1);
+        }
+        is(one.isDone() || two.isDone() || last.isDone(), false);
+        go.countDown();
+        is(one.get(20, TimeUnit.SECONDS) + two.get(20, TimeUnit.SECONDS), 3);
+        last.cancel(true);
     }
 
     /** Without Async each function is called once, the lowest stage's first, also those that a function makes ready meanwhile. */
@@ -611,7 +1130,7 @@ public final class ServiceTest {
                     try {
                         together.await();
                         boolean did = who == 0 ? stage.complete("completed") : who == 1 ? stage.completeExceptionally(new IllegalStateException())
-                                : who == 2 ? stage.cancel(true) && stage.isCancelled() : clocked(stage);
+                                : who == 2 ? cancelled(stage) : clocked(stage);
                         if (did) {
                             winner.set(who);
                             winners.incrementAndGet();
@@ -640,6 +1159,90 @@ public final class ServiceTest {
         if (Boolean.getBoolean("test.times")) {
             System.out.println("           won by complete, fail, cancel, the clock: " + won[0] + " " + won[1] + " " + won[2] + " " + won[4]);
         }
+    }
+
+    /** Stages of other requests come to hang on one, by several threads and at its end, and none is forgotten. */
+    private static void relayRaces() throws Exception {
+        int rounds = Integer.getInteger("test.races", 500) / 5;
+        ExecutorService pool = Executors.newFixedThreadPool(4);
+        CyclicBarrier together = new CyclicBarrier(4);
+        for (int k = 0; k < rounds; k++) {
+            Stage<Integer> stage = SERVICE.request().promise();
+            CompletableFuture<Integer> java = new CompletableFuture<>();
+            List<Future<List<Stage<Integer>>>> hang = new ArrayList<>();
+            for (int t = 0; t < 4; t++) {
+                boolean settles = t == 0;
+                hang.add(pool.submit(() -> {
+                    Request request = SERVICE.request();
+                    Stage<Integer> own = request.promise();
+                    List<Stage<Integer>> made = new ArrayList<>();
+                    together.await();
+                    for (int one = 0; one < 100; one++) {
+                        if (settles && one == 90) {
+                            stage.complete(1);
+                            java.complete(2);
+                        }
+                        CompletionStage<Integer> of = one % 4 == 3 ? java : stage;
+                        made.add(one % 2 == 0 ? request.adopt(of) : own.applyToEither(of, x -> x));
+                        if (one % 5 == 4) {
+                            made.get(one).cancel(false);
+                        }
+                    }
+                    return made;
+                }));
+            }
+            for (Future<List<Stage<Integer>>> each : hang) {
+                for (Stage<Integer> one : each.get(20, TimeUnit.SECONDS)) {
+                    one.handle((x, e) -> 0).get(20, TimeUnit.SECONDS);
+                }
+            }
+            is(stage.more.outside.poll() == null, true);
+        }
+        AtomicReference<Stage<Integer>> next = new AtomicReference<>();
+        AtomicReference<List<Stage<Integer>>> hung = new AtomicReference<>();
+        int steps = 20 * rounds;
+        Future<?> hangs = pool.submit(() -> {
+            for (int k = 0; k < steps; k++) {
+                Stage<Integer> stage = taken(next);
+                Request request = SERVICE.request().goesOn();
+                List<Stage<Integer>> made = new ArrayList<>();
+                while (!stage.isDone()) {
+                    made.add(request.adopt(stage));
+                }
+                hung.set(made);
+            }
+        });
+        for (int k = 0; k < steps; k++) {
+            Stage<Integer> stage = SERVICE.request().promise();
+            next.set(stage);
+            for (int spin = 0; spin < 20 + k % 100; spin++) {
+                Thread.onSpinWait();
+            }
+            stage.complete(k);
+            for (Stage<Integer> each : taken(hung)) {
+                is(each.get(20, TimeUnit.SECONDS), k);
+            }
+        }
+        hangs.get();
+        pool.shutdown();
+    }
+
+    /** What another thread puts there, which is waited for as shortly as can be. */
+    private static <U> U taken(AtomicReference<U> from) {
+        U put;
+        for (int k = 1; (put = from.getAndSet(null)) == null; k++) {
+            if (k % 1000 == 0) {
+                Thread.yield();
+            }
+        }
+        return put;
+    }
+
+    /** What cancel answers is what has become of the stage. */
+    private static boolean cancelled(Stage<String> stage) {
+        boolean did = stage.cancel(true);
+        is(did, stage.isCancelled());
+        return did;
     }
 
     /** The clock settles it at once; that isn't told to this thread. */
@@ -757,10 +1360,12 @@ public final class ServiceTest {
             System.out.println("(no recordings in this JVM)");
             return;
         }
-        is(Recorder.now != null, jdk.jfr.FlightRecorder.isInitialized());
+        is(Recorder.now() != null, jdk.jfr.FlightRecorder.isInitialized());
         Path file = Files.createTempFile("cf", ".jfr");
         int words;
         try (jdk.jfr.Recording recording = new jdk.jfr.Recording()) {
+            recording.enable("cf.Word");
+            recording.enable("cf.Stage");
             recording.start();
             Request request = SERVICE.request("recorded");
             Stage<Integer> first = request.promise();
@@ -871,7 +1476,7 @@ public final class ServiceTest {
     }
 
     /** MB of memory that the process has. */
-    private static long resident() throws Exception {
+    static long resident() throws Exception {
         Path statm = Paths.get("/proc/self/statm");
         return Files.exists(statm) ? Long.parseLong(new String(Files.readAllBytes(statm)).split(" ")[1]) * 4096 >> 20 : 0;
     }

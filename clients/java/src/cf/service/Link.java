@@ -1,0 +1,150 @@
+package cf.service;
+
+import cf.service.Faults.Fault;
+import java.util.concurrent.CompletableFuture;
+import java.util.concurrent.CompletionStage;
+import java.util.concurrent.atomic.AtomicReference;
+import java.util.function.BiConsumer;
+
+/**
+ * What a relay hangs by on the future that settles it. It is let go once nobody needs the relay any more, so a future that lives long keeps
+ * nothing of the requests that were behind it.
+ *
+ * <p>Of a future that is no stage it is the callback, and holds what that told while it was being hung up.
+ */
+@SuppressWarnings("serial")
+final class Link extends AtomicReference<Object> implements BiConsumer<Object, Throwable>, Runnable {
+    private static final Object HANGS = new Object();
+
+    /** Until it is settled, or let go. */
+    private volatile Stage<?> relay;
+    /** The stage at whose end nobody needs the relay any more, until it is told of this. */
+    private Stage<?> behind;
+
+    /** In the row of this stage, which it hangs on; its places there are the lock's of that stage's request. */
+    private Stage<?> source;
+    private Link before;
+    Link after;
+    /** Whoever completes it takes away what hangs behind a future of Java's. */
+    private volatile CompletableFuture<Object> release;
+
+    /** Links in the order in which they came. */
+    static final class Row {
+        private Link first, last;
+
+        void add(Link link) {
+            link.before = last;
+            if (last == null) {
+                first = link;
+            } else {
+                last.after = link;
+            }
+            last = link;
+        }
+
+        /** All of them, by {@link Link#after}. */
+        Link take() {
+            Link all = first;
+            first = last = null;
+            return all;
+        }
+
+        /** The first one, which it leaves, or null. */
+        Link poll() {
+            Link link = first;
+            if (link != null) {
+                remove(link);
+            }
+            return link;
+        }
+
+        void remove(Link link) {
+            if (first == null || link.before == null && first != link) {
+                return; // They were taken, or this one was.
+            }
+            if (link.before == null) {
+                first = link.after;
+            } else {
+                link.before.after = link.after;
+            }
+            if (link.after == null) {
+                last = link.before;
+            } else {
+                link.after.before = link.before;
+            }
+            link.before = link.after = null;
+        }
+    }
+
+    Link(Stage<?> relay, Stage<?> behind) {
+        this.relay = relay;
+        this.behind = behind;
+    }
+
+    /** The relay, which the caller is to settle; or null where that was done, or isn't needed. */
+    Stage<?> take() {
+        Stage<?> taken = relay;
+        relay = null;
+        return taken;
+    }
+
+    /** It stands in a row now: that of a stage whose request's lock is held. */
+    void hangsOn(Stage<?> stage) {
+        source = stage;
+    }
+
+    /** Hangs it on a future that is no stage. What that has told by the end of the call is given back, else null. */
+    Object hang(CompletionStage<?> of) {
+        if (of.getClass() == CompletableFuture.class && !((CompletableFuture<?>) of).isDone()) {
+            CompletableFuture<?> future = (CompletableFuture<?>) of;
+            CompletableFuture<Object> end = release = new CompletableFuture<>();
+            // Where one of anyOf's futures is completed, Java takes away what it has put behind the others. It does so for nothing else.
+            CompletableFuture.anyOf(future, end).whenComplete((value, error) -> {
+                if (relay != null) {
+                    future.whenComplete(this);
+                }
+            });
+        } else {
+            of.whenComplete(this);
+        }
+        return compareAndSet(null, HANGS) ? null : get();
+    }
+
+    @Override
+    public void accept(Object value, Throwable error) {
+        Object told = error != null ? new Fault(error, -1) : value == null ? Stage.NIL : value;
+        if (compareAndSet(null, told) || get() != HANGS) {
+            return; // By whoever hangs it up: what a chain of finished futures tells is no recursion.
+        }
+        Request.told(this, told);
+    }
+
+    /** Lets it go at the end of the stage that needs the relay. */
+    void untilSettled() {
+        Stage<?> end = behind;
+        behind = null;
+        untilSettled(end);
+    }
+
+    void untilSettled(Stage<?> end) {
+        if (relay != null) {
+            end.observe(this);
+        }
+    }
+
+    /** Lets it go: nobody needs the relay. */
+    @Override
+    public void run() {
+        if (take() == null) {
+            return;
+        }
+        CompletableFuture<Object> end = release;
+        if (end != null) {
+            end.complete(null);
+        }
+        Stage<?> stage = source;
+        if (stage != null) {
+            stage.request.unlink(stage, this);
+        }
+    }
+}
