@@ -916,6 +916,20 @@ class Relays(Case):
         finally:
             sys.setswitchinterval(known)
 
+    def test_a_future_that_is_done_as_it_is_adopted(self):
+        """Its row is called before the relay stands in it, and the relay is told all the same."""
+
+        class Late(concurrent.futures.Future):
+            asked = False
+
+            def done(self):
+                self.asked, is_first = True, not self.asked
+                return not is_first and super().done()
+        late = Late()
+        late.set_result(7)
+        self.assertEqual(self.service.request().adopt(late).result(10), 7)
+        self.assertTrue(late.asked)
+
     def test_a_gather_that_is_refused_adopts_nothing(self):
         future, service = concurrent.futures.Future(), Service(1)
         r = service.request()

@@ -1463,7 +1463,8 @@ class Services(Case):
             raise SystemExit("of a callback")
         request = service.request("r")
         promise, other = request.promise(), request.promise()
-        stages = [promise, promise.then(f.inc), other, promise.then(f.inc).then(f.inc)]
+        first = promise.then(f.inc)
+        stages = [promise, first, other, first.then(f.inc)]  # (who finishes the first claims the last with that)
         for stage in stages * 2:
             stage.add_done_callback(ends)
         with self.assertRaises(SystemExit):
