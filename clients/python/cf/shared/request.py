@@ -175,7 +175,8 @@ class Request:
         self._transacts: Set[int] = set()  # the threads that run a transactional function of it
         self._stages: Dict[int, Stage[Any]] = {}
         self.is_queued = self.is_leaving = False
-        self.is_closed = self.reopens = False  # in the store, as far as is known; and whether that has yet to be taken back
+        self.is_closed = False  # in the store, as far as is known
+        self.reopens: bool = False  # whether that has yet to be taken back
         self.kept = 0  # how often it was asked for again
         self._unshown: Set[int] = set()  # settled stages whose payload couldn't be read yet
         self._describe: Describe = service._describe

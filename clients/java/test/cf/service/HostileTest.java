@@ -26,7 +26,9 @@ public final class HostileTest {
     private HostileTest() {}
 
     static void survived() throws Exception {
-        String[] options = {"-Xcheck:jni", "-Xmx16m", "-XX:+UseSerialGC", "-XX:TieredStopAtLevel=1", "-Dcf.room=70000", "-Dcf.kept=-5"};
+        // Frames of what fills the stack are of one size for as long as nobody compiles them.
+        String[] options = {"-Xcheck:jni", "-Xmx16m", "-XX:+UseSerialGC", "-XX:TieredStopAtLevel=1", "-Dcf.room=70000", "-Dcf.kept=-5",
+                "-XX:CompileCommand=exclude,cf.service.HostileTest::deepest", "-XX:CompileCommand=exclude,cf.service.HostileTest::down"};
         for (String what : new String[] {"uses", "memory", "stacks", "stops"}) {
             String told = child(what, options);
             is(what + ": " + (told.contains("survived") && !told.contains("in native method") ? "survived" : told), what + ": survived");
