@@ -28,6 +28,10 @@ impl Plain {
                 let done = self.settle(alloc, stage, thrown)?;
                 Ok(Reply::Flag(done))
             }
+            Event::FailAs { stage, failure, .. } => {
+                let done = self.settle(alloc, stage, raw(failure.cause()))?;
+                Ok(Reply::Flag(done))
+            }
             Event::Cancel { stage, .. } => {
                 let done = self.cancel(alloc, stage)?;
                 Ok(Reply::Flag(done))
