@@ -6,7 +6,7 @@ from types import SimpleNamespace
 from typing import Any, Callable, Dict, List, Sequence
 
 NO_FUNCTION = 0xFFFFFFFF
-VERSION = (1, 2)  # of the library that this module is written for
+VERSION = (1, 4)  # of the library that this module is written for
 
 
 class CHandle(c.Structure):
