@@ -615,8 +615,8 @@ static int stage_in(Request *self, PyObject *stage, uint16_t *i) {
   return 0;
 }
 
-/* _change(kind, who, stage, given): completes, fails or cancels a stage, and says whether that did it. It fails as with a bad answer where
- * the exception is a `BadAnswer`, else as timed out. */
+/* _change(kind, who, stage, given): completes, fails or cancels a stage, and says whether that did it. By FAIL_AS it has a bad answer where
+ * the exception is a `BadAnswer`, and else times out. */
 static PyObject *Request_change(Request *self, PyObject *const *args, Py_ssize_t n) {
   uint16_t stage;
   if (n != 4 || stage_in(self, args[2], &stage)) return n == 4 ? NULL : PyErr_Format(PyExc_TypeError, "_change takes 4");

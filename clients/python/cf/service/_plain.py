@@ -410,7 +410,7 @@ class RequestCore:
 
     def _change(self, kind: int, who: int, stage: "int | Stage[Any]", given: Any) -> bool:
         """Completes, fails or cancels a stage, and says whether that did it. `given` is the value, the exception, or True where a stage
-        whose function runs isn't to be cancelled. It fails as with a bad answer where the exception is a `BadAnswer`, else as timed out."""
+        whose function runs isn't to be cancelled. By FAIL_AS it has a bad answer where the exception is a `BadAnswer`, and else times out."""
         number, news = stage if isinstance(stage, int) else stage.number, _News([], [])
         with self._lock:
             row = self._rows[number]

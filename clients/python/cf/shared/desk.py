@@ -277,8 +277,8 @@ class Desk:
             self._behind.setdefault(source, []).append(number)
 
     def _changed(self, news: "Sequence[CNews]", place: int, failed: int) -> List[int]:
-        """Takes over what a word changed, and gives the stages that it settled; `failed` is by which word they timed out or had a bad answer
-        that did so by this one, or 0."""
+        """Takes over what a word changed, and gives the stages that it settled. `failed` is the place for `self.failed` of those that time
+        out by it or have a bad answer, or 0 where that is their sources'."""
         settled = []
         for it in news:
             number, kind = it.stage, it.now.kind
@@ -298,7 +298,7 @@ class Desk:
         return settled
 
     def failed_of(self, sources: Sequence[int], kind: int) -> int:
-        """The same of the first of these that ended so, or 0."""
+        """The place in `failed` of the first of these stages that ended so, or 0."""
         return next((self.failed.get(source, 0) for source in sources if self.told[source].kind == kind), 0)
 
     # Room for stages that are attached.

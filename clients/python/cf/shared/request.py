@@ -367,8 +367,8 @@ class Request:
         return self._attach(form, row, None, name=name)
 
     def _settle(self, kind: int, stage: int, payload: Optional[bytes], waits: bool = False, failure: int = TIMED_OUT) -> bool:
-        """Completes, fails or cancels a stage, and says whether that did it. `waits`: not while its function runs. `failure`: as what it
-        fails that fails otherwise than with a code; no word names the payload then."""
+        """Completes, fails or cancels a stage, and says whether that did it. `waits`: not while its function runs. `failure`: what it ends
+        in by FAIL_AS, whose word doesn't name the payload."""
         def decide(desk: Desk) -> Any:
             if desk.is_settled(stage) or waits and stage in desk.claims:
                 return None
