@@ -36,8 +36,10 @@ pub fn logs_only_grow()
     ensures { LogsOnlyGrow }
 {}
 
-/// A call stands at the end of the log at an instant within the call: where a pass adds its event by an exchange that finds
-/// the word empty, it has seen all of the log by then. So a call that had returned before another began stands before it.
+/// Each event is added at the end of the log as it stands at that exchange: where a pass adds its event by an exchange that
+/// finds the word empty, it has seen all of the log by then. The exchange lies within the call. That a call which had returned
+/// before another began stands before it isn't proved: it is an argument from this and `logs_only_grow`, since no clause
+/// speaks of instants.
 pub fn calls_come_last()
     ensures { CallsComeLast }
 {}
