@@ -3,7 +3,7 @@
 ghost use Rattle.cf_desk.specs.Keepings.{IsFit};
 ghost use Rattle.cf_desk.specs.Laws.{ClaimsStayOpen, OneHistoryShows};
 ghost use Rattle.cf_desk.specs.Rows.{RowsHold};
-ghost use Rattle.cf_desk.specs.Time.{CallsComeLast, LogsOnlyGrow};
+ghost use Rattle.cf_desk.specs.Time.{CallsComeAfterWhatWasSeen, CallsComeLast, LogsOnlyGrow};
 
 use crate::pass::Pass;
 
@@ -42,4 +42,10 @@ pub fn logs_only_grow()
 /// speaks of instants.
 pub fn calls_come_last()
     ensures { CallsComeLast }
+{}
+
+/// A call stands behind all that its pass had seen, and so behind what another had, once it has heeded its notice
+/// (`Desk::heed`).
+pub fn calls_come_after_what_was_seen()
+    ensures { CallsComeAfterWhatWasSeen }
 {}
