@@ -5,6 +5,7 @@ ghost use Rattle.cf_model.specs.declared.calls.Call.TheVariants.{Complete as Com
 ghost use Rattle.cf_handles.specs.Answers.{Does, HandleTells};
 ghost use Rattle.cf_handles.specs.DeskTasks.{CompletesMany, StepsCaller};
 ghost use Rattle.cf_handles.specs.Desks.{Acts, ByCaller, FindsReady, IsLeft, Joins, Knows, Reads, call_with, function_known, number_told, seen_told, told_now, told_outcome};
+ghost use Rattle.cf_handles.specs.EventWords.{failing_call, failure_of};
 ghost use Rattle.cf_handles.specs.Ledgers.{Writes};
 ghost use Rattle.cf_handles.specs.Meetings.{AreOfOne, MeetsBehind};
 ghost use Rattle.cf_handles.specs.Plans.{parts_of};
@@ -16,6 +17,7 @@ use cf_desk::Call;
 use cf_handles::desk::{caller, completing, stepping};
 use cf_handles::handle::CfHandle;
 use cf_handles::values::attaching::attach_call;
+use cf_handles::values::event::failing_call;
 use cf_handles::values::task::CfTask;
 use cf_handles::values::{
     CfAnswer, CfGiven, CfNow, CfOutcome, CfReply, CfValue, answer_of, value_of,
@@ -63,6 +65,21 @@ pub extern "C" fn cf_desk_fail(
 {
     let call = Call::Fail(stage, code);
     tell!(alloc, h, reply, held => caller::act(&mut held, Ok(call)))
+}
+
+/// Fails a stage as an outcome of this kind has it: as timed out, or, where it stands in for another stage, with a bad answer.
+#[unsafe(no_mangle)]
+pub extern "C" fn cf_desk_fail_as(
+    alloc: Global,
+    h: &mut CfHandle,
+    stage: u16,
+    kind: u32,
+    reply: &mut CfReply,
+) -> u32
+    ensures { HandleTells (ByCaller (Acts (failing_call stage (failure_of kind)))) h.old.inner.held h.new.inner.held result reply.old reply.new }
+{
+    let call = failing_call(stage, kind);
+    tell!(alloc, h, reply, held => caller::act(&mut held, call))
 }
 
 /// Cancels a stage.

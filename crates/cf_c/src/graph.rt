@@ -3,7 +3,7 @@ ghost use Rattle.std.specs.Prelude.{Ok};
 ghost use Rattle.cf_model.specs.declared.events.Event.TheVariants.{Complete as Completes, Fail as Fails, Cancel as Cancels, Claim as Claims, Finish as Finishes, Tick as Ticks};
 ghost use Rattle.cf_handles.specs.Answers.{Does, HandleTells};
 ghost use Rattle.cf_handles.specs.Building.{GraphOf, Opens};
-ghost use Rattle.cf_handles.specs.EventWords.{event_at};
+ghost use Rattle.cf_handles.specs.EventWords.{event_at, failing, failure_of};
 ghost use Rattle.cf_handles.specs.Graphs.{GraphAnswers, Asked, Restarts, RestsAlways, RestsAt, RestsAtReady, function_told, now_told, outcome_told, ready_told, stages_told, turns_told};
 ghost use Rattle.cf_handles.specs.Plans.{attach_event};
 ghost use Rattle.cf_handles.specs.Ledgers.{Writes};
@@ -18,7 +18,7 @@ use cf_handles::code::Code;
 use cf_handles::graph::{asking, graph_of, plan_of, restarting, rounds, stepping, sweeping};
 use cf_handles::handle::{CfHandle, fill};
 use cf_handles::values::attaching::attach_event;
-use cf_handles::values::event::event_at;
+use cf_handles::values::event::{event_at, failing_event};
 use cf_handles::values::task::CfTask;
 use cf_handles::values::{
     CfAnswer, CfGiven, CfNow, CfOutcome, CfReply, CfValue, answer_of, value_of,
@@ -83,6 +83,21 @@ pub extern "C" fn cf_fail(
         code,
     };
     tell!(alloc, h, reply, held => asking::answer(&mut held, Ok(event)))
+}
+
+/// Fails a stage as an outcome of this kind has it: as timed out, or, where it stands in for another stage, with a bad answer.
+#[unsafe(no_mangle)]
+pub extern "C" fn cf_fail_as(
+    alloc: Global,
+    h: &mut CfHandle,
+    stage: u16,
+    kind: u32,
+    reply: &mut CfReply,
+) -> u32
+    ensures { HandleTells (GraphAnswers (failing 0 stage (failure_of kind))) h.old.inner.held h.new.inner.held result reply.old reply.new }
+{
+    let event = failing_event(stage, kind);
+    tell!(alloc, h, reply, held => asking::answer(&mut held, event))
 }
 
 /// Cancels a stage.

@@ -11,7 +11,7 @@ use Rattle.std.proofs.lemmas.Option.{unwrap_or-slice_get}
 use Rattle.cf_forms.specs.Meanings.{Meanings}
 use Rattle.cf_forms.specs.Plans.{Planned}
 use Rattle.cf_model.specs.declared.events.Event.{Event}
-use Rattle.cf_model.specs.declared.events.Event.TheVariants.{Complete as Completes, Fail as Fails, Cancel as Cancels, Claim as Claims, Finish as Finishes, Tick as Ticks, Attach as Attaches}
+use Rattle.cf_model.specs.declared.events.Event.TheVariants.{Complete as Completes, Fail as Fails, FailAs as FailsAs, Cancel as Cancels, Claim as Claims, Finish as Finishes, Tick as Ticks, Attach as Attaches}
 use Rattle.cf_model.specs.declared.events.Reply.{Reply}
 use Rattle.cf_model.specs.Calls.{as_call, event_by, who_of}
 use Rattle.cf_model.specs.Ranges.{EventFits, fits}
@@ -94,6 +94,7 @@ onward-other s c d other =
 pub call-is : (e : Event) → event_by (who_of e) (as_call e) ≡ e
 call-is (Completes who i v) = refl
 call-is (Fails who i code) = refl
+call-is (FailsAs who i failure) = refl
 call-is (Cancels who i) = refl
 call-is (Claims who i) = refl
 call-is (Finishes who i answer) = refl
@@ -140,6 +141,7 @@ but_vain-left n s xs e is = but_vain-push n s xs e ∙ ap (λ (b : Bool). but_va
 pub caller-took : (n : ℕ) (e : Event) (reply : Reply) → who_of e < n → is_vain n e reply ≡ false
 caller-took n (Completes who i v) reply l = refl
 caller-took n (Fails who i code) reply l = refl
+caller-took n (FailsAs who i failure) reply l = refl
 caller-took n (Cancels who i) reply l = refl
 caller-took n (Claims who i) reply l = ap (λ (b : Bool). b && not (grants reply)) (lt-leb n who l)
 caller-took n (Finishes who i answer) reply l = refl

@@ -5,7 +5,7 @@ use Rattle.cf_forms.specs.Plans.{PlannedStage}
 use Rattle.cf_model.specs.declared.asks.Ask.{Ask}
 use Rattle.cf_model.specs.declared.asks.Ask.TheVariants.{Now as AsksNow, Outcome as AsksOutcome}
 use Rattle.cf_model.specs.declared.events.Event.{Event}
-use Rattle.cf_model.specs.declared.events.Event.TheVariants.{Complete as Completes, Fail as Fails, Cancel as Cancels, Claim as Claims, Finish as Finishes, Tick as Ticks, Attach as Attaches}
+use Rattle.cf_model.specs.declared.events.Event.TheVariants.{Complete as Completes, Fail as Fails, FailAs as FailsAs, Cancel as Cancels, Claim as Claims, Finish as Finishes, Tick as Ticks, Attach as Attaches}
 use Rattle.cf_model.specs.States.{State}
 use Rattle.cf_model.specs.Events.{state_after}
 use Rattle.cf_model.specs.Ranges.{AskFits, EventFits}
@@ -21,6 +21,7 @@ use Rattle.std.proofs.lemmas.List.Elements.{All-weaker}
 pub names_more : (n m : ℕ) (e : Event) → n ≤ m → EventNames n e → EventNames m e
 names_more n m (Completes who i v) le h = omega (arith, le, h)
 names_more n m (Fails who i code) le h = omega (arith, le, h)
+names_more n m (FailsAs who i failure) le h = omega (arith, le, h)
 names_more n m (Cancels who i) le h = omega (arith, le, h)
 names_more n m (Claims who i) le h = omega (arith, le, h)
 names_more n m (Finishes who i answer) le h = omega (arith, le, h)
@@ -30,6 +31,7 @@ names_more n m (Attaches who form of function) le h = All-weaker (λ j. j < n) (
 pub fits_more : (n m : ℕ) (e : Event) → n ≤ m → EventFits n e → EventFits m e
 fits_more n m (Completes who i v) le h = omega (arith, le, h)
 fits_more n m (Fails who i code) le h = omega (arith, le, h)
+fits_more n m (FailsAs who i failure) le h = omega (arith, le, h)
 fits_more n m (Cancels who i) le h = omega (arith, le, h)
 fits_more n m (Claims who i) le h = omega (arith, le, h)
 fits_more n m (Finishes who i answer) le h = omega (arith, le, h)

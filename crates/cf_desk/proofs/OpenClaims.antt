@@ -12,9 +12,9 @@ use Rattle.cf_model.specs.declared.stage.Stage.{Stage}
 use Rattle.cf_model.specs.declared.stage.Stage.TheVariants.{Pending, Ready, Claimed, Linked, Settled}
 use Rattle.cf_model.specs.declared.replies.Finished.TheVariants.{NotYours}
 use Rattle.cf_model.specs.declared.events.Event.{Event}
-use Rattle.cf_model.specs.declared.events.Event.TheVariants.{Complete as Completes, Fail as Fails, Cancel as Cancels, Claim as Claims, Finish as Finishes, Tick as Ticks, Attach as Attaches}
+use Rattle.cf_model.specs.declared.events.Event.TheVariants.{Complete as Completes, Fail as Fails, FailAs as FailsAs, Cancel as Cancels, Claim as Claims, Finish as Finishes, Tick as Ticks, Attach as Attaches}
 use Rattle.cf_model.specs.States.{State, start, stage_at, claim_at, outcome_at}
-use Rattle.cf_model.specs.Events.{answered, state_after, claimed_by, finished_by, attached_by}
+use Rattle.cf_model.specs.Events.{answered, state_after, claimed_by, finished_by, attached_by, cause_of}
 use Rattle.cf_model.specs.Calls.{who_of}
 use Rattle.cf_model.specs.Claims.{is_claimable}
 use Rattle.cf_model.proofs.Claimable.{state_after-not_claimable}
@@ -66,6 +66,7 @@ attach_from (suc room) s new i c e = inl (claim_before_push s.claims i c e)
 came_from : (s : State) (e : Event) → CameFrom s ((answered s e).1)
 came_from s (Completes who j v) = no_new s ((answered s (Completes who j v)).1) (settled_claims (outcome_at s j) s j (Gives v))
 came_from s (Fails who j code) = no_new s ((answered s (Fails who j code)).1) (settled_claims (outcome_at s j) s j (Fault (Thrown code) false))
+came_from s (FailsAs who j failure) = no_new s ((answered s (FailsAs who j failure)).1) (settled_claims (outcome_at s j) s j (Fault (cause_of failure) false))
 came_from s (Cancels who j) = no_new s ((answered s (Cancels who j)).1) (cancelled_claims (outcome_at s j) s j)
 came_from s (Claims who j) = claim_from (stage_at s j) s who j refl
 came_from s (Finishes who j answer) = finish_from (option_map_or (λ w. w == who) (claim_at s j) false) s j answer
@@ -122,6 +123,7 @@ attach_stays (suc room) s new i c e = pushed_claim s.claims i c e
 stays : (s : State) (e : Event) (i c : ℕ) → AreTaken s → eqb (who_of e) c ≡ false → StaysOpen s ((answered s e).1) i c
 stays s (Completes who j v) i c h other = still s ((answered s (Completes who j v)).1) i c (settled_claims (outcome_at s j) s j (Gives v))
 stays s (Fails who j code) i c h other = still s ((answered s (Fails who j code)).1) i c (settled_claims (outcome_at s j) s j (Fault (Thrown code) false))
+stays s (FailsAs who j failure) i c h other = still s ((answered s (FailsAs who j failure)).1) i c (settled_claims (outcome_at s j) s j (Fault (cause_of failure) false))
 stays s (Cancels who j) i c h other = still s ((answered s (Cancels who j)).1) i c (cancelled_claims (outcome_at s j) s j)
 stays s (Claims who j) i c h other = claim_stays (stage_at s j) s who j i c refl h
 stays s (Finishes who j answer) i c h other = finish_stays (option_map_or (λ w. w == who) (claim_at s j) false) s who j i c answer refl other

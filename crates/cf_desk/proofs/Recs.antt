@@ -13,7 +13,7 @@ use Rattle.cf_event.specs.Histories.{AreRecordsOf}
 use Rattle.cf_model.specs.Calls.{event_by, who_of}
 use Rattle.cf_event.proofs.Histories.{records_did, records_more, records_none, records_saw}
 use Rattle.cf_model.specs.declared.calls.Call.{Call}
-use Rattle.cf_model.specs.declared.calls.Call.TheVariants.{Complete, Fail, Cancel, Claim, Finish, Tick, Attach}
+use Rattle.cf_model.specs.declared.calls.Call.TheVariants.{Complete, Fail, FailAs, Cancel, Claim, Finish, Tick, Attach}
 use Rattle.cf_desk.specs.declared.calls.Rec.{Rec}
 use Rattle.cf_desk.specs.declared.calls.Rec.TheVariants.{Did, Saw}
 use Rattle.cf_desk.specs.Log.{Catches, state_from}
@@ -43,6 +43,7 @@ fits_new plan c = records_none plan c
 pub own_call : (c : ℕ) (call : Call) → who_of (event_by c call) ≡ c
 own_call c (Complete i v) = refl
 own_call c (Fail i code) = refl
+own_call c (FailAs i failure) = refl
 own_call c (Cancel i) = refl
 own_call c (Claim i) = refl
 own_call c (Finish i answer) = refl

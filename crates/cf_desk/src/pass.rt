@@ -99,6 +99,7 @@ impl Pass {
         match call {
             Call::Complete(stage, _) => stage < stages,
             Call::Fail(stage, _) => stage < stages,
+            Call::FailAs(stage, _) => stage < stages,
             Call::Cancel(stage) => stage < stages,
             Call::Claim(stage) => stage < stages,
             Call::Finish(stage, _) => stage < stages,
@@ -121,6 +122,7 @@ impl Pass {
         match call {
             Call::Complete(_, _) => true,
             Call::Fail(_, _) => true,
+            Call::FailAs(_, _) => true,
             Call::Cancel(_) => true,
             Call::Claim(_) => true,
             Call::Finish(_, _) => true,

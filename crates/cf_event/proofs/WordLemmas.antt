@@ -12,9 +12,10 @@ use Rattle.cf_outcome.specs.declared.outcome.Value.TheVariants.{Nil, Int}
 use Rattle.cf_forms.specs.declared.forms.Answer.{Answer}
 use Rattle.cf_forms.specs.declared.forms.Answer.TheVariants.{Give, Throw, Link}
 use Rattle.cf_model.specs.declared.events.Event.{Event}
-use Rattle.cf_model.specs.declared.events.Event.TheVariants.{Complete as Completes, Fail as Fails, Cancel as Cancels, Claim as Claims, Finish as Finishes, Tick as Ticks, Attach as Attaches}
+use Rattle.cf_model.specs.declared.events.Event.TheVariants.{Complete as Completes, Fail as Fails, FailAs as FailsAs, Cancel as Cancels, Claim as Claims, Finish as Finishes, Tick as Ticks, Attach as Attaches}
+use Rattle.cf_model.specs.declared.events.Failure.TheVariants.{TimedOut, BadAnswer}
 use Rattle.cf_event.specs.Words.{IsAnswer, IsEvent, IsValue, answer_low, answer_tag, attach_low, count_of, first_of, value_low, value_tag, word_of, word_with}
-use Rattle.cf_event.specs.Decoding.{answer_with, attach_with, decoded, decoded_with, event_of, event_with, value_with}
+use Rattle.cf_event.specs.Decoding.{answer_with, attach_with, decoded, decoded_with, event_of, event_with, failure_with, value_with}
 use Rattle.cf_event.proofs.AttachLemmas.{attach_back, attach_small, attach_with_is, chosen, count_small}
 
 -- a word's fields
@@ -76,6 +77,10 @@ event_of_own_word (Completes who i v) h =
     event_of_fields 1 who i (value_tag v) (value_low v) (omega (arith, h.0)) (omega (arith, h.1)) small.0 small.1 ∙ grind (arith, common_steps)
 event_of_own_word (Fails who i code) h =
     event_of_fields 2 who i 0 code (omega (arith, h.0)) (omega (arith, h.1)) (omega arith) h.2 ∙ grind (arith, common_steps)
+event_of_own_word (FailsAs who i TimedOut) h =
+    event_of_fields 8 who i 0 0 (omega (arith, h.0)) (omega (arith, h.1)) (omega arith) (omega arith) ∙ grind (arith, common_steps)
+event_of_own_word (FailsAs who i BadAnswer) h =
+    event_of_fields 8 who i 1 0 (omega (arith, h.0)) (omega (arith, h.1)) (omega arith) (omega arith) ∙ grind (arith, common_steps)
 event_of_own_word (Cancels who i) h =
     event_of_fields 3 who i 0 0 (omega (arith, h.0)) (omega (arith, h.1)) (omega arith) (omega arith) ∙ grind (arith, common_steps)
 event_of_own_word (Claims who i) h =
@@ -111,11 +116,12 @@ event_with_is kind who i tag low e s l h =
     chosen (kind == 5) (option_map (Finishes who i) (answer_with tag low)) _ e
     (λ k n. grind (arith, common_steps, nat_tests, answer_with_is)) (λ k5.
     chosen (kind == 6 && tag == 0 && i == 0) (Some (Ticks who low)) _ e (λ k n. grind (arith, common_steps, nat_tests)) (λ k6.
-    chosen (kind == 7) (attach_with who i tag low) None e
+    chosen (kind == 7) (attach_with who i tag low) _ e
     (λ k n. (let is : kind ≡ 7 = grind (arith, nat_tests) in
     let few : who ≤ 63 = grind (arith, nat_tests) in
     let found = attach_with_is who i tag low e few s l n in
-    (found.0, found.1 ∙ ap (λ m. word_with m who i tag low) (sym is)))) (λ k7 n. absurd cc)))))))) h
+    (found.0, found.1 ∙ ap (λ m. word_with m who i tag low) (sym is)))) (λ k7.
+    chosen (kind == 8 && low == 0) (option_map (FailsAs who i) (failure_with tag)) None e (λ k n. grind (arith, common_steps, nat_tests)) (λ k8 n. absurd cc))))))))) h
 
 -- the event of a word is one, and that is its word
 pub event_of_is : (w : ℕ) (e : Event) → event_of w ≡ Some e → IsEvent e × (word_of e ≡ w)
@@ -143,6 +149,7 @@ one_to_one d e h k same = some_same d e (sym (event_of_own_word d h) ∙ ap even
 pub word_of_filled : (e : Event) → 0 < word_of e
 word_of_filled (Completes who i v) = omega arith
 word_of_filled (Fails who i code) = omega arith
+word_of_filled (FailsAs who i failure) = omega arith
 word_of_filled (Cancels who i) = omega arith
 word_of_filled (Claims who i) = omega arith
 word_of_filled (Finishes who i answer) = omega arith

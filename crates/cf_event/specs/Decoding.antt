@@ -12,7 +12,9 @@ use Rattle.cf_forms.specs.declared.forms.Of.TheVariants.{None as NoSource, One, 
 use Rattle.cf_forms.specs.Naming.{forms}
 use Rattle.cf_forms.specs.Plans.{fits_form}
 use Rattle.cf_model.specs.declared.events.Event.{Event}
-use Rattle.cf_model.specs.declared.events.Event.TheVariants.{Complete as Completes, Fail as Fails, Cancel as Cancels, Claim as Claims, Finish as Finishes, Tick as Ticks, Attach as Attaches}
+use Rattle.cf_model.specs.declared.events.Event.TheVariants.{Complete as Completes, Fail as Fails, FailAs as FailsAs, Cancel as Cancels, Claim as Claims, Finish as Finishes, Tick as Ticks, Attach as Attaches}
+use Rattle.cf_model.specs.declared.events.Failure.{Failure}
+use Rattle.cf_model.specs.declared.events.Failure.TheVariants.{TimedOut, BadAnswer}
 use Rattle.cf_event.specs.Words.{count_of}
 
 -- the value with this tag and low half, if there is one
@@ -28,6 +30,13 @@ answer_with tag low =
     if tag == 2 then Some (Throw low)
     else (if tag == 3 then (if nat_lt low (2 ^ 16) then Some (Link low) else None)
     else option_map Give (value_with tag low))
+
+-- the failure with this tag, if there is one
+abbrev pub failure_with : ℕ → Option Failure
+failure_with tag =
+    if tag == 0 then Some TimedOut
+    else (if tag == 1 then Some BadAnswer
+    else None)
 
 -- so many sources with these numbers, if that can be
 abbrev pub of_with : ℕ → ℕ → ℕ → Option Of
@@ -60,7 +69,8 @@ event_with kind who i tag low =
     else (if kind == 5 then option_map (Finishes who i) (answer_with tag low)
     else (if kind == 6 && tag == 0 && i == 0 then Some (Ticks who low)
     else (if kind == 7 then attach_with who i tag low
-    else None)))))))
+    else (if kind == 8 && low == 0 then option_map (FailsAs who i) (failure_with tag)
+    else None))))))))
 
 -- the event of a word, if it is the word of one
 unfoldable pub event_of : ℕ → Option Event

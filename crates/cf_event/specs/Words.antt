@@ -11,7 +11,9 @@ use Rattle.cf_forms.specs.declared.forms.Of.TheVariants.{None as NoSource, One, 
 use Rattle.cf_forms.specs.Naming.{form_number}
 use Rattle.cf_forms.specs.Plans.{fits_form, sources_of}
 use Rattle.cf_model.specs.declared.events.Event.{Event}
-use Rattle.cf_model.specs.declared.events.Event.TheVariants.{Complete as Completes, Fail as Fails, Cancel as Cancels, Claim as Claims, Finish as Finishes, Tick as Ticks, Attach as Attaches}
+use Rattle.cf_model.specs.declared.events.Event.TheVariants.{Complete as Completes, Fail as Fails, FailAs as FailsAs, Cancel as Cancels, Claim as Claims, Finish as Finishes, Tick as Ticks, Attach as Attaches}
+use Rattle.cf_model.specs.declared.events.Failure.{Failure}
+use Rattle.cf_model.specs.declared.events.Failure.TheVariants.{TimedOut, BadAnswer}
 
 -- the word of these fields
 abbrev pub word_with : ℕ → ℕ → ℕ → ℕ → ℕ → ℕ
@@ -25,6 +27,11 @@ value_tag (Int z) = 1
 abbrev pub value_low : Value → ℕ
 value_low Nil = 0
 value_low (Int z) = cast_unsigned w32 z
+
+-- the tag of a failure
+abbrev pub failure_tag : Failure → ℕ
+failure_tag TimedOut = 0
+failure_tag BadAnswer = 1
 
 -- the tag and the low half of a function's answer
 abbrev pub answer_tag : Answer → ℕ
@@ -59,6 +66,7 @@ attach_low form of function = form_number form * 2 ^ 24 + second_of of * 2 ^ 12 
 abbrev pub word_of : Event → ℕ
 word_of (Completes who i v) = word_with 1 who i (value_tag v) (value_low v)
 word_of (Fails who i code) = word_with 2 who i 0 code
+word_of (FailsAs who i failure) = word_with 8 who i (failure_tag failure) 0
 word_of (Cancels who i) = word_with 3 who i 0 0
 word_of (Claims who i) = word_with 4 who i 0 0
 word_of (Finishes who i answer) = word_with 5 who i (answer_tag answer) (answer_low answer)
@@ -80,6 +88,7 @@ IsAnswer (Link j) = j < 2 ^ 16
 abbrev pub IsEvent : Event → Type 0
 IsEvent (Completes who i v) = (who ≤ 63) × (i ≤ 4095) × IsValue v
 IsEvent (Fails who i code) = (who ≤ 63) × (i ≤ 4095) × (code < 2 ^ 32)
+IsEvent (FailsAs who i failure) = (who ≤ 63) × (i ≤ 4095)
 IsEvent (Cancels who i) = (who ≤ 63) × (i ≤ 4095)
 IsEvent (Claims who i) = (who ≤ 63) × (i ≤ 4095)
 IsEvent (Finishes who i answer) = (who ≤ 63) × (i ≤ 4095) × IsAnswer answer

@@ -1,12 +1,12 @@
 //! The word of an event, and the event of a word.
 ghost use Rattle.std.specs.Prelude.{◌≡◌, ◌<◌, ◌≤◌, ◌^◌, ◌↔◌, IfSome, IsTrue, Some};
 ghost use Rattle.cf_model.specs.declared.events.Event.{Event};
-ghost use Rattle.cf_event.specs.Words.{IsEvent, answer_low, answer_tag, value_low, value_tag, word_of, word_with};
-ghost use Rattle.cf_event.specs.Decoding.{answer_with, event_of, event_with, value_with};
+ghost use Rattle.cf_event.specs.Words.{IsEvent, answer_low, answer_tag, failure_tag, value_low, value_tag, word_of, word_with};
+ghost use Rattle.cf_event.specs.Decoding.{answer_with, event_of, event_with, failure_with, value_with};
 
 use crate::attaching::{attach_low, attach_with, count_of, first_of, is_stage, second_of};
 use cf_forms::Answer;
-use cf_model::Event;
+use cf_model::{Event, Failure};
 use cf_outcome::Value;
 
 /// The greatest caller that a word has room for.
@@ -24,6 +24,7 @@ pub fn is_event(e: &Event) -> bool
     match e {
         Event::Complete { who, stage, .. } => has_room(who, stage),
         Event::Fail { who, stage, .. } => has_room(who, stage),
+        Event::FailAs { who, stage, .. } => has_room(who, stage),
         Event::Cancel { who, stage } => has_room(who, stage),
         Event::Claim { who, stage } => has_room(who, stage),
         Event::Finish { who, stage, .. } => has_room(who, stage),
@@ -62,6 +63,11 @@ pub fn encode(e: &Event) -> u64
             word(1, who, stage, value_tag(value), value_low(value))
         }
         Event::Fail { who, stage, code } => word(2, who, stage, 0, code),
+        Event::FailAs {
+            who,
+            stage,
+            failure,
+        } => word(8, who, stage, failure_tag(failure), 0),
         Event::Cancel { who, stage } => word(3, who, stage, 0, 0),
         Event::Claim { who, stage } => word(4, who, stage, 0, 0),
         Event::Finish { who, stage, answer } => {
@@ -124,6 +130,11 @@ fn event_with(kind: u8, who: u8, stage: u16, tag: u8, low: u32) -> Option<Event>
         }),
         6 if tag == 0 && stage == 0 => Some(Event::Tick { who, moment: low }),
         7 => attach_with(who, stage, tag, low),
+        8 if low == 0 => Some(Event::FailAs {
+            who,
+            stage,
+            failure: failure_with(tag)?,
+        }),
         _ => None,
     }
 }
@@ -168,6 +179,17 @@ fn value_low(v: Value) -> u32
     }
 }
 
+/// The tag of a failure.
+fn failure_tag(f: Failure) -> u8
+    ensures value { result ≡ failure_tag f }
+    ensures small { result < 16 }
+{
+    match f {
+        Failure::TimedOut => 0,
+        Failure::BadAnswer => 1,
+    }
+}
+
 /// The tag of an answer.
 fn answer_tag(a: Answer) -> u8
     ensures value { result ≡ answer_tag a }
@@ -198,6 +220,17 @@ fn value_with(tag: u8, low: u32) -> Option<Value>
     match tag {
         0 if low == 0 => Some(Value::Nil),
         1 => Some(Value::Int(low.cast_signed())),
+        _ => None,
+    }
+}
+
+/// The failure with this tag, if there is one.
+fn failure_with(tag: u8) -> Option<Failure>
+    ensures { result ≡ failure_with tag }
+{
+    match tag {
+        0 => Some(Failure::TimedOut),
+        1 => Some(Failure::BadAnswer),
         _ => None,
     }
 }

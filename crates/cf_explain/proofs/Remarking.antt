@@ -8,7 +8,7 @@ use Rattle.std.proofs.lemmas.Option.{none-some, same_Some}
 use Rattle.cf_forms.specs.declared.limits.Limit.{Limit}
 use Rattle.cf_forms.specs.Plans.{PlannedStage, function_at}
 use Rattle.cf_model.specs.declared.events.Event.{Event}
-use Rattle.cf_model.specs.declared.events.Event.TheVariants.{Complete as Completes, Fail as Fails, Cancel as Cancels, Claim as Claims, Finish as Finishes, Tick as Ticks, Attach as Attaches}
+use Rattle.cf_model.specs.declared.events.Event.TheVariants.{Complete as Completes, Fail as Fails, FailAs as FailsAs, Cancel as Cancels, Claim as Claims, Finish as Finishes, Tick as Ticks, Attach as Attaches}
 use Rattle.cf_reading.specs.declared.script.Step.{Step}
 use Rattle.cf_reading.specs.declared.script.Step.TheVariants.{Asks, Does, Nudge, Work}
 use Rattle.cf_explain.specs.declared.idle.StageSoFar.{StageSoFar}
@@ -50,6 +50,7 @@ of_later who moment (Some last) why e =
 of_event : (s : Sight) (event : Event) (why : Idle) → idle_event s event ≡ Some why → IsOfEvent event why
 of_event s (Completes who i v) why e = of_since (IsOfEvent (Completes who i v)) (known_at s.stages i).settled why (λ k. tt) e
 of_event s (Fails who i code) why e = of_since (IsOfEvent (Fails who i code)) (known_at s.stages i).settled why (λ k. tt) e
+of_event s (FailsAs who i failure) why e = of_since (IsOfEvent (FailsAs who i failure)) (known_at s.stages i).settled why (λ k. tt) e
 of_event s (Cancels who i) why e = of_since (IsOfEvent (Cancels who i)) (known_at s.stages i).settled why (λ k. tt) e
 of_event s (Claims who i) why e =
     let P = IsOfEvent (Claims who i) in

@@ -1,7 +1,7 @@
 -- Why a step of this kind may never do anything.
 use Rattle.std.specs.Prelude.{◌≡◌, ℕ, Option, Some, None, nat_le, if◌then◌else◌}
 use Rattle.cf_model.specs.declared.events.Event.{Event}
-use Rattle.cf_model.specs.declared.events.Event.TheVariants.{Complete as Completes, Fail as Fails, Cancel as Cancels, Claim as Claims, Finish as Finishes, Tick as Ticks, Attach as Attaches}
+use Rattle.cf_model.specs.declared.events.Event.TheVariants.{Complete as Completes, Fail as Fails, FailAs as FailsAs, Cancel as Cancels, Claim as Claims, Finish as Finishes, Tick as Ticks, Attach as Attaches}
 use Rattle.cf_reading.specs.declared.script.Step.{Step}
 use Rattle.cf_reading.specs.declared.script.Step.TheVariants.{Does, Work, Nudge}
 use Rattle.cf_explain.specs.declared.remark.Idle.{Idle}
@@ -11,6 +11,7 @@ use Rattle.cf_explain.specs.declared.remark.Idle.TheVariants.{NoFunction, Settle
 abbrev pub IsOfEvent : Event → Idle → Type 0
 IsOfEvent (Completes who i v) (Settled k) = Unit {0}
 IsOfEvent (Fails who i code) (Settled k) = Unit {0}
+IsOfEvent (FailsAs who i failure) (Settled k) = Unit {0}
 IsOfEvent (Cancels who i) (Settled k) = Unit {0}
 IsOfEvent (Claims who i) (Settled k) = Unit {0}
 IsOfEvent (Claims who i) NoFunction = Unit {0}

@@ -5,7 +5,7 @@ use Rattle.std.specs.List.{list_any}
 use Rattle.cf_forms.specs.declared.limits.Limit.{Limit}
 use Rattle.cf_forms.specs.Plans.{PlannedStage}
 use Rattle.cf_model.specs.declared.events.Event.{Event}
-use Rattle.cf_model.specs.declared.events.Event.TheVariants.{Complete as Completes, Fail as Fails, Cancel as Cancels, Claim as Claims, Finish as Finishes, Tick as Ticks, Attach as Attaches}
+use Rattle.cf_model.specs.declared.events.Event.TheVariants.{Complete as Completes, Fail as Fails, FailAs as FailsAs, Cancel as Cancels, Claim as Claims, Finish as Finishes, Tick as Ticks, Attach as Attaches}
 use Rattle.cf_reading.specs.Scripts.{Script}
 use Rattle.cf_reading.specs.declared.script.Step.{Step}
 use Rattle.cf_reading.specs.declared.script.Step.TheVariants.{Does, Work, Nudge}
@@ -87,6 +87,7 @@ attached_to called s = if s.room == 0 then s else record s { stages = s.stages +
 abbrev pub seen_after : List Limit → Event → ℕ → Sight → Sight
 seen_after limits (Completes who i v) k s = settled_at i k s
 seen_after limits (Fails who i code) k s = settled_at i k s
+seen_after limits (FailsAs who i failure) k s = settled_at i k s
 seen_after limits (Cancels who i) k s = settled_at i k s
 seen_after limits (Claims who i) k s = claimed_at i who s
 seen_after limits (Finishes who i answer) k s = finished_at i who s
@@ -114,6 +115,7 @@ idle_finish who known = if unclaimed who known then Some NotClaimed else None
 abbrev pub idle_event : Sight → Event → Option Idle
 idle_event s (Completes who i v) = since (known_at s.stages i)
 idle_event s (Fails who i code) = since (known_at s.stages i)
+idle_event s (FailsAs who i failure) = since (known_at s.stages i)
 idle_event s (Cancels who i) = since (known_at s.stages i)
 idle_event s (Claims who i) = idle_claim (known_at s.stages i)
 idle_event s (Finishes who i answer) = idle_finish who (known_at s.stages i)

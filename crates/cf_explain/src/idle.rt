@@ -239,6 +239,7 @@ impl RunSoFar {
         match event {
             Event::Complete { stage, .. }
             | Event::Fail { stage, .. }
+            | Event::FailAs { stage, .. }
             | Event::Cancel { stage, .. } => self.stage(stage).since(),
             Event::Claim { stage, .. } => self.stage(stage).idle_claim(),
             Event::Finish { who, stage, .. } => self.stage(stage).idle_finish(who),
@@ -274,6 +275,7 @@ impl RunSoFar {
         match event {
             Event::Complete { stage, .. }
             | Event::Fail { stage, .. }
+            | Event::FailAs { stage, .. }
             | Event::Cancel { stage, .. } => self.settle(stage, k),
             Event::Claim { who, stage } => self.claim(stage, who),
             Event::Finish { who, stage, .. } => self.finish(stage, who),

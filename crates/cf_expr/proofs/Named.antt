@@ -12,8 +12,8 @@ use Rattle.cf_model.specs.declared.stage.Stage.{Stage}
 use Rattle.cf_model.specs.declared.stage.Stage.TheVariants.{Pending, Settled}
 use Rattle.cf_model.specs.States.{State, outcome_in, outcome_at}
 use Rattle.cf_model.specs.declared.events.Event.{Event}
-use Rattle.cf_model.specs.declared.events.Event.TheVariants.{Complete as Completes, Fail as Fails, Cancel as Cancels, Claim as Claims, Finish as Finishes, Tick as Ticks, Attach as Attaches}
-use Rattle.cf_model.specs.Events.{answered, settled_by, cancelled_by}
+use Rattle.cf_model.specs.declared.events.Event.TheVariants.{Complete as Completes, Fail as Fails, FailAs as FailsAs, Cancel as Cancels, Claim as Claims, Finish as Finishes, Tick as Ticks, Attach as Attaches}
+use Rattle.cf_model.specs.Events.{answered, settled_by, cancelled_by, cause_of}
 use Rattle.cf_model.proofs.Moves.{new_states-settled, keeps_outcomes}
 use Rattle.cf_expr.specs.Expressions.{named_for}
 use Rattle.cf_expr.specs.Histories.{Grants, IsPlainEvent}
@@ -49,6 +49,7 @@ cancelled_same None s i = refl
 not_named : (e : Event) (s : State) (i : ℕ) (x : Stage) → slice_get s.stages i ≡ Some x → outcome_at ((answered s e).1) i ≡ None → named_for i e ≡ None
 not_named (Completes who j v) s i x there unsettled = by_settling s i j x (Gives v) there unsettled
 not_named (Fails who j code) s i x there unsettled = by_settling s i j x (Fault (Thrown code) false) there unsettled
+not_named (FailsAs who j failure) s i x there unsettled = by_settling s i j x (Fault (cause_of failure) false) there unsettled
 not_named (Cancels who j) s i x there unsettled =
     by_settling s i j x (Fault Cancelled false) there (ap (λ r. outcome_at r i) (sym (cancelled_same (outcome_at s j) s j)) ∙ unsettled)
 not_named (Claims who j) s i x there unsettled = refl
@@ -73,6 +74,7 @@ names_nothing meanings granted e s i plain all unsettled = elim (cases_lt i (len
     not_there : (e : Event) (s : State) (i : ℕ) → IsPlainEvent meanings granted s e → length s.plan.stages ≤ i → named_for i e ≡ None
     not_there (Completes who j v) s i plain l = other i j (length s.plan.stages) (Gives v) plain.0 l
     not_there (Fails who j code) s i plain l = other i j (length s.plan.stages) (Fault (Thrown code) false) plain.0 l
+    not_there (FailsAs who j failure) s i plain l = other i j (length s.plan.stages) (Fault (cause_of failure) false) plain.0 l
     not_there (Cancels who j) s i plain l = other i j (length s.plan.stages) (Fault Cancelled false) plain.0 l
     not_there (Claims who j) s i plain l = refl
     not_there (Finishes who j answer) s i plain l = refl

@@ -10,7 +10,7 @@ use Rattle.cf_model.specs.declared.events.Reply.{Reply}
 use Rattle.cf_model.specs.declared.events.Reply.TheVariants.{Claim as ToldClaim, Flag as ToldFlag, Finish as ToldFinish, Tick as ToldTick, Attach as ToldAttach}
 use Rattle.std.proofs.lemmas.List.Elements.{All-head, All-tail}
 use Rattle.cf_model.specs.declared.events.Event.{Event}
-use Rattle.cf_model.specs.declared.events.Event.TheVariants.{Complete as Completes, Fail as Fails, Cancel as Cancels, Claim as Claims, Finish as Finishes, Tick as Ticks, Attach as Attaches}
+use Rattle.cf_model.specs.declared.events.Event.TheVariants.{Complete as Completes, Fail as Fails, FailAs as FailsAs, Cancel as Cancels, Claim as Claims, Finish as Finishes, Tick as Ticks, Attach as Attaches}
 use Rattle.cf_model.specs.Events.{answered}
 use Rattle.cf_expr.specs.Expressions.{named_for, first_named, expr_in, exprs_from}
 use Rattle.cf_expr.specs.Histories.{Grants, granted_with, is_work, without_work}
@@ -25,6 +25,7 @@ plain_append meanings granted s (e ∷ events) more h k = (h.0, plain_append mea
 work_names_none : (i : ℕ) (e : Event) → is_work e ≡ true → named_for i e ≡ None
 work_names_none i (Completes who j v) h = cc
 work_names_none i (Fails who j code) h = cc
+work_names_none i (FailsAs who j failure) h = cc
 work_names_none i (Cancels who j) h = cc
 work_names_none i (Claims who j) h = refl
 work_names_none i (Finishes who j answer) h = refl

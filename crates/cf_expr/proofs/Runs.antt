@@ -25,9 +25,9 @@ use Rattle.cf_model.specs.declared.replies.Ticked.{Ticked}
 use Rattle.cf_model.specs.declared.replies.Ticked.TheVariants.{Fired, Past}
 use Rattle.cf_model.specs.States.{State, outcome_of, outcome_in, outcome_at, stage_at, claim_at, start}
 use Rattle.cf_model.specs.declared.events.Event.{Event}
-use Rattle.cf_model.specs.declared.events.Event.TheVariants.{Complete as Completes, Fail as Fails, Cancel as Cancels, Claim as Claims, Finish as Finishes, Tick as Ticks, Attach as Attaches}
+use Rattle.cf_model.specs.declared.events.Event.TheVariants.{Complete as Completes, Fail as Fails, FailAs as FailsAs, Cancel as Cancels, Claim as Claims, Finish as Finishes, Tick as Ticks, Attach as Attaches}
 use Rattle.cf_model.specs.declared.events.Reply.TheVariants.{Claim as ToldClaim}
-use Rattle.cf_model.specs.Events.{answered, state_after, settled_by, claimed_by, finished_by, firing, due_limits, source_outcome}
+use Rattle.cf_model.specs.Events.{answered, state_after, settled_by, claimed_by, finished_by, firing, due_limits, source_outcome, cause_of}
 use Rattle.cf_model.proofs.Shape.{answered-grows, length-new_states}
 use Rattle.cf_model.proofs.Stable.{landing-lower}
 use Rattle.cf_forms.specs.Plans.{IsBuilt}
@@ -184,6 +184,8 @@ module _ (meanings : Meanings) (named exprs : ℕ → Option Outcome) (last : Li
       by_naming granted s (Completes who i v) events i (Gives v) good plain.1 (ap (λ b. cond b (Some (Gives v)) None) (same_number i))
   event_stands granted (Fails who i code) s events good plain =
       by_naming granted s (Fails who i code) events i (Fault (Thrown code) false) good plain.1 (ap (λ b. cond b (Some (Fault (Thrown code) false)) None) (same_number i))
+  event_stands granted (FailsAs who i failure) s events good plain =
+      by_naming granted s (FailsAs who i failure) events i (Fault (cause_of failure) false) good plain.1 (ap (λ b. cond b (Some (Fault (cause_of failure) false)) None) (same_number i))
   event_stands granted (Cancels who i) s events good plain =
       subst (Stands meanings named exprs granted) (sym (cancelled_same (outcome_at s i) s i))
       (by_naming granted s (Cancels who i) events i (Fault Cancelled false) good plain.1 (ap (λ b. cond b (Some (Fault Cancelled false)) None) (same_number i)))

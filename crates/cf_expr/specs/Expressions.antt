@@ -17,12 +17,14 @@ use Rattle.cf_forms.specs.Forms.{follows, landing}
 use Rattle.cf_forms.specs.Meanings.{Meanings}
 use Rattle.cf_forms.specs.Plans.{Planned, PlannedStage}
 use Rattle.cf_model.specs.declared.events.Event.{Event}
-use Rattle.cf_model.specs.declared.events.Event.TheVariants.{Complete as Completes, Fail as Fails, Cancel as Cancels}
+use Rattle.cf_model.specs.declared.events.Event.TheVariants.{Complete as Completes, Fail as Fails, FailAs as FailsAs, Cancel as Cancels}
+use Rattle.cf_model.specs.Events.{cause_of}
 
 -- the outcome that an event names for stage i: those of complete, fail and cancel do
 abbrev pub named_for : ℕ → Event → Option Outcome
 named_for i (Completes who j v) = if i == j then Some (Gives v) else None
 named_for i (Fails who j code) = if i == j then Some (Fault (Thrown code) false) else None
+named_for i (FailsAs who j failure) = if i == j then Some (Fault (cause_of failure) false) else None
 named_for i (Cancels who j) = if i == j then Some (Fault Cancelled false) else None
 named_for i event = None
 

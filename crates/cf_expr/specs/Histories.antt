@@ -11,7 +11,7 @@ use Rattle.cf_model.specs.declared.stage.Stage.TheVariants.{Ready, Claimed}
 use Rattle.cf_model.specs.declared.replies.Claimed.TheVariants.{Granted}
 use Rattle.cf_model.specs.declared.replies.Finished.TheVariants.{Won}
 use Rattle.cf_model.specs.declared.events.Event.{Event}
-use Rattle.cf_model.specs.declared.events.Event.TheVariants.{Complete as Completes, Fail as Fails, Cancel as Cancels, Claim as Claims, Finish as Finishes, Tick as Ticks, Attach as Attaches}
+use Rattle.cf_model.specs.declared.events.Event.TheVariants.{Complete as Completes, Fail as Fails, FailAs as FailsAs, Cancel as Cancels, Claim as Claims, Finish as Finishes, Tick as Ticks, Attach as Attaches}
 use Rattle.cf_model.specs.declared.events.Reply.{Reply}
 use Rattle.cf_model.specs.declared.events.Reply.TheVariants.{Claim as ToldClaim}
 use Rattle.cf_model.specs.States.{State}
@@ -55,6 +55,7 @@ IsSource stages i = (i < length stages) × (form_at stages i ≡ Source)
 abbrev pub IsPlainEvent : Meanings → Grants → State → Event → Type 0
 IsPlainEvent meanings granted s (Completes who i v) = IsSource s.plan.stages i
 IsPlainEvent meanings granted s (Fails who i code) = IsSource s.plan.stages i
+IsPlainEvent meanings granted s (FailsAs who i failure) = IsSource s.plan.stages i
 IsPlainEvent meanings granted s (Cancels who i) = IsSource s.plan.stages i
 IsPlainEvent meanings granted s (Claims who i) = Unit {0}
 IsPlainEvent meanings granted s (Finishes who i answer) =

@@ -10,7 +10,8 @@ use Rattle.cf_forms.specs.declared.forms.Form.{Form}
 use Rattle.cf_forms.specs.declared.forms.Of.{Of}
 use Rattle.cf_forms.specs.declared.forms.Of.TheVariants.{None as NoSource, One, Two}
 use Rattle.cf_model.specs.declared.events.Event.{Event}
-use Rattle.cf_model.specs.declared.events.Event.TheVariants.{Complete as Completes, Fail as Fails, Cancel as Cancels, Claim as Claims, Finish as Finishes, Tick as Ticks, Attach as Attaches}
+use Rattle.cf_model.specs.declared.events.Event.TheVariants.{Complete as Completes, Fail as Fails, FailAs as FailsAs, Cancel as Cancels, Claim as Claims, Finish as Finishes, Tick as Ticks, Attach as Attaches}
+use Rattle.cf_model.specs.declared.events.Failure.TheVariants.{TimedOut, BadAnswer}
 use Rattle.cf_event.specs.Words.{IsEvent, count_of, first_of, second_of}
 use Rattle.cf_forms.proofs.NamingLemmas.{form_back}
 use Rattle.cf_handles.specs.Answers.{HandleGives}
@@ -44,6 +45,8 @@ attach_back who form of function f s number a b c = rw a (rw b (ap (λ (x : Opti
 told_back : (e : Event) → IsEvent e → event_of (as_event e) ≡ Ok e
 told_back (Completes who i v) is = ap (λ (x : Value). Ok (Completes who i x)) (value_back v)
 told_back (Fails who i code) is = refl
+told_back (FailsAs who i TimedOut) is = refl
+told_back (FailsAs who i BadAnswer) is = refl
 told_back (Cancels who i) is = refl
 told_back (Claims who i) is = refl
 told_back (Finishes who i answer) is = ap (λ (x : Answer). Ok (Finishes who i x)) (answer_back answer)

@@ -3,7 +3,11 @@ use Rattle.std.specs.Prelude.{◌≡◌, ℕ, ◌<◌, Option, Some, None, Resul
 use Rattle.cf_outcome.specs.declared.outcome.Value.TheVariants.{Nil}
 use Rattle.cf_forms.specs.declared.forms.Answer.TheVariants.{Give}
 use Rattle.cf_model.specs.declared.events.Event.{Event}
-use Rattle.cf_model.specs.declared.events.Event.TheVariants.{Complete as Completes, Fail as Fails, Cancel as Cancels, Claim as Claims, Finish as Finishes, Tick as Ticks, Attach as Attaches}
+use Rattle.cf_model.specs.declared.events.Event.TheVariants.{Complete as Completes, Fail as Fails, FailAs as FailsAs, Cancel as Cancels, Claim as Claims, Finish as Finishes, Tick as Ticks, Attach as Attaches}
+use Rattle.cf_model.specs.declared.events.Failure.{Failure}
+use Rattle.cf_model.specs.declared.events.Failure.TheVariants.{TimedOut, BadAnswer}
+use Rattle.cf_model.specs.declared.calls.Call.{Call}
+use Rattle.cf_model.specs.declared.calls.Call.TheVariants.{FailAs}
 use Rattle.cf_event.specs.Decoding.{event_of as event_of_word}
 use Rattle.cf_forms.specs.Naming.{form_number}
 use Rattle.cf_event.specs.Words.{IsEvent, count_of, first_of, second_of, word_of}
@@ -13,6 +17,19 @@ use Rattle.cf_handles.specs.Values.{answer_of, as_answer, as_value, value_of}
 use Rattle.cf_handles.specs.declared.code.Code.{Code}
 use Rattle.cf_handles.specs.declared.code.Code.TheVariants.{NoSuchNumber, NoWord}
 use Rattle.cf_handles.specs.declared.values.event.CfEvent.{CfEvent}
+
+-- the failure that C means by the kind of an outcome, if there is one
+abbrev pub failure_of : ℕ → Option Failure
+failure_of kind = if kind == 4 then Some TimedOut else (if kind == 5 then Some BadAnswer else None)
+
+-- the failing of a stage so by a caller, as an event and as a call, or that no failure has the number
+abbrev pub failing : ℕ → ℕ → Option Failure → Result Event Code
+failing who i None = Err NoSuchNumber
+failing who i (Some failure) = Ok (FailsAs who i failure)
+
+abbrev pub failing_call : ℕ → Option Failure → Result Call Code
+failing_call i None = Err NoSuchNumber
+failing_call i (Some failure) = Ok (FailAs i failure)
 
 -- the event that C means, or why there is none
 abbrev pub event_of : CfEvent → Result Event Code
@@ -24,16 +41,23 @@ event_of e =
     else (if e.call == 4 then Ok (Finishes e.who e.stage (answer_of e.answer))
     else (if e.call == 5 then Ok (Ticks e.who e.now)
     else (if e.call == 6 then event_with e.who (parts_with (form_of e.form) (sources_with e.sources e.first e.second) e.function)
-    else Err NoSuchNumber))))))
+    else (if e.call == 7 then failing e.who e.stage (failure_of e.code)
+    else Err NoSuchNumber)))))))
 
 -- an event of this call by this caller, on this stage, with nothing else
 abbrev pub bare : ℕ → ℕ → ℕ → CfEvent
 bare call who stage = record { call = call; who = who; stage = stage; value = as_value Nil; code = 0; answer = as_answer (Give Nil); now = 0; form = 0; sources = 0; first = 0; second = 0; function = 0 }
 
+-- a failure for C
+abbrev pub as_failure : Failure → ℕ
+as_failure TimedOut = 4
+as_failure BadAnswer = 5
+
 -- an event for C: what its call doesn't have is 0
 abbrev pub as_event : Event → CfEvent
 as_event (Completes who i v) = record (bare 0 who i) { value = as_value v }
 as_event (Fails who i code) = record (bare 1 who i) { code = code }
+as_event (FailsAs who i failure) = record (bare 7 who i) { code = as_failure failure }
 as_event (Cancels who i) = bare 2 who i
 as_event (Claims who i) = bare 3 who i
 as_event (Finishes who i answer) = record (bare 4 who i) { answer = as_answer answer }

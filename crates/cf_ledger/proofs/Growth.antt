@@ -17,7 +17,7 @@ use Rattle.cf_model.specs.declared.replies.Finished.TheVariants.{Won, NotYours}
 use Rattle.cf_model.specs.declared.replies.Ticked.TheVariants.{Fired, Past}
 use Rattle.cf_model.specs.declared.replies.Attached.TheVariants.{At}
 use Rattle.cf_model.specs.declared.events.Event.{Event}
-use Rattle.cf_model.specs.declared.events.Event.TheVariants.{Complete as Completes, Fail as Fails, Cancel as Cancels, Claim as Claims, Finish as Finishes, Tick as Ticks, Attach as Attaches}
+use Rattle.cf_model.specs.declared.events.Event.TheVariants.{Complete as Completes, Fail as Fails, FailAs as FailsAs, Cancel as Cancels, Claim as Claims, Finish as Finishes, Tick as Ticks, Attach as Attaches}
 use Rattle.cf_model.specs.declared.events.Reply.{Reply}
 use Rattle.cf_model.specs.declared.events.Reply.TheVariants.{Flag as ToldFlag, Claim as ToldClaim, Finish as ToldFinish, Tick as ToldTick, Attach as ToldAttach}
 use Rattle.cf_model.specs.States.{State, claim_at, outcome_at, stage_at, flowed}
@@ -105,6 +105,7 @@ as_more more tell x y e = ap (told_as tell) e
 pub answered_more : (more : ℕ) (s : State) (e : Event) → HasRoomFor s e → answered (roomier more s) e ≡ both more (answered s e)
 answered_more more s (Completes who i v) h = ap (told_as ToldFlag) (settling_more more s i _)
 answered_more more s (Fails who i code) h = ap (told_as ToldFlag) (settling_more more s i _)
+answered_more more s (FailsAs who i failure) h = ap (told_as ToldFlag) (settling_more more s i _)
 answered_more more s (Cancels who i) h = ap (told_as ToldFlag) (cancelled_more more (outcome_at s i) s i)
 answered_more more s (Claims who i) h = ap (told_as ToldClaim) (claimed_more more (stage_at s i) s who i)
 answered_more more s (Finishes who i answer) h = ap (told_as ToldFinish) (finishing_more more s who i answer)
@@ -114,6 +115,7 @@ answered_more more s (Attaches who form of function) h = ap (told_as ToldAttach)
 room_more : (more : ℕ) (s : State) (e : Event) → HasRoomFor s e → HasRoomFor (roomier more s) e
 room_more more s (Completes who i v) h = tt
 room_more more s (Fails who i code) h = tt
+room_more more s (FailsAs who i failure) h = tt
 room_more more s (Cancels who i) h = tt
 room_more more s (Claims who i) h = tt
 room_more more s (Finishes who i answer) h = tt

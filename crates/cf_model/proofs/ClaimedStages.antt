@@ -20,9 +20,9 @@ use Rattle.cf_model.specs.declared.stage.Stage.{Stage}
 use Rattle.cf_model.specs.declared.stage.Stage.TheVariants.{Pending, Ready, Claimed, Linked, Settled}
 use Rattle.cf_model.specs.declared.replies.Ticked.TheVariants.{Fired, Past}
 use Rattle.cf_model.specs.declared.events.Event.{Event}
-use Rattle.cf_model.specs.declared.events.Event.TheVariants.{Complete as Completes, Fail as Fails, Cancel as Cancels, Claim as Claims, Finish as Finishes, Tick as Ticks, Attach as Attaches}
+use Rattle.cf_model.specs.declared.events.Event.TheVariants.{Complete as Completes, Fail as Fails, FailAs as FailsAs, Cancel as Cancels, Claim as Claims, Finish as Finishes, Tick as Ticks, Attach as Attaches}
 use Rattle.cf_model.specs.States.{State, after, start, stages_after, outcome_in, outcome_at, stage_at, due_state, linked_state, next_of, new_states}
-use Rattle.cf_model.specs.Events.{answered, attached_by, state_after, settled_by, settling, cancelled_by, landed, linked_to, firing, due_limits, limit_outcome}
+use Rattle.cf_model.specs.Events.{answered, attached_by, state_after, settled_by, settling, cancelled_by, landed, linked_to, firing, due_limits, limit_outcome, cause_of}
 use Rattle.cf_model.specs.Calls.{is_from_outside}
 use Rattle.cf_model.proofs.StateLemmas.{after-unsettled}
 
@@ -123,6 +123,7 @@ attached_by_claims (suc room) s new i e =
 outside_claims : (e : Event) (s : State) → is_from_outside e ≡ true → NoneNew s.stages ((answered s e).1.stages)
 outside_claims (Completes who i v) s h = settled_by_claims (outcome_at s i) s i (Gives v)
 outside_claims (Fails who i code) s h = settled_by_claims (outcome_at s i) s i (Fault (Thrown code) false)
+outside_claims (FailsAs who i failure) s h = settled_by_claims (outcome_at s i) s i (Fault (cause_of failure) false)
 outside_claims (Cancels who i) s h = cancelled_by_claims (outcome_at s i) s i
 outside_claims (Claims who i) s h = cc
 outside_claims (Finishes who i answer) s h = cc

@@ -8,7 +8,7 @@ use Rattle.cf_forms.specs.declared.forms.Form.{Form}
 use Rattle.cf_forms.specs.declared.forms.Of.{Of}
 use Rattle.cf_forms.specs.Plans.{fits_form, sources_of}
 use Rattle.cf_model.specs.declared.events.Event.{Event}
-use Rattle.cf_model.specs.declared.events.Event.TheVariants.{Complete as Completes, Fail as Fails, Cancel as Cancels, Claim as Claims, Finish as Finishes, Tick as Ticks, Attach as Attaches}
+use Rattle.cf_model.specs.declared.events.Event.TheVariants.{Complete as Completes, Fail as Fails, FailAs as FailsAs, Cancel as Cancels, Claim as Claims, Finish as Finishes, Tick as Ticks, Attach as Attaches}
 use Rattle.cf_model.specs.Ranges.{EventFits, fits}
 
 all-below : (n : ℕ) (of : List ℕ) → Decides (list_all (λ j. nat_lt j n) of) (All (λ j. j < n) of)
@@ -17,6 +17,7 @@ all-below n = Decides-by_and (λ j. nat_lt j n) (λ j. j < n) (list_all (λ j. n
 pub fits-decides : (n : ℕ) (e : Event) → Decides (fits n e) (EventFits n e)
 fits-decides n (Completes who i v) = Decides-ltb i n
 fits-decides n (Fails who i code) = Decides-ltb i n
+fits-decides n (FailsAs who i failure) = Decides-ltb i n
 fits-decides n (Cancels who i) = Decides-ltb i n
 fits-decides n (Claims who i) = Decides-ltb i n
 fits-decides n (Finishes who i answer) = Decides-ltb i n

@@ -7,7 +7,7 @@ use Rattle.cf_forms.specs.declared.forms.Of.{Of}
 use Rattle.cf_forms.specs.declared.limits.Limit.{Limit}
 use Rattle.cf_forms.specs.Plans.{IsGrowing, Planned, PlannedStage, attached_stage, fits_form, reopened, sources_of, with_room}
 use Rattle.cf_model.specs.declared.events.Event.{Event}
-use Rattle.cf_model.specs.declared.events.Event.TheVariants.{Complete as Completes, Fail as Fails, Cancel as Cancels, Claim as Claims, Finish as Finishes, Tick as Ticks, Attach as Attaches}
+use Rattle.cf_model.specs.declared.events.Event.TheVariants.{Complete as Completes, Fail as Fails, FailAs as FailsAs, Cancel as Cancels, Claim as Claims, Finish as Finishes, Tick as Ticks, Attach as Attaches}
 use Rattle.cf_model.specs.States.{State, start}
 use Rattle.cf_model.specs.Calls.{is_attach}
 use Rattle.cf_model.specs.Events.{answered, attached_by, state_after}
@@ -26,6 +26,7 @@ event-growing false s e other h fits = subst IsGrowing (sym ((answered-frame s e
 event-growing true s (Attaches who form of function) is h fits = attached-growing s.plan.room s form of function refl h fits.0 fits.1
 event-growing true s (Completes who i v) is h fits = cc
 event-growing true s (Fails who i code) is h fits = cc
+event-growing true s (FailsAs who i failure) is h fits = cc
 event-growing true s (Cancels who i) is h fits = cc
 event-growing true s (Claims who i) is h fits = cc
 event-growing true s (Finishes who i answer) is h fits = cc

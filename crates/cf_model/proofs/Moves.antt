@@ -22,9 +22,9 @@ use Rattle.cf_model.specs.declared.stage.Stage.{Stage}
 use Rattle.cf_model.specs.declared.stage.Stage.TheVariants.{Pending, Ready, Claimed, Linked, Settled}
 use Rattle.cf_model.specs.States.{State, after, stages_after, outcome_of, outcome_in, outcome_at, stage_at, claim_at, linked_state, next_of, new_states}
 use Rattle.cf_model.specs.declared.events.Event.{Event}
-use Rattle.cf_model.specs.declared.events.Event.TheVariants.{Complete as Completes, Fail as Fails, Cancel as Cancels, Claim as Claims, Finish as Finishes, Tick as Ticks, Attach as Attaches}
+use Rattle.cf_model.specs.declared.events.Event.TheVariants.{Complete as Completes, Fail as Fails, FailAs as FailsAs, Cancel as Cancels, Claim as Claims, Finish as Finishes, Tick as Ticks, Attach as Attaches}
 use Rattle.cf_model.specs.declared.events.Reply.TheVariants.{Claim as ToldClaim}
-use Rattle.cf_model.specs.Events.{answered, state_after, settled_by, settling, cancelled_by, claimed_by, finished_by, landed, linked_to, firing, due_limits, limit_outcome, source_outcome, attached_by, attaching}
+use Rattle.cf_model.specs.Events.{answered, state_after, settled_by, settling, cancelled_by, claimed_by, finished_by, landed, linked_to, firing, due_limits, limit_outcome, source_outcome, attached_by, attaching, cause_of}
 use Rattle.cf_model.specs.Laws.{KeepsOutcomes, GrantsOnce, grants_of, is_grant}
 
 -- A relation between the states of stages, and the room that is left, before and after, which each kind of change keeps.
@@ -106,6 +106,7 @@ attaching-kept R k s new = attached_by-kept R k s.plan.room s new refl
 pub answered-kept : (R : List Stage → ℕ → List Stage → ℕ → Type 0) → IsKept R → (e : Event) (s : State) → Keeps R s ((answered s e).1)
 answered-kept R k (Completes who i v) s = settled_by-kept R k (outcome_at s i) s i (Gives v) refl
 answered-kept R k (Fails who i code) s = settled_by-kept R k (outcome_at s i) s i (Fault (Thrown code) false) refl
+answered-kept R k (FailsAs who i failure) s = settled_by-kept R k (outcome_at s i) s i (Fault (cause_of failure) false) refl
 answered-kept R k (Cancels who i) s = cancelled_by-kept R k (outcome_at s i) s i refl
 answered-kept R k (Claims who i) s = claimed_by-kept R k (stage_at s i) s who i refl
 answered-kept R k (Finishes who i answer) s =
@@ -247,6 +248,7 @@ claim_not_granted i Pending s who j e t = refl
 not_granted : (i : ℕ) (e : Event) (s : State) → taken_in s.stages i ≡ true → is_grant i e ((answered s e).0) ≡ false
 not_granted i (Completes who j v) s t = refl
 not_granted i (Fails who j code) s t = refl
+not_granted i (FailsAs who j failure) s t = refl
 not_granted i (Cancels who j) s t = refl
 not_granted i (Claims who j) s t = claim_not_granted i (stage_at s j) s who j refl t
 not_granted i (Finishes who j answer) s t = refl
@@ -279,6 +281,7 @@ claim_takes i Pending s who j e g = cc
 grant_takes : (i : ℕ) (e : Event) (s : State) → is_grant i e ((answered s e).0) ≡ true → taken_in ((answered s e).1.stages) i ≡ true
 grant_takes i (Completes who j v) s g = cc
 grant_takes i (Fails who j code) s g = cc
+grant_takes i (FailsAs who j failure) s g = cc
 grant_takes i (Cancels who j) s g = cc
 grant_takes i (Claims who j) s g = claim_takes i (stage_at s j) s who j refl g
 grant_takes i (Finishes who j answer) s g = cc

@@ -17,9 +17,9 @@ use Rattle.cf_model.specs.declared.stage.Stage.TheVariants.{Pending, Ready, Clai
 use Rattle.cf_model.specs.declared.replies.Finished.TheVariants.{NotYours}
 use Rattle.cf_model.specs.declared.replies.Ticked.TheVariants.{Fired, Past}
 use Rattle.cf_model.specs.declared.events.Event.{Event}
-use Rattle.cf_model.specs.declared.events.Event.TheVariants.{Complete as Completes, Fail as Fails, Cancel as Cancels, Claim as Claims, Finish as Finishes, Tick as Ticks, Attach as Attaches}
+use Rattle.cf_model.specs.declared.events.Event.TheVariants.{Complete as Completes, Fail as Fails, FailAs as FailsAs, Cancel as Cancels, Claim as Claims, Finish as Finishes, Tick as Ticks, Attach as Attaches}
 use Rattle.cf_model.specs.States.{State, outcome_at, stage_at, claim_at, next_of, new_states}
-use Rattle.cf_model.specs.Events.{answered, settled_by, settling, cancelled_by, claimed_by, finished_by, landed, linked_to, firing, due_limits, limit_outcome, source_outcome, attached_by, attaching, state_after}
+use Rattle.cf_model.specs.Events.{answered, settled_by, settling, cancelled_by, claimed_by, finished_by, landed, linked_to, firing, due_limits, limit_outcome, source_outcome, attached_by, attaching, state_after, cause_of}
 use Rattle.cf_model.specs.Calls.{is_attach}
 use Rattle.cf_model.specs.Growth.{EventsGrowPlans, Grows, OthersKeepShape, SameShape}
 use Rattle.cf_model.proofs.Moves.{IsKept, answered-kept}
@@ -94,6 +94,7 @@ chosen-frame s false p q hp hq = hq
 pub answered-frame : (s : State) (e : Event) → is_attach e ≡ false → SameFrame s ((answered s e).1)
 answered-frame s (Completes who i v) other = settled_by-frame (outcome_at s i) s i (Gives v)
 answered-frame s (Fails who i code) other = settled_by-frame (outcome_at s i) s i (Fault (Thrown code) false)
+answered-frame s (FailsAs who i failure) other = settled_by-frame (outcome_at s i) s i (Fault (cause_of failure) false)
 answered-frame s (Cancels who i) other = cancelled_by-frame (outcome_at s i) s i
 answered-frame s (Claims who i) other = claimed_by-frame (stage_at s i) s who i
 answered-frame s (Finishes who i answer) other =
@@ -183,6 +184,7 @@ event-grows false s e other = kept-grows s ((answered s e).1) (answered-shape s 
 event-grows true s (Attaches who form of function) is = attaching-grows s (attached_stage form of function)
 event-grows true s (Completes who i v) is = cc
 event-grows true s (Fails who i code) is = cc
+event-grows true s (FailsAs who i failure) is = cc
 event-grows true s (Cancels who i) is = cc
 event-grows true s (Claims who i) is = cc
 event-grows true s (Finishes who i answer) is = cc

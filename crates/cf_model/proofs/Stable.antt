@@ -19,9 +19,9 @@ use Rattle.cf_model.specs.declared.stage.Stage.TheVariants.{Pending, Ready, Clai
 use Rattle.cf_model.specs.declared.replies.Finished.TheVariants.{NotYours}
 use Rattle.cf_model.specs.declared.replies.Ticked.TheVariants.{Fired, Past}
 use Rattle.cf_model.specs.declared.events.Event.{Event}
-use Rattle.cf_model.specs.declared.events.Event.TheVariants.{Complete as Completes, Fail as Fails, Cancel as Cancels, Claim as Claims, Finish as Finishes, Tick as Ticks, Attach as Attaches}
+use Rattle.cf_model.specs.declared.events.Event.TheVariants.{Complete as Completes, Fail as Fails, FailAs as FailsAs, Cancel as Cancels, Claim as Claims, Finish as Finishes, Tick as Ticks, Attach as Attaches}
 use Rattle.cf_model.specs.States.{State, after, stages_after, outcome_in, outcome_at, stage_at, claim_at, new_states}
-use Rattle.cf_model.specs.Events.{answered, state_after, settled_by, settling, cancelled_by, claimed_by, finished_by, landed, linked_to, firing, due_limits, limit_outcome, source_outcome, attached_by, attaching}
+use Rattle.cf_model.specs.Events.{answered, state_after, settled_by, settling, cancelled_by, claimed_by, finished_by, landed, linked_to, firing, due_limits, limit_outcome, source_outcome, attached_by, attaching, cause_of}
 use Rattle.cf_model.proofs.Moves.{there}
 use Rattle.cf_forms.specs.declared.forms.Args.{Args}
 use borrow.Author.Tests.{ltb-true}
@@ -113,6 +113,7 @@ attaching-stable P k s new h = attached_by-stable P k s.plan.room s new h
 pub answered-stable : (P : List PlannedStage → List Stage → Type 0) → IsStable P → (s : State) (e : Event) → Holds P s → Holds P ((answered s e).1)
 answered-stable P k s (Completes who i v) h = settled_by-stable P k (outcome_at s i) s i (Gives v) h
 answered-stable P k s (Fails who i code) h = settled_by-stable P k (outcome_at s i) s i (Fault (Thrown code) false) h
+answered-stable P k s (FailsAs who i failure) h = settled_by-stable P k (outcome_at s i) s i (Fault (cause_of failure) false) h
 answered-stable P k s (Cancels who i) h = cancelled_by-stable P k (outcome_at s i) s i h
 answered-stable P k s (Claims who i) h = claimed_by-stable P k (stage_at s i) s who i refl h
 answered-stable P k s (Finishes who i answer) h =

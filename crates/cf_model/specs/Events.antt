@@ -2,7 +2,8 @@
 use Rattle.std.specs.Prelude.{ℕ, ◌+◌, ◌==◌, Bool, true, false, Option, Some, None, List, [], ◌∷◌, drop, take, take_while, length, nat_lt, nat_le, slice_get, slice_set, if◌then◌else◌, option_and_then}
 use Rattle.std.proofs.Common.{zero, suc}
 use Rattle.std.specs.Option.{option_map_or}
-use Rattle.cf_outcome.specs.declared.outcome.Cause.TheVariants.{Thrown, Cancelled, TimedOut}
+use Rattle.cf_outcome.specs.declared.outcome.Cause.{Cause}
+use Rattle.cf_outcome.specs.declared.outcome.Cause.TheVariants.{Thrown, Cancelled, TimedOut, BadAnswer}
 use Rattle.cf_outcome.specs.declared.outcome.Outcome.{Outcome}
 use Rattle.cf_outcome.specs.declared.outcome.Outcome.TheVariants.{Value as Gives, Fault}
 use Rattle.cf_outcome.specs.Outcomes.{wrap, is_cancelled, now_of}
@@ -29,7 +30,9 @@ use Rattle.cf_model.specs.declared.asks.Ask.TheVariants.{Now as AsksNow, Outcome
 use Rattle.cf_model.specs.declared.asks.Told.{Told}
 use Rattle.cf_model.specs.declared.asks.Told.TheVariants.{Now as ToldNow, Outcome as ToldOutcome}
 use Rattle.cf_model.specs.declared.events.Event.{Event}
-use Rattle.cf_model.specs.declared.events.Event.TheVariants.{Complete as Completes, Fail as Fails, Cancel as Cancels, Claim as Claims, Finish as Finishes, Tick as Ticks, Attach as Attaches}
+use Rattle.cf_model.specs.declared.events.Event.TheVariants.{Complete as Completes, Fail as Fails, FailAs as FailsAs, Cancel as Cancels, Claim as Claims, Finish as Finishes, Tick as Ticks, Attach as Attaches}
+use Rattle.cf_model.specs.declared.events.Failure.{Failure}
+use Rattle.cf_model.specs.declared.events.Failure.TheVariants.{TimedOut as AsTimedOut, BadAnswer as AsBadAnswer}
 use Rattle.cf_model.specs.declared.events.Reply.{Reply}
 use Rattle.cf_model.specs.declared.events.Reply.TheVariants.{Flag as ToldFlag, Claim as ToldClaim, Finish as ToldFinish, Tick as ToldTick, Attach as ToldAttach}
 use Rattle.cf_model.specs.States.{State, after, appended, flowed, start, stage_at, outcome_at, claim_at}
@@ -41,6 +44,11 @@ settled_by None s i o = (true, after s i o)
 
 abbrev pub settling : State → ℕ → Outcome → Bool × State
 settling s i o = settled_by (outcome_at s i) s i o
+
+-- the cause of a stage that a caller fails so
+abbrev pub cause_of : Failure → Cause
+cause_of AsTimedOut = TimedOut
+cause_of AsBadAnswer = BadAnswer
 
 -- a stage is cancelled, unless it is settled already
 abbrev pub cancelled_by : Option Outcome → State → ℕ → Bool × State
@@ -123,6 +131,7 @@ told_as tell answer = (tell answer.0, answer.1)
 abbrev pub answered : State → Event → Reply × State
 answered s (Completes who i v) = told_as ToldFlag (settling s i (Gives v))
 answered s (Fails who i code) = told_as ToldFlag (settling s i (Fault (Thrown code) false))
+answered s (FailsAs who i failure) = told_as ToldFlag (settling s i (Fault (cause_of failure) false))
 answered s (Cancels who i) = told_as ToldFlag (cancelling s i)
 answered s (Claims who i) = told_as ToldClaim (claiming s who i)
 answered s (Finishes who i answer) = told_as ToldFinish (finishing s who i answer)

@@ -8,7 +8,7 @@ use Rattle.cf_forms.specs.Plans.{PlannedStage, edges_of, sources_of}
 use Rattle.cf_model.specs.declared.asks.Ask.{Ask}
 use Rattle.cf_model.specs.declared.asks.Ask.TheVariants.{Now as AsksNow, Outcome as AsksOutcome}
 use Rattle.cf_model.specs.declared.events.Event.{Event}
-use Rattle.cf_model.specs.declared.events.Event.TheVariants.{Complete as Completes, Fail as Fails, Cancel as Cancels, Claim as Claims, Finish as Finishes, Tick as Ticks, Attach as Attaches}
+use Rattle.cf_model.specs.declared.events.Event.TheVariants.{Complete as Completes, Fail as Fails, FailAs as FailsAs, Cancel as Cancels, Claim as Claims, Finish as Finishes, Tick as Ticks, Attach as Attaches}
 use Rattle.cf_model.specs.declared.stage.Stage.{Stage}
 use Rattle.cf_model.specs.declared.stage.Stage.TheVariants.{Pending, Ready, Claimed, Linked, Settled}
 use Rattle.cf_model.specs.States.{State, is_ready, outcome_at}
@@ -62,6 +62,7 @@ pub record RestsAttaching (form : Form) (sources : List ℕ) (old new : Graph) :
 abbrev pub Rests : Event → Graph → Graph → Type 0
 Rests (Completes who i v) old new = RestsUpTo i old new
 Rests (Fails who i code) old new = RestsUpTo i old new
+Rests (FailsAs who i failure) old new = RestsUpTo i old new
 Rests (Cancels who i) old new = RestsUpTo i old new
 Rests (Claims who i) old new = RestsUpTo i old new
 Rests (Finishes who i answer) old new = RestsUpTo i old new
@@ -105,6 +106,7 @@ MovesOnly d old new = old.left ≡ None → MovesAlone d old.kept new.kept
 abbrev pub moved_by : ℕ → Event → ℕ
 moved_by count (Completes who i v) = i
 moved_by count (Fails who i code) = i
+moved_by count (FailsAs who i failure) = i
 moved_by count (Cancels who i) = i
 moved_by count (Claims who i) = i
 moved_by count (Finishes who i answer) = i

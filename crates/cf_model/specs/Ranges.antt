@@ -5,7 +5,7 @@ use Rattle.cf_forms.specs.Plans.{fits_form, sources_of}
 use Rattle.cf_model.specs.declared.asks.Ask.{Ask}
 use Rattle.cf_model.specs.declared.asks.Ask.TheVariants.{Now as AsksNow, Outcome as AsksOutcome}
 use Rattle.cf_model.specs.declared.events.Event.{Event}
-use Rattle.cf_model.specs.declared.events.Event.TheVariants.{Complete as Completes, Fail as Fails, Cancel as Cancels, Claim as Claims, Finish as Finishes, Tick as Ticks, Attach as Attaches}
+use Rattle.cf_model.specs.declared.events.Event.TheVariants.{Complete as Completes, Fail as Fails, FailAs as FailsAs, Cancel as Cancels, Claim as Claims, Finish as Finishes, Tick as Ticks, Attach as Attaches}
 use Rattle.cf_model.specs.States.{State}
 use Rattle.cf_model.specs.Events.{answered}
 
@@ -13,6 +13,7 @@ use Rattle.cf_model.specs.Events.{answered}
 abbrev pub EventFits : ℕ → Event → Type 0
 EventFits n (Completes who i v) = i < n
 EventFits n (Fails who i code) = i < n
+EventFits n (FailsAs who i failure) = i < n
 EventFits n (Cancels who i) = i < n
 EventFits n (Claims who i) = i < n
 EventFits n (Finishes who i answer) = i < n
@@ -23,6 +24,7 @@ EventFits n (Attaches who form of function) = (fits_form form (length (sources_o
 abbrev pub fits : ℕ → Event → Bool
 fits n (Completes who i v) = nat_lt i n
 fits n (Fails who i code) = nat_lt i n
+fits n (FailsAs who i failure) = nat_lt i n
 fits n (Cancels who i) = nat_lt i n
 fits n (Claims who i) = nat_lt i n
 fits n (Finishes who i answer) = nat_lt i n

@@ -2,7 +2,7 @@
 ghost use Rattle.std.specs.Prelude.{◌≡◌};
 ghost use Rattle.cf_model.specs.Calls.{as_call, event_by};
 
-use crate::events::Event;
+use crate::events::{Event, Failure};
 use cf_forms::{Answer, Form, Of};
 use cf_outcome::Value;
 
@@ -13,6 +13,8 @@ pub enum Call {
     Complete(u16, Value),
     /// Fails a stage with a thrown code.
     Fail(u16, u32),
+    /// Fails a stage with another cause: as timed out, or, where it stands in for another, with a bad answer.
+    FailAs(u16, Failure),
     /// Cancels a stage.
     Cancel(u16),
     /// Claims a ready stage, so that the caller runs its function.
@@ -33,6 +35,7 @@ impl Call {
         match *event {
             Event::Complete { stage, value, .. } => Call::Complete(stage, value),
             Event::Fail { stage, code, .. } => Call::Fail(stage, code),
+            Event::FailAs { stage, failure, .. } => Call::FailAs(stage, failure),
             Event::Cancel { stage, .. } => Call::Cancel(stage),
             Event::Claim { stage, .. } => Call::Claim(stage),
             Event::Finish { stage, answer, .. } => Call::Finish(stage, answer),
@@ -55,6 +58,11 @@ pub fn event_by(who: u8, call: Call) -> Event
     match call {
         Call::Complete(stage, value) => Event::Complete { who, stage, value },
         Call::Fail(stage, code) => Event::Fail { who, stage, code },
+        Call::FailAs(stage, failure) => Event::FailAs {
+            who,
+            stage,
+            failure,
+        },
         Call::Cancel(stage) => Event::Cancel { who, stage },
         Call::Claim(stage) => Event::Claim { who, stage },
         Call::Finish(stage, answer) => Event::Finish { who, stage, answer },

@@ -1,11 +1,33 @@
 //! What callers do to a graph, and what it replies.
 ghost use Rattle.std.specs.Prelude.{◌≡◌, ◌↔◌, IsTrue};
 ghost use Rattle.cf_model.specs.Calls.{who_of};
+ghost use Rattle.cf_model.specs.Events.{cause_of};
 ghost use Rattle.cf_model.specs.Ranges.{EventFits, fits};
 
 use crate::replies::{Attached, Claimed, Finished, Ticked};
 use cf_forms::{Answer, Form, Of, fits_form};
-use cf_outcome::Value;
+use cf_outcome::{Cause, Value};
+
+/// A cause, other than a thrown code and a cancellation, with which a caller fails a stage.
+#[derive(Clone, Copy, Debug, PartialEq, Eq)]
+pub enum Failure {
+    /// Time ran out for the stage (`CompletableFuture.orTimeout` fails it with a `TimeoutException`).
+    TimedOut,
+    /// The stage stands in for another, whose function answered what its form can't take.
+    BadAnswer,
+}
+
+impl Failure {
+    /// The cause that the failed stage has then.
+    pub fn cause(self) -> Cause
+        ensures { result ≡ cause_of self }
+    {
+        match self {
+            Failure::TimedOut => Cause::TimedOut,
+            Failure::BadAnswer => Cause::BadAnswer,
+        }
+    }
+}
 
 /// One changing call of one caller.
 #[derive(Clone, Copy, Debug, PartialEq, Eq)]
@@ -19,6 +41,11 @@ pub enum Event {
         who: u8,
         stage: u16,
         code: u32,
+    },
+    FailAs {
+        who: u8,
+        stage: u16,
+        failure: Failure,
     },
     Cancel {
         who: u8,
@@ -53,6 +80,7 @@ impl Event {
         match *self {
             Event::Complete { who, .. } => who,
             Event::Fail { who, .. } => who,
+            Event::FailAs { who, .. } => who,
             Event::Cancel { who, .. } => who,
             Event::Claim { who, .. } => who,
             Event::Finish { who, .. } => who,
@@ -70,6 +98,7 @@ impl Event {
         match *self {
             Event::Complete { stage, .. } => stage < stages,
             Event::Fail { stage, .. } => stage < stages,
+            Event::FailAs { stage, .. } => stage < stages,
             Event::Cancel { stage, .. } => stage < stages,
             Event::Claim { stage, .. } => stage < stages,
             Event::Finish { stage, .. } => stage < stages,
@@ -87,7 +116,7 @@ impl Event {
 /// What an event is answered.
 #[derive(Clone, Copy, Debug, PartialEq, Eq)]
 pub enum Reply {
-    /// To complete and fail: whether the stage was settled by it. To cancel: whether the stage is cancelled then.
+    /// To complete, fail and fail as: whether the stage was settled by it. To cancel: whether the stage is cancelled then.
     Flag(bool),
     Claim(Claimed),
     Finish(Finished),

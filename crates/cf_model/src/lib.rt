@@ -28,6 +28,6 @@ mod stage;
 
 pub use asks::{Ask, Told};
 pub use calls::{Call, event_by};
-pub use events::{Event, Reply};
+pub use events::{Event, Failure, Reply};
 pub use replies::{Attached, Claimed, Finished, Ticked};
 pub use stage::Stage;

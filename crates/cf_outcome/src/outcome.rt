@@ -16,9 +16,9 @@ pub enum Cause {
     Thrown(u32),
     /// It was cancelled.
     Cancelled,
-    /// A limit of kind timeout fired.
+    /// A limit of kind timeout fired, or a caller said that its time had run out.
     TimedOut,
-    /// Its function answered what its form can't take.
+    /// Its function, or that of the stage for which it stands in, answered what the form can't take.
     BadAnswer,
 }
 

@@ -82,6 +82,7 @@ impl Notes {
         match (event, reply) {
             (Event::Complete { stage, .. }, Reply::Flag(true)) => self.own(stage),
             (Event::Fail { stage, .. }, Reply::Flag(true)) => self.own(stage),
+            (Event::FailAs { stage, .. }, Reply::Flag(true)) => self.own(stage),
             (Event::Cancel { stage, .. }, Reply::Flag(true)) => self.own(stage),
             (Event::Claim { who, stage }, Reply::Claim(Claimed::Granted(_))) => {
                 self.claimed(who, stage, place)?

@@ -3,7 +3,7 @@ use crate::noting::Notes;
 use crate::people::People;
 use crate::text::Text;
 use cf_forms::{Answer, Args};
-use cf_model::{Attached, Claimed, Event, Finished, Reply, Ticked};
+use cf_model::{Attached, Claimed, Event, Failure, Finished, Reply, Ticked};
 use cf_outcome::{Cause, Outcome, Value};
 
 /// Adds who does what, and what comes of it.
@@ -23,6 +23,10 @@ pub(crate) fn write_event(
         Event::Fail { stage, code, .. } => {
             write_call(out, notes, people, "fails", stage);
             write_failed(out, people, code, reply)
+        }
+        Event::FailAs { stage, failure, .. } => {
+            write_call(out, notes, people, failing(failure), stage);
+            write_flag(out, reply)
         }
         Event::Cancel { stage, .. } => {
             write_call(out, notes, people, "cancels", stage);
@@ -64,11 +68,22 @@ pub(crate) fn write_event_alone(out: &mut Text, notes: &Notes, people: &People, 
     match event {
         Event::Complete { stage, .. } => write_call(out, notes, people, "completes", stage),
         Event::Fail { stage, .. } => write_call(out, notes, people, "fails", stage),
+        Event::FailAs { stage, failure, .. } => {
+            write_call(out, notes, people, failing(failure), stage)
+        }
         Event::Cancel { stage, .. } => write_call(out, notes, people, "cancels", stage),
         Event::Claim { stage, .. } => write_call(out, notes, people, "claims", stage),
         Event::Finish { stage, .. } => write_call(out, notes, people, "finishes", stage),
         Event::Tick { moment, .. } => out.add_with(" lets it be ", moment),
         Event::Attach { .. } => out.add(" attaches a stage"),
+    }
+}
+
+/// What a caller does who fails a stage so.
+fn failing(failure: Failure) -> &'static str {
+    match failure {
+        Failure::TimedOut => "times out",
+        Failure::BadAnswer => "fails as a bad answer",
     }
 }
 

@@ -243,6 +243,7 @@ fn stage_named(event: Event, reply: Reply) -> Option<u16> {
     match event {
         Event::Complete { stage, .. }
         | Event::Fail { stage, .. }
+        | Event::FailAs { stage, .. }
         | Event::Cancel { stage, .. }
         | Event::Claim { stage, .. }
         | Event::Finish { stage, .. } => Some(stage),

@@ -6,7 +6,7 @@ use Rattle.std.proofs.lemmas.List.Elements.{All-head, All-tail, All-weaker}
 use Rattle.cf_forms.specs.Plans.{Planned}
 use Rattle.cf_model.specs.declared.replies.Claimed.TheVariants.{Granted, Settled, Taken, NotReady}
 use Rattle.cf_model.specs.declared.events.Event.{Event}
-use Rattle.cf_model.specs.declared.events.Event.TheVariants.{Complete as Completes, Fail as Fails, Cancel as Cancels, Claim as Claims, Finish as Finishes, Tick as Ticks, Attach as Attaches}
+use Rattle.cf_model.specs.declared.events.Event.TheVariants.{Complete as Completes, Fail as Fails, FailAs as FailsAs, Cancel as Cancels, Claim as Claims, Finish as Finishes, Tick as Ticks, Attach as Attaches}
 use Rattle.cf_model.specs.declared.events.Reply.{Reply}
 use Rattle.cf_model.specs.declared.events.Reply.TheVariants.{Claim as ToldClaim, Flag as ToldFlag, Finish as ToldFinish, Tick as ToldTick, Attach as ToldAttach}
 use Rattle.cf_model.specs.States.{State, start}
@@ -86,6 +86,7 @@ by_grant i n (Claims who j) (ToldTick t) = omega arith
 by_grant i n (Claims who j) (ToldAttach a) = omega arith
 by_grant i n (Completes who j v) reply = omega arith
 by_grant i n (Fails who j code) reply = omega arith
+by_grant i n (FailsAs who j failure) reply = omega arith
 by_grant i n (Cancels who j) reply = omega arith
 by_grant i n (Finishes who j answer) reply = omega arith
 by_grant i n (Ticks who now) reply = omega arith

@@ -17,11 +17,11 @@ use Rattle.cf_model.specs.declared.stage.Stage.TheVariants.{Pending, Ready, Clai
 use Rattle.cf_model.specs.declared.replies.Claimed.TheVariants.{Granted, Settled as IsSettled, Taken, NotReady}
 use Rattle.cf_model.specs.declared.replies.Finished.TheVariants.{NotYours}
 use Rattle.cf_model.specs.declared.events.Event.{Event}
-use Rattle.cf_model.specs.declared.events.Event.TheVariants.{Complete as Completes, Fail as Fails, Cancel as Cancels, Claim as Claims, Finish as Finishes, Tick as Ticks, Attach as Attaches}
+use Rattle.cf_model.specs.declared.events.Event.TheVariants.{Complete as Completes, Fail as Fails, FailAs as FailsAs, Cancel as Cancels, Claim as Claims, Finish as Finishes, Tick as Ticks, Attach as Attaches}
 use Rattle.cf_model.specs.declared.events.Reply.{Reply}
 use Rattle.cf_model.specs.declared.events.Reply.TheVariants.{Flag as ToldFlag, Claim as ToldClaim, Finish as ToldFinish, Tick as ToldTick, Attach as ToldAttach}
 use Rattle.cf_model.specs.States.{State, start, stage_at, claim_at, outcome_at}
-use Rattle.cf_model.specs.Events.{answered, state_after, claimed_by, finished_by, attached_by}
+use Rattle.cf_model.specs.Events.{answered, state_after, claimed_by, finished_by, attached_by, cause_of}
 use Rattle.cf_model.specs.Calls.{who_of}
 use Rattle.cf_model.specs.declared.calls.Call.TheVariants.{Claim, Finish}
 use Rattle.cf_model.proofs.OpenClaims.{cancelled_claims, claim_before_close, claim_before_push, claim_before_set, finished_claims, none_open, settled_claims, ticked_claims}
@@ -118,6 +118,7 @@ finish_held false held n s who j answer reply missed h i c e = split (eqb who c)
 event_held : (held : ℕ → ℕ → Bool) (n : ℕ) (s : State) (e : Event) → AllHeld held s → AllHeld (held_with held (who_of e) (rec_of n e ((answered s e).0))) ((answered s e).1)
 event_held held n s (Completes who i v) h = held_still held s ((answered s (Completes who i v)).1) who (rec_of n (Completes who i v) ((answered s (Completes who i v)).0)) (settled_claims (outcome_at s i) s i (Gives v)) (λ j was. refl) h
 event_held held n s (Fails who i code) h = held_still held s ((answered s (Fails who i code)).1) who (rec_of n (Fails who i code) ((answered s (Fails who i code)).0)) (settled_claims (outcome_at s i) s i (Fault (Thrown code) false)) (λ j was. refl) h
+event_held held n s (FailsAs who i failure) h = held_still held s ((answered s (FailsAs who i failure)).1) who (rec_of n (FailsAs who i failure) ((answered s (FailsAs who i failure)).0)) (settled_claims (outcome_at s i) s i (Fault (cause_of failure) false)) (λ j was. refl) h
 event_held held n s (Cancels who i) h = held_still held s ((answered s (Cancels who i)).1) who (rec_of n (Cancels who i) ((answered s (Cancels who i)).0)) (cancelled_claims (outcome_at s i) s i) (λ j was. refl) h
 event_held held n s (Claims who i) h = claim_held (stage_at s i) held (suc n) s who i h
 event_held held n s (Finishes who i answer) h = finish_held (option_map_or (λ w. w == who) (claim_at s i) false) held (suc n) s who i answer ((answered s (Finishes who i answer)).0) refl h

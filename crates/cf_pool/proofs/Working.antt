@@ -17,7 +17,7 @@ use Rattle.cf_model.specs.Growth.{Grows}
 use Rattle.cf_model.proofs.Histories.{state_after-append}
 use Rattle.cf_model.proofs.Shape.{state_after-grows}
 use Rattle.cf_model.specs.declared.calls.Call.{Call}
-use Rattle.cf_model.specs.declared.calls.Call.TheVariants.{Complete, Fail, Cancel, Claim, Finish, Tick, Attach}
+use Rattle.cf_model.specs.declared.calls.Call.TheVariants.{Complete, Fail, FailAs, Cancel, Claim, Finish, Tick, Attach}
 use Rattle.cf_desk.specs.declared.calls.Rec.{Rec}
 use Rattle.cf_desk.specs.declared.calls.Rec.TheVariants.{Did, Saw}
 use Rattle.cf_desk.specs.declared.faults.DeskFault.{DeskFault}
@@ -80,6 +80,7 @@ by_record meanings plan P claims finishes None (Did place (Claim i) reply) h = c
 by_record meanings plan P claims finishes None (Did place (Finish i answer) reply) h = absurd h
 by_record meanings plan P claims finishes None (Did place (Complete i v) reply) h = absurd h
 by_record meanings plan P claims finishes None (Did place (Fail i code) reply) h = absurd h
+by_record meanings plan P claims finishes None (Did place (FailAs i failure) reply) h = absurd h
 by_record meanings plan P claims finishes None (Did place (Cancel i) reply) h = absurd h
 by_record meanings plan P claims finishes None (Did place (Tick now) reply) h = absurd h
 by_record meanings plan P claims finishes None (Did place (Attach form of function) reply) h = absurd h
@@ -89,6 +90,7 @@ by_record meanings plan P claims finishes (Some (j, args)) (Did place (Finish i 
 by_record meanings plan P claims finishes (Some owed) (Did place (Claim i) reply) h = absurd h
 by_record meanings plan P claims finishes (Some owed) (Did place (Complete i v) reply) h = absurd h
 by_record meanings plan P claims finishes (Some owed) (Did place (Fail i code) reply) h = absurd h
+by_record meanings plan P claims finishes (Some owed) (Did place (FailAs i failure) reply) h = absurd h
 by_record meanings plan P claims finishes (Some owed) (Did place (Cancel i) reply) h = absurd h
 by_record meanings plan P claims finishes (Some owed) (Did place (Tick now) reply) h = absurd h
 by_record meanings plan P claims finishes (Some owed) (Did place (Attach form of function) reply) h = absurd h

@@ -2,7 +2,7 @@
 use Rattle.std.proofs.Common.{◌≡◌, ℕ, zero, suc, ◌+◌, ◌-◌, ◌<◌, ◌≤◌, List, [], ◌∷◌, ◌++◌, length, Option, Some, None, refl, sym, ap, subst, ◌∙◌, arith}
 use Rattle.std.specs.Prelude.{IfSome}
 use Rattle.std.proofs.lemmas.List.Elements.{All-push, All-weaker}
-use Rattle.cf_model.specs.declared.events.Event.TheVariants.{Complete as Completes, Fail as Fails, Cancel as Cancels, Claim as Claims, Finish as Finishes, Tick as Ticks, Attach as Attaches}
+use Rattle.cf_model.specs.declared.events.Event.TheVariants.{Complete as Completes, Fail as Fails, FailAs as FailsAs, Cancel as Cancels, Claim as Claims, Finish as Finishes, Tick as Ticks, Attach as Attaches}
 use Rattle.cf_reading.specs.declared.func.Func.{Func}
 use Rattle.cf_reading.specs.declared.purpose.Purpose.{Purpose}
 use Rattle.cf_reading.specs.declared.script.Step.{Step}
@@ -20,6 +20,7 @@ within_fits : (n : ℕ) (s : Step) → NamesWithin n s → StepFits n s
 within_fits n (Does (Attaches who form of function)) h = absurd h
 within_fits n (Does (Completes who i v)) h = h
 within_fits n (Does (Fails who i code)) h = h
+within_fits n (Does (FailsAs who i failure)) h = h
 within_fits n (Does (Cancels who i)) h = h
 within_fits n (Does (Claims who i)) h = h
 within_fits n (Does (Finishes who i answer)) h = h
@@ -32,6 +33,7 @@ within_calls : (n m : ℕ) (s : Step) → NamesWithin n s → StepCalls m s
 within_calls n m (Does (Attaches who form of function)) h = absurd h
 within_calls n m (Does (Completes who i v)) h = tt
 within_calls n m (Does (Fails who i code)) h = tt
+within_calls n m (Does (FailsAs who i failure)) h = tt
 within_calls n m (Does (Cancels who i)) h = tt
 within_calls n m (Does (Claims who i)) h = tt
 within_calls n m (Does (Finishes who i answer)) h = tt
@@ -71,6 +73,7 @@ calls_more : (n m : ℕ) → n ≤ m → (s : Step) → StepCalls n s → StepCa
 calls_more n m h (Does (Attaches who form of function)) calls = number_fits n m h function calls
 calls_more n m h (Does (Completes who i v)) calls = tt
 calls_more n m h (Does (Fails who i code)) calls = tt
+calls_more n m h (Does (FailsAs who i failure)) calls = tt
 calls_more n m h (Does (Cancels who i)) calls = tt
 calls_more n m h (Does (Claims who i)) calls = tt
 calls_more n m h (Does (Finishes who i answer)) calls = tt

@@ -8,7 +8,9 @@ use Rattle.cf_outcome.specs.declared.outcome.Value.TheVariants.{Nil}
 use Rattle.cf_forms.specs.declared.forms.Answer.{Answer}
 use Rattle.cf_forms.specs.declared.forms.Answer.TheVariants.{Give, Throw, Link}
 use Rattle.cf_model.specs.declared.asks.Ask.TheVariants.{Now as AsksNow, Outcome as AsksOutcome}
-use Rattle.cf_model.specs.declared.events.Event.TheVariants.{Complete as Completes, Fail as Fails, Cancel as Cancels, Claim as Claims, Finish as Finishes, Tick as Ticks, Attach as Attaches}
+use Rattle.cf_model.specs.declared.events.Event.TheVariants.{Complete as Completes, Fail as Fails, FailAs as FailsAs, Cancel as Cancels, Claim as Claims, Finish as Finishes, Tick as Ticks, Attach as Attaches}
+use Rattle.cf_model.specs.declared.events.Failure.{Failure}
+use Rattle.cf_model.specs.declared.events.Failure.TheVariants.{TimedOut, BadAnswer}
 use Rattle.cf_reading.specs.declared.fault.ReadingFault.{ReadingFault}
 use Rattle.cf_reading.specs.declared.fault.ReadingFault.TheVariants as faults
 use Rattle.cf_reading.specs.declared.script.Step.{Step}
@@ -16,7 +18,7 @@ use Rattle.cf_reading.specs.declared.script.Step.TheVariants.{Does, Asks, Work, 
 use Rattle.cf_reading.specs.declared.purpose.Purpose.{Purpose}
 use Rattle.cf_reading.specs.declared.func.Func.{Func}
 use Rattle.cf_reading.specs.declared.version.Version.{Version}
-use Rattle.cf_reading.specs.declared.version.Version.TheVariants.{One, Two}
+use Rattle.cf_reading.specs.declared.version.Version.TheVariants.{One, Two, Three}
 use Rattle.cf_reading.specs.Attaching.{attach_said}
 use Rattle.cf_reading.specs.ReadingProgress.{Progress, with_step}
 use Rattle.cf_reading.specs.Scripts.{StepFits}
@@ -56,6 +58,20 @@ fail_said stages d = do
   i ← stage_at stages 1 d
   code ← number_at 4294967295 2 d
   Some (Does (Fails 0 i code))
+
+-- the failure by its cause's name
+unfoldable pub failure_named : List ℕ → Option Failure
+failure_named name =
+    if bytes_eq name (codes "timeout") then Some TimedOut
+    else (if bytes_eq name (codes "badanswer") then Some BadAnswer
+    else None)
+
+unfoldable pub fail_as_said : ℕ → Data → Option Step
+fail_as_said stages d = do
+  here ← exactly 3 d
+  i ← stage_at stages 1 d
+  failure ← option_and_then failure_named (option_and_then as_str (at 2 d))
+  Some (Does (FailsAs 0 i failure))
 
 unfoldable pub cancel_said : ℕ → Data → Option Step
 cancel_said stages d = do
@@ -146,10 +162,14 @@ NamesWithin n step = StepFits n step
 abbrev pub step_alone : ℕ → Data → List ℕ → Option (Step × Option Func)
 step_alone stages d word = option_map (λ s. (s, None)) (step_named stages d word)
 
--- a step, and the function that it brings, if it brings one: in version 2 it may attach a stage
+-- a step, and the function that it brings, if it brings one: from version 2 on it may attach a stage, and in version 3 fail one for another cause
 unfoldable pub step_worded : Version → ℕ → List Func → Data → List ℕ → Option (Step × Option Func)
 step_worded One stages functions d word = step_alone stages d word
 step_worded Two stages functions d word = if bytes_eq word (codes "attach") then attach_said stages functions d else step_alone stages d word
+step_worded Three stages functions d word =
+    if bytes_eq word (codes "attach") then attach_said stages functions d
+    else (if bytes_eq word (codes "failAs") then option_map (λ s. (s, None)) (fail_as_said stages d)
+    else step_alone stages d word)
 
 -- the step that comes after these
 abbrev pub step_said : Version → Progress → Data → Option (Step × Option Func)

@@ -4,12 +4,12 @@ use Rattle.std.specs.Ordering.{int_eq}
 use Rattle.serde_json.specs.Data.{Data}
 use Rattle.serde_json.specs.Find.{get}
 use Rattle.cf_reading.specs.declared.version.Version.{Version}
-use Rattle.cf_reading.specs.declared.version.Version.TheVariants.{One, Two}
+use Rattle.cf_reading.specs.declared.version.Version.TheVariants.{One, Two, Three}
 use Rattle.cf_reading.specs.Parts.{up_to, whole}
 
 -- the version with a number
 abbrev pub version_numbered : ℤ → Option Version
-version_numbered z = if int_eq z (pos 1) then Some One else (if int_eq z (pos 2) then Some Two else None)
+version_numbered z = if int_eq z (pos 1) then Some One else (if int_eq z (pos 2) then Some Two else (if int_eq z (pos 3) then Some Three else None))
 
 -- the version of a script
 abbrev pub version_of : Data → Option Version
@@ -21,3 +21,5 @@ abbrev pub room_said : Version → Option Data → Option ℕ
 room_said One said = Some 0
 room_said Two None = Some 0
 room_said Two (Some d) = up_to 4096 d
+room_said Three None = Some 0
+room_said Three (Some d) = up_to 4096 d

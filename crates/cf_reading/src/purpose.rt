@@ -35,6 +35,7 @@ fn is_for_race(step: Step) -> bool
         Step::Does(
             Event::Complete { who, .. }
             | Event::Fail { who, .. }
+            | Event::FailAs { who, .. }
             | Event::Cancel { who, .. }
             | Event::Tick { who, .. }
             | Event::Attach { who, .. },

@@ -2,12 +2,12 @@
 ghost use Rattle.std.specs.Prelude.{◌≡◌, ◌<◌, ℕ, IfSome};
 ghost use Rattle.serde_json.specs.View.{view};
 ghost use Rattle.cf_reading.specs.Parts.{stage_at};
-ghost use Rattle.cf_reading.specs.Steps.{NamesWithin, answer_at, answer_named, answer_of, caller_at, cancel_said, claim_said, complete_said, fail_said, finish_said, now_said, nudge_said, outcome_said, tick_said, work_said};
+ghost use Rattle.cf_reading.specs.Steps.{NamesWithin, answer_at, answer_named, answer_of, caller_at, cancel_said, claim_said, complete_said, fail_as_said, fail_said, failure_named, finish_said, now_said, nudge_said, outcome_said, tick_said, work_said};
 
 use crate::parts::{caller, large, large_in, len, member, small, small_in, value, value_in};
 use crate::script::Step;
 use cf_forms::Answer;
-use cf_model::{Ask, Event};
+use cf_model::{Ask, Event, Failure};
 use cf_outcome::Value;
 use serde_json::Value as Json;
 
@@ -88,6 +88,36 @@ pub(crate) fn fail(stages: u16, json: &Json) -> Option<Step>
         who: 0,
         stage,
         code,
+    }))
+}
+
+/// The failure by its cause's name.
+#[tactic(auto, unfolding(crate::specs::Steps::failure_named))]
+fn failure(name: &str) -> Option<Failure>
+    ensures { result ≡ failure_named name.now }
+{
+    match name {
+        "timeout" => Some(Failure::TimedOut),
+        "badanswer" => Some(Failure::BadAnswer),
+        _ => None,
+    }
+}
+
+/// `["failAs",i,"timeout"]` or `["failAs",i,"badanswer"]`
+#[tactic(auto, unfolding(crate::specs::Steps::fail_as_said))]
+pub(crate) fn fail_as(stages: u16, json: &Json) -> Option<Step>
+    ensures said { result ≡ fail_as_said stages (view json.now) }
+    ensures fits { IfSome result (NamesWithin stages) }
+{
+    if len(json) != 3 {
+        return None;
+    }
+    let stage = stage_in(stages, json, 1)?;
+    let failure = failure(json.get(2usize)?.as_str()?)?;
+    Some(Step::Does(Event::FailAs {
+        who: 0,
+        stage,
+        failure,
     }))
 }
 

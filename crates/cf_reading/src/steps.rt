@@ -14,7 +14,9 @@ use crate::functions::keep;
 use crate::progress::{Progress, extent_after};
 use crate::purpose::Purpose;
 use crate::script::Step;
-use crate::step_parsers::{cancel, claim, complete, fail, finish, now, nudge, outcome, tick, work};
+use crate::step_parsers::{
+    cancel, claim, complete, fail, fail_as, finish, now, nudge, outcome, tick, work,
+};
 use crate::version::Version;
 use serde_json::Value as Json;
 
@@ -92,6 +94,11 @@ fn worded(
         Version::One => alone(stages, functions, json, word),
         Version::Two => match word {
             "attach" => attach(stages, functions, json),
+            _ => alone(stages, functions, json, word),
+        },
+        Version::Three => match word {
+            "attach" => attach(stages, functions, json),
+            "failAs" => Some((fail_as(stages, json)?, None)),
             _ => alone(stages, functions, json, word),
         },
     }

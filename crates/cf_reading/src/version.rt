@@ -6,11 +6,13 @@ ghost use Rattle.cf_reading.specs.Versions.{room_said, version_numbered, version
 
 use serde_json::Value as Json;
 
-/// A version of scripts. The second has room, steps that attach stages, and one form more.
+/// A version of scripts. The second has room, steps that attach stages, and one form more; the third steps that fail a
+/// stage as timed out or with a bad answer, too.
 #[derive(Clone, Copy)]
 pub(crate) enum Version {
     One,
     Two,
+    Three,
 }
 
 /// The version with this number.
@@ -21,6 +23,8 @@ fn numbered(n: i64) -> Option<Version>
         Some(Version::One)
     } else if n == 2 {
         Some(Version::Two)
+    } else if n == 3 {
+        Some(Version::Three)
     } else {
         None
     }
@@ -50,7 +54,8 @@ pub(crate) fn room_said(version: Version, said: Option<&Json>) -> Option<u16>
     ensures { result ≡ room_said version (option_map (λ d. view d.now) said.entry) }
 {
     match (version, said) {
-        (Version::Two, Some(json)) => room_in(json),
-        _ => Some(0),
+        (Version::One, _) => Some(0),
+        (_, None) => Some(0),
+        (_, Some(json)) => room_in(json),
     }
 }

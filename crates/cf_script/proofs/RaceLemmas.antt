@@ -5,7 +5,7 @@ use Rattle.cf_outcome.specs.declared.outcome.Outcome.{Outcome}
 use Rattle.cf_forms.specs.Meanings.{meanings_of}
 use Rattle.cf_forms.specs.Plans.{Planned, PlannedStage}
 use Rattle.cf_model.specs.declared.events.Event.{Event}
-use Rattle.cf_model.specs.declared.events.Event.TheVariants.{Complete as Completes, Fail as Fails, Cancel as Cancels, Claim as Claims, Finish as Finishes, Tick as Ticks, Attach as Attaches}
+use Rattle.cf_model.specs.declared.events.Event.TheVariants.{Complete as Completes, Fail as Fails, FailAs as FailsAs, Cancel as Cancels, Claim as Claims, Finish as Finishes, Tick as Ticks, Attach as Attaches}
 use Rattle.cf_model.specs.Calls.{is_from_outside}
 use Rattle.cf_model.specs.Events.{answered}
 use Rattle.cf_model.specs.Ranges.{EventFits, EventsFit}
@@ -38,6 +38,7 @@ step_taken n k (Attaches who form of None) outside calls fits = (outside, (fits.
 step_taken n k (Attaches who form of (Some f)) outside calls fits = (outside, (fits.0, (let few = calls.1 in omega (arith, few)), calls.1))
 step_taken n k (Completes who i v) outside calls fits = (outside, tt)
 step_taken n k (Fails who i code) outside calls fits = (outside, tt)
+step_taken n k (FailsAs who i failure) outside calls fits = (outside, tt)
 step_taken n k (Cancels who i) outside calls fits = (outside, tt)
 step_taken n k (Claims who i) outside calls fits = (outside, tt)
 step_taken n k (Finishes who i answer) outside calls fits = (outside, tt)

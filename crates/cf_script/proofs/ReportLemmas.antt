@@ -3,7 +3,7 @@ use Rattle.std.proofs.Common.{None, ◌≡◌, ℕ, ◌+◌, ◌-◌, ◌<◌, z
 use Rattle.std.proofs.Math.Seq.{drop-cons}
 use Rattle.cf_forms.specs.declared.forms.Form.TheVariants.{Source}
 use Rattle.cf_forms.specs.Plans.{Planned, PlannedStage, attached_stage, with_room}
-use Rattle.cf_model.specs.declared.events.Event.TheVariants.{Complete as Completes, Fail as Fails, Cancel as Cancels, Claim as Claims, Finish as Finishes, Tick as Ticks, Attach as Attaches}
+use Rattle.cf_model.specs.declared.events.Event.TheVariants.{Complete as Completes, Fail as Fails, FailAs as FailsAs, Cancel as Cancels, Claim as Claims, Finish as Finishes, Tick as Ticks, Attach as Attaches}
 use Rattle.cf_model.specs.States.{State, outcome_at, start}
 use Rattle.cf_model.specs.Events.{attached_by}
 use Rattle.cf_model.proofs.Shape.{answered-shape}
@@ -32,6 +32,7 @@ pub after_step-extent : (functions : List Func) (s : State) (x : Step) → exten
 after_step-extent functions s (Does (Attaches who form of function)) = attached-extent s.plan.room s (attached_stage form of function) refl
 after_step-extent functions s (Does (Completes who i v)) = ap extent_of (answered-shape s (Completes who i v) refl).plan
 after_step-extent functions s (Does (Fails who i code)) = ap extent_of (answered-shape s (Fails who i code) refl).plan
+after_step-extent functions s (Does (FailsAs who i failure)) = ap extent_of (answered-shape s (FailsAs who i failure) refl).plan
 after_step-extent functions s (Does (Cancels who i)) = ap extent_of (answered-shape s (Cancels who i) refl).plan
 after_step-extent functions s (Does (Claims who i)) = ap extent_of (answered-shape s (Claims who i) refl).plan
 after_step-extent functions s (Does (Finishes who i answer)) = ap extent_of (answered-shape s (Finishes who i answer) refl).plan

@@ -155,6 +155,7 @@ fn write_call(text: &mut String, call: Call) -> Result<(), AllocError> {
     match call {
         Call::Complete(i, value) => write!(text, "complete {i} {value}"),
         Call::Fail(i, code) => write!(text, "fail {i} {code}"),
+        Call::FailAs(i, failure) => write!(text, "failAs {i} {}", failure.cause()),
         Call::Cancel(i) => write!(text, "cancel {i}"),
         Call::Claim(i) => write!(text, "claim {i}"),
         Call::Finish(i, answer) => write_finish(text, i, answer),

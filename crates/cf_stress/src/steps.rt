@@ -1,7 +1,7 @@
 //! The steps that callers do.
 use cf_desk::Call;
 use cf_forms::{Answer, Form, Of};
-use cf_model::Ask;
+use cf_model::{Ask, Failure};
 use cf_reading::{large, small, value};
 use serde_json::Value as Json;
 use std::alloc::Global;
@@ -93,7 +93,17 @@ fn settling(word: &str, stage: u16, handed: &Json) -> Option<Call> {
     match word {
         "complete" => Some(Call::Complete(stage, value(handed)?)),
         "fail" => Some(Call::Fail(stage, large(handed)?)),
+        "failAs" => Some(Call::FailAs(stage, failure(handed)?)),
         "finish" => Some(Call::Finish(stage, answer(handed)?)),
+        _ => None,
+    }
+}
+
+/// `"timeout"` or `"badanswer"`.
+fn failure(json: &Json) -> Option<Failure> {
+    match json.as_str()? {
+        "timeout" => Some(Failure::TimedOut),
+        "badanswer" => Some(Failure::BadAnswer),
         _ => None,
     }
 }

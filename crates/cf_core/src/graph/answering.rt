@@ -23,6 +23,7 @@ impl Graph {
         match *e {
             Event::Complete { stage, value, .. } => Reply::Flag(self.complete(stage, value)),
             Event::Fail { stage, code, .. } => Reply::Flag(self.fail(stage, code)),
+            Event::FailAs { stage, failure, .. } => Reply::Flag(self.fail_as(stage, failure)),
             Event::Cancel { stage, .. } => Reply::Flag(self.cancel(stage)),
             Event::Claim { who, stage } => Reply::Claim(self.claim(who, stage)),
             Event::Finish { who, stage, answer } => Reply::Finish(self.finish(who, stage, answer)),

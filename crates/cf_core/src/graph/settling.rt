@@ -2,10 +2,11 @@
 ghost use Rattle.std.specs.Prelude.{◌≡◌, ◌<◌, ◌≤◌, false, length};
 ghost use Rattle.cf_outcome.specs.declared.outcome.Outcome.TheVariants.{Value as Gives, Fault};
 ghost use Rattle.cf_outcome.specs.declared.outcome.Cause.TheVariants.{Thrown};
-ghost use Rattle.cf_model.specs.Events.{cancelling, settling};
+ghost use Rattle.cf_model.specs.Events.{cancelling, cause_of, settling};
 ghost use Rattle.cf_model.specs.Graphs.{MovesOnly, RestsUpTo, most_turns};
 
 use crate::graph::Graph;
+use cf_model::Failure;
 use cf_outcome::{Cause, Outcome, Value, is_cancelled};
 
 impl Graph {
@@ -39,6 +40,26 @@ impl Graph {
             i,
             Outcome::Fault {
                 cause: Cause::Thrown(code),
+                wrapped: false,
+            },
+        )
+    }
+
+    /// Settles a stage of any form with another cause, raw, unless it is settled, and says whether it did: as timed out
+    /// (`CompletableFuture.orTimeout` does so when its time has run out), or, where the stage stands in for another, with a bad
+    /// answer.
+    pub fn fail_as(&mut self, i: u16, failure: Failure) -> bool
+        requires { i < length self.old.state.plan.stages }
+        ensures told { (result, self.new.state) ≡ settling self.old.state i (Fault (cause_of failure) false) }
+        ensures rests { RestsUpTo i self.old self.new }
+        ensures alone { MovesOnly i self.old self.new }
+        ensures counted { self.old.turns ≤ self.new.turns }
+        ensures few { self.new.turns ≤ most_turns self.new.state.plan.stages }
+    {
+        self.settle(
+            i,
+            Outcome::Fault {
+                cause: failure.cause(),
                 wrapped: false,
             },
         )

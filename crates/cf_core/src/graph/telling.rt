@@ -88,6 +88,7 @@ impl Graph {
         match *e {
             Event::Complete { stage, .. }
             | Event::Fail { stage, .. }
+            | Event::FailAs { stage, .. }
             | Event::Cancel { stage, .. }
             | Event::Claim { stage, .. }
             | Event::Finish { stage, .. } => stage,

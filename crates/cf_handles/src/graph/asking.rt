@@ -37,6 +37,7 @@ fn refusal_of(stages: u16, event: &Event) -> Option<Code>
     match *event {
         Event::Complete { stage, .. } => unless(stage < stages),
         Event::Fail { stage, .. } => unless(stage < stages),
+        Event::FailAs { stage, .. } => unless(stage < stages),
         Event::Cancel { stage, .. } => unless(stage < stages),
         Event::Claim { stage, .. } => unless(stage < stages),
         Event::Finish { stage, .. } => unless(stage < stages),

@@ -1,17 +1,17 @@
 //! Changing calls as C has them, as events, and the words of events.
 ghost use Rattle.std.specs.Prelude.{◌≡◌, IfOk, Ok};
 ghost use Rattle.cf_event.specs.Words.{count_of, first_of, second_of};
-ghost use Rattle.cf_handles.specs.EventWords.{HasWord, IsWordOf, as_event, bare, event_at, event_of, told_event};
+ghost use Rattle.cf_handles.specs.EventWords.{HasWord, IsWordOf, as_event, as_failure, bare, event_at, event_of, failing, failing_call, failure_of, told_event};
 
 use crate::code::Code;
 use crate::values::attaching::{as_function, event_with, parts_with, sources_with};
 use crate::values::{CfAnswer, CfValue, answer_of, as_answer, as_value, value_of};
 use cf_event::{decode, encode, is_event};
 use cf_forms::{Answer, Form, Of};
-use cf_model::Event;
+use cf_model::{Call, Event, Failure};
 use cf_outcome::Value;
 
-/// A changing call of a caller: complete (0), fail (1), cancel (2), claim (3), finish (4), tick (5), attach (6).
+/// A changing call of a caller: complete (0), fail (1), cancel (2), claim (3), finish (4), tick (5), attach (6), fail as (7).
 ///
 /// | Call | Besides `who` |
 /// |---|---|
@@ -20,6 +20,7 @@ use cf_outcome::Value;
 /// | cancel, claim | `stage` |
 /// | finish | `stage`, `answer` |
 /// | tick | `now` |
+/// | fail as | `stage`, and in `code` the kind of the outcome: 4 for timed out, 5 for a bad answer |
 /// | attach | `form`, how many `sources`, the `first` and the `second` of them, `function` |
 ///
 /// What a call doesn't have is left aside, and is 0 where it is told.
@@ -66,7 +67,60 @@ pub fn event_of(e: CfEvent) -> Result<Event, Code>
             let of = sources_with(e.sources, e.first, e.second);
             event_with(who, parts_with(Form::numbered(e.form), of, e.function))
         }
+        7 => failing(who, stage, failure_of(e.code)),
         _ => Err(Code::NoSuchNumber),
+    }
+}
+
+/// The failure that C means by the kind of an outcome, if there is one.
+fn failure_of(kind: u32) -> Option<Failure>
+    ensures { result ≡ failure_of kind }
+{
+    match kind {
+        4 => Some(Failure::TimedOut),
+        5 => Some(Failure::BadAnswer),
+        _ => None,
+    }
+}
+
+/// The event by which a caller fails a stage so, or that no failure has the number.
+fn failing(who: u8, stage: u16, failure: Option<Failure>) -> Result<Event, Code>
+    ensures { result ≡ failing who stage failure }
+{
+    match failure {
+        Some(failure) => Ok(Event::FailAs {
+            who,
+            stage,
+            failure,
+        }),
+        None => Err(Code::NoSuchNumber),
+    }
+}
+
+/// The event by which the caller of a graph fails a stage with an outcome of this kind, or that none has the number.
+pub fn failing_event(stage: u16, kind: u32) -> Result<Event, Code>
+    ensures { result ≡ failing 0 stage (failure_of kind) }
+{
+    failing(0, stage, failure_of(kind))
+}
+
+/// The call that fails a stage with an outcome of this kind, or that none has the number.
+pub fn failing_call(stage: u16, kind: u32) -> Result<Call, Code>
+    ensures { result ≡ failing_call stage (failure_of kind) }
+{
+    match failure_of(kind) {
+        Some(failure) => Ok(Call::FailAs(stage, failure)),
+        None => Err(Code::NoSuchNumber),
+    }
+}
+
+/// A failure for C: the kind of its outcome.
+fn as_failure(failure: Failure) -> u32
+    ensures { result ≡ as_failure failure }
+{
+    match failure {
+        Failure::TimedOut => 4,
+        Failure::BadAnswer => 5,
     }
 }
 
@@ -82,6 +136,14 @@ pub(crate) fn as_event(e: Event) -> CfEvent
         Event::Fail { who, stage, code } => CfEvent {
             code,
             ..bare(1, who, stage)
+        },
+        Event::FailAs {
+            who,
+            stage,
+            failure,
+        } => CfEvent {
+            code: as_failure(failure),
+            ..bare(7, who, stage)
         },
         Event::Cancel { who, stage } => bare(2, who, stage),
         Event::Claim { who, stage } => bare(3, who, stage),

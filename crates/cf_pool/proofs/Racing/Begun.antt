@@ -4,7 +4,7 @@ use Rattle.std.specs.List.{All}
 use Rattle.std.proofs.lemmas.List.{take_more}
 use Rattle.std.proofs.lemmas.List.Elements.{All-nil, All-cons, All-head, All-tail, All-get_or, All-weaker}
 use Rattle.cf_model.specs.declared.events.Event.{Event}
-use Rattle.cf_model.specs.declared.events.Event.TheVariants.{Complete as Completes, Fail as Fails, Cancel as Cancels, Claim as Claims, Finish as Finishes, Tick as Ticks, Attach as Attaches}
+use Rattle.cf_model.specs.declared.events.Event.TheVariants.{Complete as Completes, Fail as Fails, FailAs as FailsAs, Cancel as Cancels, Claim as Claims, Finish as Finishes, Tick as Ticks, Attach as Attaches}
 use Rattle.cf_model.specs.declared.events.Reply.{Reply}
 use Rattle.cf_model.specs.Events.{answered, state_after}
 use Rattle.cf_model.specs.Ranges.{EventFits, EventsFit}
@@ -41,6 +41,7 @@ same_who who e = grind (arith, nat_tests)
 step_by : (e : Event) → is_from_outside e ≡ true → event_by 0 (as_call e) ≡ e
 step_by (Completes who i v) h = ap (λ (w : ℕ). Completes w i v) (same_who who h)
 step_by (Fails who i code) h = ap (λ (w : ℕ). Fails w i code) (same_who who h)
+step_by (FailsAs who i failure) h = ap (λ (w : ℕ). FailsAs w i failure) (same_who who h)
 step_by (Cancels who i) h = ap (λ (w : ℕ). Cancels w i) (same_who who h)
 step_by (Claims who i) h = cc
 step_by (Finishes who i answer) h = cc
@@ -115,6 +116,7 @@ step_refused d steps k e call fault p q h lt are is refused =
 fits_names : (n : ℕ) (e : Event) → EventFits n e → EventNames n e
 fits_names n (Completes who i v) fits = fits
 fits_names n (Fails who i code) fits = fits
+fits_names n (FailsAs who i failure) fits = fits
 fits_names n (Cancels who i) fits = fits
 fits_names n (Claims who i) fits = fits
 fits_names n (Finishes who i answer) fits = fits

@@ -8,7 +8,7 @@ use Rattle.cf_forms.specs.Plans.{Planned}
 use Rattle.cf_model.specs.declared.replies.Claimed.{Claimed}
 use Rattle.cf_model.specs.declared.replies.Claimed.TheVariants.{Granted, Settled, Taken, NotReady}
 use Rattle.cf_model.specs.declared.events.Event.{Event}
-use Rattle.cf_model.specs.declared.events.Event.TheVariants.{Complete as Completes, Fail as Fails, Cancel as Cancels, Claim as Claims, Finish as Finishes, Tick as Ticks, Attach as Attaches}
+use Rattle.cf_model.specs.declared.events.Event.TheVariants.{Complete as Completes, Fail as Fails, FailAs as FailsAs, Cancel as Cancels, Claim as Claims, Finish as Finishes, Tick as Ticks, Attach as Attaches}
 use Rattle.cf_model.specs.declared.events.Reply.TheVariants.{Claim as ToldClaim, Flag as ToldFlag, Finish as ToldFinish, Tick as ToldTick, Attach as ToldAttach}
 use Rattle.cf_model.specs.States.{State}
 use Rattle.cf_model.specs.Claims.{claimable_count}
@@ -17,7 +17,7 @@ use Rattle.cf_model.proofs.Claimable.{answered-claimable, claiming-claimable}
 use Rattle.cf_model.proofs.Shape.{answered-shape}
 use Rattle.cf_model.specs.Calls.{as_call, who_of}
 use Rattle.cf_forms.specs.Meanings.{Meanings}
-use Rattle.cf_model.specs.declared.calls.Call.TheVariants.{Complete, Fail, Cancel, Claim, Finish, Tick, Attach}
+use Rattle.cf_model.specs.declared.calls.Call.TheVariants.{Complete, Fail, FailAs, Cancel, Claim, Finish, Tick, Attach}
 use Rattle.cf_desk.specs.declared.calls.Rec.{Rec}
 use Rattle.cf_desk.specs.declared.calls.Rec.TheVariants.{Did, Saw}
 use Rattle.cf_pool.specs.Counting.{grant_at, total_by}
@@ -54,6 +54,7 @@ granted_one (Did place (Claim i) (ToldTick t)) = refl
 granted_one (Did place (Claim i) (ToldAttach a)) = refl
 granted_one (Did place (Complete i v) reply) = refl
 granted_one (Did place (Fail i code) reply) = refl
+granted_one (Did place (FailAs i failure) reply) = refl
 granted_one (Did place (Cancel i) reply) = refl
 granted_one (Did place (Finish i answer) reply) = refl
 granted_one (Did place (Tick now) reply) = refl
@@ -71,6 +72,7 @@ grant_claims (Did place (Claim i) (ToldTick t)) = omega arith
 grant_claims (Did place (Claim i) (ToldAttach a)) = omega arith
 grant_claims (Did place (Complete i v) reply) = omega arith
 grant_claims (Did place (Fail i code) reply) = omega arith
+grant_claims (Did place (FailAs i failure) reply) = omega arith
 grant_claims (Did place (Cancel i) reply) = omega arith
 grant_claims (Did place (Finish i answer) reply) = omega arith
 grant_claims (Did place (Tick now) reply) = omega arith
@@ -127,6 +129,7 @@ one_more : (n : ℕ) (r : Rec) (rs : List Rec) → ClaimsBelow n r → total n (
 one_more n (Did place (Claim j) reply) rs h = total_more j 1 n (λ i. cond (i == j) 1 0 + claims_of i rs) (λ i. claims_of i rs) (λ i. ap (λ (k : ℕ). k + claims_of i rs) (same_test i j 1 0)) h
 one_more n (Did place (Complete i v) reply) rs h = nothing_more n (λ i. claims_of i rs)
 one_more n (Did place (Fail i code) reply) rs h = nothing_more n (λ i. claims_of i rs)
+one_more n (Did place (FailAs i failure) reply) rs h = nothing_more n (λ i. claims_of i rs)
 one_more n (Did place (Cancel i) reply) rs h = nothing_more n (λ i. claims_of i rs)
 one_more n (Did place (Finish i answer) reply) rs h = nothing_more n (λ i. claims_of i rs)
 one_more n (Did place (Tick now) reply) rs h = nothing_more n (λ i. claims_of i rs)
@@ -176,6 +179,7 @@ one_leaves : (n : ℕ) (s : State) (e : Event) → grant_at (Did (suc n) (as_cal
 one_leaves n s (Claims who i) = claim_leaves n s who i ((claiming s who i).0) refl
 one_leaves n s (Completes who i v) = let l = answered-claimable s (Completes who i v) in omega (arith, l)
 one_leaves n s (Fails who i code) = let l = answered-claimable s (Fails who i code) in omega (arith, l)
+one_leaves n s (FailsAs who i failure) = let l = answered-claimable s (FailsAs who i failure) in omega (arith, l)
 one_leaves n s (Cancels who i) = let l = answered-claimable s (Cancels who i) in omega (arith, l)
 one_leaves n s (Finishes who i answer) = let l = answered-claimable s (Finishes who i answer) in omega (arith, l)
 one_leaves n s (Ticks who now) = let l = answered-claimable s (Ticks who now) in omega (arith, l)

@@ -2,7 +2,7 @@
 use Rattle.std.proofs.Common.{◌≡◌, ◌<◌, ◌++◌, length, List, [], ◌∷◌, true, Some, All, sym, refl, ap, ◌∙◌, subst}
 use Rattle.std.proofs.lemmas.List.Elements.{All-nil, All-cons}
 use Rattle.cf_model.specs.declared.events.Event.{Event}
-use Rattle.cf_model.specs.declared.events.Event.TheVariants.{Complete as Completes, Fail as Fails, Cancel as Cancels, Claim as Claims, Finish as Finishes, Tick as Ticks, Attach as Attaches}
+use Rattle.cf_model.specs.declared.events.Event.TheVariants.{Complete as Completes, Fail as Fails, FailAs as FailsAs, Cancel as Cancels, Claim as Claims, Finish as Finishes, Tick as Ticks, Attach as Attaches}
 use Rattle.cf_model.specs.States.{State, start, outcome_at}
 use Rattle.cf_model.specs.Events.{answered, state_after}
 use Rattle.cf_forms.specs.Meanings.{Meanings, stage_answer}
@@ -16,6 +16,7 @@ use Rattle.cf_pool.specs.Races.{IsWorkHistory, IsWorkEvent, RacedIsExpression, R
 plain_event : (meanings : Meanings) (granted : Grants) (s : State) (e : Event) → IsWorkEvent meanings granted s e → IsPlainEvent meanings granted s e
 plain_event meanings granted s (Completes who i v) h = absurd h
 plain_event meanings granted s (Fails who i code) h = absurd h
+plain_event meanings granted s (FailsAs who i failure) h = absurd h
 plain_event meanings granted s (Cancels who i) h = absurd h
 plain_event meanings granted s (Claims who i) h = tt
 plain_event meanings granted s (Finishes who i answer) h = λ won given there.
@@ -33,6 +34,7 @@ work_is_plain meanings granted s (e ∷ events) h =
 event_is_work : (meanings : Meanings) (granted : Grants) (s : State) (e : Event) → IsWorkEvent meanings granted s e → is_work e ≡ true
 event_is_work meanings granted s (Completes who i v) h = absurd h
 event_is_work meanings granted s (Fails who i code) h = absurd h
+event_is_work meanings granted s (FailsAs who i failure) h = absurd h
 event_is_work meanings granted s (Cancels who i) h = absurd h
 event_is_work meanings granted s (Claims who i) h = refl
 event_is_work meanings granted s (Finishes who i answer) h = refl

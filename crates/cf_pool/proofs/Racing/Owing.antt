@@ -8,7 +8,7 @@ use Rattle.cf_forms.specs.declared.forms.Answer.{Answer}
 use Rattle.cf_forms.specs.Plans.{Planned}
 use Rattle.cf_model.specs.declared.replies.Claimed.TheVariants.{Granted, Settled, Taken, NotReady}
 use Rattle.cf_model.specs.declared.events.Event.{Event}
-use Rattle.cf_model.specs.declared.events.Event.TheVariants.{Complete as Completes, Fail as Fails, Cancel as Cancels, Claim as Claims, Finish as Finishes, Tick as Ticks, Attach as Attaches}
+use Rattle.cf_model.specs.declared.events.Event.TheVariants.{Complete as Completes, Fail as Fails, FailAs as FailsAs, Cancel as Cancels, Claim as Claims, Finish as Finishes, Tick as Ticks, Attach as Attaches}
 use Rattle.cf_model.specs.declared.events.Reply.{Reply}
 use Rattle.cf_model.specs.declared.events.Reply.TheVariants.{Claim as ToldClaim, Flag as ToldFlag, Finish as ToldFinish, Tick as ToldTick, Attach as ToldAttach}
 use Rattle.cf_model.specs.States.{State}
@@ -62,6 +62,7 @@ pub by_next : (meanings : Meanings) (plan : Planned) (P : Owed → Event → Typ
     → (o : Owed) (n : ℕ) (e : Event) (reply : Reply) → IsNext meanings plan o (rec_of n e reply) → P o e
 by_next meanings plan P claims finishes None n (Completes who i v) reply h = absurd h
 by_next meanings plan P claims finishes None n (Fails who i code) reply h = absurd h
+by_next meanings plan P claims finishes None n (FailsAs who i failure) reply h = absurd h
 by_next meanings plan P claims finishes None n (Cancels who i) reply h = absurd h
 by_next meanings plan P claims finishes None n (Claims who i) reply h = claims who i h
 by_next meanings plan P claims finishes None n (Finishes who i answer) reply h = absurd h
@@ -69,6 +70,7 @@ by_next meanings plan P claims finishes None n (Ticks who now) reply h = absurd 
 by_next meanings plan P claims finishes None n (Attaches who form of function) reply h = absurd h
 by_next meanings plan P claims finishes (Some owed) n (Completes who i v) reply h = absurd h
 by_next meanings plan P claims finishes (Some owed) n (Fails who i code) reply h = absurd h
+by_next meanings plan P claims finishes (Some owed) n (FailsAs who i failure) reply h = absurd h
 by_next meanings plan P claims finishes (Some owed) n (Cancels who i) reply h = absurd h
 by_next meanings plan P claims finishes (Some owed) n (Claims who i) reply h = absurd h
 by_next meanings plan P claims finishes (Some (j, args)) n (Finishes who i answer) reply h =
@@ -116,6 +118,7 @@ granted_now granted n c (Claims who j) (ToldTick t) i args w e = cc
 granted_now granted n c (Claims who j) (ToldAttach a) i args w e = cc
 granted_now granted n c (Completes who j v) reply i args w e = cc
 granted_now granted n c (Fails who j code) reply i args w e = cc
+granted_now granted n c (FailsAs who j failure) reply i args w e = cc
 granted_now granted n c (Cancels who j) reply i args w e = cc
 granted_now granted n c (Finishes who j answer) reply i args w e = cc
 granted_now granted n c (Ticks who now) reply i args w e = cc
@@ -125,6 +128,7 @@ granted_still : (granted : Grants) (c : ℕ) (e : Event) (reply : Reply) (i : �
 granted_still granted c (Claims who j) reply i ne = granted_with-other granted who j c i reply ne
 granted_still granted c (Completes who j v) reply i ne = refl
 granted_still granted c (Fails who j code) reply i ne = refl
+granted_still granted c (FailsAs who j failure) reply i ne = refl
 granted_still granted c (Cancels who j) reply i ne = refl
 granted_still granted c (Finishes who j answer) reply i ne = refl
 granted_still granted c (Ticks who now) reply i ne = refl

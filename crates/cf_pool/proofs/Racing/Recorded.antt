@@ -12,7 +12,7 @@ use Rattle.cf_model.specs.Events.{answered, state_after, state_at}
 use Rattle.cf_model.specs.Calls.{as_call, event_by, who_of}
 use Rattle.cf_forms.specs.Meanings.{Meanings}
 use Rattle.cf_model.specs.declared.calls.Call.{Call}
-use Rattle.cf_model.specs.declared.calls.Call.TheVariants.{Complete, Fail, Cancel, Claim, Finish, Tick, Attach}
+use Rattle.cf_model.specs.declared.calls.Call.TheVariants.{Complete, Fail, FailAs, Cancel, Claim, Finish, Tick, Attach}
 use Rattle.cf_desk.specs.declared.calls.Rec.{Rec}
 use Rattle.cf_desk.specs.declared.calls.Rec.TheVariants.{Did, Saw}
 use Rattle.cf_event.specs.Events.{placed}
@@ -39,6 +39,7 @@ mine c e = eqb (who_of e.1) c
 call_by : (c : ℕ) (call : Call) → as_call (event_by c call) ≡ call
 call_by c (Complete i v) = refl
 call_by c (Fail i code) = refl
+call_by c (FailAs i failure) = refl
 call_by c (Cancel i) = refl
 call_by c (Claim i) = refl
 call_by c (Finish i answer) = refl

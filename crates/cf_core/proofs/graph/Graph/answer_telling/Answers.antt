@@ -1,7 +1,7 @@
 use Rattle.std.proofs.Common.{◌≡◌, ◌∙◌, List, ℕ, ap, arith, length, length-append, refl, subst, sym}
 use Rattle.cf_forms.specs.Plans.{PlannedStage}
 use Rattle.cf_model.specs.declared.events.Event.{Event}
-use Rattle.cf_model.specs.declared.events.Event.TheVariants.{Complete as Completes, Fail as Fails, Cancel as Cancels, Claim as Claims, Finish as Finishes, Tick as Ticks, Attach as Attaches}
+use Rattle.cf_model.specs.declared.events.Event.TheVariants.{Complete as Completes, Fail as Fails, FailAs as FailsAs, Cancel as Cancels, Claim as Claims, Finish as Finishes, Tick as Ticks, Attach as Attaches}
 use Rattle.cf_model.specs.declared.events.Reply.{Reply}
 use Rattle.cf_model.specs.States.{State}
 use Rattle.cf_model.specs.Graphs.{Graph, MovesAlone, MovesOnly, MovesOwn, moved_by}
@@ -23,6 +23,7 @@ returns-in-Tick-clause-changed c =
 own : (e : Event) (old new : Graph) → ((now who : ℕ) → e ≡ Ticks who now → ⊥) → MovesOwn e old new → MovesOnly (moved_by (length old.state.plan.stages) e) old new
 own (Completes who i v) old new other h = h
 own (Fails who i code) old new other h = h
+own (FailsAs who i failure) old new other h = h
 own (Cancels who i) old new other h = h
 own (Claims who i) old new other h = h
 own (Finishes who i answer) old new other h = h
