@@ -330,8 +330,8 @@ uint32_t cf_close_begin(cf_handle *caller);
 /* Gives one more caller of the same desk back, whose handle is empty then. CF_OTHER_DESK leaves both as they were. */
 uint32_t cf_close_add(cf_handle *closing, cf_handle *caller);
 
-/* Ends it: the closing becomes a closed desk. CF_NOT_ALL where callers are missing; CF_STILL_SHARED never comes where no other call is at
- * work on the desk. */
+/* Ends it: the closing becomes a closed desk. CF_NOT_ALL where callers are missing, for good where one was freed; CF_STILL_SHARED never
+ * comes where no other call is at work on the desk. */
 uint32_t cf_close_end(cf_handle *closing);
 
 /* What a caller was told. CF_DID: a changing call as the word of its event (cf_event_of), and its reply; `place` counts the history's

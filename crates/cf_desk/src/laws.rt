@@ -3,7 +3,7 @@
 ghost use Rattle.cf_desk.specs.Keepings.{IsFit};
 ghost use Rattle.cf_desk.specs.Laws.{ClaimsStayOpen, OneHistoryShows};
 ghost use Rattle.cf_desk.specs.Rows.{RowsHold};
-ghost use Rattle.cf_desk.specs.Time.{CallsComeLast, LogsOnlyGrow};
+ghost use Rattle.cf_desk.specs.Time.{CallsComeAfterWhatWasSeen, CallsComeLast, LogsOnlyGrow};
 
 use crate::pass::Pass;
 
@@ -36,8 +36,16 @@ pub fn logs_only_grow()
     ensures { LogsOnlyGrow }
 {}
 
-/// A call stands at the end of the log at an instant within the call: where a pass adds its event by an exchange that finds
-/// the word empty, it has seen all of the log by then. So a call that had returned before another began stands before it.
+/// Each event is added at the end of the log as it stands at that exchange: where a pass adds its event by an exchange that
+/// finds the word empty, it has seen all of the log by then. The exchange lies within the call. That a call which had returned
+/// before another began stands before it isn't proved: it is an argument from this and `logs_only_grow`, since no clause
+/// speaks of instants.
 pub fn calls_come_last()
     ensures { CallsComeLast }
+{}
+
+/// A call stands behind all that its pass had seen, and so behind what another had, once it has heeded its notice
+/// (`Desk::heed`).
+pub fn calls_come_after_what_was_seen()
+    ensures { CallsComeAfterWhatWasSeen }
 {}
