@@ -11,3 +11,4 @@ pub mod Results
 pub mod Keepings
 pub mod Laws
 pub mod Time
+pub mod WaitFree
