@@ -461,10 +461,10 @@ uint32_t cf_code_text(uint32_t code, uint8_t *text, size_t room, size_t *length)
 
 /* The version of this header. A library of a later one with the same first number has all that stands here, and as it stands here. */
 #define CF_VERSION_MAJOR 1
-#define CF_VERSION_MINOR 3
+#define CF_VERSION_MINOR 4
 #define CF_VERSION_PATCH 0
 
-/* The library's version ("1.3.0"); whether a program that was written for this version of the header runs with the library; the name of a
+/* The library's version ("1.4.0"); whether a program that was written for this version of the header runs with the library; the name of a
  * code as cf_code_text has it ("NoStage"), or null where a number is no code's; of a struct ("cf_reply") its size, and of a field of one
  * ("cf_reply.args") its offset, in bytes, or SIZE_MAX where there is none of this name or it is null. The texts are static and end in a
  * zero byte. None of these calls answers a cf_code. */
