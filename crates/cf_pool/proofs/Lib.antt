@@ -4,6 +4,7 @@ pub mod Jobs
 pub mod Calling
 pub mod OpenClaims
 pub mod CalledOnce
+pub mod EachOnce
 pub mod Pools
 pub mod Runs
 pub mod Racing
