@@ -6,4 +6,7 @@ pub mod OpenClaims
 pub mod CalledOnce
 pub mod Pools
 pub mod Runs
+pub mod ClaimedStages
+pub mod Quiet
 pub mod Racing
+pub mod PlainRuns
